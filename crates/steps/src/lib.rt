@@ -1,0 +1,66 @@
+//! A counter of steps that has no bytes at run time: only contracts read it.
+//!
+//! What a step stands for is said by the crate that ticks. Nothing here knows of it.
+#![tactic(auto)]
+
+ghost use Rattle.std.specs.Prelude.{ℕ, zero, ◌≡◌, ◌+◌, ◌<◌};
+
+use std::marker::Model;
+use std::sync::ledger::{Blank, Book, Ledger, Share};
+
+/// How many steps were taken. Only `tick` changes it.
+#[derive(Drop)]
+pub struct Steps<L: Ledger> {
+    book: Book<L>,
+    share: Share<L>,
+}
+
+impl<L: Ledger> Model for Steps<L> {
+    ghost Value = { ℕ };
+
+    ghost view = { λ s. s.book.total };
+
+    ghost invariant = { λ s. 0 < s.share.parts };
+}
+
+impl<L: Ledger> Steps<L> {
+    /// A counter over a fresh ledger. A caller that counts nothing hands on `Blank::new(1)`.
+    pub fn new(blank: Blank) -> Steps<L>
+        requires name { blank.name ≡ L.name }
+        requires parts { blank.parts ≡ L.parts }
+        requires some { 0 < blank.parts }
+        ensures { result ≡ 0 }
+    {
+        let (book, share) = blank.open::<L>();
+        Steps { book, share }
+    }
+
+    /// Counts one step.
+    pub fn tick(&mut self)
+        ensures { self.new ≡ self.old + 1 }
+    {
+        self.book.add(&mut self.share, 1);
+    }
+}
+
+#[cfg(test)]
+mod tests {
+    use super::*;
+    use std::marker::Brand;
+
+    fn bytes_of_a_counter<L: Ledger>(blank: Blank) -> usize
+        requires name { blank.name ≡ L.name }
+        requires parts { blank.parts ≡ L.parts }
+        requires some { 0 < blank.parts }
+    {
+        let mut steps = Steps::<L>::new(blank);
+        steps.tick();
+        size_of::<Steps<L>>()
+    }
+
+    #[test]
+    fn a_caller_that_counts_nothing_makes_a_counter_of_no_bytes(rt: HostRuntime) {
+        let bytes = bytes_of_a_counter::<Brand>(Blank::new(1));
+        assert_eq!(rt; bytes, 0);
+    }
+}
