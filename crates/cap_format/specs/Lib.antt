@@ -1,0 +1,10 @@
+pub mod Kind
+pub mod Restr
+pub mod Guard
+pub mod Capability
+pub mod Weakening
+pub mod Spelling
+pub mod Kinds
+pub mod Ranges
+pub mod Codes
+pub mod Item

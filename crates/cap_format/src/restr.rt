@@ -1,0 +1,44 @@
+//! The restrictions of a memory capability.
+
+ghost use Rattle.std.specs.Prelude.{ℕ, ⊤, [], ◌∷◌, codes};
+
+use bitflags::{Flag, Flags, bitflag_items};
+
+/// A set of restrictions: RO forbids stores, NX forbids fetches, WK weakens each capability that is
+/// loaded through it, OP refuses requests that look into a GPT, NC keeps a walk from using fault handlers.
+///
+/// A capability keeps that no other bit is set; the set alone does not.
+#[derive(Clone, Copy, PartialEq, Eq, Debug)]
+pub struct Restr(u8);
+
+bitflag_items! {
+    impl Restr: u8 {
+        const RO = 1;
+        const NX = 2;
+        const WK = 4;
+        const OP = 8;
+        const NC = 16;
+    }
+}
+
+impl Flags for Restr {
+    type Bits = u8;
+
+    ghost exact = { ⊤ };
+
+    ghost table = { (codes "RO", 1) ∷ (codes "NX", 2) ∷ (codes "WK", 4) ∷ (codes "OP", 8) ∷ (codes "NC", 16) ∷ [] };
+
+    ghost set_of = { λ r. r.0 };
+
+    fn flags<'a>() -> &'a [Flag<Restr>] {
+        Restr::FLAGS
+    }
+
+    fn bits(&self) -> u8 {
+        self.0
+    }
+
+    fn from_bits_retain(bits: u8) -> Restr {
+        Restr(bits)
+    }
+}

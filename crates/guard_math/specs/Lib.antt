@@ -1,0 +1,3 @@
+pub mod Pass
+pub mod Block
+pub mod Blocks
