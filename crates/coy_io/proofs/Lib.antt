@@ -1,0 +1,4 @@
+mod FirstLine
+mod Nexts
+mod Parts
+mod Windows

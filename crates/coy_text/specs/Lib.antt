@@ -1,0 +1,4 @@
+pub mod Numeral
+pub mod Words
+pub mod NumeralLaws
+pub mod WordLaws

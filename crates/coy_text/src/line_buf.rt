@@ -1,0 +1,102 @@
+//! The buffer in which a line is put together before it is written.
+ghost use Rattle.std.specs.Prelude.{ℕ, List, ◌≡◌, ◌+◌, ◌^◌, ◌<◌, ◌≤◌, [], ◌∷◌, ◌++◌, length, decimal};
+ghost use Rattle.coy_text.specs.Numeral.{hex_text};
+
+use arrayvec::ArrayString;
+use std::marker::Model;
+
+/// A text of at most 1,024 bytes. A clause sees it as the list of its bytes.
+#[derive(Drop)]
+pub struct LineBuf {
+    text: ArrayString<1024>,
+}
+
+impl Model for LineBuf {
+    ghost use Rattle.std.specs.Prelude.{ℕ, List};
+
+    ghost Value = { List ℕ };
+
+    ghost view = { λ line. line.text.bytes };
+}
+
+impl LineBuf {
+    /// A line without text.
+    pub fn new() -> Self
+        ensures { result ≡ [] }
+    {
+        Self {
+            text: ArrayString::new(),
+        }
+    }
+
+    /// Takes all text out.
+    pub fn clear(&mut self)
+        ensures { self.new ≡ [] }
+    {
+        self.text.clear();
+    }
+
+    /// The text so far.
+    pub fn as_bytes(&self) -> &[u8]
+        ensures text { result.now ≡ self.now }
+        ensures bound { length result.now ≤ 1024 }
+    {
+        self.text.as_str().as_bytes()
+    }
+
+    /// Appends a text as it is.
+    pub fn push_word(&mut self, word: &str)
+        requires { length self.old + length word.now ≤ 1024 }
+        ensures text { self.new ≡ self.old ++ word.now }
+        ensures len { length self.new ≡ length self.old + length word.now }
+    {
+        self.text.push_str(word);
+    }
+
+    /// Appends a byte of ASCII.
+    fn push_byte(&mut self, byte: u8)
+        requires room { length self.old + 1 ≤ 1024 }
+        requires ascii { byte < 128 }
+        ensures text { self.new ≡ self.old ++ byte ∷ [] }
+        ensures len { length self.new ≡ length self.old + 1 }
+    {
+        self.text.push(char::from(byte));
+    }
+
+    /// Appends a number in decimal, without leading zeros.
+    #[tactic(auto, using(crate::specs::NumeralLaws::length_decimal, crate::proofs::Numerals::one_digit, crate::proofs::Numerals::more_digits, crate::proofs::Numerals::fewer_digits, crate::proofs::Numerals::length_one))]
+    pub fn push_dec(&mut self, value: u64)
+        requires { length self.old + length (decimal value) ≤ 1024 }
+        ensures text { self.new ≡ self.old ++ decimal value }
+        ensures len { length self.new ≡ length self.old + length (decimal value) }
+        ensures bound { length (decimal value) ≤ 20 }
+    {
+        if value < 10 {
+            self.push_byte(b'0' + value as u8);
+            return;
+        }
+        self.push_dec(value / 10);
+        self.push_byte(b'0' + (value % 10) as u8);
+    }
+
+    /// Appends a number in exactly `digits` hexadecimal digits, in lower case and with leading zeros.
+    #[tactic(auto, unfolding(crate::specs::Numeral::hex_text))]
+    pub fn push_hex(&mut self, value: u32, digits: u8)
+        requires room { length self.old + digits ≤ 1024 }
+        requires some { 1 ≤ digits }
+        requires most { digits ≤ 8 }
+        requires fits { value < 16 ^ digits }
+        ensures text { self.new ≡ self.old ++ hex_text digits value }
+        ensures len { length self.new ≡ length self.old + digits }
+    {
+        if digits > 1 {
+            self.push_hex(value / 16, digits - 1);
+        }
+        let digit = (value % 16) as u8;
+        self.push_byte(if digit < 10 {
+            b'0' + digit
+        } else {
+            b'a' + (digit - 10)
+        });
+    }
+}
