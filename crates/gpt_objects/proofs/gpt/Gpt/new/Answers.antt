@@ -1,0 +1,12 @@
+use Rattle.std.proofs.Common.{◌≡◌, List, ap, sym, subst, ◌∙◌}
+use Rattle.cap_format.specs.Capability.{Capability}
+use Rattle.gpt_objects.specs.Header.{HeaderValue}
+use Rattle.gpt_objects.specs.Gpt.{GptValue, IsGpt, empty_gpt}
+use Rattle.gpt_objects.specs.Ranges.{IsGpt-empty_gpt}
+use Rattle.gpt_objects.proofs.gpt.Gpt.new.Goals as goal
+
+pub invariant_of-result : goal.invariant_of-result
+invariant_of-result c = rw (c.new.ensures, c.nulls.ensures) IsGpt-empty_gpt
+
+pub returns-clause-range : goal.returns-clause-range
+returns-clause-range c = rw (c.new.ensures, c.nulls.ensures) IsGpt-empty_gpt

@@ -1,0 +1,117 @@
+//! A GPT and its slots.
+ghost use Rattle.std.specs.Prelude.{◌≡◌, ◌+◌, ◌<◌};
+ghost use Rattle.cap_format.specs.Capability.{IsCapability};
+ghost use Rattle.gpt_objects.specs.Gpt.{IsGpt, slot_of, with_header, with_slot, empty_slots, empty_gpt};
+
+use crate::header::GptHeader;
+use cap_format::Cap;
+use std::marker::Model;
+use std::sync::ledger::Ledger;
+use steps::Steps;
+
+/// A table of sixteen capabilities with its header.
+#[derive(Drop)]
+pub struct Gpt {
+    header: GptHeader,
+    slots: [Cap; 16],
+}
+
+impl Model for Gpt {
+    ghost use Rattle.gpt_objects.specs.Gpt.{GptValue, IsGpt};
+
+    ghost Value = { GptValue };
+
+    ghost view = { λ g. record { header = g.header; slots = g.slots } };
+
+    ghost invariant = { λ g. IsGpt (record { header = g.header; slots = g.slots }) };
+}
+
+impl Gpt {
+    pub fn new() -> Gpt
+        ensures empty { result ≡ empty_gpt }
+        ensures range { IsGpt result }
+    {
+        Gpt {
+            header: GptHeader::new(12, false, false),
+            slots: nulls(),
+        }
+    }
+
+    pub fn header(&self) -> GptHeader
+        ensures value { result ≡ self.now.header }
+        ensures range { IsGpt self.now }
+    {
+        self.header
+    }
+
+    pub fn set_header(&mut self, h: GptHeader)
+        ensures header { self.new ≡ with_header self.old h }
+        ensures range { IsGpt self.new }
+    {
+        // A header that is read tells its range.
+        let _l2v = h.l2v();
+        self.header = h;
+    }
+
+    /// Reads a slot, and counts it.
+    pub fn slot<L: Ledger>(&self, i: u8, fetches: &mut Steps<L>) -> Cap
+        requires { i < 16 }
+        ensures value { result ≡ slot_of self.now i }
+        ensures range { IsCapability result }
+        ensures counted { fetches.new ≡ fetches.old + 1 }
+    {
+        fetches.tick();
+        self.slots[i as usize]
+    }
+
+    pub fn set_slot(&mut self, i: u8, cap: Cap)
+        requires { i < 16 }
+        ensures slot { self.new ≡ with_slot self.old i cap }
+        ensures range { IsGpt self.new }
+    {
+        // A capability that is read tells its ranges.
+        let _kind = cap.kind();
+        self.slots[i as usize] = cap;
+    }
+}
+
+#[tactic(auto, unfolding(crate::specs::Gpt::empty_slots))]
+fn nulls() -> [Cap; 16]
+    ensures { result ≡ empty_slots }
+{
+    [Cap::null(); 16]
+}
+
+#[cfg(test)]
+mod tests {
+    use super::*;
+    use cap_format::CapKind;
+    use std::marker::Brand;
+    use std::sync::ledger::Blank;
+
+    /// The kinds of the capabilities in slots 14 and 15.
+    fn last_kinds<L: Ledger>(gpt: &Gpt, blank: Blank) -> (CapKind, CapKind)
+        requires name { blank.name ≡ L.name }
+        requires parts { blank.parts ≡ L.parts }
+        requires some { 0 < blank.parts }
+    {
+        let mut fetches = Steps::<L>::new(blank);
+        let background = gpt.slot(14, &mut fetches);
+        let handler = gpt.slot(15, &mut fetches);
+        (background.kind(), handler.kind())
+    }
+
+    #[test]
+    fn a_written_slot_is_read_and_the_one_beside_it_stays(rt: HostRuntime) {
+        let mut gpt = Gpt::new();
+        gpt.set_header(GptHeader::new(31, true, false));
+        gpt.set_slot(15, Cap::plain(CapKind::KernLog));
+        let (background, handler) = last_kinds::<Brand>(&gpt, Blank::new(1));
+        assert_eq!(rt; background, CapKind::Null);
+        assert_eq!(rt; handler, CapKind::KernLog);
+        let header = gpt.header();
+        assert_eq!(rt; header.l2v(), 31);
+        assert!(rt; header.ha());
+        assert!(rt; !header.bg());
+    }
+}

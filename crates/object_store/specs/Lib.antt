@@ -1,0 +1,17 @@
+pub mod Store
+pub mod Meaning
+pub mod Ranges
+pub mod Differ
+pub mod Ahead
+pub mod Destruction
+pub mod Laws
+pub mod Lending
+pub mod Lists
+pub mod Means
+pub mod Live
+pub mod Ranged
+pub mod Counted
+pub mod Differs
+pub mod Each
+pub mod Destroyed
+pub mod Behind

@@ -1,0 +1,81 @@
+//! A page of capabilities.
+ghost use Rattle.std.specs.Prelude.{◌≡◌};
+ghost use Rattle.cap_format.specs.Capability.{IsCapability};
+ghost use Rattle.page_store.specs.CapPage.{IsCapPage, cap_at, with_cap, empty_cappage};
+
+use cap_format::Cap;
+use std::marker::Model;
+
+/// 256 capability slots. It is large: keep it on the heap.
+#[derive(Drop)]
+pub struct CapPage {
+    caps: [Cap; 256],
+}
+
+impl Model for CapPage {
+    ghost use Rattle.std.specs.Prelude.{List};
+    ghost use Rattle.cap_format.specs.Capability.{Capability};
+    ghost use Rattle.page_store.specs.CapPage.{IsCapPage};
+
+    ghost Value = { List Capability };
+
+    ghost view = { λ p. p.caps };
+
+    ghost invariant = { λ p. IsCapPage p.caps };
+}
+
+impl CapPage {
+    pub fn new() -> CapPage
+        ensures empty { result ≡ empty_cappage }
+        ensures range { IsCapPage result }
+    {
+        CapPage { caps: nulls() }
+    }
+
+    pub fn get(&self, i: u8) -> Cap
+        ensures value { result ≡ cap_at self.now i }
+        ensures cap_range { IsCapability result }
+        ensures range { IsCapPage self.now }
+    {
+        self.caps[i as usize]
+    }
+
+    pub fn set(&mut self, i: u8, cap: Cap)
+        ensures slot { self.new ≡ with_cap self.old i cap }
+        ensures range { IsCapPage self.new }
+    {
+        // A capability that is read tells its ranges.
+        let _kind = cap.kind();
+        self.caps[i as usize] = cap;
+    }
+
+    pub fn erase(&mut self)
+        ensures empty { self.new ≡ empty_cappage }
+        ensures range { IsCapPage self.new }
+    {
+        self.caps.fill(Cap::null());
+    }
+}
+
+#[tactic(auto, unfolding(crate::specs::CapPage::empty_cappage))]
+fn nulls() -> [Cap; 256]
+    ensures { result ≡ empty_cappage }
+{
+    [Cap::null(); 256]
+}
+
+#[cfg(test)]
+mod tests {
+    use super::*;
+    use cap_format::CapKind;
+
+    #[test]
+    fn the_last_slot_is_written_alone_and_erased(rt: HostRuntime) {
+        let mut page = CapPage::new();
+        page.set(255, Cap::plain(CapKind::KernLog));
+        assert_eq!(rt; page.get(255).kind(), CapKind::KernLog);
+        assert_eq!(rt; page.get(254).kind(), CapKind::Null);
+        page.erase();
+        assert_eq!(rt; page.get(255).kind(), CapKind::Null);
+    }
+}

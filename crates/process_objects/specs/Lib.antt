@@ -1,0 +1,4 @@
+pub mod Accept
+pub mod State
+pub mod Process
+pub mod Ranges

@@ -1,0 +1,205 @@
+//! A process.
+ghost use Rattle.std.specs.Prelude.{◌≡◌, ◌≤◌, ◌%◌};
+ghost use Rattle.cap_format.specs.Capability.{IsCapability};
+ghost use Rattle.process_objects.specs.State.{IsState};
+ghost use Rattle.process_objects.specs.Process.{IsProcess, reg_of, capreg_of, slot_of, with_pc, with_reg, with_regs, with_capreg, with_slot, with_state, empty_process};
+
+use crate::state::State;
+use cap_format::{Cap, FaultCode};
+use std::marker::Model;
+
+/// A user machine's registers, the capabilities that it holds, and what it does.
+#[derive(Drop)]
+pub struct Process {
+    pc: u32,
+    regs: [u32; 32],
+    capregs: [Cap; 32],
+    slots: [Cap; 3],
+    state: State,
+}
+
+impl Model for Process {
+    ghost use Rattle.process_objects.specs.Process.{ProcessValue, IsProcess, process_of};
+
+    ghost Value = { ProcessValue };
+
+    ghost view = { λ p. process_of p.pc p.regs p.capregs p.slots p.state };
+
+    ghost invariant = { λ p. IsProcess (process_of p.pc p.regs p.capregs p.slots p.state) };
+}
+
+impl Process {
+    pub fn new() -> Process
+        ensures empty { result ≡ empty_process }
+        ensures range { IsProcess result }
+    {
+        let null = Cap::null();
+        Process {
+            pc: 0,
+            regs: [0; 32],
+            capregs: [null; 32],
+            slots: [null; 3],
+            state: State::Faulted {
+                code: FaultCode::Stopped,
+                address: 0,
+            },
+        }
+    }
+
+    /// The address of the next instruction, a multiple of 4.
+    pub fn pc(&self) -> u32
+        ensures value { result ≡ self.now.pc }
+        ensures aligned { result % 4 ≡ 0 }
+        ensures range { IsProcess self.now }
+    {
+        self.pc
+    }
+
+    pub fn set_pc(&mut self, pc: u32)
+        requires { pc % 4 ≡ 0 }
+        ensures pc { self.new ≡ with_pc self.old pc }
+        ensures range { IsProcess self.new }
+    {
+        self.pc = pc;
+    }
+
+    /// Register x`i`.
+    pub fn reg(&self, i: u8) -> u32
+        requires { i ≤ 31 }
+        ensures value { result ≡ reg_of self.now i }
+        ensures range { IsProcess self.now }
+    {
+        self.regs[i as usize]
+    }
+
+    /// Writes register x`i`; x0 stays 0.
+    pub fn set_reg(&mut self, i: u8, v: u32)
+        requires { i ≤ 31 }
+        ensures reg { self.new ≡ with_reg self.old i v }
+        ensures range { IsProcess self.new }
+    {
+        if i != 0 {
+            self.regs[i as usize] = v;
+        }
+    }
+
+    /// All registers, x0 first.
+    pub fn regs(&self) -> [u32; 32]
+        ensures value { result ≡ self.now.regs }
+        ensures range { IsProcess self.now }
+    {
+        self.regs
+    }
+
+    /// Writes all registers; x0 stays 0.
+    pub fn set_regs(&mut self, regs: &[u32; 32])
+        ensures regs { self.new ≡ with_regs self.old regs.now }
+        ensures range { IsProcess self.new }
+    {
+        self.regs = *regs;
+        self.regs[0] = 0;
+    }
+
+    /// Capability register c`i`.
+    pub fn capreg(&self, i: u8) -> Cap
+        requires { i ≤ 31 }
+        ensures value { result ≡ capreg_of self.now i }
+        ensures cap_range { IsCapability result }
+        ensures range { IsProcess self.now }
+    {
+        self.capregs[i as usize]
+    }
+
+    /// Writes capability register c`i`; c0 stays Null.
+    pub fn set_capreg(&mut self, i: u8, cap: Cap)
+        requires { i ≤ 31 }
+        ensures capreg { self.new ≡ with_capreg self.old i cap }
+        ensures range { IsProcess self.new }
+    {
+        // A capability that is read tells its ranges.
+        let _kind = cap.kind();
+        let index = i as usize;
+        if index != 0 {
+            self.capregs[index] = cap;
+        }
+    }
+
+    /// Slot 0 holds the space, 1 the schedule, 2 the fault handler.
+    pub fn slot(&self, i: u8) -> Cap
+        requires { i ≤ 2 }
+        ensures value { result ≡ slot_of self.now i }
+        ensures cap_range { IsCapability result }
+        ensures range { IsProcess self.now }
+    {
+        self.slots[i as usize]
+    }
+
+    pub fn set_slot(&mut self, i: u8, cap: Cap)
+        requires { i ≤ 2 }
+        ensures slot { self.new ≡ with_slot self.old i cap }
+        ensures range { IsProcess self.new }
+    {
+        // A capability that is read tells its ranges.
+        let _kind = cap.kind();
+        self.slots[i as usize] = cap;
+    }
+
+    pub fn state(&self) -> State
+        ensures value { result ≡ self.now.state }
+        ensures state_range { IsState result }
+        ensures range { IsProcess self.now }
+    {
+        self.state
+    }
+
+    pub fn set_state(&mut self, state: State)
+        ensures state { self.new ≡ with_state self.old state }
+        ensures range { IsProcess self.new }
+    {
+        state.tell_range();
+        self.state = state;
+    }
+}
+
+#[cfg(test)]
+mod tests {
+    use super::*;
+    use crate::accept::Accept;
+    use crate::wait::Wait;
+    use cap_format::CapKind;
+
+    #[test]
+    fn a_write_to_register_0_is_lost_and_one_to_register_31_is_kept(rt: HostRuntime) {
+        let mut process = Process::new();
+        // (register, number and kind written, number and kind read afterwards)
+        let log = CapKind::KernLog;
+        let cases = [(0, 7, log, 0, CapKind::Null), (31, 7, log, 7, log)];
+        for (i, number, kind, number_after, kind_after) in cases {
+            process.set_reg(i, number);
+            process.set_capreg(i, Cap::plain(kind));
+            assert_eq!(rt; process.reg(i), number_after, "x{i}");
+            assert_eq!(rt; process.capreg(i).kind(), kind_after, "c{i}");
+        }
+        process.set_regs(&[5; 32]);
+        assert_eq!(rt; process.reg(0), 0);
+        assert_eq!(rt; process.regs()[1], 5);
+    }
+
+    #[test]
+    fn a_receiver_keeps_what_it_accepts(rt: HostRuntime) {
+        let mut process = Process::new();
+        process.set_pc(0xffff_fffc);
+        process.set_slot(2, Cap::plain(CapKind::KernLog));
+        let accept = Accept::new(Wait::Closed(9), 1, [31, 0, 0, 0], 0xffff_f000, 0x1000);
+        process.set_state(State::Receiving(accept));
+        assert_eq!(rt; process.pc(), 0xffff_fffc);
+        assert_eq!(rt; process.slot(2).kind(), CapKind::KernLog);
+        assert_eq!(rt; process.slot(1).kind(), CapKind::Null);
+        assert_eq!(rt; process.state(), State::Receiving(accept));
+        assert_eq!(rt; accept.wait(), Wait::Closed(9));
+        assert_eq!(rt; accept.caps(), 1);
+        assert_eq!(rt; accept.regs(), [31, 0, 0, 0]);
+        assert_eq!(rt; accept.at(), 0xffff_f000);
+        assert_eq!(rt; accept.bound(), 0x1000);
+    }
+}

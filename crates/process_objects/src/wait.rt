@@ -1,0 +1,10 @@
+//! For whom a receiver waits.
+
+/// Which endpoints may reach a receiver.
+#[derive(Clone, Copy, Debug, PartialEq, Eq)]
+pub enum Wait {
+    /// All of them.
+    Open,
+    /// Those with this endpoint id.
+    Closed(u32),
+}
