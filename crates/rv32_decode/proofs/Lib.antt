@@ -1,0 +1,4 @@
+mod Agreement
+mod Back
+mod RoundTrip
+mod OneRow

@@ -1,0 +1,5 @@
+pub mod InRange
+pub mod Fields
+pub mod Table
+pub mod Word
+pub mod Groups

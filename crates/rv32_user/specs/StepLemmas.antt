@@ -1,0 +1,187 @@
+-- Facts about every step, for the crates above.
+use Rattle.std.proofs.Common.{◌≡◌, ℕ, ◌%◌, List, Bool, true, false, ℤ, refl, arith, inl, inr, length, sym}
+use Rattle.std.specs.Prelude.{slice_index, if◌then◌else◌, ◌==◌}
+use Rattle.std.proofs.lemmas.Bool.Decides.{eqb_tells}
+use Rattle.std.proofs.lemmas.List.{get_or-set_other, length-set}
+use Rattle.rv32_decode.specs.declared.insn.Insn.{Insn}
+use Rattle.rv32_decode.specs.declared.insn.Insn.TheVariants.{Lb, Lh, Lw, Lbu, Lhu, Jalr, Sb, Sh, Sw, Beq, Bne, Blt, Bge, Bltu, Bgeu, Jal, Ecall, Ebreak}
+use Rattle.rv32_decode.specs.InRange.{InRange}
+use Rattle.rv32_user.specs.declared.effect.Effect.{Effect}
+use Rattle.rv32_user.specs.declared.effect.Effect.TheVariants.{Next, Load, Store, Syscall, Break, Misaligned}
+use Rattle.rv32_user.specs.declared.action.Action.{Action}
+use Rattle.rv32_user.specs.declared.action.Action.TheVariants.{Write, Link, Only}
+use Rattle.rv32_user.specs.Word.{plus, next_of, extended, is_aligned}
+use Rattle.rv32_user.specs.Registers.{with_register}
+use Rattle.rv32_user.specs.Table.{action_of, arrival, branch}
+use Rattle.rv32_user.specs.Step.{effect_in, registers_in, effect_of, registers_after, loaded}
+use Rattle.rv32_user.specs.Answers.{IsEffect, IsAlignedNext, ChangesOnlyAtNext, ComesFrom}
+
+-- what holds of both ends of a choice holds of the chosen one
+choice : (P : Effect → Type 0) (test : Bool) (taken passed : Effect) → P taken → P passed →
+    P (if test then taken else passed)
+choice P true taken passed at_taken at_passed = at_taken
+choice P false taken passed at_taken at_passed = at_passed
+
+-- arriving at an address
+arrival-IsEffect : (target : ℕ) → IsEffect (arrival target)
+arrival-IsEffect target = elim (eqb_tells (target % 4) 0) [ inl at ↦ rw at.0 tt | inr off ↦ rw off.0 off.1 ]
+
+arrival-aligned : (target : ℕ) → IsAlignedNext (arrival target)
+arrival-aligned target = elim (eqb_tells (target % 4) 0) [ inl at ↦ rw at.0 at.1 | inr off ↦ rw off.0 tt ]
+
+-- the next instruction's address is a multiple of 4 where this one's is
+next_of-aligned : (pc : ℕ) → pc % 4 ≡ 0 → next_of pc % 4 ≡ 0
+next_of-aligned pc aligned = omega arith
+
+-- a branch, taken or not
+branch-IsEffect : (pc : ℕ) (off : ℤ) (test : Bool) → IsEffect (branch pc off test)
+branch-IsEffect pc off test =
+    choice IsEffect test (arrival (plus pc off)) (Next (next_of pc)) (arrival-IsEffect (plus pc off)) tt
+
+branch-aligned : (pc : ℕ) (off : ℤ) (test : Bool) → pc % 4 ≡ 0 → IsAlignedNext (branch pc off test)
+branch-aligned pc off test aligned =
+    choice IsAlignedNext test (arrival (plus pc off)) (Next (next_of pc))
+    (arrival-aligned (plus pc off)) (next_of-aligned pc aligned)
+
+-- the effect of an instruction whose operands are in their ranges keeps to its parts' ranges
+pub IsEffect-effect_of : (x : List ℕ) (pc : ℕ) (insn : Insn) →
+    InRange insn → IsEffect (effect_of x pc insn)
+unfolding effect_of action_of
+IsEffect-effect_of x pc (Lb rd rs1 imm) range = (inl refl, range.0)
+IsEffect-effect_of x pc (Lh rd rs1 imm) range = (inr (inl refl), range.0)
+IsEffect-effect_of x pc (Lw rd rs1 imm) range = (inr (inr refl), range.0)
+IsEffect-effect_of x pc (Lbu rd rs1 imm) range = (inl refl, range.0)
+IsEffect-effect_of x pc (Lhu rd rs1 imm) range = (inr (inl refl), range.0)
+IsEffect-effect_of x pc (Jalr rd rs1 imm) range = arrival-IsEffect _
+IsEffect-effect_of x pc (Sb rs1 rs2 imm) range = (inl refl, omega arith)
+IsEffect-effect_of x pc (Sh rs1 rs2 imm) range = (inr (inl refl), omega arith)
+IsEffect-effect_of x pc (Sw rs1 rs2 imm) range = (inr (inr refl), omega arith)
+IsEffect-effect_of x pc (Beq rs1 rs2 off) range = branch-IsEffect pc off _
+IsEffect-effect_of x pc (Bne rs1 rs2 off) range = branch-IsEffect pc off _
+IsEffect-effect_of x pc (Blt rs1 rs2 off) range = branch-IsEffect pc off _
+IsEffect-effect_of x pc (Bge rs1 rs2 off) range = branch-IsEffect pc off _
+IsEffect-effect_of x pc (Bltu rs1 rs2 off) range = branch-IsEffect pc off _
+IsEffect-effect_of x pc (Bgeu rs1 rs2 off) range = branch-IsEffect pc off _
+IsEffect-effect_of x pc (Jal rd off) range = arrival-IsEffect _
+IsEffect-effect_of x pc _ range = tt
+
+-- a program at a multiple of 4 goes on at a multiple of 4
+pub IsAlignedNext-effect_of : (x : List ℕ) (pc : ℕ) (insn : Insn) →
+    pc % 4 ≡ 0 → IsAlignedNext (effect_of x pc insn)
+unfolding effect_of action_of
+IsAlignedNext-effect_of x pc (Lb rd rs1 imm) aligned = tt
+IsAlignedNext-effect_of x pc (Lh rd rs1 imm) aligned = tt
+IsAlignedNext-effect_of x pc (Lw rd rs1 imm) aligned = tt
+IsAlignedNext-effect_of x pc (Lbu rd rs1 imm) aligned = tt
+IsAlignedNext-effect_of x pc (Lhu rd rs1 imm) aligned = tt
+IsAlignedNext-effect_of x pc (Jalr rd rs1 imm) aligned = arrival-aligned _
+IsAlignedNext-effect_of x pc (Sb rs1 rs2 imm) aligned = tt
+IsAlignedNext-effect_of x pc (Sh rs1 rs2 imm) aligned = tt
+IsAlignedNext-effect_of x pc (Sw rs1 rs2 imm) aligned = tt
+IsAlignedNext-effect_of x pc (Beq rs1 rs2 off) aligned = branch-aligned pc off _ aligned
+IsAlignedNext-effect_of x pc (Bne rs1 rs2 off) aligned = branch-aligned pc off _ aligned
+IsAlignedNext-effect_of x pc (Blt rs1 rs2 off) aligned = branch-aligned pc off _ aligned
+IsAlignedNext-effect_of x pc (Bge rs1 rs2 off) aligned = branch-aligned pc off _ aligned
+IsAlignedNext-effect_of x pc (Bltu rs1 rs2 off) aligned = branch-aligned pc off _ aligned
+IsAlignedNext-effect_of x pc (Bgeu rs1 rs2 off) aligned = branch-aligned pc off _ aligned
+IsAlignedNext-effect_of x pc (Jal rd off) aligned = arrival-aligned _
+IsAlignedNext-effect_of x pc Ecall aligned = tt
+IsAlignedNext-effect_of x pc Ebreak aligned = tt
+IsAlignedNext-effect_of x pc _ aligned = next_of-aligned pc aligned
+
+-- jumps and branches call no system
+arrival-ComesFrom : (insn : Insn) (target : ℕ) → ComesFrom insn (arrival target)
+arrival-ComesFrom insn target = choice (ComesFrom insn) (is_aligned target) (Next target) (Misaligned target) tt tt
+
+branch-ComesFrom : (insn : Insn) (pc : ℕ) (off : ℤ) (test : Bool) → ComesFrom insn (branch pc off test)
+branch-ComesFrom insn pc off test =
+    choice (ComesFrom insn) test (arrival (plus pc off)) (Next (next_of pc)) (arrival-ComesFrom insn (plus pc off)) tt
+
+-- only ECALL is a system call, and only EBREAK a break
+pub ComesFrom-effect_of : (x : List ℕ) (pc : ℕ) (insn : Insn) → ComesFrom insn (effect_of x pc insn)
+unfolding effect_of action_of
+ComesFrom-effect_of x pc (Jalr rd rs1 imm) = arrival-ComesFrom (Jalr rd rs1 imm) _
+ComesFrom-effect_of x pc (Beq rs1 rs2 off) = branch-ComesFrom (Beq rs1 rs2 off) pc off _
+ComesFrom-effect_of x pc (Bne rs1 rs2 off) = branch-ComesFrom (Bne rs1 rs2 off) pc off _
+ComesFrom-effect_of x pc (Blt rs1 rs2 off) = branch-ComesFrom (Blt rs1 rs2 off) pc off _
+ComesFrom-effect_of x pc (Bge rs1 rs2 off) = branch-ComesFrom (Bge rs1 rs2 off) pc off _
+ComesFrom-effect_of x pc (Bltu rs1 rs2 off) = branch-ComesFrom (Bltu rs1 rs2 off) pc off _
+ComesFrom-effect_of x pc (Bgeu rs1 rs2 off) = branch-ComesFrom (Bgeu rs1 rs2 off) pc off _
+ComesFrom-effect_of x pc (Jal rd off) = arrival-ComesFrom (Jal rd off) _
+ComesFrom-effect_of x pc Ecall = refl
+ComesFrom-effect_of x pc Ebreak = refl
+ComesFrom-effect_of x pc _ = tt
+
+-- nothing is written to x0
+with_register-zero : (x : List ℕ) (rd value : ℕ) → slice_index (with_register x rd value) 0 ≡ slice_index x 0
+with_register-zero x rd value =
+    elim (eqb_tells rd 0) [
+      | inl zero ↦ rw zero.0 refl
+      | inr other ↦ rw other.0 (get_or-set_other x rd 0 value 0 (λ same. other.1 (sym same)))
+    ]
+
+-- a write adds and removes no register
+length-with_register : (x : List ℕ) (rd value : ℕ) → length (with_register x rd value) ≡ length x
+length-with_register x rd value =
+    elim (eqb_tells rd 0) [ inl zero ↦ rw zero.0 refl | inr other ↦ rw other.0 (length-set x rd value) ]
+
+-- what holds of the registers and of them with any one written holds after an action
+after_action : (P : List ℕ → Type 0) (x : List ℕ) (pc : ℕ) (action : Action) → P x →
+    ((rd value : ℕ) → P (with_register x rd value)) → P (registers_in x pc action)
+after_action P x pc (Write rd value) before written = written rd value
+after_action P x pc (Link rd target) before written =
+    elim (target % 4 == 0) as (λ v. P (if v then with_register x rd (next_of pc) else x))
+    [ true ↦ written rd (next_of pc) | false ↦ before ]
+after_action P x pc (Only effect) before written = before
+
+-- x0 is as before
+pub registers_after-zero : (x : List ℕ) (pc : ℕ) (insn : Insn) →
+    slice_index (registers_after x pc insn) 0 ≡ slice_index x 0
+unfolding registers_after
+registers_after-zero x pc insn =
+    after_action (λ y. slice_index y 0 ≡ slice_index x 0) x pc (action_of x pc insn) refl (with_register-zero x)
+
+-- and so it is after a load
+pub loaded-zero : (x : List ℕ) (rd size : ℕ) (is_signed : Bool) (value : ℕ) →
+    slice_index (loaded x rd size is_signed value) 0 ≡ slice_index x 0
+unfolding loaded
+loaded-zero x rd size is_signed value = with_register-zero x rd (extended size is_signed value)
+
+-- there are as many registers as before
+pub length-registers_after : (x : List ℕ) (pc : ℕ) (insn : Insn) →
+    length (registers_after x pc insn) ≡ length x
+unfolding registers_after
+length-registers_after x pc insn =
+    after_action (λ y. length y ≡ length x) x pc (action_of x pc insn) refl (length-with_register x)
+
+-- and so there are after a load
+pub length-loaded : (x : List ℕ) (rd size : ℕ) (is_signed : Bool) (value : ℕ) →
+    length (loaded x rd size is_signed value) ≡ length x
+unfolding loaded
+length-loaded x rd size is_signed value = length-with_register x rd (extended size is_signed value)
+
+-- registers that no action touched are as before, whatever the effect
+unchanged_by : (x : List ℕ) (effect : Effect) → ChangesOnlyAtNext effect x x
+unchanged_by x (Next pc) = tt
+unchanged_by x (Load at size signed rd) = refl
+unchanged_by x (Store at size value) = refl
+unchanged_by x Syscall = refl
+unchanged_by x Break = refl
+unchanged_by x (Misaligned target) = refl
+
+-- an action changes registers only where the program goes on
+kept_by : (x : List ℕ) (pc : ℕ) (action : Action) →
+    ChangesOnlyAtNext (effect_in pc action) x (registers_in x pc action)
+kept_by x pc (Write rd value) = tt
+kept_by x pc (Link rd target) =
+    elim (is_aligned target)
+    as (λ v. ChangesOnlyAtNext (if v then Next target else Misaligned target) x
+    (if v then with_register x rd (next_of pc) else x))
+    [ true ↦ tt | false ↦ refl ]
+kept_by x pc (Only effect) = unchanged_by x effect
+
+-- the registers are as before unless the instruction is over
+pub ChangesOnlyAtNext-effect_of : (x : List ℕ) (pc : ℕ) (insn : Insn) →
+    ChangesOnlyAtNext (effect_of x pc insn) x (registers_after x pc insn)
+unfolding effect_of registers_after
+ChangesOnlyAtNext-effect_of x pc insn = kept_by x pc (action_of x pc insn)
