@@ -1,0 +1,35 @@
+-- The window rules of a walk are what windows come to.
+use Rattle.std.specs.Prelude.{◌≡◌, ℕ, Bool, true, false, if◌then◌else◌, Option, Some, None, refl}
+use Rattle.cap_format.specs.Capability.{Capability}
+use Rattle.cap_format.specs.Kind.{is_window}
+use Rattle.cap_format.specs.declared.fault.FaultCode.TheVariants.{MalformedSpace}
+use Rattle.cap_format.specs.declared.kind.CapKind.{CapKind}
+use Rattle.cap_format.specs.declared.kind.CapKind.TheVariants.{Window, LocalWindow}
+use Rattle.object_store.specs.Store.{Items, header_at}
+use Rattle.walk_meaning.specs.declared.at.At.{At}
+use Rattle.walk_meaning.specs.declared.kind.Kind.{Kind}
+use Rattle.walk_meaning.specs.declared.step.Step.TheVariants.{Fault, Go}
+use Rattle.walk_meaning.specs.Walk.{at_kind, at_window, at_local, is_reserved, through_window}
+use Rattle.windows.specs.Resolve.{resolution, through_background, through_holding, next}
+use Rattle.walk_engine.specs.Windows.{held, context_of, step_through, WindowLaw}
+
+module _ (o : Items) (c : Capability) (w : At) where
+  by_background : (g : Option ℕ) → at_window g c w ≡ step_through w (through_background g c w.address)
+  by_background None = refl
+  by_background (Some g) = refl
+
+  unless_reserved : (b : Bool) (g : ℕ) → (if b then Fault MalformedSpace w.handler else Go (through_window c g w) g c.slot) ≡ step_through w (if b then None else Some (next g c.slot c w.address))
+  unless_reserved true g = refl
+  unless_reserved false g = refl
+
+  by_holding : (g : Option ℕ) → at_local o g c w ≡ step_through w (through_holding (held o g) c w.address)
+  by_holding None = refl
+  by_holding (Some g) = unless_reserved (is_reserved (header_at o g) c.slot) g
+
+  by_kind : (kind : Kind) (k : CapKind) → is_window k ≡ true → at_kind o kind k c w ≡ step_through w (resolution k c w.address (context_of o w))
+  by_kind kind Window e = by_background w.background
+  by_kind kind LocalWindow e = by_holding w.holding
+  by_kind kind _ e = absurd (cc (e))
+
+pub window_law : WindowLaw
+window_law o kind c w e = by_kind o c w kind c.kind e

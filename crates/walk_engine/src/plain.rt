@@ -1,0 +1,84 @@
+//! The translator that walks at each call.
+
+ghost use Rattle.std.specs.Prelude.{◌≡◌, ⊤};
+
+use crate::hit::Hit;
+use crate::translator::Translator;
+use crate::walking::{Trail, walk};
+use cap_format::{Cap, Item};
+use object_store::Objects;
+use std::marker::Model;
+use std::sync::ledger::Ledger;
+use steps::Steps;
+use walk_meaning::{Kind, WalkFault};
+
+/// Walks at each call, and remembers nothing. It serves 8 harts.
+#[derive(Drop)]
+pub struct Plain {
+    /// Where a walk writes its trail, which nobody reads.
+    trail: Trail,
+}
+
+impl Model for Plain {
+    ghost Value = { Unit {0} };
+
+    ghost view = { λ _. tt };
+}
+
+impl Plain {
+    pub fn new() -> Plain
+        ensures { result ≡ tt }
+    {
+        Plain {
+            trail: Trail::new(),
+        }
+    }
+}
+
+impl Translator for Plain {
+    ghost use Rattle.walk_meaning.specs.Trail.{slots};
+
+    ghost harts = { λ _. 8 };
+
+    ghost coherent = { λ _ _. ⊤ };
+
+    ghost fresh = { λ _. ⊤ };
+
+    ghost Kept = { Unit {0} };
+
+    ghost kept = { λ _. tt };
+
+    ghost cost = { λ k o c a kind. slots o c a kind };
+
+    ghost after = { λ k o c a kind. k };
+
+    ghost without = { λ k item. k };
+
+    ghost Cache = { Unit {0} };
+
+    ghost cache = { λ _ _. tt };
+
+    ghost spared = { λ k o c a kind kept. kept };
+
+    fn translate<L: Ledger>(
+        &mut self,
+        objects: &Objects,
+        _hart: u8,
+        space: Cap,
+        address: u32,
+        kind: Kind,
+        fetches: &mut Steps<L>,
+    ) -> Result<Hit, WalkFault> {
+        let place = walk(objects, space, address, kind, &mut self.trail, fetches)?;
+        Ok(Hit {
+            page: place.number,
+            offset: place.offset,
+        })
+    }
+
+    fn invalidate(&mut self, _item: Item) {}
+
+    ghost carries = { λ t o p none coherent. tt };
+
+    ghost starts = { λ t o fresh. tt };
+}

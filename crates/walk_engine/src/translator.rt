@@ -1,0 +1,93 @@
+//! What a machine asks of whatever translates its data accesses.
+
+ghost use Rattle.std.specs.Prelude.{◌≡◌, ◌≢◌, ◌<◌, ◌≤◌, ◌+◌, ◌%◌, ℕ, true, IfOk, IfErr};
+ghost use Rattle.cap_format.specs.Capability.{Capability};
+ghost use Rattle.cap_format.specs.declared.item.Item.{Item};
+ghost use Rattle.object_store.specs.Store.{Items, size_of};
+ghost use Rattle.object_store.specs.Meaning.{meaning, map_of};
+ghost use Rattle.object_store.specs.Differ.{DifferIn, DifferInNone};
+ghost use Rattle.walk_meaning.specs.declared.kind.Kind.{Kind};
+ghost use Rattle.walk_meaning.specs.Walk.{access, is_data};
+ghost use Rattle.walk_engine.specs.Answer.{HandlerLives, hit_of, hit_meaning};
+
+use crate::hit::Hit;
+use cap_format::{Cap, CapKind, Item};
+use object_store::Objects;
+use std::sync::ledger::Ledger;
+use steps::Steps;
+use walk_meaning::{Kind, WalkFault};
+
+/// Translates data accesses as fresh walks would, and may remember where walks ended.
+///
+/// A change of the objects in an item is told by `invalidate`. What is kept, what it costs to
+/// translate by it, and what changes do to it, are functions of the translator's own choice over the
+/// map of objects, so that a machine can say exactly how many slots it fetches.
+pub trait Translator: Drop {
+    /// The number of harts that it serves.
+    ghost harts: { Self → ℕ };
+
+    /// What it remembers agrees with a map of objects.
+    ghost coherent: { Self → Items → Type 0 };
+
+    /// It remembers nothing yet.
+    ghost fresh: { Self → Type 0 };
+
+    /// What it keeps is a value of this type.
+    ghost Kept: { Type 0 };
+
+    ghost kept: { Self → Kept };
+
+    /// How many slots a data access fetches: of what is kept, the map, the space's meaning, the address and the kind.
+    ghost cost: { Kept → Items → Capability → ℕ → Kind → ℕ };
+
+    /// What is kept after a data access.
+    ghost after: { Kept → Items → Capability → ℕ → Kind → Kept };
+
+    /// What is kept after an item changed.
+    ghost without: { Kept → Item → Kept };
+
+    /// What it keeps for one hart is a value of this type.
+    ghost Cache: { Type 0 };
+
+    ghost cache: { Self → ℕ → Cache };
+
+    /// What a data access on one hart makes of another hart's cache.
+    ghost spared: { Kept → Items → Capability → ℕ → Kind → Cache → Cache };
+
+    /// The page and the offset of the place that a fresh walk reaches, or its fault. It stays coherent.
+    fn translate<L: Ledger>(
+        &mut self,
+        objects: &Objects,
+        hart: u8,
+        space: Cap,
+        address: u32,
+        kind: Kind,
+        fetches: &mut Steps<L>,
+    ) -> Result<Hit, WalkFault>
+        requires data { is_data kind ≡ true }
+        requires hart { hart < harts self.old }
+        requires coherent { coherent self.old (map_of objects.now.items) }
+        ensures answer { hit_meaning result ≡ hit_of (access (map_of objects.now.items) (meaning objects.now.items space) address kind) }
+        ensures page { IfOk result (λ hit. hit.page < size_of objects.now.items CapKind.Page) }
+        ensures offset { IfOk result (λ hit. hit.offset ≡ address % 4096) }
+        ensures handler { IfErr result (λ fault. HandlerLives objects.now.items fault.handler) }
+
+        ensures coherent { coherent self.new (map_of objects.now.items) }
+        ensures harts { harts self.new ≡ harts self.old }
+
+        ensures counted { fetches.new ≡ fetches.old + cost (kept self.old) (map_of objects.now.items) (meaning objects.now.items space) address kind }
+        ensures after { kept self.new ≡ after (kept self.old) (map_of objects.now.items) (meaning objects.now.items space) address kind }
+        ensures others { (k : ℕ) → k ≢ hart → cache self.new k ≡ spared (kept self.old) (map_of objects.now.items) (meaning objects.now.items space) address kind (cache self.old k) };
+
+    /// Tells that this item alone may have changed.
+    fn invalidate(&mut self, item: Item)
+        ensures coherent { (o p : Items) → DifferIn item o p → coherent self.old o → coherent self.new p }
+        ensures harts { harts self.new ≡ harts self.old }
+        ensures without { kept self.new ≡ without (kept self.old) item };
+
+    /// Coherence carries over between maps that differ in no item.
+    ghost carries: { (t : Self) (o p : Items) → DifferInNone o p → coherent t o → coherent t p };
+
+    /// One that is fresh is coherent with all objects.
+    ghost starts: { (t : Self) (o : Items) → fresh t → coherent t o };
+}

@@ -1,0 +1,5 @@
+use Rattle.walk_meaning.specs.Blocks.{block_law}
+use Rattle.walk_meaning.proofs.laws.block_law.Goals as goal
+
+pub returns : goal.returns
+returns c = block_law

@@ -1,0 +1,5 @@
+use Rattle.walk_meaning.specs.Kinds.{kind_law}
+use Rattle.walk_meaning.proofs.laws.kind_law.Goals as goal
+
+pub returns : goal.returns
+returns c = kind_law

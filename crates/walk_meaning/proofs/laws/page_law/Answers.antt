@@ -1,0 +1,5 @@
+use Rattle.walk_meaning.specs.Pages.{page_law}
+use Rattle.walk_meaning.proofs.laws.page_law.Goals as goal
+
+pub returns : goal.returns
+returns c = page_law

@@ -1,0 +1,5 @@
+use Rattle.walk_meaning.specs.Reads.{reads_law}
+use Rattle.walk_meaning.proofs.laws.reads_law.Goals as goal
+
+pub returns : goal.returns
+returns c = reads_law

@@ -1,0 +1,5 @@
+use Rattle.walk_meaning.specs.Frame.{space_frame_law}
+use Rattle.walk_meaning.proofs.laws.space_frame_law.Goals as goal
+
+pub returns : goal.returns
+returns c = space_frame_law

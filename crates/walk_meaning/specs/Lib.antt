@@ -1,0 +1,15 @@
+pub mod Walk
+pub mod Trail
+pub mod Laws
+pub mod Walked
+pub mod Ways
+pub mod Ends
+pub mod Bounds
+pub mod Frame
+pub mod Alike
+pub mod Along
+pub mod Pages
+pub mod Reads
+pub mod Blocks
+pub mod Kinds
+pub mod Places

@@ -1,0 +1,61 @@
+//! What a window comes to.
+
+ghost use Rattle.std.specs.Prelude.{◌≡◌, ◌<◌, ◌+◌, ◌^◌, true};
+ghost use Rattle.cap_format.specs.Kind.{is_window};
+ghost use Rattle.walk_meaning.specs.Walk.{is_reserved};
+ghost use Rattle.windows.specs.Resolve.{resolution, next_of};
+
+use crate::context::{Context, Next};
+use cap_format::{Cap, CapKind};
+use gpt_objects::GptHeader;
+
+/// The window looks into a GPT that is not there, or into a slot that is no way on.
+#[derive(Clone, Copy, Debug, PartialEq, Eq)]
+pub struct Malformed;
+
+/// Where a window leads that left `r` of an address behind its guard.
+pub fn resolve(window: Cap, r: u32, context: Context) -> Result<Next, Malformed>
+    requires window { is_window window.kind ≡ true }
+    requires left { r < 2 ^ window.guard.l2g }
+    ensures { next_of result ≡ resolution window.kind window r context }
+{
+    let address = beyond(window, r);
+    if window.kind() == CapKind::Window {
+        let Some(gpt) = context.background else {
+            return Err(Malformed);
+        };
+        return Ok(Next {
+            gpt,
+            slot: 14,
+            address,
+        });
+    }
+    let Some((gpt, header)) = context.holding else {
+        return Err(Malformed);
+    };
+    if is_reserved(header, window.slot()) {
+        return Err(Malformed);
+    }
+    Ok(Next {
+        gpt,
+        slot: window.slot(),
+        address,
+    })
+}
+
+/// Whether a slot, 0 to 15, is no way on, since it is the GPT's handler or its background.
+pub fn is_reserved(header: GptHeader, slot: u8) -> bool
+    ensures { result ≡ is_reserved header slot }
+{
+    (slot == 15 && header.ha()) || (slot == 14 && header.bg())
+}
+
+/// The window's offset and what is left of the address. It is below `2^32`, since the offset is a
+/// multiple of the guard's size.
+fn beyond(window: Cap, r: u32) -> u32
+    requires window { is_window window.kind ≡ true }
+    requires left { r < 2 ^ window.guard.l2g }
+    ensures { result ≡ window.object + r }
+{
+    window.object() + r
+}
