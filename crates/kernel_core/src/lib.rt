@@ -1,0 +1,18 @@
+//! The machine: objects, queues and harts over any translator, one event at a time.
+//!
+//! An event is one step of a hart or one tick of its timer, and is atomic. Nothing here knows of texts, of tables or of
+//! what a translator keeps.
+#![tactic(auto)]
+
+mod event;
+mod instruction;
+mod log_bytes;
+mod machine;
+mod record;
+mod records;
+
+pub use event::Event;
+pub use log_bytes::LogBytes;
+pub use machine::Machine;
+pub use record::Record;
+pub use records::Records;

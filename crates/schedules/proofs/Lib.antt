@@ -1,0 +1,9 @@
+pub mod Removed
+pub mod Mapped
+pub mod Highest
+pub mod Standing
+pub mod Room
+pub mod Kept
+pub mod Agreement
+pub mod Waking
+pub mod OnHart

@@ -1,0 +1,39 @@
+use Rattle.std.proofs.Common.{rules, ◌≡◌, ◌<◌, length, [], ◌∷◌, ◌+◌, drop, arith}
+use Rattle.std.proofs.lemmas.List.{drop_more, drop_all}
+use Rattle.schedules.proofs.Waking.{waking-there, waking-step, waking-end, agrees-end}
+use Rattle.schedules.proofs.queues.Queues.wake.Goals as goal
+
+pub make_ready-requires-clause-there : goal.make_ready-requires-clause-there
+make_ready-requires-clause-there c =
+    let xs = c.take_sleepers-sleepers.result in
+    let next : drop c.waking.i xs ≡ c.at-p.result ∷ drop (c.waking.i + 1) xs = rw c.at-p.ensures (drop_more xs c.waking.i 0 (search rules)) in
+    (waking-there _ _ _ _ _ _ _ (rw next at c.waking.invariant)).0
+
+pub make_ready-requires-clause-nowhere : goal.make_ready-requires-clause-nowhere
+make_ready-requires-clause-nowhere c =
+    let xs = c.take_sleepers-sleepers.result in
+    let next : drop c.waking.i xs ≡ c.at-p.result ∷ drop (c.waking.i + 1) xs = rw c.at-p.ensures (drop_more xs c.waking.i 0 (search rules)) in
+    (waking-there _ _ _ _ _ _ _ (rw next at c.waking.invariant)).1
+
+pub waking-preserved : goal.waking-preserved
+waking-preserved c =
+    let xs = c.take_sleepers-sleepers.result in
+    let next : drop c.waking.i xs ≡ c.at-p.result ∷ drop (c.waking.i + 1) xs = rw c.at-p.ensures (drop_more xs c.waking.i 0 (search rules)) in
+    let there = (waking-there _ _ _ _ _ _ _ (rw next at c.waking.invariant)).0 in
+    let within : c.at-p.result < length c.waking.objects.contents.processes = omega (arith, there, c.waking.invariant.sizes, c.in_ranges.ensures.sized.processes) in
+    waking-step _ _ _ _ _ _ _ _ _ (rw next at c.waking.invariant) c.make_ready.ensures.objects c.make_ready.ensures.queues within c.make_ready.ensures.places
+
+pub returns-clause-objects : goal.returns-clause-objects
+returns-clause-objects c =
+    let over : drop c.waking.i c.take_sleepers-sleepers.result ≡ [] = drop_all c.waking.i c.take_sleepers-sleepers.result (omega (arith, c.waking-test.false, c.len-i-end.ensures)) in
+    (waking-end _ _ _ _ _ (rw over at c.waking.invariant)).0
+
+pub returns-clause-queues : goal.returns-clause-queues
+returns-clause-queues c =
+    let over : drop c.waking.i c.take_sleepers-sleepers.result ≡ [] = drop_all c.waking.i c.take_sleepers-sleepers.result (omega (arith, c.waking-test.false, c.len-i-end.ensures)) in
+    (waking-end _ _ _ _ _ (rw over at c.waking.invariant)).1
+
+pub returns-clause-agrees : goal.returns-clause-agrees
+returns-clause-agrees c =
+    let over : drop c.waking.i c.take_sleepers-sleepers.result ≡ [] = drop_all c.waking.i c.take_sleepers-sleepers.result (omega (arith, c.waking-test.false, c.len-i-end.ensures)) in
+    λ start. agrees-end _ (rw over at c.waking.invariant.agrees start)

@@ -1,0 +1,100 @@
+ghost use Rattle.std.specs.Prelude.{◌≡◌, ◌==◌, ◌<◌, ◌++◌, ◌∷◌, [], length, slice_get, slice_index, IfSome};
+ghost use Rattle.std.specs.List.{position};
+ghost use Rattle.schedules.specs.Queues.{without, first_of, rest_of, stands_in};
+
+use arrayvec::ArrayVec;
+use std::marker::Model;
+
+/// Processes in the order in which they are served. It has room for every process of a machine.
+#[derive(Drop)]
+pub struct ProcessList {
+    list: ArrayVec<u16, 256>,
+}
+
+impl Model for ProcessList {
+    ghost use Rattle.std.specs.Prelude.{List, ℕ};
+
+    ghost Value = { List ℕ };
+
+    ghost view = { λ l. l.list.items };
+}
+
+impl ProcessList {
+    pub fn new() -> ProcessList
+        ensures { result ≡ [] }
+    {
+        ProcessList {
+            list: ArrayVec::new(),
+        }
+    }
+
+    pub fn is_empty(&self) -> bool
+        ensures { result ≡ (length self.now == 0) }
+    {
+        self.list.is_empty()
+    }
+
+    /// The process at this place from the front, counted from 0.
+    pub fn get(&self, place: u16) -> Option<u16>
+        ensures { result ≡ slice_get self.now place }
+    {
+        self.list.as_slice().get(place as usize).copied()
+    }
+
+    pub fn len(&self) -> usize
+        ensures { result ≡ length self.now }
+    {
+        self.list.len()
+    }
+
+    /// The process at this place, which is one of the list's.
+    pub fn at(&self, place: usize) -> u16
+        requires { place < length self.now }
+        ensures { result ≡ slice_index self.now place }
+    {
+        self.list.as_slice()[place]
+    }
+
+    pub fn contains(&self, process: u16) -> bool
+        ensures { result ≡ stands_in self.now process }
+    {
+        self.list.as_slice().contains(&process)
+    }
+
+    pub fn push_last(&mut self, process: u16)
+        requires { length self.old < 256 }
+        ensures { self.new ≡ self.old ++ process ∷ [] }
+    {
+        self.list.push(process);
+    }
+
+    pub fn pop_first(&mut self) -> Option<u16>
+        ensures first { result ≡ first_of self.old }
+        ensures rest { self.new ≡ rest_of self.old }
+    {
+        if self.list.is_empty() {
+            return None;
+        }
+        Some(self.list.remove(0))
+    }
+
+    /// Takes the process out, where it stands here.
+    #[tactic(auto, using(crate::proofs::Removed::removed_Some, crate::proofs::Removed::removed_None))]
+    pub fn remove(&mut self, process: u16)
+        ensures { self.new ≡ without process self.old }
+    {
+        if let Some(place) = self.place_of(process) {
+            self.list.remove(place);
+        }
+    }
+
+    fn place_of(&self, process: u16) -> Option<usize>
+        ensures value { result ≡ position (λ x. x == process) self.now }
+        ensures there { IfSome result (λ place. place < length self.now) }
+    {
+        self.list
+            .as_slice()
+            .iter()
+            .position(|other| *other == process)
+    }
+}

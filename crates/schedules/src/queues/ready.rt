@@ -1,0 +1,69 @@
+//! Making processes ready, which changes their states as well.
+ghost use Rattle.std.specs.Prelude.{◌≡◌, ◌<◌, ◌+◌, ◌==◌, cond, ℕ, length, IfOk};
+ghost use Rattle.object_store.specs.Store.{size_of, process_at};
+ghost use Rattle.object_store.specs.Ranges.{IsWithinLimits};
+ghost use Rattle.schedules.specs.Standing.{standing, empty_queues};
+ghost use Rattle.schedules.specs.Ready.{Agrees, AgreesBut, runs_of, with_processes, schedule_of, readied, woken, places_due};
+
+use super::Queues;
+use cap_format::{CapKind, FaultCode, OutOfMemory};
+use object_store::{Objects, Sizes};
+use process_objects::State;
+use std::alloc::Global;
+
+impl Queues {
+    /// Queues for a machine of these sizes, with no process anywhere. All room is taken here.
+    pub fn new(alloc: Global, sizes: Sizes) -> Result<Queues, OutOfMemory>
+        requires { IsWithinLimits sizes }
+        ensures { IfOk result (λ queues. queues ≡ empty_queues sizes.processes sizes.harts) }
+    {
+        Ok(Queues::empty(alloc, sizes.processes, sizes.harts)?)
+    }
+
+    /// Sets the process Running and puts it last in the queue of its schedule's priority. Where its schedule slot
+    /// means no Schedule it becomes Faulted with NoSchedule and its pc as address, and stands nowhere. Takes constant
+    /// time.
+    pub fn make_ready(&mut self, objects: &mut Objects, p: u16)
+        requires sizes { length self.old.sleepers ≡ size_of objects.old.items CapKind.Process }
+        requires there { p < length self.old.sleepers }
+        requires nowhere { standing self.old p ≡ 0 }
+        ensures objects { objects.new ≡ with_processes objects.old (readied (schedule_of objects.old p) p (runs_of objects.old self.old)).processes }
+        ensures queues { self.new ≡ (readied (schedule_of objects.old p) p (runs_of objects.old self.old)).queues }
+        ensures items { objects.new.items ≡ objects.old.items }
+        ensures object_harts { objects.new.harts ≡ objects.old.harts }
+        ensures processes { length self.new.sleepers ≡ length self.old.sleepers }
+        ensures harts { length self.new.harts ≡ length self.old.harts }
+        ensures places { (x : ℕ) → standing self.new x ≡ standing self.old x + cond (p == x) (places_due (process_at objects.new p).state) 0 }
+        ensures agrees { AgreesBut p (runs_of objects.old self.old) → Agrees (runs_of objects.new self.new) }
+    {
+        objects.in_ranges();
+        let process = objects.process(p);
+        let pc = process.pc();
+        let schedule = objects.live(process.slot(1));
+        if schedule.kind() == CapKind::Schedule {
+            objects.process_mut(p).set_state(State::Running);
+            self.enqueue(p, schedule.object() as u8);
+        } else {
+            objects.process_mut(p).set_state(State::Faulted {
+                code: FaultCode::NoSchedule,
+                address: pc,
+            });
+        }
+    }
+
+    /// Makes all that sleep on `on` ready, in their order; nobody sleeps on it then. It takes a step for each of them.
+    pub fn wake(&mut self, objects: &mut Objects, on: u16)
+        requires sizes { length self.old.sleepers ≡ size_of objects.old.items CapKind.Process }
+        requires there { on < length self.old.sleepers }
+        ensures objects { objects.new ≡ with_processes objects.old (woken (schedule_of objects.old) on (runs_of objects.old self.old)).processes }
+        ensures queues { self.new ≡ (woken (schedule_of objects.old) on (runs_of objects.old self.old)).queues }
+        ensures agrees { Agrees (runs_of objects.old self.old) → Agrees (runs_of objects.new self.new) }
+    {
+        let sleepers = self.take_sleepers(on);
+        'waking: for i in 0..sleepers.len() {
+            let p = sleepers.at(i);
+            objects.in_ranges();
+            self.make_ready(objects, p);
+        }
+    }
+}
