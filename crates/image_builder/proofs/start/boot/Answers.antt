@@ -1,0 +1,14 @@
+use Rattle.std.proofs.Common.{rules, ◌≡◌, ◌∙◌, ap}
+use Rattle.object_store.specs.Store.{sizes_of}
+use Rattle.image_builder.specs.Sizes.{sizes_empty}
+use Rattle.image_builder.proofs.start.boot.Goals as goal
+
+pub assign_counts-requires : goal.assign_counts-requires
+assign_counts-requires g c =
+    let e : sizes_of c.in_ok-objects.objects ≡ c.args.listing.now.sizes = ap sizes_of c.in_ok-objects.ensures.value ∙ (sizes_empty c.sizes-sizes.result ∙ c.sizes-sizes.ensures.value) in
+    rw (e, c.statements-statements.ensures.value) c.statements-statements.ensures.range
+
+pub assign_all-requires : goal.assign_all-requires
+assign_all-requires g c =
+    let e : sizes_of c.in_ok-objects.objects ≡ c.args.listing.now.sizes = ap sizes_of c.in_ok-objects.ensures.value ∙ (sizes_empty c.sizes-sizes.result ∙ c.sizes-sizes.ensures.value) in
+    rw (c.assign_counts.ensures, e, c.statements-statements.ensures.value) c.statements-statements.ensures.range

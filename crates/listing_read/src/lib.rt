@@ -1,0 +1,21 @@
+//! Listings and schedules: the texts of which a machine is made and by which it runs, read line by line up to the
+//! first fault.
+//!
+//! Nothing here knows what a statement does to a machine.
+#![tactic(auto)]
+
+mod capability;
+mod fault;
+mod fields;
+mod line;
+mod listing;
+mod page_bytes;
+mod schedule;
+mod statement;
+mod statements;
+
+pub use fault::{Fault, ListingFault, ScheduleFault};
+pub use listing::{Listing, read_listing};
+pub use page_bytes::PageBytes;
+pub use schedule::{Timed, read_event};
+pub use statement::Statement;

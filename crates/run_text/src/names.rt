@@ -1,0 +1,63 @@
+//! Names in the output.
+ghost use Rattle.std.specs.Prelude.{◌≤◌, length};
+
+use cap_format::{CapKind, FaultCode};
+use walk_meaning::Kind;
+
+/// A fault's name.
+pub(crate) fn fault_name(code: FaultCode) -> &'static str
+    ensures { length result.now ≤ 32 }
+{
+    match code {
+        FaultCode::Stopped => "Stopped",
+        FaultCode::InvalidDataReference => "InvalidDataReference",
+        FaultCode::InvalidCapReference => "InvalidCapReference",
+        FaultCode::DataAccessTypeError => "DataAccessTypeError",
+        FaultCode::CapAccessTypeError => "CapAccessTypeError",
+        FaultCode::AccessViolation => "AccessViolation",
+        FaultCode::MalformedSpace => "MalformedSpace",
+        FaultCode::NoSchedule => "NoSchedule",
+        FaultCode::MalformedSyscall => "MalformedSyscall",
+        FaultCode::BadAlign => "BadAlign",
+        FaultCode::BadOpcode => "BadOpcode",
+        FaultCode::Breakpoint => "Breakpoint",
+    }
+}
+
+/// An object's kind, as in the statement `count`.
+pub(crate) fn object_name(kind: CapKind) -> &'static str
+    ensures { length result.now ≤ 32 }
+{
+    match kind {
+        CapKind::Page => "page",
+        CapKind::CapPage => "cappage",
+        CapKind::Gpt => "gpt",
+        CapKind::Endpoint => "endpoint",
+        CapKind::Process => "process",
+        _ => "none",
+    }
+}
+
+/// An access's kind, and the kind of object that it reaches.
+pub(crate) fn access_name(kind: Kind) -> &'static str
+    ensures { length result.now ≤ 32 }
+{
+    match kind {
+        Kind::Fetch => "fetch ",
+        Kind::Load => "load ",
+        Kind::Store => "store ",
+        Kind::CapLoad => "capload ",
+        Kind::CapStore => "capstore ",
+    }
+}
+
+/// What an access of this kind reaches.
+pub(crate) fn target_name(kind: Kind) -> &'static str
+    ensures { length result.now ≤ 32 }
+{
+    match kind {
+        Kind::CapLoad => " cappage ",
+        Kind::CapStore => " cappage ",
+        _ => " page ",
+    }
+}
