@@ -1,0 +1,15 @@
+-- The program's exits as numbers.
+use Rattle.std.specs.Prelude.{ℕ}
+use Rattle.coyotos_cli.specs.declared.exit.Exit.{Exit}
+use Rattle.coyotos_cli.specs.declared.exit.Exit.TheVariants.{Done, Usage, ListingRefused, ScheduleRefused, ReadFault, WriteFault, OutOfMemory, TooLong}
+
+-- the status with which the program ends
+abbrev pub status_of : Exit → ℕ
+status_of Done = 0
+status_of Usage = 1
+status_of (ListingRefused line fault) = 2
+status_of (ScheduleRefused line fault) = 3
+status_of ReadFault = 4
+status_of WriteFault = 5
+status_of OutOfMemory = 6
+status_of TooLong = 7

@@ -1,0 +1,14 @@
+//! The whole program as one call, over any source, any sink and any counter.
+//!
+//! Nothing here knows of files, or of the machine on which the program runs.
+#![tactic(auto)]
+
+mod command;
+mod exit;
+mod program;
+mod session;
+#[cfg(test)]
+mod tests;
+
+pub use exit::Exit;
+pub use program::coyotos;
