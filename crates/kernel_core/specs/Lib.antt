@@ -1,1 +1,10 @@
 pub mod Machine
+pub mod State
+pub mod Setters
+pub mod Outcome
+pub mod Fault
+pub mod Access
+pub mod SystemCall
+pub mod Instruction
+pub mod Event
+pub mod Run

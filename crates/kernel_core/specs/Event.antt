@@ -1,0 +1,55 @@
+-- Events: one step of a hart, or one tick of its timer. Each is atomic.
+use Rattle.std.specs.Prelude.{ℕ, Bool, if◌then◌else◌, Option, Some, None, Result, Ok, Err}
+use Rattle.cap_format.specs.declared.fault.FaultCode.TheVariants.{BadOpcode}
+use Rattle.rv32_decode.specs.declared.insn.Insn.{Insn}
+use Rattle.rv32_decode.specs.Table.{insn_at}
+use Rattle.walk_meaning.specs.declared.kind.Kind.TheVariants.{Fetch}
+use Rattle.walk_meaning.specs.declared.place.WalkFault.{WalkFault}
+use Rattle.walk_engine.specs.declared.hit.Hit.{Hit}
+use Rattle.schedules.specs.Queues.{hart_of, dispatched}
+use Rattle.kernel_core.specs.declared.event.Event.{Event}
+use Rattle.kernel_core.specs.declared.event.Event.TheVariants.{Step, Tick}
+use Rattle.kernel_core.specs.declared.record.Record.TheVariants.{Insn as InsnRead}
+use Rattle.kernel_core.specs.State.{State, pc_of}
+use Rattle.kernel_core.specs.Setters.{set_queues, leave, ready}
+use Rattle.kernel_core.specs.Outcome.{Outcome, done, recorded, touched}
+use Rattle.kernel_core.specs.Fault.{fault}
+use Rattle.kernel_core.specs.Access.{data_access, data_touch, reached, number_at}
+use Rattle.kernel_core.specs.Instruction.{perform}
+
+-- the word that was fetched: an instruction, or none of the table
+abbrev pub decoded_to : State → ℕ → Option Insn → Outcome
+decoded_to s p None = fault s p BadOpcode (pc_of s p) None
+decoded_to s p (Some insn) = recorded (InsnRead p (pc_of s p) insn) (perform s p insn)
+
+-- the fetch at a process's pc
+abbrev pub fetched_from : State → ℕ → Result Hit WalkFault → Outcome
+fetched_from s p (Err f) = fault s p f.code (pc_of s p) f.handler
+fetched_from s p (Ok hit) = recorded (reached p Fetch (pc_of s p) hit) (decoded_to s p (insn_at (number_at s hit 4)))
+
+-- one instruction of a process: its fetch, then what the word says
+abbrev pub instruction : State → ℕ → Outcome
+instruction s p = touched (data_touch s p (pc_of s p) Fetch) (fetched_from s p (data_access s p (pc_of s p) Fetch))
+
+-- a hart without a process takes the first of the highest ready queue
+abbrev pub dispatch : State → ℕ → State
+dispatch s hart = set_queues s (dispatched s.queues hart)
+
+-- a step of a hart with this process
+abbrev pub stepped : State → Option ℕ → Outcome
+stepped s None = done s
+stepped s (Some p) = instruction s p
+
+-- a tick of a hart with this process, which goes to the end of its queue
+abbrev pub ticked : State → Option ℕ → State
+ticked s None = s
+ticked s (Some p) = ready (leave s p) p
+
+-- an event of a machine that is not halted
+abbrev pub event_by : State → Event → Outcome
+event_by s (Step hart) = stepped (dispatch s hart) (hart_of (dispatch s hart).queues hart)
+event_by s (Tick hart) = done (ticked s (hart_of s.queues hart))
+
+-- an event: nothing happens to a machine that is halted
+abbrev pub event_of : State → Event → Outcome
+event_of s e = if s.halted then done s else event_by s e

@@ -1,0 +1,58 @@
+-- What comes of a part of an event: the state afterwards, what is told, and what a translator was asked.
+use Rattle.std.specs.Prelude.{ℕ, ◌+◌, List, [], ◌∷◌}
+use Rattle.cap_format.specs.Capability.{Capability}
+use Rattle.cap_format.specs.declared.item.Item.{Item}
+use Rattle.object_store.specs.Store.{Items}
+use Rattle.walk_meaning.specs.declared.kind.Kind.{Kind}
+use Rattle.walk_meaning.specs.Trail.{slots}
+use Rattle.kernel_core.specs.declared.record.Record.{Record}
+use Rattle.kernel_core.specs.State.{State}
+
+-- an access of data or of a capability over these items, of a space, an address and a kind; the read of one slot of a
+-- GPT by an operation; and a change of an item, which is told to the translator (this project's)
+pub data Touch : Type 0 where
+  DataAccess : Items → Capability → ℕ → Kind → Touch
+  CapAccess : Items → Capability → ℕ → Kind → Touch
+  SlotRead : Touch
+  Changed : Item → Touch
+
+-- a state, the records in their order, and the touches in their order
+pub record Outcome : Type 0 where
+  pub state : State
+  pub records : List Record
+  pub touches : List Touch
+
+-- nothing more happens
+abbrev pub done : State → Outcome
+done s = record { state = s; records = []; touches = [] }
+
+-- this record comes first
+abbrev pub recorded : Record → Outcome → Outcome
+recorded r o = record { state = o.state; records = r ∷ o.records; touches = o.touches }
+
+-- this touch comes first
+abbrev pub touched : Touch → Outcome → Outcome
+touched t o = record { state = o.state; records = o.records; touches = t ∷ o.touches }
+
+-- how many slots touches fetch, and what a translator keeps after them, by what the translator says of one access and
+-- of one change; a capability access walks always
+module _ {K : Type 0} (cost : K → Items → Capability → ℕ → Kind → ℕ) (after : K → Items → Capability → ℕ → Kind → K) (without : K → Item → K) where
+  abbrev pub spent_at : K → Touch → ℕ
+  spent_at k (DataAccess o space address kind) = cost k o space address kind
+  spent_at k (CapAccess o space address kind) = slots o space address kind
+  spent_at k SlotRead = 1
+  spent_at k (Changed item) = 0
+
+  abbrev pub kept_at : K → Touch → K
+  kept_at k (DataAccess o space address kind) = after k o space address kind
+  kept_at k (CapAccess o space address kind) = k
+  kept_at k SlotRead = k
+  kept_at k (Changed item) = without k item
+
+  abbrev pub spent : K → List Touch → ℕ
+  spent k [] = 0
+  spent k (t ∷ ts) = spent_at k t + spent (kept_at k t) ts
+
+  abbrev pub kept_after : K → List Touch → K
+  kept_after k [] = k
+  kept_after k (t ∷ ts) = kept_after (kept_at k t) ts

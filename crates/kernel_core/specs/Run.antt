@@ -1,0 +1,22 @@
+-- Runs: the events of a list, one after the other.
+use Rattle.std.specs.Prelude.{List, [], ◌∷◌, ◌++◌}
+use Rattle.kernel_core.specs.declared.event.Event.{Event}
+use Rattle.kernel_core.specs.declared.record.Record.{Record}
+use Rattle.kernel_core.specs.State.{State}
+use Rattle.kernel_core.specs.Outcome.{Touch}
+use Rattle.kernel_core.specs.Event.{event_of}
+
+-- the state after the events
+unfoldable pub run_state : State → List Event → State
+run_state s [] = s
+run_state s (e ∷ es) = run_state (event_of s e).state es
+
+-- all records, in their order
+unfoldable pub run_records : State → List Event → List Record
+run_records s [] = []
+run_records s (e ∷ es) = (event_of s e).records ++ run_records (event_of s e).state es
+
+-- all touches, in their order
+unfoldable pub run_touches : State → List Event → List Touch
+run_touches s [] = []
+run_touches s (e ∷ es) = (event_of s e).touches ++ run_touches (event_of s e).state es

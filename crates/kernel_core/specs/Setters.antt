@@ -1,0 +1,53 @@
+-- What one change makes of a state. All else stays the same.
+use Rattle.std.specs.Prelude.{ℕ, List}
+use Rattle.cap_format.specs.Capability.{Capability}
+use Rattle.process_objects.specs.Process.{ProcessValue, with_pc, with_regs, with_capreg, with_state}
+use Rattle.process_objects.specs.declared.state.State.{State as RunState}
+use Rattle.rv32_user.specs.Word.{next_of}
+use Rattle.object_store.specs.Store.{Store, with_page, with_process}
+use Rattle.schedules.specs.Queues.{QueuesValue, left}
+use Rattle.schedules.specs.Ready.{Runs, runs_of, with_processes, readied}
+use Rattle.kernel_core.specs.State.{State, process, pc_of, schedule_slot}
+
+-- other objects, other queues
+abbrev pub set_store : State → Store → State
+set_store s store = record { store = store; queues = s.queues; halted = s.halted }
+
+abbrev pub set_queues : State → QueuesValue → State
+set_queues s queues = record { store = s.store; queues = queues; halted = s.halted }
+
+-- another process in the place of process `p`, and other bytes of page `n`
+abbrev pub set_process : State → ℕ → ProcessValue → State
+set_process s p value = set_store s (with_process s.store p value)
+
+abbrev pub set_page : State → ℕ → List ℕ → State
+set_page s n page = set_store s (with_page s.store n page)
+
+-- another pc, other registers, another capability register, another state of a process
+abbrev pub set_pc : State → ℕ → ℕ → State
+set_pc s p pc = set_process s p (with_pc (process s p) pc)
+
+abbrev pub set_registers : State → ℕ → List ℕ → State
+set_registers s p registers = set_process s p (with_regs (process s p) registers)
+
+abbrev pub set_capreg : State → ℕ → ℕ → Capability → State
+set_capreg s p i cap = set_process s p (with_capreg (process s p) i cap)
+
+abbrev pub set_run_state : State → ℕ → RunState → State
+set_run_state s p state = set_process s p (with_state (process s p) state)
+
+-- the process goes on behind its instruction (RV32I)
+abbrev pub advance : State → ℕ → State
+advance s p = set_pc s p (next_of (pc_of s p))
+
+-- the process leaves the place where it stands (Coyotos)
+abbrev pub leave : State → ℕ → State
+leave s p = set_queues s (left s.queues p)
+
+-- processes as they run, with their places
+abbrev pub set_runs : State → Runs → State
+set_runs s r = record { store = with_processes s.store r.processes; queues = r.queues; halted = s.halted }
+
+-- the process is made ready: it runs, as the last of its schedule's queue, or is faulted for want of a schedule (Coyotos)
+abbrev pub ready : State → ℕ → State
+ready s p = set_runs s (readied (schedule_slot s p) p (runs_of s.store s.queues))

@@ -1,0 +1,39 @@
+-- The abstract machine's state: what the objects mean, who stands where, and whether it is halted.
+use Rattle.std.specs.Prelude.{ℕ, Bool, ◌≡◌, Some}
+use Rattle.cap_format.specs.Capability.{Capability}
+use Rattle.process_objects.specs.Process.{ProcessValue, reg_of, slot_of}
+use Rattle.object_store.specs.Store.{Store, process_at}
+use Rattle.object_store.specs.Meaning.{state_map}
+use Rattle.schedules.specs.Queues.{QueuesValue, hart_of}
+use Rattle.kernel_core.specs.Machine.{MachineValue}
+
+-- the objects as they mean, the queues with the harts, and whether a process halted the machine
+pub record State : Type 0 where
+  pub store : Store
+  pub queues : QueuesValue
+  pub halted : Bool
+
+-- the state that a machine means: each capability that is not live is Null (Coyotos)
+abbrev pub state_of : {T : Type 0} → MachineValue T → State
+state_of m = record { store = state_map m.objects; queues = m.queues; halted = m.halted }
+
+-- process `p`, its pc, its registers, and the capabilities in its slots for the space and the schedule
+abbrev pub process : State → ℕ → ProcessValue
+process s p = process_at s.store p
+
+abbrev pub pc_of : State → ℕ → ℕ
+pc_of s p = (process s p).pc
+
+abbrev pub register_of : State → ℕ → ℕ → ℕ
+register_of s p i = reg_of (process s p) i
+
+abbrev pub space_of : State → ℕ → Capability
+space_of s p = slot_of (process s p) 0
+
+abbrev pub schedule_slot : State → ℕ → Capability
+schedule_slot s p = slot_of (process s p) 1
+
+-- the process stands on a hart
+pub record IsOnHart (q : QueuesValue) (p : ℕ) : Type 0 where
+  pub hart : ℕ
+  pub there : hart_of q hart ≡ Some p
