@@ -4,12 +4,20 @@
 //! what a translator keeps.
 #![tactic(auto)]
 
+mod changes;
 mod event;
-mod instruction;
+mod events;
+mod faults;
+mod instructions;
+mod loads;
 mod log_bytes;
 mod machine;
+mod memory;
+pub mod parts;
 mod record;
 mod records;
+mod stores;
+mod system_calls;
 
 pub use event::Event;
 pub use log_bytes::LogBytes;

@@ -1,0 +1,7 @@
+use Rattle.std.proofs.Common.{rules, ◌≡◌, refl}
+use Rattle.kernel_core.proofs.Changed.{slot_means}
+use Rattle.kernel_core.proofs.machine.Machine.space.Goals as goal
+
+pub returns : goal.returns
+returns g c =
+    rw (← c.self.view_is, c.slot.ensures.value, c.process.ensures) (slot_means c.self.inside.objects c.args.p 0)

@@ -1,0 +1,120 @@
+//! Events: one step of a hart, or one tick of its timer.
+ghost use Rattle.std.specs.Prelude.{◌≡◌, ◌<◌, ◌≤◌, ◌+◌, ◌++◌, length};
+ghost use Rattle.cap_format.specs.declared.kind.CapKind.TheVariants.{Process};
+ghost use Rattle.object_store.specs.Store.{size_of};
+ghost use Rattle.rv32_decode.specs.Table.{insn_at};
+ghost use Rattle.kernel_core.specs.Machine.{hart_in};
+ghost use Rattle.kernel_core.specs.State.{state_of, IsOnHart};
+ghost use Rattle.kernel_core.specs.Outcome.{Outcome, spent, kept_after};
+ghost use Rattle.kernel_core.specs.Event.{decoded_to, instruction, event_of};
+
+use crate::event::Event;
+use crate::faults::fault;
+use crate::instructions::perform;
+use crate::machine::Machine;
+use crate::record::Record;
+use crate::records::Records;
+use cap_format::FaultCode;
+use rv32_decode::decode;
+use std::sync::ledger::Ledger;
+use steps::Steps;
+use walk_engine::Translator;
+use walk_meaning::Kind;
+
+impl<T: Translator> Machine<T> {
+    /// Performs one event, and tells what happened. Nothing happens to a machine that is halted.
+    pub fn event<L: Ledger>(&mut self, e: Event, fetches: &mut Steps<L>) -> Records
+        requires { hart_in e < self.old.objects.harts }
+        ensures state { state_of self.new ≡ (event_of (state_of self.old) e).state }
+        ensures records { result ≡ (event_of (state_of self.old) e).records }
+        ensures counted { fetches.new ≡ fetches.old + spent T.cost T.after T.without (T.kept self.old.translator) (event_of (state_of self.old) e).touches }
+        ensures kept { T.kept self.new.translator ≡ kept_after T.cost T.after T.without (T.kept self.old.translator) (event_of (state_of self.old) e).touches }
+        ensures items { self.new.objects.items ≡ self.old.objects.items }
+        ensures harts { self.new.objects.harts ≡ self.old.objects.harts }
+    {
+        let mut records = Records::new();
+        if self.halted() {
+            return records;
+        }
+        match e {
+            Event::Step(hart) => {
+                if let Some(p) = self.dispatch(hart) {
+                    instruction(self, p, &mut records, fetches);
+                }
+            }
+            Event::Tick(hart) => {
+                if let Some(p) = self.on_hart(hart) {
+                    self.requeue(p);
+                }
+            }
+        }
+        records
+    }
+}
+
+/// One instruction of a process: a fetch at its pc, then what the word says.
+fn instruction<T: Translator, L: Ledger>(
+    machine: &mut Machine<T>,
+    p: u16,
+    records: &mut Records,
+    fetches: &mut Steps<L>,
+)
+    requires there { p < size_of machine.old.objects.items Process }
+    requires on_hart { IsOnHart machine.old.queues p }
+    requires room { length records.old ≤ 20 }
+    ensures state { state_of machine.new ≡ (instruction (state_of machine.old) p).state }
+    ensures records { records.new ≡ records.old ++ (instruction (state_of machine.old) p).records }
+    ensures counted { fetches.new ≡ fetches.old + spent T.cost T.after T.without (T.kept machine.old.translator) (instruction (state_of machine.old) p).touches }
+    ensures kept { T.kept machine.new.translator ≡ kept_after T.cost T.after T.without (T.kept machine.old.translator) (instruction (state_of machine.old) p).touches }
+    ensures room { length records.new ≤ length records.old + 3 }
+    ensures items { machine.new.objects.items ≡ machine.old.objects.items }
+    ensures harts { machine.new.objects.harts ≡ machine.old.objects.harts }
+{
+    let pc = machine.pc(p);
+    match machine.access(p, pc, Kind::Fetch, fetches) {
+        Ok(hit) => {
+            records.push(Record::Access {
+                process: p,
+                kind: Kind::Fetch,
+                address: pc,
+                number: hit.page,
+            });
+            let word = machine.number_at(hit, 4);
+            decoded(machine, p, records, word, fetches);
+        }
+        Err(why) => fault(machine, p, records, why.code, pc, why.handler, fetches),
+    }
+}
+
+/// The word that was fetched is performed where it is an instruction.
+fn decoded<T: Translator, L: Ledger>(
+    machine: &mut Machine<T>,
+    p: u16,
+    records: &mut Records,
+    word: u32,
+    fetches: &mut Steps<L>,
+)
+    requires there { p < size_of machine.old.objects.items Process }
+    requires on_hart { IsOnHart machine.old.queues p }
+    requires room { length records.old ≤ 22 }
+    ensures state { state_of machine.new ≡ (decoded_to (state_of machine.old) p (insn_at word)).state }
+    ensures records { records.new ≡ records.old ++ (decoded_to (state_of machine.old) p (insn_at word)).records }
+    ensures counted { fetches.new ≡ fetches.old + spent T.cost T.after T.without (T.kept machine.old.translator) (decoded_to (state_of machine.old) p (insn_at word)).touches }
+    ensures kept { T.kept machine.new.translator ≡ kept_after T.cost T.after T.without (T.kept machine.old.translator) (decoded_to (state_of machine.old) p (insn_at word)).touches }
+    ensures room { length records.new ≤ length records.old + 2 }
+    ensures items { machine.new.objects.items ≡ machine.old.objects.items }
+    ensures harts { machine.new.objects.harts ≡ machine.old.objects.harts }
+{
+    let pc = machine.pc(p);
+    match decode(word) {
+        Ok(insn) => {
+            records.push(Record::Insn {
+                process: p,
+                at: pc,
+                insn,
+            });
+            perform(machine, p, records, insn, fetches);
+        }
+        Err(_) => fault(machine, p, records, FaultCode::BadOpcode, pc, None, fetches),
+    }
+}

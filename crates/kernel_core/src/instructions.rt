@@ -1,0 +1,91 @@
+//! One instruction of a process.
+ghost use Rattle.std.specs.Prelude.{◌≡◌, ◌<◌, ◌≤◌, ◌+◌, ◌++◌, length};
+ghost use Rattle.cap_format.specs.declared.kind.CapKind.TheVariants.{Process};
+ghost use Rattle.object_store.specs.Store.{size_of};
+ghost use Rattle.rv32_decode.specs.InRange.{InRange};
+ghost use Rattle.kernel_core.specs.State.{state_of, IsOnHart};
+ghost use Rattle.kernel_core.specs.Outcome.{Outcome, spent, kept_after};
+ghost use Rattle.kernel_core.specs.Instruction.{perform};
+
+use crate::faults::fault;
+use crate::loads::{Wanted, load};
+use crate::machine::Machine;
+use crate::records::Records;
+use crate::stores::store;
+use crate::system_calls::system_call;
+use cap_format::FaultCode;
+use rv32_decode::Insn;
+use rv32_user::{Effect, step};
+use std::sync::ledger::Ledger;
+use steps::Steps;
+use walk_engine::Translator;
+
+/// This instruction, its fault included.
+pub fn perform<T: Translator, L: Ledger>(
+    machine: &mut Machine<T>,
+    p: u16,
+    records: &mut Records,
+    insn: Insn,
+    fetches: &mut Steps<L>,
+)
+    requires there { p < size_of machine.old.objects.items Process }
+    requires on_hart { IsOnHart machine.old.queues p }
+    requires insn { InRange insn }
+    requires room { length records.old ≤ 24 }
+    ensures state { state_of machine.new ≡ (perform (state_of machine.old) p insn).state }
+    ensures records { records.new ≡ records.old ++ (perform (state_of machine.old) p insn).records }
+    ensures counted { fetches.new ≡ fetches.old + spent T.cost T.after T.without (T.kept machine.old.translator) (perform (state_of machine.old) p insn).touches }
+    ensures kept { T.kept machine.new.translator ≡ kept_after T.cost T.after T.without (T.kept machine.old.translator) (perform (state_of machine.old) p insn).touches }
+    ensures room { length records.new ≤ length records.old + 1 }
+    ensures items { machine.new.objects.items ≡ machine.old.objects.items }
+    ensures harts { machine.new.objects.harts ≡ machine.old.objects.harts }
+{
+    let pc = machine.pc(p);
+    let mut registers = machine.registers(p);
+    match step(&mut registers, pc, insn) {
+        Effect::Next(next) => {
+            machine.set_registers(p, &registers);
+            machine.set_pc(p, next);
+        }
+        Effect::Load {
+            at,
+            size,
+            signed,
+            rd,
+        } => {
+            let wanted = Wanted {
+                at,
+                size,
+                signed,
+                rd,
+            };
+            load(machine, p, records, wanted, fetches)
+        }
+        Effect::Store { at, size, value } => {
+            store(machine, p, records, at, size, value, fetches)
+        }
+        Effect::Syscall => system_call(machine, p, records, fetches),
+        Effect::Break => {
+            fault(
+                machine,
+                p,
+                records,
+                FaultCode::Breakpoint,
+                pc,
+                None,
+                fetches,
+            )
+        }
+        Effect::Misaligned(target) => {
+            fault(
+                machine,
+                p,
+                records,
+                FaultCode::BadAlign,
+                target,
+                None,
+                fetches,
+            )
+        }
+    }
+}

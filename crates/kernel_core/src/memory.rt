@@ -1,0 +1,114 @@
+//! What a process reaches by its space: the bytes of pages.
+ghost use Rattle.std.specs.Prelude.{◌≡◌, ◌<◌, ◌≤◌, ◌+◌, ◌*◌, ◌%◌, ◌^◌, true, IfOk};
+ghost use Rattle.cap_format.specs.declared.kind.CapKind.TheVariants.{Process};
+ghost use Rattle.object_store.specs.Store.{size_of};
+ghost use Rattle.object_store.specs.Meaning.{meaning};
+ghost use Rattle.rv32_user.specs.Size.{IsSize};
+ghost use Rattle.walk_meaning.specs.Walk.{is_data};
+ghost use Rattle.walk_engine.specs.Answer.{hit_meaning};
+ghost use Rattle.kernel_core.specs.State.{state_of, space_of, IsOnHart};
+ghost use Rattle.kernel_core.specs.Access.{data_access, number_at, written};
+
+use crate::machine::Machine;
+use cap_format::{Cap, CapKind};
+use schedules::Spot;
+use std::sync::ledger::Ledger;
+use steps::Steps;
+use walk_engine::{Hit, Translator};
+use walk_meaning::{Kind, WalkFault};
+
+impl<T: Translator> Machine<T> {
+    /// The hart of a process that stands on one.
+    fn hart(&self, p: u16) -> u8
+        requires there { p < size_of self.now.objects.items Process }
+        requires on_hart { IsOnHart self.now.queues p }
+        ensures { result < self.now.objects.harts }
+    {
+        match self.queues.place(p) {
+            Spot::Hart(hart) => hart,
+            _ => 0,
+        }
+    }
+
+    /// The capability in the process's slot for its space.
+    fn space(&self, p: u16) -> Cap
+        requires { p < size_of self.now.objects.items Process }
+        ensures { meaning self.now.objects.items result ≡ space_of (state_of self.now) p }
+    {
+        self.objects.process(p).slot(0)
+    }
+
+    /// A fetch, load or store of a process, which stands on a hart.
+    pub(crate) fn access<L: Ledger>(
+        &mut self,
+        p: u16,
+        address: u32,
+        kind: Kind,
+        fetches: &mut Steps<L>,
+    ) -> Result<Hit, WalkFault>
+        requires there { p < size_of self.old.objects.items Process }
+        requires on_hart { IsOnHart self.old.queues p }
+        requires data { is_data kind ≡ true }
+        ensures answer { hit_meaning result ≡ data_access (state_of self.old) p address kind }
+        ensures page { IfOk result (λ hit. hit.page < size_of self.new.objects.items CapKind.Page) }
+        ensures offset { IfOk result (λ hit. hit.offset ≡ address % 4096) }
+        ensures state { state_of self.new ≡ state_of self.old }
+        ensures objects { self.new.objects ≡ self.old.objects }
+        ensures queues { self.new.queues ≡ self.old.queues }
+        ensures counted { fetches.new ≡ fetches.old + T.cost (T.kept self.old.translator) (state_of self.old).store.items (space_of (state_of self.old) p) address kind }
+        ensures kept { T.kept self.new.translator ≡ T.after (T.kept self.old.translator) (state_of self.old).store.items (space_of (state_of self.old) p) address kind }
+    {
+        let hart = self.hart(p);
+        let space = self.space(p);
+        self.translator
+            .translate(&self.objects, hart, space, address, kind, fetches)
+    }
+
+    /// The little-endian number of so many bytes at a place in a page.
+    pub(crate) fn number_at(&self, hit: Hit, size: u8) -> u32
+        requires page { hit.page < size_of self.now.objects.items CapKind.Page }
+        requires size { IsSize size }
+        requires within { hit.offset + size ≤ 4096 }
+        ensures value { result ≡ number_at (state_of self.now) hit size }
+        ensures fits { result < 2 ^ (8 * size) }
+    {
+        let page = self.objects.page(hit.page);
+        match size {
+            1 => {
+                let mut byte = [0; 1];
+                page.read(hit.offset, &mut byte);
+                u8::from_le_bytes(byte) as u32
+            }
+            2 => {
+                let mut bytes = [0; 2];
+                page.read(hit.offset, &mut bytes);
+                u16::from_le_bytes(bytes) as u32
+            }
+            _ => {
+                let mut bytes = [0; 4];
+                page.read(hit.offset, &mut bytes);
+                u32::from_le_bytes(bytes)
+            }
+        }
+    }
+
+    /// Writes the so many lowest bytes of a number, the lowest first, to a place in a page.
+    pub(crate) fn write_number(&mut self, hit: Hit, size: u8, value: u32)
+        requires page { hit.page < size_of self.old.objects.items CapKind.Page }
+        requires size { IsSize size }
+        requires within { hit.offset + size ≤ 4096 }
+        requires fits { value < 2 ^ (8 * size) }
+        ensures state { state_of self.new ≡ written (state_of self.old) hit size value }
+        ensures items { self.new.objects.items ≡ self.old.objects.items }
+        ensures harts { self.new.objects.harts ≡ self.old.objects.harts }
+        ensures translator { self.new.translator ≡ self.old.translator }
+        ensures queues { self.new.queues ≡ self.old.queues }
+    {
+        let page = self.objects.page_mut(hit.page);
+        match size {
+            1 => page.write(hit.offset, &[value as u8]),
+            2 => page.write(hit.offset, &(value as u16).to_le_bytes()),
+            _ => page.write(hit.offset, &value.to_le_bytes()),
+        }
+    }
+}

@@ -1,0 +1,7 @@
+//! An instruction in six calls, each proved by itself. `Machine::event` only chooses among them.
+//!
+//! Each appends its records, and is for a process that stands on a hart.
+
+pub use crate::faults::fault;
+pub use crate::instructions::perform;
+pub use crate::system_calls::{kernel_op, move_cap, receive, send};
