@@ -8,3 +8,4 @@ pub mod SystemCall
 pub mod Instruction
 pub mod Event
 pub mod Run
+pub mod Ran

@@ -16,6 +16,7 @@ mod memory;
 pub mod parts;
 mod record;
 mod records;
+mod runs;
 mod stores;
 mod system_calls;
 
@@ -24,3 +25,4 @@ pub use log_bytes::LogBytes;
 pub use machine::Machine;
 pub use record::Record;
 pub use records::Records;
+pub use runs::{Listener, run};

@@ -1,0 +1,46 @@
+//! Runs: the events of a list, one after the other.
+ghost use Rattle.std.specs.Prelude.{◌≡◌, ◌<◌, ◌+◌, ◌++◌};
+ghost use Rattle.std.specs.List.{All};
+ghost use Rattle.kernel_core.specs.Machine.{hart_in};
+ghost use Rattle.kernel_core.specs.State.{state_of};
+ghost use Rattle.kernel_core.specs.Outcome.{spent, kept_after};
+ghost use Rattle.kernel_core.specs.Run.{run_state, run_records, run_touches};
+
+use crate::event::Event;
+use crate::machine::Machine;
+use crate::records::Records;
+use std::sync::ledger::Ledger;
+use steps::Steps;
+use walk_engine::Translator;
+
+/// Is told the records of each event.
+pub trait Listener {
+    ghost use Rattle.std.specs.Prelude.{List, ◌≡◌, ◌++◌};
+    ghost use Rattle.kernel_core.specs.declared.record.Record.{Record};
+
+    /// All that it was told.
+    ghost told: { Self → List Record };
+
+    fn tell(&mut self, records: &Records)
+        ensures { told self.new ≡ told self.old ++ records.now };
+}
+
+/// Performs the events in their order, and tells the records of all.
+pub fn run<T: Translator, W: Listener, L: Ledger>(
+    machine: &mut Machine<T>,
+    events: &[Event],
+    listener: &mut W,
+    fetches: &mut Steps<L>,
+)
+    requires harts { All (λ e. hart_in e < machine.old.objects.harts) events.now }
+    ensures state { state_of machine.new ≡ run_state (state_of machine.old) events.now }
+    ensures records { W.told listener.new ≡ W.told listener.old ++ run_records (state_of machine.old) events.now }
+    ensures counted { fetches.new ≡ fetches.old + spent T.cost T.after T.without (T.kept machine.old.translator) (run_touches (state_of machine.old) events.now) }
+    ensures kept { T.kept machine.new.translator ≡ kept_after T.cost T.after T.without (T.kept machine.old.translator) (run_touches (state_of machine.old) events.now) }
+    ensures harts { machine.new.objects.harts ≡ machine.old.objects.harts }
+{
+    'each: for i in 0..events.len() {
+        let records = machine.event(events[i], fetches);
+        listener.tell(&records);
+    }
+}
