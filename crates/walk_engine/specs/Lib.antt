@@ -1,3 +1,4 @@
 pub mod Windows
 pub mod Answer
 pub mod OnWay
+pub mod AtMost

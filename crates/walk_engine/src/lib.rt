@@ -9,6 +9,8 @@ mod hit;
 mod laws;
 mod met;
 mod plain;
+#[cfg(test)]
+mod tests;
 mod translator;
 mod walking;
 

@@ -27,7 +27,8 @@ pub type Trail = ArrayVec<Noted, 66>;
 /// Walks from a space to the page, or the slot of a capability page, that an address names.
 ///
 /// The trail is what was read where the walk reaches, and empty where it faults. A fault has the
-/// capability in slot 15 of the handler GPT, where the walk met one.
+/// capability in slot 15 of the handler GPT, where the walk met one. At most 32 capabilities are met,
+/// and at most 33 slots are fetched.
 pub fn walk<L: Ledger>(
     objects: &Objects,
     space: Cap,
@@ -46,6 +47,7 @@ pub fn walk<L: Ledger>(
     ensures emptied { OnErr result (trail.new.items ≡ []) }
 
     ensures counted { fetches.new ≡ fetches.old + slots (map_of objects.now.items) (meaning objects.now.items space) address kind }
+    ensures bound { fetches.new ≤ fetches.old + 33 }
 {
     objects.in_ranges();
     let _range = space.kind();

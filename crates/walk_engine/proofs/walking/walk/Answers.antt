@@ -15,6 +15,7 @@ use Rattle.walk_meaning.specs.Trail.{noted, header_noted, read_cost}
 use Rattle.walk_meaning.specs.Ways.{step-map_of}
 use Rattle.walk_meaning.specs.Pages.{page_law}
 use Rattle.walk_meaning.specs.Places.{place_law}
+use Rattle.walk_engine.specs.AtMost.{slots-at_most}
 use Rattle.walk_engine.specs.OnWay.{IsOnWay, on_way-go, on_way-reach, on_way-fault, on_way-end, on_way-unread}
 use Rattle.walk_engine.proofs.walking.walk.Goals as goal
 
@@ -27,7 +28,7 @@ returns-in-Reach g c =
     (32 - c.way.met) (31 - c.way.met) c.in-Reach.place fewer e c.way.invariant.way in
     let is = IsCapability-meaning o c.args.space c.kind-range.ensures.range in
     let page = page_law (map_of o) (meaning o c.args.space) c.args.address c.args.address c.args.kind c.in-Reach.place (IsRanged-map_of o c.in_ranges.ensures.ranged) is refl ends.reached in
-    record { value = sym ends.reached; place = place_law o c.args.space c.args.address c.args.kind c.in-Reach.place ends.reached; offset = page.offset; handler = tt; noted = c.note_header.ensures.value ∙ ends.noted; emptied = tt; counted = ends.counted }
+    record { value = sym ends.reached; place = place_law o c.args.space c.args.address c.args.kind c.in-Reach.place ends.reached; offset = page.offset; handler = tt; noted = c.note_header.ensures.value ∙ ends.noted; emptied = tt; counted = ends.counted; bound = omega (arith, ends.counted, slots-at_most (map_of o) (meaning o c.args.space) c.args.address c.args.kind) }
 
 pub returns-in-Fault : goal.returns-in-Fault
 returns-in-Fault g c =
@@ -37,7 +38,7 @@ returns-in-Fault g c =
     let ends = on_way-fault (map_of o) (meaning o c.args.space) c.args.address c.args.kind (bare c.way.cap) c.way.at c.way.trail.items c.args.fetches.now c.way.fetches
     (32 - c.way.met) (31 - c.way.met) c.in-Fault.code c.in-Fault.handler fewer e c.way.invariant.way in
     let err : WalkFault → Result Place WalkFault = λ f. Err f in
-    record { value = ap err c.told.ensures.value ∙ sym ends.faulted; place = tt; offset = tt; handler = c.told.ensures.handler; noted = tt; emptied = c.clear-in-Fault.ensures; counted = c.told.ensures.counted ∙ ends.counted }
+    record { value = ap err c.told.ensures.value ∙ sym ends.faulted; place = tt; offset = tt; handler = c.told.ensures.handler; noted = tt; emptied = c.clear-in-Fault.ensures; counted = c.told.ensures.counted ∙ ends.counted; bound = omega (arith, c.told.ensures.counted, ends.counted, slots-at_most (map_of o) (meaning o c.args.space) c.args.address c.args.kind) }
 
 pub returns : goal.returns
 returns g c =
@@ -46,7 +47,7 @@ returns g c =
     let ends = on_way-end (map_of o) (meaning o c.args.space) c.args.address c.args.kind (bare c.way.cap) c.way.at c.way.trail.items c.args.fetches.now c.way.fetches
     (32 - c.way.met) none c.way.invariant.way in
     let err : WalkFault → Result Place WalkFault = λ f. Err f in
-    record { value = ap err c.told-2.ensures.value ∙ sym ends.faulted; place = tt; offset = tt; handler = c.told-2.ensures.handler; noted = tt; emptied = c.clear-2.ensures; counted = c.told-2.ensures.counted ∙ ends.counted }
+    record { value = ap err c.told-2.ensures.value ∙ sym ends.faulted; place = tt; offset = tt; handler = c.told-2.ensures.handler; noted = tt; emptied = c.clear-2.ensures; counted = c.told-2.ensures.counted ∙ ends.counted; bound = omega (arith, c.told-2.ensures.counted, ends.counted, slots-at_most (map_of o) (meaning o c.args.space) c.args.address c.args.kind) }
 
 pub way-preserved : goal.way-preserved
 way-preserved g c =
