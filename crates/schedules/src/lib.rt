@@ -6,6 +6,8 @@
 mod process_list;
 mod queues;
 mod spot;
+#[cfg(test)]
+mod tests;
 
 pub use queues::Queues;
 pub use spot::Spot;

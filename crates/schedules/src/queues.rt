@@ -74,8 +74,8 @@ impl Queues {
         self.sleepers[on as usize].get(n)
     }
 
-    /// Where the process stands. It looks through the lists, first at the harts: in a machine at work a process
-    /// that is asked for mostly stands on one.
+    /// Where the process stands. Not in constant time: no list of places is kept beside the queues, so it looks
+    /// through them, first at the harts, where a process that is asked for mostly stands.
     #[tactic(auto, using(crate::proofs::OnHart::not_ready, crate::proofs::OnHart::not_sleeping, crate::proofs::OnHart::not_nowhere))]
     pub fn place(&self, p: u16) -> Spot
         requires { p < length self.now.sleepers }
@@ -94,8 +94,8 @@ impl Queues {
         Spot::Nowhere
     }
 
-    /// The process leaves the place where it stands, if any. It goes through all lists, most of them empty: their
-    /// number is bounded by that of the processes.
+    /// The process leaves the place where it stands, if any. Not in constant time: it goes through all lists, which
+    /// have each process at most once.
     pub fn leave(&mut self, p: u16)
         requires { p < length self.old.sleepers }
         ensures after { self.new ≡ left self.old p }
@@ -121,7 +121,7 @@ impl Queues {
     }
 
     /// A hart that has no process takes the first of the highest ready queue that is not empty. `None` where there
-    /// is none to take. The queue closes up behind the process that leaves it.
+    /// is none to take. Not in constant time: the queue closes up behind the process that leaves it.
     pub fn dispatch(&mut self, hart: u8) -> Option<u16>
         requires { hart < length self.old.harts }
         ensures process { result ≡ hart_of self.new hart }

@@ -51,7 +51,8 @@ impl Queues {
         }
     }
 
-    /// Makes all that sleep on `on` ready, in their order; nobody sleeps on it then. It takes a step for each of them.
+    /// Makes all that sleep on `on` ready, in their order; nobody sleeps on it then. Not in constant time: it takes a
+    /// step for each of them.
     pub fn wake(&mut self, objects: &mut Objects, on: u16)
         requires sizes { length self.old.sleepers ≡ size_of objects.old.items CapKind.Process }
         requires there { on < length self.old.sleepers }
