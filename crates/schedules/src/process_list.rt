@@ -1,4 +1,4 @@
-ghost use Rattle.std.specs.Prelude.{◌≡◌, ◌==◌, ◌<◌, ◌++◌, ◌∷◌, [], length, slice_get, slice_index, IfSome};
+ghost use Rattle.std.specs.Prelude.{◌≡◌, ◌==◌, ◌<◌, ◌≤◌, ◌++◌, ◌∷◌, [], length, slice_get, slice_index, IfSome};
 ghost use Rattle.std.specs.List.{position};
 ghost use Rattle.schedules.specs.Queues.{without, first_of, rest_of, stands_in};
 
@@ -36,7 +36,8 @@ impl ProcessList {
 
     /// The process at this place from the front, counted from 0.
     pub fn get(&self, place: u16) -> Option<u16>
-        ensures { result ≡ slice_get self.now place }
+        ensures value { result ≡ slice_get self.now place }
+        ensures bound { length self.now ≤ 256 }
     {
         self.list.as_slice().get(place as usize).copied()
     }

@@ -61,7 +61,8 @@ impl Queues {
     /// The process at place `n`, counted from 0, of the ready queue of this priority.
     pub fn ready_at(&self, priority: u8, n: u16) -> Option<u16>
         requires { priority < 8 }
-        ensures { result ≡ slice_get (ready_queue self.now priority) n }
+        ensures value { result ≡ slice_get (ready_queue self.now priority) n }
+        ensures bound { length (ready_queue self.now priority) ≤ 256 }
     {
         self.ready[priority as usize].get(n)
     }
@@ -69,7 +70,8 @@ impl Queues {
     /// The process at place `n`, counted from 0, of those that sleep on `on`.
     pub fn sleeper_at(&self, on: u16, n: u16) -> Option<u16>
         requires { on < length self.now.sleepers }
-        ensures { result ≡ slice_get (sleepers_of self.now on) n }
+        ensures value { result ≡ slice_get (sleepers_of self.now on) n }
+        ensures bound { length (sleepers_of self.now on) ≤ 256 }
     {
         self.sleepers[on as usize].get(n)
     }
