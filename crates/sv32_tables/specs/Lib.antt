@@ -1,0 +1,4 @@
+pub mod Word
+pub mod Pool
+pub mod Sv32
+pub mod History

@@ -1,0 +1,9 @@
+/// What a frame in use is for.
+#[derive(Clone, Copy, Debug, Default, PartialEq, Eq)]
+pub enum FrameUse {
+    /// It is a root: its words lead to the frames of its regions.
+    #[default]
+    Root,
+    /// It has the leaves of one region of 1,024 pages, for the root with this frame number.
+    Region { root: u16, region: u16 },
+}
