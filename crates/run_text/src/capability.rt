@@ -1,16 +1,29 @@
 //! A capability as one word.
-ghost use Rattle.std.specs.Prelude.{◌≤◌, ◌+◌, ◌<◌, length};
+ghost use Rattle.std.specs.Prelude.{◌≡◌, ◌≤◌, ◌+◌, ◌++◌, codes, decimal, length};
+ghost use Rattle.coy_text.specs.Numeral.{hex_text};
+ghost use Rattle.run_text.specs.Capability.{letter, letters, restr_text, guard_text, cap_word, cap_text};
 
 use bitflags::Flags;
-use cap_format::{Cap, CapKind};
+use cap_format::{Cap, CapKind, Guard};
 use coy_text::LineBuf;
 
-/// Appends the word of a capability, which is at most 80 bytes.
+/// Appends the word of a capability.
 pub(crate) fn push_capability(line: &mut LineBuf, cap: Cap)
     requires { length line.old ≤ 900 }
-    ensures { length line.new ≤ length line.old + 80 }
+    ensures text { line.new ≡ line.old ++ cap_text cap }
+    ensures len { length line.new ≤ length line.old + 80 }
 {
-    match cap.kind() {
+    push_spelling(line, cap.kind(), cap);
+}
+
+/// Appends the word of a capability of this kind.
+#[tactic(auto, unfolding(crate::specs::Capability::cap_word))]
+fn push_spelling(line: &mut LineBuf, kind: CapKind, cap: Cap)
+    requires { length line.old ≤ 900 }
+    ensures text { line.new ≡ line.old ++ cap_word kind cap.object cap.payload cap.slot cap.guard cap.restr }
+    ensures len { length line.new ≤ length line.old + 80 }
+{
+    match kind {
         CapKind::Null => line.push_word("null"),
         CapKind::Range => line.push_word("range"),
         CapKind::Discrim => line.push_word("discrim"),
@@ -52,58 +65,91 @@ pub(crate) fn push_capability(line: &mut LineBuf, cap: Cap)
 
 /// Appends a word and a decimal number.
 pub(crate) fn push_numbered(line: &mut LineBuf, word: &str, number: u32)
-    requires room { length line.old ≤ 960 }
-    requires word { length word.now ≤ 12 }
-    ensures { length line.new ≤ length line.old + 32 }
+    requires { length line.old + length word.now ≤ 1010 }
+    ensures text { line.new ≡ line.old ++ word.now ++ decimal number }
+    ensures len { length line.new ≤ length line.old + length word.now + 10 }
 {
     line.push_word(word);
     push_number(line, number);
 }
 
-/// Appends a decimal number.
-#[tactic(auto, using(coy_text::specs::NumeralLaws::length_decimal))]
+/// Appends a decimal number, which has at most 10 digits.
+#[tactic(auto, using(coy_text::specs::NumeralLaws::length_decimal_32))]
 pub(crate) fn push_number(line: &mut LineBuf, number: u32)
-    requires { length line.old ≤ 1000 }
-    ensures { length line.new ≤ length line.old + 20 }
+    requires { length line.old ≤ 1010 }
+    ensures text { line.new ≡ line.old ++ decimal number }
+    ensures len { length line.new ≤ length line.old + 10 }
 {
     line.push_dec(number as u64);
 }
 
+/// Appends a space and an address or a value.
+pub(crate) fn push_value(line: &mut LineBuf, value: u32)
+    requires { length line.old ≤ 1000 }
+    ensures text { line.new ≡ line.old ++ codes " " ++ hex_text 8 value }
+    ensures len { length line.new ≡ length line.old + 9 }
+{
+    line.push_word(" ");
+    line.push_hex(value, 8);
+}
+
 /// Appends the guard and the restrictions of a memory capability.
+#[tactic(auto, unfolding(crate::specs::Capability::guard_text))]
 fn push_guard(line: &mut LineBuf, cap: Cap)
     requires { length line.old ≤ 960 }
-    ensures { length line.new ≤ length line.old + 36 }
+    ensures text { line.new ≡ line.old ++ guard_text cap.guard cap.restr }
+    ensures len { length line.new ≤ length line.old + 24 }
 {
     let guard = cap.guard();
-    line.push_word("@");
-    push_number(line, guard.l2g() as u32);
+    push_numbered(line, "@", guard.l2g() as u32);
+    push_match(line, guard);
+    push_restrictions(line, cap.restr().bits());
+}
+
+/// Appends the match of a guard.
+#[tactic(auto, using(cap_format::specs::Ranges::matches_small))]
+fn push_match(line: &mut LineBuf, guard: Guard)
+    requires { length line.old ≤ 1000 }
+    ensures text { line.new ≡ line.old ++ codes "/" ++ hex_text 5 guard.matches }
+    ensures len { length line.new ≡ length line.old + 6 }
+{
     line.push_word("/");
     line.push_hex(guard.matches(), 5);
-    let restr = cap.restr().bits();
-    if restr != 0 {
-        line.push_word("+");
+}
+
+/// Appends the letters of restrictions, where there are any.
+fn push_restrictions(line: &mut LineBuf, restr: u8)
+    requires { length line.old ≤ 1000 }
+    ensures text { line.new ≡ line.old ++ restr_text restr }
+    ensures len { length line.new ≤ length line.old + 6 }
+{
+    if restr == 0 {
+        return;
     }
+    line.push_word("+");
     push_letters(line, restr);
 }
 
-/// Appends the letters of restrictions.
 pub(crate) fn push_letters(line: &mut LineBuf, restr: u8)
-    requires { length line.old ≤ 1000 }
-    ensures { length line.new ≤ length line.old + 5 }
+    requires { length line.old ≤ 1010 }
+    ensures text { line.new ≡ line.old ++ letters restr }
+    ensures len { length line.new ≤ length line.old + 5 }
 {
-    push_if(line, restr % 2 == 1, "r");
-    push_if(line, restr / 2 % 2 == 1, "x");
-    push_if(line, restr / 4 % 2 == 1, "w");
-    push_if(line, restr / 8 % 2 == 1, "o");
-    push_if(line, restr / 16 % 2 == 1, "n");
+    push_letter(line, restr, 1, "r");
+    push_letter(line, restr, 2, "x");
+    push_letter(line, restr, 4, "w");
+    push_letter(line, restr, 8, "o");
+    push_letter(line, restr, 16, "n");
 }
 
-fn push_if(line: &mut LineBuf, holds: bool, letter: &str)
-    requires room { length line.old ≤ 1010 }
-    requires letter { length letter.now ≤ 1 }
-    ensures { length line.new ≤ length line.old + 1 }
+/// Appends the letter of a restriction, by its bit, where it is there.
+fn push_letter(line: &mut LineBuf, restr: u8, bit: u8, text: &str)
+    requires room { length line.old ≤ 1020 }
+    requires one { length text.now ≤ 1 }
+    ensures text { line.new ≡ line.old ++ letter restr bit text.now }
+    ensures len { length line.new ≤ length line.old + 1 }
 {
-    if holds {
-        line.push_word(letter);
+    if restr & bit == bit {
+        line.push_word(text);
     }
 }

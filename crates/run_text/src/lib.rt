@@ -5,8 +5,18 @@
 
 mod capability;
 mod names;
+mod objects;
+mod process;
 mod record;
+mod standing;
 mod state;
+mod statements;
+mod walk;
+mod writing;
 
 pub use record::record_line;
 pub use state::dump;
+pub use walk::walk_line;
+
+#[cfg(test)]
+mod tests;

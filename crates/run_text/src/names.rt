@@ -1,12 +1,14 @@
 //! Names in the output.
-ghost use Rattle.std.specs.Prelude.{◌≤◌, length};
+ghost use Rattle.std.specs.Prelude.{◌≡◌, ◌≤◌, length};
+ghost use Rattle.run_text.specs.Names.{fault_name, object_name, access_name, target_name};
 
 use cap_format::{CapKind, FaultCode};
 use walk_meaning::Kind;
 
 /// A fault's name.
 pub(crate) fn fault_name(code: FaultCode) -> &'static str
-    ensures { length result.now ≤ 32 }
+    ensures name { result.now ≡ fault_name code }
+    ensures len { length result.now ≤ 20 }
 {
     match code {
         FaultCode::Stopped => "Stopped",
@@ -26,7 +28,8 @@ pub(crate) fn fault_name(code: FaultCode) -> &'static str
 
 /// An object's kind, as in the statement `count`.
 pub(crate) fn object_name(kind: CapKind) -> &'static str
-    ensures { length result.now ≤ 32 }
+    ensures name { result.now ≡ object_name kind }
+    ensures len { length result.now ≤ 8 }
 {
     match kind {
         CapKind::Page => "page",
@@ -38,26 +41,27 @@ pub(crate) fn object_name(kind: CapKind) -> &'static str
     }
 }
 
-/// An access's kind, and the kind of object that it reaches.
+/// An access's kind.
 pub(crate) fn access_name(kind: Kind) -> &'static str
-    ensures { length result.now ≤ 32 }
+    ensures name { result.now ≡ access_name kind }
+    ensures len { length result.now ≤ 8 }
 {
     match kind {
-        Kind::Fetch => "fetch ",
-        Kind::Load => "load ",
-        Kind::Store => "store ",
-        Kind::CapLoad => "capload ",
-        Kind::CapStore => "capstore ",
+        Kind::Fetch => "fetch",
+        Kind::Load => "load",
+        Kind::Store => "store",
+        Kind::CapLoad => "capload",
+        Kind::CapStore => "capstore",
     }
 }
 
 /// What an access of this kind reaches.
 pub(crate) fn target_name(kind: Kind) -> &'static str
-    ensures { length result.now ≤ 32 }
+    ensures name { result.now ≡ target_name kind }
+    ensures len { length result.now ≤ 8 }
 {
     match kind {
-        Kind::CapLoad => " cappage ",
-        Kind::CapStore => " cappage ",
-        _ => " page ",
+        Kind::CapLoad | Kind::CapStore => "cappage",
+        _ => "page",
     }
 }

@@ -1,36 +1,46 @@
 //! Records as lines.
-ghost use Rattle.std.specs.Prelude.{◌≤◌, ◌+◌, length};
+ghost use Rattle.std.specs.Prelude.{◌≡◌, ◌≤◌, ◌+◌, ◌*◌, ◌++◌, codes, decimal, length};
+ghost use Rattle.coy_text.specs.Numeral.{hex_text};
+ghost use Rattle.rv32_asm.specs.Text.{text_of};
 ghost use Rattle.kernel_core.specs.Machine.{IsRecord};
+ghost use Rattle.rv32_decode.specs.InRange.{InRange};
+ghost use Rattle.run_text.specs.Record.{place_text, words_text, bytes_text, hearer_text, said, record_text};
+ghost use Rattle.run_text.specs.Names.{fault_name, access_name, target_name};
 
-use crate::capability::push_number;
+use crate::capability::{push_number, push_numbered, push_value};
 use crate::names::{access_name, fault_name, object_name, target_name};
+use cap_format::FaultCode;
 use coy_text::LineBuf;
 use kernel_core::Record;
 use rv32_asm::disassemble;
+use rv32_decode::Insn;
+use walk_meaning::Kind;
 
 /// Makes the line of a record, with its line feed.
 pub fn record_line(entry: &Record, line: &mut LineBuf)
     requires { IsRecord entry.now }
+    ensures { line.new ≡ record_text entry.now }
 {
     line.clear();
+    push_record(line, entry);
+    line.push_word("\n");
+}
+
+/// Appends what a record says.
+fn push_record(line: &mut LineBuf, entry: &Record)
+    requires room { length line.old ≤ 100 }
+    requires range { IsRecord entry.now }
+    ensures text { line.new ≡ line.old ++ said entry.now }
+    ensures len { length line.new ≤ length line.old + 800 }
+{
     match entry {
         Record::Access {
             process,
             kind,
             address,
             number,
-        } => {
-            line.push_word(access_name(*kind));
-            push_place(line, *process, *address);
-            line.push_word(target_name(*kind));
-            push_number(line, *number as u32);
-        }
-        Record::Insn { process, at, insn } => {
-            line.push_word("insn ");
-            push_place(line, *process, *at);
-            line.push_word(" ");
-            disassemble(*insn, line);
-        }
+        } => push_access(line, *process, *kind, *address, *number),
+        Record::Insn { process, at, insn } => push_insn(line, *process, *at, *insn),
         Record::Message {
             from,
             to,
@@ -40,74 +50,108 @@ pub fn record_line(entry: &Record, line: &mut LineBuf)
             length,
             caps,
         } => {
-            push_message(line, *from, *to, *endpoint);
-            line.push_hex(*payload, 8);
+            push_envelope(line, *from, *to, *endpoint, *payload);
             push_words(line, words);
-            line.push_word(" len=");
-            push_number(line, *length);
-            line.push_word(" caps=");
-            push_number(line, *caps as u32);
+            push_numbered(line, " len=", *length);
+            push_numbered(line, " caps=", *caps as u32);
         }
         Record::Fault {
             process,
             code,
             address,
             to,
-        } => {
-            line.push_word("fault ");
-            push_number(line, *process as u32);
-            line.push_word(" ");
-            line.push_word(fault_name(*code));
-            line.push_word(" ");
-            line.push_hex(*address, 8);
-            push_hearer(line, *to);
-        }
+        } => push_fault(line, *process, *code, *address, *to),
         Record::Log { process, bytes } => {
-            line.push_word("log ");
-            push_number(line, *process as u32);
+            push_numbered(line, "log ", *process as u32);
             line.push_word(" ");
             push_bytes(line, bytes.as_slice());
         }
         Record::Destroy { kind, number } => {
             line.push_word("destroy ");
             line.push_word(object_name(*kind));
-            line.push_word(" ");
-            push_number(line, *number as u32);
+            push_numbered(line, " ", *number as u32);
         }
-        Record::Halt { process } => {
-            line.push_word("halt ");
-            push_number(line, *process as u32);
-        }
+        Record::Halt { process } => push_numbered(line, "halt ", *process as u32),
     }
-    line.push_word("\n");
+}
+
+fn push_access(line: &mut LineBuf, process: u16, kind: Kind, address: u32, number: u16)
+    requires { length line.old ≤ 100 }
+    ensures text { line.new ≡ line.old ++ access_name kind ++ codes " " ++ place_text process address ++ codes " " ++ target_name kind ++ codes " " ++ decimal number }
+    ensures len { length line.new ≤ length line.old + 100 }
+{
+    line.push_word(access_name(kind));
+    line.push_word(" ");
+    push_place(line, process, address);
+    line.push_word(" ");
+    line.push_word(target_name(kind));
+    push_numbered(line, " ", number as u32);
+}
+
+fn push_insn(line: &mut LineBuf, process: u16, at: u32, insn: Insn)
+    requires room { length line.old ≤ 100 }
+    requires range { InRange insn }
+    ensures text { line.new ≡ line.old ++ codes "insn " ++ place_text process at ++ codes " " ++ text_of insn }
+    ensures len { length line.new ≤ length line.old + 100 }
+{
+    line.push_word("insn ");
+    push_place(line, process, at);
+    line.push_word(" ");
+    disassemble(insn, line);
+}
+
+fn push_fault(line: &mut LineBuf, process: u16, code: FaultCode, address: u32, to: Option<u16>)
+    requires { length line.old ≤ 100 }
+    ensures text { line.new ≡ line.old ++ codes "fault " ++ decimal process ++ codes " " ++ fault_name code ++ codes " " ++ hex_text 8 address ++ codes " " ++ hearer_text to }
+    ensures len { length line.new ≤ length line.old + 100 }
+{
+    push_numbered(line, "fault ", process as u32);
+    line.push_word(" ");
+    line.push_word(fault_name(code));
+    push_value(line, address);
+    line.push_word(" ");
+    push_hearer(line, to);
+}
+
+/// Who hears a fault.
+fn push_hearer(line: &mut LineBuf, to: Option<u16>)
+    requires { length line.old ≤ 300 }
+    ensures text { line.new ≡ line.old ++ hearer_text to }
+    ensures len { length line.new ≤ length line.old + 13 }
+{
+    match to {
+        Some(process) => push_numbered(line, "to ", process as u32),
+        None => line.push_word("unheard"),
+    }
 }
 
 /// A process and an address.
 fn push_place(line: &mut LineBuf, process: u16, address: u32)
     requires { length line.old ≤ 900 }
-    ensures { length line.new ≤ length line.old + 29 }
+    ensures text { line.new ≡ line.old ++ place_text process address }
+    ensures len { length line.new ≤ length line.old + 19 }
 {
     push_number(line, process as u32);
-    line.push_word(" ");
-    line.push_hex(address, 8);
+    push_value(line, address);
 }
 
-fn push_message(line: &mut LineBuf, from: u16, to: u16, endpoint: u16)
+/// From whom a message came, to whom it went, and through what.
+fn push_envelope(line: &mut LineBuf, from: u16, to: u16, endpoint: u16, payload: u32)
     requires { length line.old ≤ 100 }
-    ensures { length line.new ≤ length line.old + 100 }
+    ensures text { line.new ≡ line.old ++ codes "msg " ++ decimal from ++ codes " " ++ decimal to ++ codes " endpoint=" ++ decimal endpoint ++ codes " payload=" ++ hex_text 8 payload }
+    ensures len { length line.new ≤ length line.old + 100 }
 {
-    line.push_word("msg ");
-    push_number(line, from as u32);
-    line.push_word(" ");
-    push_number(line, to as u32);
-    line.push_word(" endpoint=");
-    push_number(line, endpoint as u32);
+    push_numbered(line, "msg ", from as u32);
+    push_numbered(line, " ", to as u32);
+    push_numbered(line, " endpoint=", endpoint as u32);
     line.push_word(" payload=");
+    line.push_hex(payload, 8);
 }
 
 fn push_words(line: &mut LineBuf, words: &[u32; 4])
     requires { length line.old ≤ 300 }
-    ensures { length line.new ≤ length line.old + 50 }
+    ensures text { line.new ≡ line.old ++ codes " words=" ++ words_text words.now }
+    ensures len { length line.new ≤ length line.old + 50 }
 {
     line.push_word(" words=");
     line.push_hex(words[0], 8);
@@ -119,26 +163,14 @@ fn push_words(line: &mut LineBuf, words: &[u32; 4])
     line.push_hex(words[3], 8);
 }
 
-fn push_hearer(line: &mut LineBuf, to: Option<u16>)
-    requires { length line.old ≤ 300 }
-    ensures { length line.new ≤ length line.old + 30 }
-{
-    match to {
-        Some(process) => {
-            line.push_word(" to ");
-            push_number(line, process as u32);
-        }
-        None => line.push_word(" unheard"),
-    }
-}
-
-/// Two digits for each byte.
-fn push_bytes(line: &mut LineBuf, bytes: &[u8])
-    requires room { length line.old ≤ 100 }
+/// Appends two digits for each byte.
+pub(crate) fn push_bytes(line: &mut LineBuf, bytes: &[u8])
+    requires room { length line.old ≤ 400 }
     requires most { length bytes.now ≤ 256 }
-    ensures { length line.new ≤ length line.old + 512 }
+    ensures text { line.new ≡ line.old ++ bytes_text bytes.now }
+    ensures len { length line.new ≡ length line.old + 2 * length bytes.now }
 {
-    'bytes: for i in 0..bytes.len() {
-        line.push_hex(bytes[i] as u32, 2);
+    'bytes: for byte in bytes {
+        line.push_hex(*byte as u32, 2);
     }
 }

@@ -1,5 +1,10 @@
-use Rattle.std.proofs.Common.{◌≡◌, ◌+◌, ◌*◌, length}
+use Rattle.std.proofs.Common.{◌≡◌, ◌+◌, ◌*◌, ◌++◌, length, take}
+use Rattle.run_text.specs.Record.{bytes_text}
 use Rattle.run_text.proofs.record.push_bytes.Given as goal
 
+-- the bytes so far have their digits
 abbrev pub invariant-bytes : goal.invariant-bytes
-invariant-bytes l = length l.line ≡ length l.fn.line + 2 * l.i
+invariant-bytes l = record {
+  text : l.line ≡ l.fn.line ++ bytes_text (take l.byte-index l.bytes);
+  len : length l.line ≡ length l.fn.line + 2 * l.byte-index;
+}

@@ -1,0 +1,14 @@
+use Rattle.std.proofs.Common.{◌≡◌}
+use Rattle.std.specs.Io.KnownBytes.{Appends}
+use Rattle.cap_format.specs.declared.kind.CapKind.TheVariants.{Endpoint}
+use Rattle.object_store.specs.Store.{count_of, endpoint_at}
+use Rattle.object_store.specs.Meaning.{state_map}
+use Rattle.run_text.specs.Each.{each_below}
+use Rattle.run_text.specs.Objects.{endpoint_lines}
+use Rattle.run_text.proofs.objects.put_endpoints.Given as goal
+
+abbrev pub invariant-each : goal.invariant-each
+invariant-each g l = record {
+  written : Appends (g.K.Sink.taken l.fn.output) (g.K.Sink.taken l.output) (each_below (λ n. endpoint_lines n (count_of l.objects.items Endpoint n) (endpoint_at (state_map l.objects) n)) l.n);
+  faults : g.K.Sink.faults l.output ≡ g.K.Sink.faults l.fn.output;
+}

@@ -1,0 +1,32 @@
+use Rattle.std.proofs.Common.{rules, ◌≡◌, ◌<◌, ◌≤◌, ◌∙◌, ap, refl, arith}
+use Rattle.cap_format.specs.declared.kind.CapKind.TheVariants.{Process}
+use Rattle.object_store.specs.declared.sizes.Sizes.{Sizes}
+use Rattle.object_store.specs.Store.{size_of}
+use Rattle.run_text.proofs.Texts.{each_none, each_ok, each_err, each_done, failed}
+use Rattle.run_text.proofs.objects.put_processes.Goals as goal
+
+pub each-init : goal.each-init
+each-init g c = record { written = each_none _ _; faults = refl }
+
+pub each-preserved : goal.each-preserved
+each-preserved g c = record {
+  written = each_ok _ _ _ _ _ _ c.each.invariant.written (refl) c.in_ok-put_process.ensures.text;
+  faults = c.in_ok-put_process.ensures.cause.quiet ∙ c.each.invariant.faults;
+}
+
+pub returns-in_err-put_process-clause-text : goal.returns-in_err-put_process-clause-text
+returns-in_err-put_process-clause-text g c =
+    let size : c.sizes-n-end.result.processes ≡ size_of c.args.objects.now.items Process = ap (λ (s : Sizes). s.processes) c.sizes-n-end.ensures.value in
+    let inside : c.each.n < size_of c.args.objects.now.items Process = omega arith in
+    each_err _ _ _ _ _ _ _ _ inside c.from_residual.ensures.0 c.each.invariant.written (refl) c.in_err-put_process.ensures.text
+
+pub returns-in_err-put_process-clause-cause : goal.returns-in_err-put_process-clause-cause
+returns-in_err-put_process-clause-cause g c =
+    failed _ _ _ _ _ c.from_residual.ensures.0 refl c.each.invariant.faults c.in_err-put_process.ensures.cause
+
+pub returns-clause-text : goal.returns-clause-text
+returns-clause-text g c =
+    let size : c.sizes-n-end.result.processes ≡ size_of c.args.objects.now.items Process = ap (λ (s : Sizes). s.processes) c.sizes-n-end.ensures.value in
+    let past : size_of c.args.objects.now.items Process ≤ c.each.n = omega arith in
+    let within : c.each.n ≤ size_of c.args.objects.now.items Process = omega arith in
+    each_done _ _ _ _ _ past within c.each.invariant.written

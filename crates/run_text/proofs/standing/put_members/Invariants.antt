@@ -1,0 +1,14 @@
+use Rattle.std.proofs.Common.{◌≡◌, ◌-◌, ◌≤◌, length, take, flat_map}
+use Rattle.std.specs.Io.KnownBytes.{Appends}
+use Rattle.run_text.specs.Standing.{member_text, members}
+use Rattle.run_text.proofs.standing.put_members.Given as goal
+
+abbrev pub invariant-each : goal.invariant-each
+invariant-each g l = record {
+  written : Appends (g.K.Sink.taken l.fn.output) (g.K.Sink.taken l.output) (flat_map member_text (take l.place (members l.queues l.queue)));
+  faults : g.K.Sink.faults l.output ≡ g.K.Sink.faults l.fn.output;
+  within : l.place ≤ length (members l.queues l.queue);
+}
+
+abbrev pub decreases-each : goal.decreases-each
+decreases-each g l = length (members l.queues l.queue) - l.place

@@ -1,0 +1,9 @@
+pub mod Each
+pub mod Names
+pub mod Capability
+pub mod Record
+pub mod Walk
+pub mod Objects
+pub mod Standing
+pub mod State
+pub mod Written

@@ -1,0 +1,143 @@
+-- Objects as the statements that a listing would make them by. What is as in the empty object has no line.
+use Rattle.std.specs.Prelude.{ℕ, ◌*◌, ◌==◌, ◌&&◌, not, Bool, true, false, if◌then◌else◌, List, [], ◌++◌, codes, decimal, flat_map, slice_index}
+use Rattle.std.specs.List.{list_all}
+use Rattle.coy_text.specs.Numeral.{hex_text}
+use Rattle.cap_format.specs.declared.kind.CapKind.{CapKind}
+use Rattle.cap_format.specs.declared.kind.CapKind.TheVariants.{Null, Page, CapPage, Gpt, Endpoint as EndpointKind, Process}
+use Rattle.cap_format.specs.Capability.{Capability}
+use Rattle.cap_format.specs.Codes.{fault_number}
+use Rattle.gpt_objects.specs.Header.{HeaderValue}
+use Rattle.gpt_objects.specs.Gpt.{GptValue, slot_of}
+use Rattle.page_store.specs.Page.{bytes_at}
+use Rattle.page_store.specs.CapPage.{cap_at}
+use Rattle.process_objects.specs.declared.wait.Wait.{Wait}
+use Rattle.process_objects.specs.declared.wait.Wait.TheVariants.{Open, Closed}
+use Rattle.process_objects.specs.declared.state.State.{State}
+use Rattle.process_objects.specs.declared.state.State.TheVariants.{Running, Receiving, Faulted}
+use Rattle.process_objects.specs.Accept.{AcceptValue}
+use Rattle.process_objects.specs.Process.{ProcessValue, reg_of, capreg_of, slot_of as process_slot}
+use Rattle.endpoint_objects.specs.declared.endpoint.Endpoint.{Endpoint}
+use Rattle.run_text.specs.Each.{line_feed, each_below}
+use Rattle.run_text.specs.Names.{fault_name, object_name}
+use Rattle.run_text.specs.Capability.{cap_text}
+use Rattle.run_text.specs.Record.{bytes_text}
+
+-- a number that is 0, and a capability to nothing
+abbrev pub is_zero : ℕ → Bool
+is_zero n = (n == 0)
+
+abbrev pub is_null_kind : CapKind → Bool
+is_null_kind Null = true
+is_null_kind _ = false
+
+abbrev pub is_null : Capability → Bool
+is_null c = is_null_kind c.kind
+
+-- the count of object `n` of a kind
+unfoldable pub count_text : CapKind → ℕ → ℕ → List ℕ
+count_text kind n count =
+    if count == 0 then []
+    else codes "count " ++ object_name kind ++ codes " " ++ decimal n ++ codes " " ++ decimal count ++ line_feed
+
+-- a row of sixteen bytes of page `n`, from offset `at` on
+unfoldable pub row_text : ℕ → ℕ → List ℕ → List ℕ
+row_text n at bytes =
+    if list_all (λ byte. byte == 0) bytes then []
+    else codes "page " ++ decimal n ++ codes " " ++ hex_text 3 at ++ codes " " ++ bytes_text bytes ++ line_feed
+
+-- slot `i` of object `n`, by the statement's first word
+unfoldable pub slot_text : List ℕ → ℕ → ℕ → Capability → List ℕ
+slot_text word n i cap =
+    if is_null cap then []
+    else word ++ codes " " ++ decimal n ++ codes " " ++ decimal i ++ codes " " ++ cap_text cap ++ line_feed
+
+-- the header of GPT `n`
+abbrev pub is_empty_header : HeaderValue → Bool
+is_empty_header header = (header.l2v == 12) && not header.ha && not header.bg
+
+unfoldable pub header_text : ℕ → HeaderValue → List ℕ
+header_text n header =
+    if is_empty_header header then []
+    else codes "gpt " ++ decimal n ++ codes " " ++ decimal header.l2v ++
+    (if header.ha then codes " ha" else []) ++ (if header.bg then codes " bg" else []) ++ line_feed
+
+-- endpoint `n`
+abbrev pub is_empty_endpoint : Endpoint → Bool
+is_empty_endpoint e = is_null e.recipient && is_zero e.id && is_zero e.payload && not e.matching
+
+unfoldable pub endpoint_text : ℕ → Endpoint → List ℕ
+endpoint_text n e =
+    if is_empty_endpoint e then []
+    else codes "endpoint " ++ decimal n ++ codes " " ++ cap_text e.recipient ++ codes " " ++ hex_text 8 e.id ++
+    codes " " ++ hex_text 8 e.payload ++ (if e.matching then codes " match" else codes " plain") ++ line_feed
+
+-- the state of a process: for whom it waits, with how many capabilities, in which registers, and with which string
+abbrev pub wait_text : Wait → List ℕ
+wait_text Open = codes "open"
+wait_text (Closed id) = hex_text 8 id
+
+abbrev pub registers_text : List ℕ → List ℕ
+registers_text regs =
+    decimal (slice_index regs 0) ++ codes " " ++ decimal (slice_index regs 1) ++ codes " " ++
+    decimal (slice_index regs 2) ++ codes " " ++ decimal (slice_index regs 3)
+
+abbrev pub accept_text : AcceptValue → List ℕ
+accept_text accept =
+    wait_text accept.wait ++ codes " " ++ decimal accept.caps ++ codes " " ++ registers_text accept.regs ++ codes " " ++
+    hex_text 8 accept.at ++ codes " " ++ decimal accept.bound
+
+unfoldable pub state_word : State → List ℕ
+state_word Running = codes "run"
+state_word (Receiving accept) = codes "waiting " ++ accept_text accept
+state_word (Faulted code address) =
+    if is_zero (fault_number code) then codes "stop"
+    else codes "faulted " ++ fault_name code ++ codes " " ++ hex_text 8 address
+
+-- process `n`
+abbrev pub is_stopped : State → Bool
+is_stopped (Faulted code address) = is_zero (fault_number code) && is_zero address
+is_stopped _ = false
+
+unfoldable pub is_still : ProcessValue → Bool
+is_still p = is_zero p.pc && is_stopped p.state && list_all (λ value. value == 0) p.regs
+
+unfoldable pub is_empty_process : ProcessValue → Bool
+is_empty_process p = is_still p && list_all is_null p.capregs && list_all is_null p.slots
+
+unfoldable pub process_text : ℕ → ProcessValue → List ℕ
+process_text n p =
+    if is_empty_process p then []
+    else codes "process " ++ decimal n ++ codes " " ++ hex_text 8 p.pc ++ codes " " ++
+    cap_text (process_slot p 0) ++ codes " " ++ cap_text (process_slot p 1) ++ codes " " ++
+    cap_text (process_slot p 2) ++ codes " " ++ state_word p.state ++ line_feed
+
+-- register `i` of process `n`
+unfoldable pub register_text : ℕ → ℕ → ℕ → List ℕ
+register_text n i value =
+    if is_zero value then []
+    else codes "reg " ++ decimal n ++ codes " " ++ decimal i ++ codes " " ++ hex_text 8 value ++ line_feed
+
+-- ---- all lines of object `n` of each kind
+
+-- a page: its count and its rows
+abbrev pub page_text : ℕ → ℕ → List ℕ → List ℕ
+page_text n count page = count_text Page n count ++ each_below (λ row. row_text n (16 * row) (bytes_at page (16 * row) 16)) 256
+
+-- a capability page: its count and its slots
+abbrev pub cappage_text : ℕ → ℕ → List Capability → List ℕ
+cappage_text n count page = count_text CapPage n count ++ each_below (λ i. slot_text (codes "cap") n i (cap_at page i)) 256
+
+-- a GPT: its count, its header and its slots
+abbrev pub gpt_text : ℕ → ℕ → GptValue → List ℕ
+gpt_text n count gpt =
+    (count_text Gpt n count ++ header_text n gpt.header) ++ each_below (λ i. slot_text (codes "slot") n i (slot_of gpt i)) 16
+
+-- an endpoint: its count and its statement
+abbrev pub endpoint_lines : ℕ → ℕ → Endpoint → List ℕ
+endpoint_lines n count e = count_text EndpointKind n count ++ endpoint_text n e
+
+-- a process: its count, its statement, its registers and its capability registers
+abbrev pub process_lines : ℕ → ℕ → ProcessValue → List ℕ
+process_lines n count p =
+    (count_text Process n count ++ process_text n p) ++
+    (each_below (λ i. register_text n i (reg_of p i)) 32 ++ each_below (λ i. slot_text (codes "capreg") n i (capreg_of p i)) 32)

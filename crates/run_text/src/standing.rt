@@ -1,0 +1,173 @@
+//! Where processes stand.
+ghost use Rattle.std.specs.Prelude.{◌≡◌, ◌≤◌, ◌<◌, ◌+◌, ◌++◌, length, is_none, slice_get, flat_map};
+ghost use Rattle.coy_io.specs.Causes.{HasCause};
+ghost use Rattle.schedules.specs.Queues.{hart_of};
+ghost use Rattle.run_text.specs.Each.{each_below};
+ghost use Rattle.run_text.specs.Standing.{occupant_text, hart_text, member_text, queue_name, members, queue_text, IsQueue};
+ghost use Rattle.run_text.specs.State.{queue_line, harts_text, ready_text, sleepers_text};
+ghost use Rattle.run_text.specs.Written.{Writes};
+
+use crate::capability::push_numbered;
+use crate::writing::{put_line, put_text};
+use coy_io::{Sink, WriteFault};
+use coy_text::LineBuf;
+use schedules::Queues;
+
+/// A list of processes.
+#[derive(Clone, Copy)]
+pub(crate) enum Queue {
+    /// The ready queue of a priority.
+    Ready(u8),
+    /// Those that sleep on a process.
+    Sleepers(u16),
+}
+
+/// Writes the line of each hart.
+pub(crate) fn put_harts<K: Sink>(
+    queues: &Queues,
+    harts: u8,
+    line: &mut LineBuf,
+    output: &mut K,
+) -> Result<(), WriteFault>
+    requires { harts ≤ length queues.now.harts }
+    ensures text { Writes (K.taken output.old) (K.taken output.new) result (harts_text queues.now harts) }
+    ensures cause { HasCause (K.faults output.old) (K.faults output.new) result }
+{
+    'each: for hart in 0..harts {
+        make_hart(line, hart, queues.on_hart(hart));
+        put_line(line, output)?;
+    }
+    Ok(())
+}
+
+/// Makes the line of a hart.
+#[tactic(auto, unfolding(crate::specs::Standing::hart_text))]
+fn make_hart(line: &mut LineBuf, hart: u8, occupant: Option<u16>)
+    ensures { line.new ≡ hart_text hart occupant }
+{
+    line.clear();
+    push_numbered(line, "hart ", hart as u32);
+    push_occupant(line, occupant);
+    line.push_word("\n");
+}
+
+fn push_occupant(line: &mut LineBuf, occupant: Option<u16>)
+    requires { length line.old ≤ 100 }
+    ensures text { line.new ≡ line.old ++ occupant_text occupant }
+    ensures len { length line.new ≤ length line.old + 11 }
+{
+    match occupant {
+        Some(p) => push_numbered(line, " ", p as u32),
+        None => line.push_word(" idle"),
+    }
+}
+
+/// Writes the line of each ready queue that is not empty, from priority 7 down to 0.
+pub(crate) fn put_ready<K: Sink>(
+    queues: &Queues,
+    line: &mut LineBuf,
+    output: &mut K,
+) -> Result<(), WriteFault>
+    ensures text { Writes (K.taken output.old) (K.taken output.new) result (ready_text queues.now) }
+    ensures cause { HasCause (K.faults output.old) (K.faults output.new) result }
+{
+    'each: for below in 0..8u8 {
+        put_queue(queues, Queue::Ready(7 - below), line, output)?;
+    }
+    Ok(())
+}
+
+/// Writes the line of the sleepers of each process on which others sleep.
+pub(crate) fn put_sleepers<K: Sink>(
+    queues: &Queues,
+    processes: u16,
+    line: &mut LineBuf,
+    output: &mut K,
+) -> Result<(), WriteFault>
+    requires { processes ≤ length queues.now.sleepers }
+    ensures text { Writes (K.taken output.old) (K.taken output.new) result (sleepers_text queues.now processes) }
+    ensures cause { HasCause (K.faults output.old) (K.faults output.new) result }
+{
+    'each: for on in 0..processes {
+        put_queue(queues, Queue::Sleepers(on), line, output)?;
+    }
+    Ok(())
+}
+
+/// Writes the line of a list of processes, process by process, unless it is empty.
+fn put_queue<K: Sink>(
+    queues: &Queues,
+    queue: Queue,
+    line: &mut LineBuf,
+    output: &mut K,
+) -> Result<(), WriteFault>
+    requires { IsQueue queues.now queue }
+    ensures text { Writes (K.taken output.old) (K.taken output.new) result (queue_line queues.now queue) }
+    ensures cause { HasCause (K.faults output.old) (K.faults output.new) result }
+{
+    if is_empty(queues, queue) {
+        return Ok(());
+    }
+    make_name(line, queue);
+    put_line(line, output)?;
+    put_members(queues, queue, line, output)?;
+    put_text("\n", output)
+}
+
+/// Makes the front of the line of a list of processes.
+fn make_name(line: &mut LineBuf, queue: Queue)
+    ensures { line.new ≡ queue_name queue }
+{
+    line.clear();
+    match queue {
+        Queue::Ready(priority) => push_numbered(line, "ready ", priority as u32),
+        Queue::Sleepers(on) => push_numbered(line, "sleepers ", on as u32),
+    }
+}
+
+/// Whether no process is in a list of processes.
+fn is_empty(queues: &Queues, queue: Queue) -> bool
+    requires { IsQueue queues.now queue }
+    ensures { result ≡ is_none (slice_get (members queues.now queue) 0) }
+{
+    member(queues, queue, 0).is_none()
+}
+
+/// The process at place `n` of a list of processes, counted from 0.
+fn member(queues: &Queues, queue: Queue, n: u16) -> Option<u16>
+    requires { IsQueue queues.now queue }
+    ensures value { result ≡ slice_get (members queues.now queue) n }
+    ensures bound { length (members queues.now queue) ≤ 256 }
+{
+    match queue {
+        Queue::Ready(priority) => queues.ready_at(priority, n),
+        Queue::Sleepers(on) => queues.sleeper_at(on, n),
+    }
+}
+
+/// Writes the processes of a list, each behind a space.
+fn put_members<K: Sink>(
+    queues: &Queues,
+    queue: Queue,
+    line: &mut LineBuf,
+    output: &mut K,
+) -> Result<(), WriteFault>
+    requires { IsQueue queues.now queue }
+    ensures text { Writes (K.taken output.old) (K.taken output.new) result (flat_map member_text (members queues.now queue)) }
+    ensures cause { HasCause (K.faults output.old) (K.faults output.new) result }
+{
+    let mut place = 0;
+    'each: while let Some(p) = member(queues, queue, place) {
+        make_member(line, p);
+        put_line(line, output)?;
+        place += 1;
+    }
+    Ok(())
+}
+
+fn make_member(line: &mut LineBuf, p: u16)
+    ensures { line.new ≡ member_text p }
+{
+    line.clear();
+    push_numbered(line, " ", p as u32);
+}
