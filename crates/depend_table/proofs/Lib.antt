@@ -1,0 +1,5 @@
+mod Places
+mod Listed
+mod Linked
+mod Tables
+mod Searched

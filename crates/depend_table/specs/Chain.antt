@@ -1,0 +1,52 @@
+-- How records are linked, item by item. No public clause cites this module.
+use Rattle.std.specs.Prelude.{◌≡◌, ℕ, ◌+◌, ◌<◌, ◌≤◌, List, [], ◌∷◌, length, slice_index_or, sum_by, Option, Some, None}
+use Rattle.slab.specs.Slab.{Slab, get, slab_len}
+use Rattle.cap_format.specs.Item.{IsItem}
+use Rattle.depend_table.specs.declared.chain.Chain.{Chain}
+use Rattle.depend_table.specs.declared.chain.Node.{Node}
+use Rattle.depend_table.specs.Depend.{Depend, depend}
+use Rattle.depend_table.specs.Place.{place_of}
+
+-- the record that a node has
+abbrev pub record_of : Node → Depend
+record_of n = depend n.item n.root n.block
+
+-- the records of the nodes that are there
+abbrev pub records_of : List (Option Node) → List Depend
+records_of [] = []
+records_of (None ∷ slots) = records_of slots
+records_of (Some n ∷ slots) = record_of n ∷ records_of slots
+
+-- the chain of no record
+abbrev pub no_chain : Chain
+no_chain = record { first = None; length = 0 }
+
+-- the chain at a place
+abbrev pub chain_at : List Chain → ℕ → Chain
+chain_at chains place = slice_index_or chains place no_chain
+
+-- so many records, from this key on, are those of the item at a place
+abbrev pub Leads : (ℕ → Option Node) → ℕ → ℕ → Option ℕ → Type 0
+Leads node place length None = length ≡ 0
+Leads node place length (Some key) = (n : Node) × ((node key ≡ Some n) × ((place_of n.item ≡ place) × (length ≡ n.rest.length + 1)))
+
+abbrev pub IsChain : (ℕ → Option Node) → ℕ → Chain → Type 0
+IsChain node place chain = Leads node place chain.length chain.first
+
+-- the nodes, by their keys, and the chains, by places, are linked: every node is in its item's chain, at a height of
+-- its own, and no record is there twice
+pub record IsLinked (node : ℕ → Option Node) (chain : ℕ → Chain) : Type 0 where
+  pub items : (k : ℕ) (n : Node) → node k ≡ Some n → IsItem n.item
+  pub chains : (place : ℕ) → IsChain node place (chain place)
+  pub rests : (k : ℕ) (n : Node) → node k ≡ Some n → IsChain node (place_of n.item) n.rest
+  pub within : (k : ℕ) (n : Node) → node k ≡ Some n → n.rest.length < (chain (place_of n.item)).length
+  pub apart : (j k : ℕ) (m n : Node) → node j ≡ Some m → node k ≡ Some n → place_of m.item ≡ place_of n.item → m.rest.length ≡ n.rest.length → j ≡ k
+  pub once : (j k : ℕ) (m n : Node) → node j ≡ Some m → node k ≡ Some n → record_of m ≡ record_of n → j ≡ k
+
+-- the table has room for all records, and the chains together have as many as there are
+pub record IsTable (nodes : Slab Node) (chains : List Chain) : Type 0 where
+  pub room : 16384 ≤ nodes.capacity
+  pub most : slab_len nodes ≤ 16384
+  pub places : length chains ≡ 23040
+  pub total : sum_by (λ c. c.length) chains ≡ slab_len nodes
+  pub linked : IsLinked (get nodes) (chain_at chains)

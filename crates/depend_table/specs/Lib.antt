@@ -1,0 +1,4 @@
+pub mod Depend
+pub mod Members
+pub mod Place
+pub mod Chain
