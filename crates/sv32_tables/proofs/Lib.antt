@@ -1,9 +1,9 @@
 mod Choices
 pub mod Uses
 mod WordLaws
-mod Regions
+pub mod Regions
 mod Frames
-mod Leaves
+pub mod Leaves
 mod Empty
 mod Rooted
 mod Tabled

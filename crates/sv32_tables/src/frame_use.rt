@@ -1,4 +1,4 @@
-/// What a frame in use is for.
+/// What a frame in use is for. The default is no more than a blank.
 #[derive(Clone, Copy, Debug, Default, PartialEq, Eq)]
 pub enum FrameUse {
     /// It is a root: its words lead to the frames of its regions.
