@@ -1,2 +1,12 @@
+pub mod Sizes
+pub mod Faults
+pub mod Fields
+pub mod Line
+pub mod Spelling
+pub mod CapWord
+pub mod Bytes
 pub mod Statement
+pub mod StatementLines
+pub mod Machine
+pub mod Listing
 pub mod Schedule

@@ -1,35 +1,46 @@
 -- What a listing may say of a machine of some sizes.
-use Rattle.std.specs.Prelude.{◌≡◌, ℕ, ◌+◌, ◌%◌, ◌<◌, ◌≤◌, List, length}
+use Rattle.std.specs.Prelude.{◌≡◌, ◌+◌, ◌%◌, ◌^◌, ◌<◌, ◌≤◌, Bool, true, false, List, length}
+use Rattle.std.specs.List.{All}
+use Rattle.cap_format.specs.Kind.{is_object}
 use Rattle.cap_format.specs.declared.kind.CapKind.{CapKind}
-use Rattle.cap_format.specs.declared.kind.CapKind.TheVariants.{Page as PageKind, CapPage as CapPageKind, Gpt as GptKind, Endpoint as EndpointKind, Process as ProcessKind}
+use Rattle.cap_format.specs.declared.kind.CapKind.TheVariants as kinds
+use Rattle.object_store.specs.Ranges.{IsWithinLimits}
 use Rattle.object_store.specs.declared.sizes.Sizes.{Sizes}
 use Rattle.rv32_decode.specs.InRange.{InRange}
+use Rattle.listing_read.specs.Sizes.{size_in}
+use Rattle.listing_read.specs.CapWord.{IsStated}
 use Rattle.listing_read.specs.declared.statement.Statement.{Statement}
 use Rattle.listing_read.specs.declared.statement.Statement.TheVariants.{Page, Code, CapSlot, Gpt, GptSlot, Endpoint, Process, Reg, CapReg, Count}
 
--- how many objects of a kind a machine has
-abbrev pub size_in : Sizes → CapKind → ℕ
-size_in sizes PageKind = sizes.pages
-size_in sizes CapPageKind = sizes.cappages
-size_in sizes GptKind = sizes.gpts
-size_in sizes ProcessKind = sizes.processes
-size_in sizes EndpointKind = sizes.endpoints
-size_in sizes _ = 0
+-- the kinds that may receive for an endpoint
+abbrev pub is_recipient : CapKind → Bool
+is_recipient kinds.Process = true
+is_recipient kinds.Null = true
+is_recipient _ = false
 
--- the statement names what a machine of these sizes has
+-- the statement names what a machine of these sizes has, and its values are in their ranges; those that its type does
+-- not keep
 abbrev pub IsStatement : Sizes → Statement → Type 0
-IsStatement sizes (Page number at bytes) = (number < sizes.pages) × (at + length bytes ≤ 4096)
-IsStatement sizes (Code number at insn) = (number < sizes.pages) × (at + 4 ≤ 4096) × InRange insn
-IsStatement sizes (CapSlot number slot cap) = number < sizes.cappages
+IsStatement sizes (Page number at bytes) = (number < sizes.pages) × (at + length bytes ≤ 4096) × (1 ≤ length bytes)
+IsStatement sizes (Code number at insn) = (number < sizes.pages) × (at + 4 ≤ 4096) × InRange insn × (at % 4 ≡ 0)
+IsStatement sizes (CapSlot number slot cap) = (number < sizes.cappages) × IsStated sizes cap
 IsStatement sizes (Gpt number header) = number < sizes.gpts
-IsStatement sizes (GptSlot number slot cap) = (number < sizes.gpts) × (slot < 16)
-IsStatement sizes (Endpoint number recipient id payload matching) = number < sizes.endpoints
-IsStatement sizes (Process number pc space schedule handler runs) = (number < sizes.processes) × (pc % 4 ≡ 0)
-IsStatement sizes (Reg number index value) = (number < sizes.processes) × (index < 32)
-IsStatement sizes (CapReg number index cap) = (number < sizes.processes) × (index < 32)
-IsStatement sizes (Count kind number count) = (number < size_in sizes kind) × (count ≤ 1048575)
+IsStatement sizes (GptSlot number slot cap) = (number < sizes.gpts) × (slot < 16) × IsStated sizes cap
+IsStatement sizes (Endpoint number recipient id payload matching) =
+    (number < sizes.endpoints) × (is_recipient recipient.kind ≡ true) × IsStated sizes recipient
+IsStatement sizes (Process number pc space schedule handler runs) =
+    (number < sizes.processes) × (pc % 4 ≡ 0) × IsStated sizes space × IsStated sizes schedule × IsStated sizes handler
+IsStatement sizes (Reg number index value) = (number < sizes.processes) × (index < 32) × (1 ≤ index)
+IsStatement sizes (CapReg number index cap) = (number < sizes.processes) × (index < 32) × (1 ≤ index) × IsStated sizes cap
+IsStatement sizes (Count kind number count) = (number < size_in sizes kind) × (count ≤ 1048575) × (is_object kind ≡ true)
 
 -- a listing: the sizes of its machine and its statements
 pub record ListingValue : Type 0 where
   pub sizes : Sizes
   pub statements : List Statement
+
+-- what every listing keeps
+pub record IsListing (listing : ListingValue) : Type 0 where
+  pub limits : IsWithinLimits listing.sizes
+  pub statements : All (IsStatement listing.sizes) listing.statements
+  pub few : length listing.statements < 2 ^ 32

@@ -7,10 +7,13 @@
 mod capability;
 mod fault;
 mod fields;
+mod hex_bytes;
 mod line;
 mod listing;
 mod page_bytes;
+mod place;
 mod schedule;
+mod spelling;
 mod statement;
 mod statements;
 

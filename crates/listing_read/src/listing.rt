@@ -1,16 +1,19 @@
 //! A listing whole.
-ghost use Rattle.std.specs.Prelude.{◌≡◌, ◌≢◌, ◌≤◌, ◌<◌, ◌+◌, false, IfOk, OnOk, IfSome};
+ghost use Rattle.std.specs.Prelude.{◌≡◌, ◌≢◌, ◌≤◌, ◌<◌, ◌+◌, ◌^◌, ◌∷◌, [], length, true, false, OnOk, IfOk, IfErr};
 ghost use Rattle.std.specs.List.{All};
+ghost use Rattle.coy_text.specs.Words.{words_of};
 ghost use Rattle.coy_io.specs.Causes.{Rose};
+ghost use Rattle.coy_io.specs.Lines.{Line};
+ghost use Rattle.coy_io.specs.Reader.{Advances, ahead};
 ghost use Rattle.object_store.specs.Ranges.{IsWithinLimits};
+ghost use Rattle.listing_read.specs.declared.place.Place.TheVariants.{Header};
 ghost use Rattle.listing_read.specs.Statement.{IsStatement};
+ghost use Rattle.listing_read.specs.Listing.{IsListed, IsCause, is_end};
 
 use crate::fault::{Fault, ListingFault};
-use crate::line::{is_skipped, is_visible};
+use crate::place::{Place, Said, judge};
 use crate::statement::Statement;
-use crate::statements::statement;
 use coy_io::{LineFault, LineReader, Source};
-use coy_text::{read_dec, word, word_count};
 use object_store::Sizes;
 use std::alloc::Global;
 use std::marker::Model;
@@ -23,15 +26,13 @@ pub struct Listing {
 }
 
 impl Model for Listing {
-    ghost use Rattle.object_store.specs.Ranges.{IsWithinLimits};
-    ghost use Rattle.std.specs.List.{All};
-    ghost use Rattle.listing_read.specs.Statement.{IsStatement, ListingValue};
+    ghost use Rattle.listing_read.specs.Statement.{IsListing, ListingValue};
 
     ghost Value = { ListingValue };
 
     ghost view = { λ l. record { sizes = l.sizes; statements = l.statements.items } };
 
-    ghost invariant = { λ l. IsWithinLimits l.sizes × All (IsStatement l.sizes) l.statements.items };
+    ghost invariant = { λ l. IsListing (record { sizes = l.sizes; statements = l.statements.items }) };
 }
 
 impl Listing {
@@ -42,9 +43,11 @@ impl Listing {
         self.sizes
     }
 
+    /// The statements in the order of their lines, fewer than 2^32.
     pub fn statements(&self) -> &[Statement]
         ensures value { result.now ≡ self.now.statements }
         ensures range { All (IsStatement self.now.sizes) self.now.statements }
+        ensures few { length self.now.statements < 2 ^ 32 }
     {
         self.statements.as_slice()
     }
@@ -57,134 +60,67 @@ pub fn read_listing<S: Source>(
     source: &mut S,
 ) -> Result<Listing, ListingFault>
     requires { lines.old.failed ≡ false }
-    ensures reader { OnOk result (lines.new.failed ≡ false) }
-    ensures read { result ≡ Err ListingFault.ReadFault → Rose (S.faults source.old) (S.faults source.new) }
-    ensures quiet { result ≢ Err ListingFault.ReadFault → S.faults source.new ≡ S.faults source.old }
-{
-    next_line(lines, source, Fault::BadHeader)?;
-    if !is_header(lines.line()) {
-        return Err(refused(lines, Fault::BadHeader));
-    }
-    next_line(lines, source, Fault::BadMachine)?;
-    let Some(sizes) = machine(lines.line()) else {
-        return Err(refused(lines, Fault::BadMachine));
-    };
-    let statements = read_statements(alloc, sizes, lines, source)?;
-    Ok(Listing { sizes, statements })
-}
 
-fn read_statements<S: Source>(
-    alloc: Global,
-    sizes: Sizes,
-    lines: &mut LineReader,
-    source: &mut S,
-) -> Result<Vec<Statement>, ListingFault>
-    requires { lines.old.failed ≡ false }
+    // What the lines to come make, where they are known.
+    ensures listed { let old = ahead lines.old (S.held source.old) in
+        let new = ahead lines.new (S.held source.new) in
+        IfOk result (λ listing. IsListed Header (lines.old.number + 1) old listing lines.new.number new) }
+    ensures fault { let old = ahead lines.old (S.held source.old) in
+        IfErr result (λ fault. IsCause fault Header (lines.old.number + 1) old) }
+
+    // What happens to the reader and to the source.
+    ensures end { OnOk result (is_end (words_of lines.new.line) ≡ true) }
     ensures reader { OnOk result (lines.new.failed ≡ false) }
-    ensures range { IfOk result (λ statements. All (IsStatement sizes) statements.items) }
     ensures read { result ≡ Err ListingFault.ReadFault → Rose (S.faults source.old) (S.faults source.new) }
     ensures quiet { result ≢ Err ListingFault.ReadFault → S.faults source.new ≡ S.faults source.old }
 {
+    let mut place = Place::Header;
     let mut statements = Vec::new(alloc);
     'lines: loop {
-        next_line(lines, source, Fault::NoEnd)?;
-        if is_end(lines.line()) {
-            break;
-        }
-        match statement(sizes, lines.line()) {
-            Ok(statement) => statements.push(statement)?,
-            Err(fault) => return Err(refused(lines, fault)),
+        let number = next_line(place, lines, source)?;
+        match judge(place, lines.line()) {
+            Ok(Said::Nothing) => {}
+            Ok(Said::Opens(next)) => place = next,
+            Ok(Said::Says(statement)) => statements.push(statement)?,
+            Ok(Said::Ends(sizes)) => return Ok(Listing { sizes, statements }),
+            Err(fault) => return Err(refused(number, fault)),
         }
     }
-    Ok(statements)
 }
 
-/// Goes on to the next line that is not skipped. At the end of the input `at_end` is the fault.
+/// Goes on to the next line, which has this place, and answers its number.
+#[tactic(auto, using(crate::proofs::Causes::cause_at_end, crate::proofs::Causes::cause_long, crate::proofs::Causes::cause_past, crate::proofs::Causes::cause_read))]
 fn next_line<S: Source>(
+    place: Place,
     lines: &mut LineReader,
     source: &mut S,
-    at_end: Fault,
-) -> Result<(), ListingFault>
+) -> Result<u32, ListingFault>
     requires { lines.old.failed ≡ false }
-    ensures reader { OnOk result (lines.new.failed ≡ false) }
+    ensures line { let old = ahead lines.old (S.held source.old) in
+        let new = ahead lines.new (S.held source.new) in
+        OnOk result (Advances old new (Line lines.new.line ∷ [])) }
+    ensures fault { let old = ahead lines.old (S.held source.old) in
+        IfErr result (λ fault. IsCause fault place (lines.old.number + 1) old) }
+    ensures number { IfOk result (λ number. number ≡ lines.old.number + 1) }
+    ensures bound { IfOk result (λ number. number < 2 ^ 32) }
+    ensures counted { OnOk result (lines.new.number ≡ lines.old.number + 1) }
     ensures shorter { OnOk result (lines.new.room < lines.old.room) }
+    ensures reader { OnOk result (lines.new.failed ≡ false) }
     ensures read { result ≡ Err ListingFault.ReadFault → Rose (S.faults source.old) (S.faults source.new) }
     ensures quiet { result ≢ Err ListingFault.ReadFault → S.faults source.new ≡ S.faults source.old }
 {
-    'lines: loop {
-        match lines.next(source) {
-            Ok(Some(_)) => {}
-            Ok(None) => return Err(behind(lines, at_end)),
-            Err(LineFault::ReadFault) => return Err(ListingFault::ReadFault),
-            Err(LineFault::LineTooLong) => return Err(behind(lines, Fault::LineTooLong)),
-            Err(LineFault::TooLong) => return Err(ListingFault::TooLong),
-        }
-        if !is_visible(lines.line()) {
-            return Err(refused(lines, Fault::BadByte));
-        }
-        if !is_skipped(lines.line()) {
-            return Ok(());
-        }
+    let number = lines.number() + 1;
+    match lines.next(source) {
+        Ok(Some(_)) => Ok(number),
+        Ok(None) => Err(refused(number, place.fault_at_end())),
+        Err(LineFault::LineTooLong) => Err(refused(number, Fault::LineTooLong)),
+        Err(LineFault::TooLong) => Err(ListingFault::TooLong),
+        Err(LineFault::ReadFault) => Err(ListingFault::ReadFault),
     }
 }
 
-/// A fault of the line given last.
-fn refused(lines: &LineReader, fault: Fault) -> ListingFault
-    ensures { result ≡ ListingFault.Refused lines.now.number fault }
+fn refused(line: u32, fault: Fault) -> ListingFault
+    ensures { result ≡ ListingFault.Refused line fault }
 {
-    ListingFault::Refused {
-        line: lines.number(),
-        fault,
-    }
-}
-
-/// A fault of the line behind it.
-fn behind(lines: &LineReader, fault: Fault) -> ListingFault
-    ensures { result ≡ ListingFault.Refused (lines.now.number + 1) fault }
-{
-    ListingFault::Refused {
-        line: lines.number() + 1,
-        fault,
-    }
-}
-
-fn is_header(line: &[u8]) -> bool {
-    word_count(line) == 2
-        && word(line, 0) == b"coyotos".as_slice()
-        && word(line, 1) == b"1".as_slice()
-}
-
-fn is_end(line: &[u8]) -> bool {
-    word_count(line) == 1 && word(line, 0) == b"end".as_slice()
-}
-
-/// The sizes that the line `machine` gives, where they are within the limits.
-fn machine(line: &[u8]) -> Option<Sizes>
-    ensures { IfSome result IsWithinLimits }
-{
-    if word_count(line) != 7 || word(line, 0) != b"machine".as_slice() {
-        return None;
-    }
-    let harts = size(8, word(line, 1))?;
-    if harts == 0 {
-        return None;
-    }
-    Some(Sizes {
-        harts: harts as u8,
-        pages: size(4096, word(line, 2))?,
-        cappages: size(256, word(line, 3))?,
-        gpts: size(1024, word(line, 4))?,
-        processes: size(256, word(line, 5))?,
-        endpoints: size(1024, word(line, 6))?,
-    })
-}
-
-fn size(most: u16, word: &[u8]) -> Option<u16>
-    ensures { IfSome result (λ n. n ≤ most) }
-{
-    let value = read_dec(word).ok()?;
-    if value > most as u32 {
-        return None;
-    }
-    Some(value as u16)
+    ListingFault::Refused { line, fault }
 }

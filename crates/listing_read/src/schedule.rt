@@ -1,6 +1,9 @@
 //! Lines of a schedule.
-ghost use Rattle.std.specs.Prelude.{◌<◌, ◌≤◌, IfOk, IfSome};
-ghost use Rattle.listing_read.specs.Schedule.{IsTimed};
+ghost use Rattle.std.specs.Prelude.{ℕ, ◌<◌, ◌≤◌, ◌≡◌, ◌==◌, length, IfOk, IfSome};
+ghost use Rattle.coy_text.specs.Words.{words_of};
+ghost use Rattle.listing_read.specs.declared.fault.ScheduleFault.TheVariants.{WrongWords};
+ghost use Rattle.listing_read.specs.Faults.{ensured};
+ghost use Rattle.listing_read.specs.Schedule.{IsTimed, count_of, hart_of, times_of, step_line, tick_line, round_line, timed_of, asked_by, event_of};
 
 use crate::fault::ScheduleFault;
 use crate::line::{is_skipped, is_visible};
@@ -19,8 +22,10 @@ pub enum Timed {
 }
 
 /// The events of a line, on a machine with so many harts. `None` for a line that is skipped.
+#[tactic(auto, unfolding(crate::specs::Schedule::event_of))]
 pub fn read_event(line: &[u8], harts: u8) -> Result<Option<Timed>, ScheduleFault>
-    ensures { IfOk result (λ event. IfSome event (IsTimed harts)) }
+    ensures value { result ≡ event_of harts line.now }
+    ensures range { IfOk result (λ event. IfSome event (IsTimed harts)) }
 {
     if line.len() > LINE_LIMIT {
         return Err(ScheduleFault::LineTooLong);
@@ -31,52 +36,88 @@ pub fn read_event(line: &[u8], harts: u8) -> Result<Option<Timed>, ScheduleFault
     if is_skipped(line) {
         return Ok(None);
     }
-    Ok(Some(asked(line, harts)?))
+    asked(line, harts)
 }
 
-fn asked(line: &[u8], harts: u8) -> Result<Timed, ScheduleFault>
-    ensures { IfOk result (IsTimed harts) }
+#[tactic(auto, unfolding(crate::specs::Schedule::asked_by))]
+fn asked(line: &[u8], harts: u8) -> Result<Option<Timed>, ScheduleFault>
+    ensures value { result ≡ asked_by harts (words_of line.now) }
+    ensures range { IfOk result (λ event. IfSome event (IsTimed harts)) }
+{
+    Ok(Some(by_first_word(line, harts)?))
+}
+
+#[tactic(auto, unfolding(crate::specs::Schedule::timed_of))]
+fn by_first_word(line: &[u8], harts: u8) -> Result<Timed, ScheduleFault>
+    ensures value { result ≡ timed_of harts (words_of line.now) }
+    ensures range { IfOk result (IsTimed harts) }
 {
     let head = word(line, 0);
     if head == b"step".as_slice() {
-        has_words(line, 3)?;
-        let hart = hart(harts, word(line, 1))?;
-        return Ok(Timed::Step {
-            hart,
-            times: times(word(line, 2))?,
-        });
+        return step(line, harts);
     }
     if head == b"tick".as_slice() {
-        has_words(line, 2)?;
-        return Ok(Timed::Tick {
-            hart: hart(harts, word(line, 1))?,
-        });
+        return tick(line, harts);
     }
     if head == b"round".as_slice() {
-        has_words(line, 2)?;
-        return Ok(Timed::Round {
-            times: times(word(line, 1))?,
-        });
+        return round(line);
     }
     Err(ScheduleFault::UnknownEvent)
 }
 
-fn has_words(line: &[u8], count: usize) -> Result<(), ScheduleFault> {
+#[tactic(auto, unfolding(crate::specs::Schedule::step_line))]
+fn step(line: &[u8], harts: u8) -> Result<Timed, ScheduleFault>
+    ensures value { result ≡ step_line harts (words_of line.now) }
+    ensures range { IfOk result (IsTimed harts) }
+{
+    has_words(line, 3)?;
+    let hart = hart(harts, word(line, 1))?;
+    let times = times(word(line, 2))?;
+    Ok(Timed::Step { hart, times })
+}
+
+#[tactic(auto, unfolding(crate::specs::Schedule::tick_line))]
+fn tick(line: &[u8], harts: u8) -> Result<Timed, ScheduleFault>
+    ensures value { result ≡ tick_line harts (words_of line.now) }
+    ensures range { IfOk result (IsTimed harts) }
+{
+    has_words(line, 2)?;
+    let hart = hart(harts, word(line, 1))?;
+    Ok(Timed::Tick { hart })
+}
+
+#[tactic(auto, unfolding(crate::specs::Schedule::round_line))]
+fn round(line: &[u8]) -> Result<Timed, ScheduleFault>
+    ensures value { result ≡ round_line (words_of line.now) }
+    ensures range { (harts : ℕ) → IfOk result (IsTimed harts) }
+{
+    has_words(line, 2)?;
+    let times = times(word(line, 1))?;
+    Ok(Timed::Round { times })
+}
+
+fn has_words(line: &[u8], count: usize) -> Result<(), ScheduleFault>
+    ensures { result ≡ ensured (length (words_of line.now) == count) WrongWords }
+{
     if word_count(line) != count {
         return Err(ScheduleFault::WrongWords);
     }
     Ok(())
 }
 
-fn number(word: &[u8]) -> Result<u32, ScheduleFault> {
+fn number(word: &[u8]) -> Result<u32, ScheduleFault>
+    ensures { result ≡ count_of word.now }
+{
     match read_dec(word) {
         Ok(value) => Ok(value),
         Err(_) => Err(ScheduleFault::BadNumber),
     }
 }
 
+#[tactic(auto, unfolding(crate::specs::Schedule::hart_of))]
 fn hart(harts: u8, word: &[u8]) -> Result<u8, ScheduleFault>
-    ensures { IfOk result (λ hart. hart < harts) }
+    ensures value { result ≡ hart_of harts word.now }
+    ensures there { IfOk result (λ hart. hart < harts) }
 {
     let value = number(word)?;
     if value >= harts as u32 {
@@ -85,12 +126,14 @@ fn hart(harts: u8, word: &[u8]) -> Result<u8, ScheduleFault>
     Ok(value as u8)
 }
 
+#[tactic(auto, unfolding(crate::specs::Schedule::times_of))]
 fn times(word: &[u8]) -> Result<u32, ScheduleFault>
+    ensures value { result ≡ times_of word.now }
     ensures least { IfOk result (λ n. 1 ≤ n) }
     ensures most { IfOk result (λ n. n ≤ 1000000) }
 {
     let value = number(word)?;
-    if value == 0 || value > 1_000_000 {
+    if value < 1 || value > 1_000_000 {
         return Err(ScheduleFault::BadRepeat);
     }
     Ok(value)

@@ -1,11 +1,15 @@
 //! The statements of a listing, one function each.
-ghost use Rattle.std.specs.Prelude.{◌<◌, ◌≤◌, ◌*◌, ◌+◌, ◌≡◌, IfOk, length};
-ghost use Rattle.listing_read.specs.Statement.{IsStatement, size_in};
+ghost use Rattle.std.specs.Prelude.{◌≡◌, true, IfOk};
+ghost use Rattle.coy_text.specs.Words.{words_of};
+ghost use Rattle.cap_format.specs.Kind.{is_object};
+ghost use Rattle.object_store.specs.Ranges.{IsWithinLimits};
+ghost use Rattle.listing_read.specs.Statement.{IsStatement};
+ghost use Rattle.listing_read.specs.StatementLines.{page_line, code_line, cap_line, flags_of, one_flag, both_flags, gpt_line, slot_line, endpoint_line, process_line, reg_line, capreg_line, kind_of, count_line, statement_of};
 
-use crate::capability::capability;
+use crate::capability::{capability, size_of};
 use crate::fault::Fault;
-use crate::fields::{aligned, between, hexadecimal, hexadecimal_limited, limited, object};
-use crate::page_bytes::PageBytes;
+use crate::fields::{aligned, between, either, has_words, hexadecimal, hexadecimal_to, object};
+use crate::hex_bytes::hex_bytes;
 use crate::statement::Statement;
 use cap_format::CapKind;
 use coy_text::{word, word_count, words_from};
@@ -14,8 +18,11 @@ use object_store::Sizes;
 use rv32_asm::assemble_insn;
 
 /// What a line says, whose first word is not `end`.
+#[tactic(auto, unfolding(crate::specs::StatementLines::statement_of))]
 pub(crate) fn statement(sizes: Sizes, line: &[u8]) -> Result<Statement, Fault>
-    ensures { IfOk result (IsStatement sizes) }
+    requires { IsWithinLimits sizes }
+    ensures value { result ≡ statement_of sizes (words_of line.now) }
+    ensures range { IfOk result (IsStatement sizes) }
 {
     let head = word(line, 0);
     if head == b"page".as_slice() {
@@ -51,20 +58,15 @@ pub(crate) fn statement(sizes: Sizes, line: &[u8]) -> Result<Statement, Fault>
     Err(Fault::UnknownStatement)
 }
 
-fn has_words(line: &[u8], count: usize) -> Result<(), Fault> {
-    if word_count(line) != count {
-        return Err(Fault::WrongWords);
-    }
-    Ok(())
-}
-
+#[tactic(auto, unfolding(crate::specs::StatementLines::page_line))]
 fn page(sizes: Sizes, line: &[u8]) -> Result<Statement, Fault>
-    ensures { IfOk result (IsStatement sizes) }
+    ensures value { result ≡ page_line sizes (words_of line.now) }
+    ensures range { IfOk result (IsStatement sizes) }
 {
     has_words(line, 4)?;
     let number = object(sizes.pages, word(line, 1))?;
-    let at = hexadecimal_limited(0xfff, word(line, 2))?;
-    let bytes = page_bytes(word(line, 3))?;
+    let at = hexadecimal_to(0xfff, word(line, 2))?;
+    let bytes = hex_bytes(word(line, 3))?;
     if at as usize + bytes.as_slice().len() > 4096 {
         return Err(Fault::BadValue);
     }
@@ -75,34 +77,10 @@ fn page(sizes: Sizes, line: &[u8]) -> Result<Statement, Fault>
     })
 }
 
-fn page_bytes(digits: &[u8]) -> Result<PageBytes, Fault> {
-    if digits.is_empty() || digits.len() > 128 || digits.len() % 2 != 0 {
-        return Err(Fault::BadHex);
-    }
-    let mut bytes = PageBytes::new();
-    'bytes: for i in 0..digits.len() / 2 {
-        bytes.push(byte_of(digits[2 * i], digits[2 * i + 1])?);
-    }
-    Ok(bytes)
-}
-
-fn byte_of(high: u8, low: u8) -> Result<u8, Fault> {
-    Ok(digit_of(high)? * 16 + digit_of(low)?)
-}
-
-fn digit_of(digit: u8) -> Result<u8, Fault>
-    ensures { IfOk result (λ d. d < 16) }
-{
-    match digit {
-        b'0'..=b'9' => Ok(digit - b'0'),
-        b'a'..=b'f' => Ok(digit - b'a' + 10),
-        b'A'..=b'F' => Ok(digit - b'A' + 10),
-        _ => Err(Fault::BadHex),
-    }
-}
-
+#[tactic(auto, unfolding(crate::specs::StatementLines::code_line))]
 fn code(sizes: Sizes, line: &[u8]) -> Result<Statement, Fault>
-    ensures { IfOk result (IsStatement sizes) }
+    ensures value { result ≡ code_line sizes (words_of line.now) }
+    ensures range { IfOk result (IsStatement sizes) }
 {
     if word_count(line) < 4 {
         return Err(Fault::WrongWords);
@@ -119,12 +97,15 @@ fn code(sizes: Sizes, line: &[u8]) -> Result<Statement, Fault>
     }
 }
 
+#[tactic(auto, unfolding(crate::specs::StatementLines::cap_line))]
 fn cap_slot(sizes: Sizes, line: &[u8]) -> Result<Statement, Fault>
-    ensures { IfOk result (IsStatement sizes) }
+    requires { IsWithinLimits sizes }
+    ensures value { result ≡ cap_line sizes (words_of line.now) }
+    ensures range { IfOk result (IsStatement sizes) }
 {
     has_words(line, 4)?;
     let number = object(sizes.cappages, word(line, 1))?;
-    let slot = limited(255, word(line, 2))?;
+    let slot = between(0, 255, word(line, 2))?;
     let cap = capability(sizes, word(line, 3))?;
     Ok(Statement::CapSlot {
         number,
@@ -133,8 +114,10 @@ fn cap_slot(sizes: Sizes, line: &[u8]) -> Result<Statement, Fault>
     })
 }
 
+#[tactic(auto, unfolding(crate::specs::StatementLines::gpt_line))]
 fn gpt(sizes: Sizes, line: &[u8]) -> Result<Statement, Fault>
-    ensures { IfOk result (IsStatement sizes) }
+    ensures value { result ≡ gpt_line sizes (words_of line.now) }
+    ensures range { IfOk result (IsStatement sizes) }
 {
     let words = word_count(line);
     if words < 3 || words > 5 {
@@ -142,39 +125,55 @@ fn gpt(sizes: Sizes, line: &[u8]) -> Result<Statement, Fault>
     }
     let number = object(sizes.gpts, word(line, 1))?;
     let l2v = between(12, 31, word(line, 2))?;
-    let (ha, bg) = flags(word(line, 3), word(line, 4))?;
+    let (ha, bg) = flags(line)?;
     Ok(Statement::Gpt {
         number,
         header: GptHeader::new(l2v as u8, ha, bg),
     })
 }
 
-/// The flags that these two words name. A word that is not there is empty.
-fn flags(first: &[u8], second: &[u8]) -> Result<(bool, bool), Fault> {
-    if first.is_empty() {
-        return Ok((false, false));
+/// The flags of a GPT, behind its number and its size.
+#[tactic(auto, unfolding(crate::specs::StatementLines::flags_of))]
+fn flags(line: &[u8]) -> Result<(bool, bool), Fault>
+    ensures { result ≡ flags_of (words_of line.now) }
+{
+    match word_count(line) {
+        3 => Ok((false, false)),
+        4 => one_flag(word(line, 3)),
+        _ => both_flags(word(line, 3), word(line, 4)),
     }
-    if first == b"ha".as_slice() {
-        if second.is_empty() {
-            return Ok((true, false));
-        }
-        if second == b"bg".as_slice() {
-            return Ok((true, true));
-        }
-        return Err(Fault::BadValue);
+}
+
+fn one_flag(flag: &[u8]) -> Result<(bool, bool), Fault>
+    ensures { result ≡ one_flag flag.now }
+{
+    if flag == b"ha".as_slice() {
+        return Ok((true, false));
     }
-    if first == b"bg".as_slice() && second.is_empty() {
+    if flag == b"bg".as_slice() {
         return Ok((false, true));
     }
     Err(Fault::BadValue)
 }
 
+fn both_flags(first: &[u8], second: &[u8]) -> Result<(bool, bool), Fault>
+    ensures { result ≡ both_flags first.now second.now }
+{
+    if first == b"ha".as_slice() && second == b"bg".as_slice() {
+        return Ok((true, true));
+    }
+    Err(Fault::BadValue)
+}
+
+#[tactic(auto, unfolding(crate::specs::StatementLines::slot_line))]
 fn gpt_slot(sizes: Sizes, line: &[u8]) -> Result<Statement, Fault>
-    ensures { IfOk result (IsStatement sizes) }
+    requires { IsWithinLimits sizes }
+    ensures value { result ≡ slot_line sizes (words_of line.now) }
+    ensures range { IfOk result (IsStatement sizes) }
 {
     has_words(line, 4)?;
     let number = object(sizes.gpts, word(line, 1))?;
-    let slot = limited(15, word(line, 2))?;
+    let slot = between(0, 15, word(line, 2))?;
     let cap = capability(sizes, word(line, 3))?;
     Ok(Statement::GptSlot {
         number,
@@ -183,13 +182,16 @@ fn gpt_slot(sizes: Sizes, line: &[u8]) -> Result<Statement, Fault>
     })
 }
 
+#[tactic(auto, unfolding(crate::specs::StatementLines::endpoint_line))]
 fn endpoint(sizes: Sizes, line: &[u8]) -> Result<Statement, Fault>
-    ensures { IfOk result (IsStatement sizes) }
+    requires { IsWithinLimits sizes }
+    ensures value { result ≡ endpoint_line sizes (words_of line.now) }
+    ensures range { IfOk result (IsStatement sizes) }
 {
     has_words(line, 6)?;
     let number = object(sizes.endpoints, word(line, 1))?;
     let recipient = capability(sizes, word(line, 2))?;
-    if recipient.kind() != CapKind::Process && recipient.kind() != CapKind::Null {
+    if !matches!(recipient.kind(), CapKind::Process | CapKind::Null) {
         return Err(Fault::BadValue);
     }
     let id = hexadecimal(word(line, 3))?;
@@ -204,19 +206,11 @@ fn endpoint(sizes: Sizes, line: &[u8]) -> Result<Statement, Fault>
     })
 }
 
-/// Whether the word is the first of two, and it is one of them.
-fn either(yes: &[u8], no: &[u8], word: &[u8]) -> Result<bool, Fault> {
-    if word == yes {
-        return Ok(true);
-    }
-    if word == no {
-        return Ok(false);
-    }
-    Err(Fault::BadValue)
-}
-
+#[tactic(auto, unfolding(crate::specs::StatementLines::process_line))]
 fn process(sizes: Sizes, line: &[u8]) -> Result<Statement, Fault>
-    ensures { IfOk result (IsStatement sizes) }
+    requires { IsWithinLimits sizes }
+    ensures value { result ≡ process_line sizes (words_of line.now) }
+    ensures range { IfOk result (IsStatement sizes) }
 {
     has_words(line, 7)?;
     let number = object(sizes.processes, word(line, 1))?;
@@ -235,8 +229,10 @@ fn process(sizes: Sizes, line: &[u8]) -> Result<Statement, Fault>
     })
 }
 
+#[tactic(auto, unfolding(crate::specs::StatementLines::reg_line))]
 fn register(sizes: Sizes, line: &[u8]) -> Result<Statement, Fault>
-    ensures { IfOk result (IsStatement sizes) }
+    ensures value { result ≡ reg_line sizes (words_of line.now) }
+    ensures range { IfOk result (IsStatement sizes) }
 {
     has_words(line, 4)?;
     let number = object(sizes.processes, word(line, 1))?;
@@ -249,8 +245,11 @@ fn register(sizes: Sizes, line: &[u8]) -> Result<Statement, Fault>
     })
 }
 
+#[tactic(auto, unfolding(crate::specs::StatementLines::capreg_line))]
 fn cap_register(sizes: Sizes, line: &[u8]) -> Result<Statement, Fault>
-    ensures { IfOk result (IsStatement sizes) }
+    requires { IsWithinLimits sizes }
+    ensures value { result ≡ capreg_line sizes (words_of line.now) }
+    ensures range { IfOk result (IsStatement sizes) }
 {
     has_words(line, 4)?;
     let number = object(sizes.processes, word(line, 1))?;
@@ -263,13 +262,15 @@ fn cap_register(sizes: Sizes, line: &[u8]) -> Result<Statement, Fault>
     })
 }
 
+#[tactic(auto, unfolding(crate::specs::StatementLines::count_line))]
 fn count(sizes: Sizes, line: &[u8]) -> Result<Statement, Fault>
-    ensures { IfOk result (IsStatement sizes) }
+    ensures value { result ≡ count_line sizes (words_of line.now) }
+    ensures range { IfOk result (IsStatement sizes) }
 {
     has_words(line, 4)?;
     let kind = object_kind(word(line, 1))?;
     let number = object(size_of(sizes, kind), word(line, 2))?;
-    let count = limited(1_048_575, word(line, 3))?;
+    let count = between(0, 1_048_575, word(line, 3))?;
     Ok(Statement::Count {
         kind,
         number,
@@ -277,7 +278,11 @@ fn count(sizes: Sizes, line: &[u8]) -> Result<Statement, Fault>
     })
 }
 
-fn object_kind(word: &[u8]) -> Result<CapKind, Fault> {
+#[tactic(auto, unfolding(crate::specs::StatementLines::kind_of))]
+fn object_kind(word: &[u8]) -> Result<CapKind, Fault>
+    ensures value { result ≡ kind_of word.now }
+    ensures range { IfOk result (λ kind. is_object kind ≡ true) }
+{
     if word == b"page".as_slice() {
         return Ok(CapKind::Page);
     }
@@ -294,18 +299,4 @@ fn object_kind(word: &[u8]) -> Result<CapKind, Fault> {
         return Ok(CapKind::Process);
     }
     Err(Fault::BadValue)
-}
-
-/// How many objects of a kind a machine of these sizes has.
-fn size_of(sizes: Sizes, kind: CapKind) -> u16
-    ensures { result ≡ size_in sizes kind }
-{
-    match kind {
-        CapKind::Page => sizes.pages,
-        CapKind::CapPage => sizes.cappages,
-        CapKind::Gpt => sizes.gpts,
-        CapKind::Process => sizes.processes,
-        CapKind::Endpoint => sizes.endpoints,
-        _ => 0,
-    }
 }

@@ -1,0 +1,5 @@
+mod Spellings
+mod CapWords
+mod Pairs
+mod Causes
+mod Follows

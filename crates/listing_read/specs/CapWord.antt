@@ -1,0 +1,53 @@
+-- The capability that a word gives on a machine of some sizes, and its faults: that the word spells none, then that its
+-- object is not there, then its guard.
+use Rattle.std.specs.Prelude.{◌≡◌, ℕ, ◌-◌, ◌%◌, ◌^◌, ◌<◌, ◌==◌, ◌&&◌, ◌||◌, not, nat_lt, nat_le, Bool, true, false, List, ok_or, Result, Ok}
+use Rattle.cap_format.specs.Kind.{is_counted, is_memory, is_window, object_kind, object_limit, payload_limit, restr_limit, slot_limit}
+use Rattle.cap_format.specs.Guard.{guard_of, no_guard}
+use Rattle.cap_format.specs.Capability.{Capability, capability}
+use Rattle.object_store.specs.declared.sizes.Sizes.{Sizes}
+use Rattle.listing_read.specs.Sizes.{size_in}
+use Rattle.listing_read.specs.Faults.{◌>>=◌, ensured}
+use Rattle.listing_read.specs.Spelling.{spelled_of}
+use Rattle.listing_read.specs.declared.fault.Fault.{Fault}
+use Rattle.listing_read.specs.declared.fault.Fault.TheVariants.{BadCap, NoObject, BadGuard}
+use Rattle.listing_read.specs.declared.spelling.Spelled.{Spelled}
+
+-- the machine has the object that is named, if one is
+abbrev pub is_there : Sizes → Spelled → Bool
+is_there sizes spelled =
+    not (is_counted spelled.kind) || nat_lt spelled.object (size_in sizes (object_kind spelled.kind))
+
+-- the guard is in its range
+abbrev pub has_guard : Spelled → Bool
+has_guard spelled =
+    nat_le 12 spelled.l2g && nat_le spelled.l2g 32 && nat_lt spelled.matches (2 ^ (32 - spelled.l2g))
+
+-- an offset is a multiple of the size of what passes the guard
+abbrev pub is_aligned : Spelled → Bool
+is_aligned spelled = not (is_window spelled.kind) || (spelled.object % 2 ^ spelled.l2g == 0)
+
+-- the capability that is spelled, with count 0
+abbrev pub meant : Spelled → Capability
+meant spelled =
+    capability spelled.kind spelled.restr 0 (guard_of spelled.l2g spelled.matches) spelled.object spelled.payload spelled.slot
+
+-- the capability of a word
+unfoldable pub cap_of : Sizes → List ℕ → Result Capability Fault
+cap_of sizes word = do
+  spelled ← ok_or (spelled_of word) BadCap
+  _ ← ensured (is_there sizes spelled) NoObject
+  _ ← ensured (has_guard spelled && is_aligned spelled) BadGuard
+  Ok (meant spelled)
+
+-- what every spelling keeps: what its kind has not is 0 or 12/0, and what stands in it alone is in its range
+pub record IsSpelled (spelled : Spelled) : Type 0 where
+  pub restr : spelled.restr < restr_limit spelled.kind
+  pub unguarded : is_memory spelled.kind ≡ false → guard_of spelled.l2g spelled.matches ≡ no_guard
+  pub object : is_counted spelled.kind ≡ false → spelled.object < object_limit spelled.kind
+  pub payload : spelled.payload < payload_limit spelled.kind
+  pub slot : spelled.slot < slot_limit spelled.kind
+
+-- a capability of count 0, to an object that the machine has if it is to one
+pub record IsStated (sizes : Sizes) (cap : Capability) : Type 0 where
+  pub uncounted : cap.count ≡ 0
+  pub there : is_counted cap.kind ≡ true → cap.object < size_in sizes (object_kind cap.kind)

@@ -1,0 +1,144 @@
+-- Which words spell a capability, and what they spell: one function for each form of the words. What a kind has not is
+-- 0, and its guard is 12/0.
+use Rattle.std.specs.Prelude.{ℕ, ◌+◌, ◌*◌, ◌==◌, ◌||◌, not, nat_le, Bool, true, false, if◌then◌else◌, List, [], ◌∷◌, length, Option, Some, None, option_map, bytes_eq, codes}
+use Rattle.coy_text.specs.Numeral.{dec_of, hex_of}
+use Rattle.coy_text.specs.Words.{cut_at}
+use Rattle.cap_format.specs.declared.kind.CapKind.{CapKind}
+use Rattle.cap_format.specs.declared.kind.CapKind.TheVariants.{Null, Page, CapPage, Gpt, Window, LocalWindow, Endpoint, Entry, Process, Schedule, Range, Discrim, KernLog, SysCtl}
+use Rattle.listing_read.specs.declared.spelling.Spelled.{Spelled}
+use Rattle.listing_read.specs.declared.spelling.Guarded.{Guarded}
+
+infixl 10 ◌>>=◌
+-- what is read after something else was, where that could be read
+abbrev pub ◌>>=◌ : {A B : Type 0} → Option A → (A → Option B) → Option B
+None >>= next = None
+(Some x) >>= next = next x
+
+-- goes on where the test holds
+abbrev pub given : Bool → Option (Unit {0})
+given true = Some tt
+given false = None
+
+-- a decimal number of at most `most`
+unfoldable pub dec_to : ℕ → List ℕ → Option ℕ
+dec_to most word = do
+  number ← dec_of word
+  _ ← given (nat_le number most)
+  Some number
+
+-- a capability without guard and restrictions
+abbrev pub named : CapKind → ℕ → Spelled
+named kind object =
+    record { kind = kind; restr = 0; l2g = 12; matches = 0; object = object; payload = 0; slot = 0 }
+
+-- the same behind a guard
+abbrev pub behind : Guarded → Spelled → Spelled
+behind guarded spelled =
+    record spelled { restr = guarded.restr; l2g = guarded.l2g; matches = guarded.matches }
+
+-- `null`, `range`, `discrim`, `kernlog`, `sysctl`
+unfoldable pub plain_kind_of : List ℕ → Option CapKind
+plain_kind_of word =
+    if bytes_eq word (codes "null") then Some Null
+    else (if bytes_eq word (codes "range") then Some Range
+    else (if bytes_eq word (codes "discrim") then Some Discrim
+    else (if bytes_eq word (codes "kernlog") then Some KernLog
+    else (if bytes_eq word (codes "sysctl") then Some SysCtl else None))))
+
+-- 1 and the rest where the letter is the first of these, otherwise 0 and all of them
+abbrev pub letter_at : ℕ → List ℕ → ℕ × List ℕ
+letter_at wanted [] = (0, [])
+letter_at wanted (first ∷ rest) = if first == wanted then (1, rest) else (0, first ∷ rest)
+
+-- at least one of the letters `r`, `x`, `w`, `o`, `n` in this order, each at most once
+unfoldable pub restr_of : List ℕ → Option ℕ
+restr_of letters =
+    let r = letter_at 114 letters in
+    let x = letter_at 120 r.1 in
+    let w = letter_at 119 x.1 in
+    let o = letter_at 111 w.1 in
+    let n = letter_at 110 o.1 in
+    if (length letters == 0) || not (length n.1 == 0) then None
+    else Some (r.0 + 2 * x.0 + 4 * w.0 + 8 * o.0 + 16 * n.0)
+
+-- `M`, or `M+LETTERS`, behind `L/`
+abbrev pub match_of : ℕ → List ℕ → Option (List ℕ × List ℕ) → Option Guarded
+match_of l2g word None = do
+  matches ← hex_of word
+  Some (record { l2g = l2g; matches = matches; restr = 0 })
+match_of l2g word (Some (digits, letters)) = do
+  matches ← hex_of digits
+  restr ← restr_of letters
+  Some (record { l2g = l2g; matches = matches; restr = restr })
+
+-- `L/M` or `L/M+LETTERS`, L decimal and M hexadecimal
+unfoldable pub guarded_of : List ℕ → Option Guarded
+guarded_of word = do
+  parts ← cut_at 47 word
+  l2g ← dec_of parts.0
+  match_of l2g parts.1 (cut_at 43 parts.1)
+
+-- `schedule:P`, P from 0 to 7
+unfoldable pub schedule_of : List ℕ → Option Spelled
+schedule_of rest = do
+  priority ← dec_to 7 rest
+  Some (named Schedule priority)
+
+-- `endpoint:N`, `process:N`
+unfoldable pub named_of : CapKind → List ℕ → Option Spelled
+named_of kind rest = do
+  number ← dec_of rest
+  Some (named kind number)
+
+-- `entry:N:PAYLOAD`, the payload hexadecimal
+unfoldable pub entry_of : List ℕ → Option Spelled
+entry_of rest = do
+  parts ← cut_at 58 rest
+  endpoint ← dec_of parts.0
+  payload ← hex_of parts.1
+  Some (record (named Entry endpoint) { payload = payload })
+
+-- `page:N`, `cappage:N`, `gpt:N` and then `@` and the guard
+unfoldable pub memory_of : CapKind → List ℕ → Option Spelled
+memory_of kind rest = do
+  parts ← cut_at 64 rest
+  number ← dec_of parts.0
+  guarded ← guarded_of parts.1
+  Some (behind guarded (named kind number))
+
+-- `OFFSET` of a window, hexadecimal, and then `@` and the guard
+unfoldable pub window_of : CapKind → ℕ → List ℕ → Option Spelled
+window_of kind slot rest = do
+  parts ← cut_at 64 rest
+  offset ← hex_of parts.0
+  guarded ← guarded_of parts.1
+  Some (behind guarded (record (named kind offset) { slot = slot }))
+
+-- `local:S:OFFSET`, S from 0 to 15, and then `@` and the guard
+unfoldable pub local_of : List ℕ → Option Spelled
+local_of rest = do
+  parts ← cut_at 58 rest
+  slot ← dec_to 15 parts.0
+  window_of LocalWindow slot parts.1
+
+-- a word whose part before its first `:` is this head
+unfoldable pub headed : List ℕ → List ℕ → Option Spelled
+headed head rest =
+    if bytes_eq head (codes "schedule") then schedule_of rest
+    else (if bytes_eq head (codes "endpoint") then named_of Endpoint rest
+    else (if bytes_eq head (codes "process") then named_of Process rest
+    else (if bytes_eq head (codes "entry") then entry_of rest
+    else (if bytes_eq head (codes "page") then memory_of Page rest
+    else (if bytes_eq head (codes "cappage") then memory_of CapPage rest
+    else (if bytes_eq head (codes "gpt") then memory_of Gpt rest
+    else (if bytes_eq head (codes "window") then window_of Window 0 rest
+    else (if bytes_eq head (codes "local") then local_of rest else None))))))))
+
+-- a word that has the part before its first `:`, or none such
+abbrev pub spelled_by : List ℕ → Option (List ℕ × List ℕ) → Option Spelled
+spelled_by word None = option_map (λ kind. named kind 0) (plain_kind_of word)
+spelled_by word (Some (head, rest)) = headed head rest
+
+-- what a word spells, if it spells a capability
+unfoldable pub spelled_of : List ℕ → Option Spelled
+spelled_of word = spelled_by word (cut_at 58 word)
