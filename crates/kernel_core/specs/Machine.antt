@@ -1,8 +1,10 @@
 -- A machine as the code holds it, and what it keeps.
 use Rattle.std.specs.Prelude.{◌≡◌, ℕ, ◌<◌, Bool, length}
 use Rattle.cap_format.specs.declared.kind.CapKind.TheVariants.{Process}
-use Rattle.object_store.specs.Store.{Store, size_of}
+use Rattle.object_store.specs.Store.{Store, size_of, process_at}
+use Rattle.object_store.specs.Ahead.{NoneAhead}
 use Rattle.schedules.specs.Queues.{QueuesValue}
+use Rattle.schedules.specs.Ready.{Agrees, runs_of, places_due}
 use Rattle.rv32_decode.specs.InRange.{InRange}
 use Rattle.kernel_core.specs.declared.event.Event.{Event}
 use Rattle.kernel_core.specs.declared.event.Event.TheVariants.{Step, Tick}
@@ -20,6 +22,17 @@ pub record MachineValue (T : Type 0) : Type 0 where
 pub record Fits (s : Store) (q : QueuesValue) : Type 0 where
   pub processes : length q.sleepers ≡ size_of s.items Process
   pub harts : length q.harts ≡ s.harts
+
+-- what a machine keeps besides: a process that runs stands in one place and any other in none, and no capability is
+-- ahead of its object
+pub record IsMachine (s : Store) (q : QueuesValue) : Type 0 where
+  pub fits : Fits s q
+  pub agrees : Agrees (runs_of s q)
+  pub behind : NoneAhead s
+
+-- no process runs
+abbrev pub NoneRuns : Store → Type 0
+NoneRuns s = (p : ℕ) → p < size_of s.items Process → places_due (process_at s p).state ≡ 0
 
 -- the hart of an event
 abbrev pub hart_in : Event → ℕ

@@ -2,8 +2,9 @@
 ghost use Rattle.std.specs.Prelude.{◌≡◌, ◌<◌, ◌≤◌, ◌%◌, IfSome, length, slice_index};
 ghost use Rattle.cap_format.specs.declared.kind.CapKind.TheVariants.{Process};
 ghost use Rattle.process_objects.specs.Process.{ProcessValue};
-ghost use Rattle.object_store.specs.Store.{size_of};
+ghost use Rattle.object_store.specs.Store.{size_of, process_at};
 ghost use Rattle.schedules.specs.Queues.{hart_of};
+ghost use Rattle.schedules.specs.Ready.{places_due};
 ghost use Rattle.kernel_core.specs.State.{state_of, process, pc_of, IsOnHart};
 ghost use Rattle.kernel_core.specs.Setters.{set_pc, set_registers, advance, leave, ready};
 ghost use Rattle.kernel_core.specs.Fault.{faulted};
@@ -20,6 +21,7 @@ impl<T: Translator> Machine<T> {
     pub(crate) fn requeue(&mut self, p: u16)
         requires there { p < size_of self.old.objects.items Process }
         ensures state { state_of self.new ≡ ready (leave (state_of self.old) p) p }
+        ensures stopped { places_due (process_at self.old.objects p).state ≡ 0 → state_of self.new ≡ ready (state_of self.old) p }
         ensures items { self.new.objects.items ≡ self.old.objects.items }
         ensures harts { self.new.objects.harts ≡ self.old.objects.harts }
         ensures translator { self.new.translator ≡ self.old.translator }

@@ -1,11 +1,14 @@
 //! The machine, and what can be read of it.
 ghost use Rattle.std.specs.Prelude.{◌≡◌, ◌<◌, ◌≤◌, false, IfOk, length};
 ghost use Rattle.cap_format.specs.declared.kind.CapKind.TheVariants.{Process};
-ghost use Rattle.object_store.specs.Store.{size_of};
+ghost use Rattle.object_store.specs.Store.{size_of, process_at};
 ghost use Rattle.object_store.specs.Meaning.{map_of};
+ghost use Rattle.object_store.specs.Ahead.{NoneAhead};
+ghost use Rattle.kernel_core.specs.Machine.{NoneRuns};
 ghost use Rattle.kernel_core.specs.State.{state_of};
 ghost use Rattle.kernel_core.specs.Setters.{leave, ready};
 ghost use Rattle.schedules.specs.Standing.{empty_queues};
+ghost use Rattle.schedules.specs.Ready.{Agrees, runs_of, places_due};
 
 use cap_format::OutOfMemory;
 use object_store::Objects;
@@ -26,20 +29,23 @@ pub struct Machine<T: Translator> {
 impl<T: Translator> Model for Machine<T> {
     ghost use Rattle.std.specs.Prelude.{◌≤◌};
     ghost use Rattle.object_store.specs.Meaning.{map_of};
-    ghost use Rattle.kernel_core.specs.Machine.{MachineValue, Fits};
+    ghost use Rattle.kernel_core.specs.Machine.{MachineValue, IsMachine};
 
     ghost Value = { MachineValue T };
 
     ghost view = { λ m. record { objects = m.objects; queues = m.queues; halted = m.halted; translator = m.translator } };
 
-    ghost invariant = { λ m. (T.coherent m.translator (map_of m.objects.items)) × (m.objects.harts ≤ T.harts m.translator) × Fits m.objects m.queues };
+    ghost invariant = { λ m. (T.coherent m.translator (map_of m.objects.items)) × (m.objects.harts ≤ T.harts m.translator) × IsMachine m.objects m.queues };
 }
 
 impl<T: Translator> Machine<T> {
-    /// A machine with these objects, no process on any hart, empty queues and lists, and not halted.
+    /// A machine with these objects, of which no process runs, with no process on any hart, empty queues and lists, and
+    /// not halted.
     pub fn new(alloc: Global, objects: Objects, translator: T) -> Result<Machine<T>, OutOfMemory>
         requires coherent { T.coherent translator (map_of objects.items) }
         requires harts { objects.harts ≤ T.harts translator }
+        requires stopped { NoneRuns objects }
+        requires behind { NoneAhead objects }
         ensures objects { IfOk result (λ machine. machine.objects ≡ objects) }
         ensures queues { IfOk result (λ machine. machine.queues ≡ empty_queues (size_of objects.items Process) objects.harts) }
         ensures halted { IfOk result (λ machine. machine.halted ≡ false) }
@@ -56,7 +62,8 @@ impl<T: Translator> Machine<T> {
     }
 
     pub fn objects(&self) -> &Objects
-        ensures { result.now ≡ self.now.objects }
+        ensures value { result.now ≡ self.now.objects }
+        ensures behind { NoneAhead self.now.objects }
     {
         &self.objects
     }
@@ -65,6 +72,7 @@ impl<T: Translator> Machine<T> {
         ensures value { result.now ≡ self.now.queues }
         ensures processes { length self.now.queues.sleepers ≡ size_of self.now.objects.items Process }
         ensures harts { length self.now.queues.harts ≡ self.now.objects.harts }
+        ensures agrees { Agrees (runs_of self.now.objects self.now.queues) }
     {
         &self.queues
     }
@@ -82,10 +90,11 @@ impl<T: Translator> Machine<T> {
         &self.translator
     }
 
-    /// Makes a process ready that does not run.
+    /// Makes a process ready, which leaves the place where it stands, if any.
     pub fn start(&mut self, p: u16)
         requires { p < size_of self.old.objects.items Process }
         ensures state { state_of self.new ≡ ready (leave (state_of self.old) p) p }
+        ensures stopped { places_due (process_at self.old.objects p).state ≡ 0 → state_of self.new ≡ ready (state_of self.old) p }
         ensures items { self.new.objects.items ≡ self.old.objects.items }
         ensures harts { self.new.objects.harts ≡ self.old.objects.harts }
         ensures translator { self.new.translator ≡ self.old.translator }
