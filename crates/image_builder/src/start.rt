@@ -3,6 +3,7 @@ ghost use Rattle.std.specs.Prelude.{◌≡◌, ◌≤◌, ◌<◌, ℕ, IfOk, le
 ghost use Rattle.std.specs.List.{All};
 ghost use Rattle.object_store.specs.Store.{Items, sizes_of};
 ghost use Rattle.listing_read.specs.Statement.{IsStatement};
+ghost use Rattle.image_builder.specs.Unstarted.{IsUnassigned, IsUnstarted};
 
 use crate::statements::{assign, assign_count};
 use cap_format::OutOfMemory;
@@ -37,7 +38,8 @@ pub fn boot<T: Translator>(
 
 fn assign_counts(objects: &mut Objects, statements: &[Statement])
     requires { All (IsStatement (sizes_of objects.old)) statements.now }
-    ensures { sizes_of objects.new ≡ sizes_of objects.old }
+    ensures sizes { sizes_of objects.new ≡ sizes_of objects.old }
+    ensures unassigned { IsUnassigned objects.old → IsUnassigned objects.new }
 {
     for i in 0..statements.len() {
         assign_count(objects, &statements[i]);
@@ -46,7 +48,8 @@ fn assign_counts(objects: &mut Objects, statements: &[Statement])
 
 fn assign_all(objects: &mut Objects, statements: &[Statement])
     requires { All (IsStatement (sizes_of objects.old)) statements.now }
-    ensures { sizes_of objects.new ≡ sizes_of objects.old }
+    ensures sizes { sizes_of objects.new ≡ sizes_of objects.old }
+    ensures unstarted { IsUnstarted objects.old → IsUnstarted objects.new }
 {
     for i in 0..statements.len() {
         assign(objects, &statements[i]);

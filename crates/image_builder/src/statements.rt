@@ -1,7 +1,9 @@
 //! What one statement assigns.
 ghost use Rattle.std.specs.Prelude.{◌≡◌};
 ghost use Rattle.object_store.specs.Store.{sizes_of};
+ghost use Rattle.object_store.specs.Ahead.{IsBehind};
 ghost use Rattle.listing_read.specs.Statement.{IsStatement};
+ghost use Rattle.image_builder.specs.Unstarted.{IsUnassigned, IsUnstarted};
 
 use cap_format::Cap;
 use endpoint_objects::Endpoint;
@@ -13,7 +15,8 @@ use rv32_decode::encode;
 #[tactic(auto, using(crate::specs::Sizes::sizes_recounted))]
 pub(crate) fn assign_count(objects: &mut Objects, statement: &Statement)
     requires { IsStatement (sizes_of objects.old) statement.now }
-    ensures { sizes_of objects.new ≡ sizes_of objects.old }
+    ensures sizes { sizes_of objects.new ≡ sizes_of objects.old }
+    ensures unassigned { IsUnassigned objects.old → IsUnassigned objects.new }
 {
     if let Statement::Count {
         kind,
@@ -26,7 +29,9 @@ pub(crate) fn assign_count(objects: &mut Objects, statement: &Statement)
 }
 
 /// The capability with its object's count.
-fn counted(objects: &Objects, cap: Cap) -> Cap {
+fn counted(objects: &Objects, cap: Cap) -> Cap
+    ensures { IsBehind objects.now.items result }
+{
     let kind = cap.kind();
     if !kind.is_counted() {
         return cap;
@@ -40,7 +45,8 @@ fn counted(objects: &Objects, cap: Cap) -> Cap {
 /// Assigns all but counts and whether a process runs. Counts are the final ones.
 pub(crate) fn assign(objects: &mut Objects, statement: &Statement)
     requires { IsStatement (sizes_of objects.old) statement.now }
-    ensures { sizes_of objects.new ≡ sizes_of objects.old }
+    ensures sizes { sizes_of objects.new ≡ sizes_of objects.old }
+    ensures unstarted { IsUnstarted objects.old → IsUnstarted objects.new }
 {
     objects.in_ranges();
     match statement {
