@@ -62,8 +62,7 @@ impl<T: Translator> Machine<T> {
     }
 
     pub fn objects(&self) -> &Objects
-        ensures value { result.now ≡ self.now.objects }
-        ensures behind { NoneAhead self.now.objects }
+        ensures { result.now ≡ self.now.objects }
     {
         &self.objects
     }
@@ -72,9 +71,18 @@ impl<T: Translator> Machine<T> {
         ensures value { result.now ≡ self.now.queues }
         ensures processes { length self.now.queues.sleepers ≡ size_of self.now.objects.items Process }
         ensures harts { length self.now.queues.harts ≡ self.now.objects.harts }
-        ensures agrees { Agrees (runs_of self.now.objects self.now.queues) }
     {
         &self.queues
+    }
+
+    /// Does nothing: its contract tells what every machine keeps. A process that runs stands in exactly one place and any
+    /// other in none, and no capability is ahead of its object.
+    pub fn tell_kept(&self)
+        ensures agrees { Agrees (runs_of self.now.objects self.now.queues) }
+        ensures behind { NoneAhead self.now.objects }
+        ensures coherent { T.coherent self.now.translator (map_of self.now.objects.items) }
+    {
+        let _halted = self.halted;
     }
 
     /// Whether a process halted the machine.
