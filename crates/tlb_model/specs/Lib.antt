@@ -1,0 +1,4 @@
+pub mod Entry
+pub mod Tlb
+pub mod Looks
+pub mod Laws
