@@ -1,22 +1,26 @@
 //! What one statement assigns.
-ghost use Rattle.std.specs.Prelude.{◌≡◌};
-ghost use Rattle.object_store.specs.Store.{sizes_of};
-ghost use Rattle.object_store.specs.Ahead.{IsBehind};
+ghost use Rattle.std.specs.Prelude.{◌≡◌, ◌+◌, ◌<◌, ◌≤◌, ◌%◌, length};
+ghost use Rattle.cap_format.specs.declared.kind.CapKind.TheVariants.{Page, CapPage, Gpt, Endpoint as EndpointKind, Process};
+ghost use Rattle.rv32_decode.specs.InRange.{InRange};
+ghost use Rattle.page_store.specs.Page.{with_bytes};
+ghost use Rattle.page_store.specs.CapPage.{with_cap};
+ghost use Rattle.process_objects.specs.Process.{with_capreg};
+ghost use Rattle.object_store.specs.Store.{sizes_of, size_of, page_at, cappage_at, process_at, set_slot, with_items, with_page, with_cappage, with_process, with_endpoint};
 ghost use Rattle.listing_read.specs.Statement.{IsStatement};
-ghost use Rattle.image_builder.specs.Unstarted.{IsUnassigned, IsUnstarted};
+ghost use Rattle.image_builder.specs.Assigned.{counted, instruction_bytes, process_with, endpoint_of, with_count_of, assigned, flagged, NamesProcess};
 
 use cap_format::Cap;
 use endpoint_objects::Endpoint;
 use listing_read::Statement;
 use object_store::Objects;
-use rv32_decode::encode;
+use rv32_decode::{Insn, encode};
 
 /// Assigns a count. Any other statement assigns nothing here.
 #[tactic(auto, using(crate::specs::Sizes::sizes_recounted))]
 pub(crate) fn assign_count(objects: &mut Objects, statement: &Statement)
     requires { IsStatement (sizes_of objects.old) statement.now }
+    ensures value { objects.new ≡ with_count_of objects.old statement.now }
     ensures sizes { sizes_of objects.new ≡ sizes_of objects.old }
-    ensures unassigned { IsUnassigned objects.old → IsUnassigned objects.new }
 {
     if let Statement::Count {
         kind,
@@ -28,9 +32,19 @@ pub(crate) fn assign_count(objects: &mut Objects, statement: &Statement)
     }
 }
 
-/// The capability with its object's count.
+/// Notes whether the process of a `process` statement runs. Any other statement says nothing of it.
+pub(crate) fn note_running(running: &mut Vec<bool>, statement: &Statement)
+    requires { NamesProcess (length running.old.items) statement.now }
+    ensures { running.new.items ≡ flagged running.old.items statement.now }
+{
+    if let Statement::Process { number, runs, .. } = statement {
+        running[*number as usize] = *runs;
+    }
+}
+
+/// The capability with its object's count, and 0 where there is no such object.
 fn counted(objects: &Objects, cap: Cap) -> Cap
-    ensures { IsBehind objects.now.items result }
+    ensures { result ≡ counted objects.now.items cap }
 {
     let kind = cap.kind();
     if !kind.is_counted() {
@@ -38,51 +52,33 @@ fn counted(objects: &Objects, cap: Cap) -> Cap
     }
     match objects.cap_to(kind.object_kind(), cap.object()) {
         Ok(whole) => cap.with_count(whole.count()),
-        Err(_) => cap,
+        Err(_) => cap.with_count(0),
     }
 }
 
 /// Assigns all but counts and whether a process runs. Counts are the final ones.
 pub(crate) fn assign(objects: &mut Objects, statement: &Statement)
     requires { IsStatement (sizes_of objects.old) statement.now }
+    ensures value { objects.new ≡ assigned objects.old statement.now }
     ensures sizes { sizes_of objects.new ≡ sizes_of objects.old }
-    ensures unstarted { IsUnstarted objects.old → IsUnstarted objects.new }
 {
-    objects.in_ranges();
     match statement {
-        Statement::Page { number, at, bytes } => objects
-            .page_mut(*number)
-            .write(*at, bytes.as_slice()),
-        Statement::Code { number, at, insn } => {
-            let word = encode(*insn).to_le_bytes();
-            objects.page_mut(*number).write(*at, word.as_slice());
+        Statement::Page { number, at, bytes } => {
+            assign_bytes(objects, *number, *at, bytes.as_slice())
         }
-        Statement::CapSlot { number, slot, cap } => {
-            let cap = counted(objects, *cap);
-            objects.cappage_mut(*number).set(*slot, cap);
-        }
+        Statement::Code { number, at, insn } => assign_code(objects, *number, *at, *insn),
+        Statement::CapSlot { number, slot, cap } => assign_cap(objects, *number, *slot, *cap),
         Statement::Gpt { number, header } => {
             let _item = objects.set_gpt_header(*number, *header);
         }
-        Statement::GptSlot { number, slot, cap } => {
-            let cap = counted(objects, *cap);
-            let _item = objects.set_gpt_slot(*number, *slot, cap);
-        }
+        Statement::GptSlot { number, slot, cap } => assign_slot(objects, *number, *slot, *cap),
         Statement::Endpoint {
             number,
             recipient,
             id,
             payload,
             matching,
-        } => {
-            let recipient = counted(objects, *recipient);
-            *objects.endpoint_mut(*number) = Endpoint {
-                recipient,
-                id: *id,
-                payload: *payload,
-                matching: *matching,
-            };
-        }
+        } => assign_endpoint(objects, *number, *recipient, *id, *payload, *matching),
         Statement::Process {
             number,
             pc,
@@ -90,25 +86,101 @@ pub(crate) fn assign(objects: &mut Objects, statement: &Statement)
             schedule,
             handler,
             runs: _,
-        } => {
-            let space = counted(objects, *space);
-            let schedule = counted(objects, *schedule);
-            let handler = counted(objects, *handler);
-            let process = objects.process_mut(*number);
-            process.set_pc(*pc);
-            process.set_slot(0, space);
-            process.set_slot(1, schedule);
-            process.set_slot(2, handler);
-        }
+        } => assign_process(objects, *number, *pc, *space, *schedule, *handler),
         Statement::Reg {
             number,
             index,
             value,
         } => objects.process_mut(*number).set_reg(*index, *value),
         Statement::CapReg { number, index, cap } => {
-            let cap = counted(objects, *cap);
-            objects.process_mut(*number).set_capreg(*index, cap);
+            assign_capreg(objects, *number, *index, *cap)
         }
         Statement::Count { .. } => {}
     }
+}
+
+fn assign_bytes(objects: &mut Objects, number: u16, at: u16, bytes: &[u8])
+    requires there { number < size_of objects.old.items Page }
+    requires within { at + length bytes.now ≤ 4096 }
+    ensures { objects.new ≡ with_page objects.old number (with_bytes (page_at objects.old number) at bytes.now) }
+{
+    objects.page_mut(number).write(at, bytes);
+}
+
+fn assign_code(objects: &mut Objects, number: u16, at: u16, insn: Insn)
+    requires there { number < size_of objects.old.items Page }
+    requires within { at + 4 ≤ 4096 }
+    requires insn { InRange insn }
+    ensures { objects.new ≡ with_page objects.old number (with_bytes (page_at objects.old number) at (instruction_bytes insn)) }
+{
+    let word = encode(insn).to_le_bytes();
+    assign_bytes(objects, number, at, word.as_slice());
+}
+
+fn assign_cap(objects: &mut Objects, number: u16, slot: u8, cap: Cap)
+    requires { number < size_of objects.old.items CapPage }
+    ensures { objects.new ≡ with_cappage objects.old number (with_cap (cappage_at objects.old number) slot (counted objects.old.items cap)) }
+{
+    let cap = counted(objects, cap);
+    objects.cappage_mut(number).set(slot, cap);
+}
+
+fn assign_slot(objects: &mut Objects, number: u16, slot: u8, cap: Cap)
+    requires there { number < size_of objects.old.items Gpt }
+    requires slot { slot < 16 }
+    ensures { objects.new ≡ with_items objects.old (set_slot objects.old.items number slot (counted objects.old.items cap)) }
+{
+    let cap = counted(objects, cap);
+    let _item = objects.set_gpt_slot(number, slot, cap);
+}
+
+fn assign_endpoint(
+    objects: &mut Objects,
+    number: u16,
+    recipient: Cap,
+    id: u32,
+    payload: u32,
+    matching: bool,
+)
+    requires { number < size_of objects.old.items EndpointKind }
+    ensures { objects.new ≡ with_endpoint objects.old number (endpoint_of (counted objects.old.items recipient) id payload matching) }
+{
+    let recipient = counted(objects, recipient);
+    *objects.endpoint_mut(number) = Endpoint {
+        recipient,
+        id,
+        payload,
+        matching,
+    };
+}
+
+fn assign_process(
+    objects: &mut Objects,
+    number: u16,
+    pc: u32,
+    space: Cap,
+    schedule: Cap,
+    handler: Cap,
+)
+    requires there { number < size_of objects.old.items Process }
+    requires aligned { pc % 4 ≡ 0 }
+    ensures { objects.new ≡ with_process objects.old number (process_with (process_at objects.old number) pc (counted objects.old.items space) (counted objects.old.items schedule) (counted objects.old.items handler)) }
+{
+    let space = counted(objects, space);
+    let schedule = counted(objects, schedule);
+    let handler = counted(objects, handler);
+    let process = objects.process_mut(number);
+    process.set_pc(pc);
+    process.set_slot(0, space);
+    process.set_slot(1, schedule);
+    process.set_slot(2, handler);
+}
+
+fn assign_capreg(objects: &mut Objects, number: u16, index: u8, cap: Cap)
+    requires there { number < size_of objects.old.items Process }
+    requires index { index < 32 }
+    ensures { objects.new ≡ with_process objects.old number (with_capreg (process_at objects.old number) index (counted objects.old.items cap)) }
+{
+    let cap = counted(objects, cap);
+    objects.process_mut(number).set_capreg(index, cap);
 }

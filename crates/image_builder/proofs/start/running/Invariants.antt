@@ -1,5 +1,9 @@
-use Rattle.std.proofs.Common.{◌≡◌, length}
+use Rattle.std.proofs.Common.{◌≡◌, drop, length, replicate, false}
+use Rattle.image_builder.specs.Assigned.{all_flagged}
 use Rattle.image_builder.proofs.start.running.Given as goal
 
-abbrev pub invariant-loop-i : goal.invariant-loop-i
-invariant-loop-i l = length l.all.items ≡ l.processes
+abbrev pub invariant-each : goal.invariant-each
+invariant-each l = record {
+  value : all_flagged l.all.items (drop l.i l.statements) ≡ all_flagged (replicate l.processes false) l.statements;
+  size : length l.all.items ≡ l.processes;
+}

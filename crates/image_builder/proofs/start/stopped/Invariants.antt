@@ -1,5 +1,5 @@
-use Rattle.std.proofs.Common.{◌≡◌, length}
+use Rattle.std.proofs.Common.{◌≡◌, replicate, false}
 use Rattle.image_builder.proofs.start.stopped.Given as goal
 
-abbrev pub invariant-loop : goal.invariant-loop
-invariant-loop l = length l.all.items ≡ l.counter
+abbrev pub invariant-each : goal.invariant-each
+invariant-each l = l.all.items ≡ replicate l.counter false

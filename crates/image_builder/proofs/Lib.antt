@@ -1,0 +1,4 @@
+mod Folds
+mod Stopped
+mod Behind
+mod Booted
