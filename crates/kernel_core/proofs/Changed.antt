@@ -1,7 +1,6 @@
 -- A change of a process means the same change of the process as it means.
 use Rattle.std.proofs.Common.{◌≡◌, ℕ, Bool, List, refl, sym, ap, ◌∙◌}
 use Rattle.cap_format.specs.declared.kind.CapKind.{CapKind}
-use Rattle.cap_format.specs.declared.kind.CapKind.TheVariants.{Schedule}
 use Rattle.cap_format.specs.Capability.{Capability}
 use Rattle.process_objects.specs.Process.{ProcessValue, slot_of, capreg_of, with_pc, with_regs, with_capreg, with_state}
 use Rattle.process_objects.specs.declared.state.State.{State as RunState}

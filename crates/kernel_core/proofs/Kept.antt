@@ -1,11 +1,10 @@
 -- Each change of a machine keeps what a machine keeps.
-use Rattle.std.proofs.Common.{◌≡◌, ◌≢◌, ◌⊎◌, inl, inr, ℕ, zero, suc, ◌+◌, ◌<◌, eqb, true, false, List, [], ◌∷◌, replicate, length, get_or, set, slice_set, slice_index_or, refl, sym, ap, ◌∙◌, subst, arith, Option, None}
+use Rattle.std.proofs.Common.{◌≡◌, ◌≢◌, ◌⊎◌, inl, inr, ℕ, zero, suc, ◌<◌, eqb, true, false, List, [], replicate, length, get_or, set, refl, sym, ap, ◌∙◌, subst, arith, None}
 use Rattle.std.specs.List.{All, sum_by}
 use Rattle.std.proofs.Math.ListN.{length-set}
 use Rattle.std.proofs.lemmas.List.{get_or-set_same, get_or-set_other, length-replicate}
 use Rattle.std.proofs.lemmas.Bool.Decides.{eqb_tells}
 use Rattle.cap_format.specs.declared.kind.CapKind.TheVariants.{Process}
-use Rattle.cap_format.specs.Capability.{Capability}
 use Rattle.process_objects.specs.Process.{ProcessValue, with_capreg, capreg_of, empty_process}
 use Rattle.object_store.specs.Store.{Store, with_process, with_page, process_at, size_of}
 use Rattle.object_store.specs.Ahead.{IsBehind, NoneAhead}
@@ -15,8 +14,8 @@ use Rattle.object_store.specs.Each.{capregs-each, process_slots-each, capreg_of-
 use Rattle.object_store.specs.Behind.{NoneAhead-with_process, NoneAhead-with_page}
 use Rattle.schedules.specs.Queues.{QueuesValue}
 use Rattle.schedules.specs.Standing.{standing, times_in, times_on, empty_queues}
-use Rattle.schedules.specs.Ready.{Runs, runs, runs_of, places_due, Agrees, AgreesBut}
-use Rattle.kernel_core.specs.Machine.{Fits, IsMachine, NoneRuns}
+use Rattle.schedules.specs.Ready.{runs, runs_of, places_due, Agrees, AgreesBut}
+use Rattle.kernel_core.specs.Machine.{IsMachine, NoneRuns}
 
 -- another process with the state of the one before
 state_same : (ps : List ProcessValue) (p x : ℕ) (v : ProcessValue) → v.state ≡ (get_or ps p empty_process).state → (get_or (set ps p v) x empty_process).state ≡ (get_or ps x empty_process).state

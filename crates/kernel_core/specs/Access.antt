@@ -8,7 +8,6 @@ use Rattle.walk_meaning.specs.declared.place.WalkFault.{WalkFault}
 use Rattle.walk_meaning.specs.Walk.{access}
 use Rattle.walk_engine.specs.declared.hit.Hit.{Hit}
 use Rattle.walk_engine.specs.Answer.{hit_of}
-use Rattle.process_objects.specs.Process.{ProcessValue}
 use Rattle.rv32_user.specs.Step.{loaded}
 use Rattle.kernel_core.specs.declared.record.Record.{Record}
 use Rattle.kernel_core.specs.declared.record.Record.TheVariants.{Access}

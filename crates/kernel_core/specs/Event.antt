@@ -1,5 +1,5 @@
 -- Events: one step of a hart, or one tick of its timer. Each is atomic.
-use Rattle.std.specs.Prelude.{ℕ, Bool, if◌then◌else◌, Option, Some, None, Result, Ok, Err}
+use Rattle.std.specs.Prelude.{ℕ, if◌then◌else◌, Option, Some, None, Result, Ok, Err}
 use Rattle.cap_format.specs.declared.fault.FaultCode.TheVariants.{BadOpcode}
 use Rattle.rv32_decode.specs.declared.insn.Insn.{Insn}
 use Rattle.rv32_decode.specs.Table.{insn_at}

@@ -1,7 +1,6 @@
 -- One instruction of a process: what the instruction table leaves to be done, done.
-use Rattle.std.specs.Prelude.{ℕ, Bool, true, false, if◌then◌else◌, None}
+use Rattle.std.specs.Prelude.{ℕ, None}
 use Rattle.cap_format.specs.declared.fault.FaultCode.TheVariants.{Breakpoint}
-use Rattle.process_objects.specs.Process.{ProcessValue}
 use Rattle.rv32_decode.specs.declared.insn.Insn.{Insn}
 use Rattle.rv32_user.specs.declared.effect.Effect.{Effect}
 use Rattle.rv32_user.specs.declared.effect.Effect.TheVariants.{Next, Load, Store, Syscall, Break, Misaligned}

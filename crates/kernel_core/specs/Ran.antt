@@ -7,7 +7,7 @@ use Rattle.walk_meaning.specs.declared.kind.Kind.{Kind}
 use Rattle.kernel_core.specs.declared.event.Event.{Event}
 use Rattle.kernel_core.specs.declared.record.Record.{Record}
 use Rattle.kernel_core.specs.State.{State}
-use Rattle.kernel_core.specs.Outcome.{Touch, spent_at, kept_at, spent, kept_after}
+use Rattle.kernel_core.specs.Outcome.{Touch, kept_at, spent, kept_after}
 use Rattle.kernel_core.specs.Event.{event_of}
 use Rattle.kernel_core.specs.Run.{run_state, run_records, run_touches}
 

@@ -1,11 +1,10 @@
 //! The changes of processes and queues of which events are made. Each does one thing.
-ghost use Rattle.std.specs.Prelude.{◌≡◌, ◌<◌, ◌≤◌, ◌%◌, IfSome, length, slice_index};
+ghost use Rattle.std.specs.Prelude.{◌≡◌, ◌<◌, ◌≤◌, ◌%◌, IfSome};
 ghost use Rattle.cap_format.specs.declared.kind.CapKind.TheVariants.{Process};
-ghost use Rattle.process_objects.specs.Process.{ProcessValue};
 ghost use Rattle.object_store.specs.Store.{size_of, process_at};
 ghost use Rattle.schedules.specs.Queues.{hart_of};
 ghost use Rattle.schedules.specs.Ready.{places_due};
-ghost use Rattle.kernel_core.specs.State.{state_of, process, pc_of, IsOnHart};
+ghost use Rattle.kernel_core.specs.State.{state_of, process, pc_of};
 ghost use Rattle.kernel_core.specs.Setters.{set_pc, set_registers, advance, leave, ready};
 ghost use Rattle.kernel_core.specs.Fault.{faulted};
 ghost use Rattle.kernel_core.specs.SystemCall.{copied};

@@ -5,7 +5,7 @@ ghost use Rattle.object_store.specs.Store.{size_of};
 ghost use Rattle.rv32_decode.specs.Table.{insn_at};
 ghost use Rattle.kernel_core.specs.Machine.{hart_in};
 ghost use Rattle.kernel_core.specs.State.{state_of, IsOnHart};
-ghost use Rattle.kernel_core.specs.Outcome.{Outcome, spent, kept_after};
+ghost use Rattle.kernel_core.specs.Outcome.{spent, kept_after};
 ghost use Rattle.kernel_core.specs.Event.{decoded_to, instruction, event_of};
 
 use crate::event::Event;

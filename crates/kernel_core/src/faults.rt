@@ -4,7 +4,6 @@ ghost use Rattle.cap_format.specs.declared.kind.CapKind.TheVariants.{Process};
 ghost use Rattle.object_store.specs.Store.{size_of};
 ghost use Rattle.walk_engine.specs.Answer.{bare_handler};
 ghost use Rattle.kernel_core.specs.State.{state_of};
-ghost use Rattle.kernel_core.specs.Outcome.{Outcome};
 ghost use Rattle.kernel_core.specs.Fault.{fault, malformed};
 
 use crate::machine::Machine;

@@ -4,7 +4,7 @@ ghost use Rattle.cap_format.specs.declared.kind.CapKind.TheVariants.{Process};
 ghost use Rattle.object_store.specs.Store.{size_of};
 ghost use Rattle.rv32_decode.specs.InRange.{InRange};
 ghost use Rattle.kernel_core.specs.State.{state_of, IsOnHart};
-ghost use Rattle.kernel_core.specs.Outcome.{Outcome, spent, kept_after};
+ghost use Rattle.kernel_core.specs.Outcome.{spent, kept_after};
 ghost use Rattle.kernel_core.specs.Instruction.{perform};
 
 use crate::faults::fault;

@@ -1,10 +1,10 @@
 //! Loads.
-ghost use Rattle.std.specs.Prelude.{◌≡◌, ◌<◌, ◌≤◌, ◌+◌, ◌*◌, ◌%◌, ◌^◌, ◌==◌, ◌++◌, IsTrue, ◌↔◌, length};
+ghost use Rattle.std.specs.Prelude.{◌≡◌, ◌<◌, ◌≤◌, ◌+◌, ◌%◌, ◌==◌, ◌++◌, length};
 ghost use Rattle.cap_format.specs.declared.kind.CapKind.TheVariants.{Process};
 ghost use Rattle.object_store.specs.Store.{size_of};
 ghost use Rattle.rv32_user.specs.Size.{IsSize};
 ghost use Rattle.kernel_core.specs.State.{state_of, IsOnHart};
-ghost use Rattle.kernel_core.specs.Outcome.{Outcome, spent, kept_after};
+ghost use Rattle.kernel_core.specs.Outcome.{spent, kept_after};
 ghost use Rattle.kernel_core.specs.Access.{load};
 
 use crate::faults::fault;

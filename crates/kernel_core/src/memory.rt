@@ -1,8 +1,9 @@
 //! What a process reaches by its space: the bytes of pages.
-ghost use Rattle.std.specs.Prelude.{◌≡◌, ◌<◌, ◌≤◌, ◌+◌, ◌*◌, ◌%◌, ◌^◌, true, IfOk};
+ghost use Rattle.std.specs.Prelude.{◌≡◌, ◌≢◌, ◌<◌, ◌≤◌, ◌+◌, ◌*◌, ◌%◌, ◌^◌, ℕ, true, Some, IfOk};
 ghost use Rattle.cap_format.specs.declared.kind.CapKind.TheVariants.{Process};
 ghost use Rattle.object_store.specs.Store.{size_of};
 ghost use Rattle.object_store.specs.Meaning.{meaning};
+ghost use Rattle.schedules.specs.Queues.{hart_of};
 ghost use Rattle.rv32_user.specs.Size.{IsSize};
 ghost use Rattle.walk_meaning.specs.Walk.{is_data};
 ghost use Rattle.walk_engine.specs.Answer.{hit_meaning};
@@ -22,7 +23,8 @@ impl<T: Translator> Machine<T> {
     fn hart(&self, p: u16) -> u8
         requires there { p < size_of self.now.objects.items Process }
         requires on_hart { IsOnHart self.now.queues p }
-        ensures { result < self.now.objects.harts }
+        ensures within { result < self.now.objects.harts }
+        ensures there { hart_of self.now.queues result ≡ Some p }
     {
         match self.queues.place(p) {
             Spot::Hart(hart) => hart,
@@ -57,6 +59,9 @@ impl<T: Translator> Machine<T> {
         ensures queues { self.new.queues ≡ self.old.queues }
         ensures counted { fetches.new ≡ fetches.old + T.cost (T.kept self.old.translator) (state_of self.old).store.items (space_of (state_of self.old) p) address kind }
         ensures kept { T.kept self.new.translator ≡ T.after (T.kept self.old.translator) (state_of self.old).store.items (space_of (state_of self.old) p) address kind }
+
+        // The caches of the harts on which the process is not are as an access elsewhere leaves them.
+        ensures others { (k : ℕ) → hart_of self.old.queues k ≢ Some p → T.cache self.new.translator k ≡ T.spared (T.kept self.old.translator) (state_of self.old).store.items (space_of (state_of self.old) p) address kind (T.cache self.old.translator k) }
     {
         let hart = self.hart(p);
         let space = self.space(p);

@@ -3,7 +3,7 @@ ghost use Rattle.std.specs.Prelude.{◌≡◌, ◌<◌, ◌≤◌, ◌+◌, ◌+
 ghost use Rattle.cap_format.specs.declared.kind.CapKind.TheVariants.{Process};
 ghost use Rattle.object_store.specs.Store.{size_of};
 ghost use Rattle.kernel_core.specs.State.{state_of, register_of};
-ghost use Rattle.kernel_core.specs.Outcome.{Outcome, spent, kept_after};
+ghost use Rattle.kernel_core.specs.Outcome.{spent, kept_after};
 ghost use Rattle.kernel_core.specs.SystemCall.{copy_cap, move_cap, send, receive, kernel_op, system_call};
 
 use crate::faults::malformed;

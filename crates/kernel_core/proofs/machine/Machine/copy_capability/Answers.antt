@@ -1,4 +1,4 @@
-use Rattle.std.proofs.Common.{rules, ◌≡◌, refl}
+use Rattle.std.proofs.Common.{refl}
 use Rattle.kernel_core.proofs.Changed.{same_state, put_copy}
 use Rattle.kernel_core.proofs.Kept.{kept_copy}
 use Rattle.kernel_core.proofs.machine.Machine.copy_capability.Goals as goal

@@ -1,4 +1,3 @@
-use Rattle.std.proofs.Common.{rules, ◌≡◌}
 use Rattle.kernel_core.proofs.Kept.{kept_new}
 use Rattle.kernel_core.proofs.machine.Machine.new.Goals as goal
 

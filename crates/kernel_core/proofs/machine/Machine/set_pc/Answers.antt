@@ -1,4 +1,4 @@
-use Rattle.std.proofs.Common.{rules, ◌≡◌, refl}
+use Rattle.std.proofs.Common.{refl}
 use Rattle.kernel_core.proofs.Changed.{same_state, put_pc}
 use Rattle.kernel_core.proofs.machine.Machine.set_pc.Goals as goal
 

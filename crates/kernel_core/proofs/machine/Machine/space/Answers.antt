@@ -1,4 +1,3 @@
-use Rattle.std.proofs.Common.{rules, ◌≡◌, refl}
 use Rattle.kernel_core.proofs.Changed.{slot_means}
 use Rattle.kernel_core.proofs.machine.Machine.space.Goals as goal
 

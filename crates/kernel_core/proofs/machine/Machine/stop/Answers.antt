@@ -1,4 +1,3 @@
-use Rattle.std.proofs.Common.{rules, ◌≡◌, refl}
 use Rattle.kernel_core.proofs.Changed.{same_state, put_state}
 use Rattle.kernel_core.proofs.machine.Machine.stop.Goals as goal
 
