@@ -1,12 +1,11 @@
 -- The laws of looking.
-use Rattle.std.proofs.Common.{◌≡◌, ◌⊎◌, inl, inr, ◌≤◌, ℕ, Bool, true, false, cond, if◌then◌else◌, not, ◌&&◌, ◌||◌, ◌==◌, nat_lt, List, [], ◌∷◌, ◌++◌, length, drop, Option, Some, None, refl, sym, ◌∙◌, arith}
-use Rattle.std.proofs.lemmas.Bool.Decides.{nat_tests}
-use Rattle.guard_math.specs.Block.{BlockValue, holds}
+use Rattle.std.proofs.Common.{◌≡◌, ◌⊎◌, inl, inr, ℕ, Bool, true, false, if◌then◌else◌, not, ◌&&◌, ◌||◌, ◌==◌, nat_lt, List, [], ◌∷◌, ◌++◌, length, drop, Some, None, refl, sym, ◌∙◌}
+use Rattle.guard_math.specs.Block.{holds}
 use Rattle.sv32_tables.specs.declared.leaf.Leaf.{Leaf}
 use Rattle.tlb_model.specs.declared.entry.Entry.{Entry}
 use Rattle.tlb_model.specs.Entry.{entry_of, is_of}
-use Rattle.tlb_model.specs.Tlb.{IsSingle, IsTlb, filled, look, room, without_block, without_page}
-use Rattle.tlb_model.specs.Laws.{DropLaw, FillLaw, FindsFilled}
+use Rattle.tlb_model.specs.Tlb.{IsSingle, look, room, without_page}
+use Rattle.tlb_model.specs.Laws.{DropLaw, FillLaw}
 use Rattle.tlb_model.specs.Looks.{IsSingle-filter, is_of_itself, look-behind, look-filter, look_push_cases, look_push_new, of_tells}
 use Rattle.tlb_model.proofs.Kept.{room_none}
 

@@ -1,11 +1,10 @@
 -- What keeps a cache one: dropping entries, making room, and a new entry at the end.
-use Rattle.std.proofs.Common.{◌≡◌, ◌≤◌, ◌<◌, ◌+◌, ℕ, Bool, true, false, cond, if◌then◌else◌, not, ◌||◌, ◌&&◌, ◌==◌, nat_lt, List, [], ◌∷◌, ◌++◌, length, filter, drop, None, refl, ◌∙◌, arith, length-append}
+use Rattle.std.proofs.Common.{◌≡◌, ◌<◌, ℕ, Bool, true, false, if◌then◌else◌, not, ◌||◌, ◌&&◌, ◌==◌, nat_lt, List, [], ◌∷◌, ◌++◌, length, filter, drop, None, refl, ◌∙◌, arith, length-append}
 use Rattle.std.proofs.lemmas.Bool.Decides.{nat_tests}
 use Rattle.std.proofs.lemmas.List.Sums.{count_by-le-length, length-filter}
 use Rattle.guard_math.specs.Block.{BlockValue, holds}
 use Rattle.tlb_model.specs.declared.entry.Entry.{Entry}
-use Rattle.tlb_model.specs.Entry.{is_of}
-use Rattle.tlb_model.specs.Tlb.{IsSingle, IsTlb, look, room, without_block, without_page}
+use Rattle.tlb_model.specs.Tlb.{IsTlb, look, room, without_block, without_page}
 use Rattle.tlb_model.specs.Looks.{IsSingle-filter, IsSingle_push, look-filter, look-behind_none}
 
 -- entries that are kept by their root and page

@@ -1,5 +1,5 @@
 -- Taking an entry out at the place where it stands.
-use Rattle.std.proofs.Common.{◌≡◌, ℕ, suc, ◌+◌, ◌≤◌, Bool, true, false, cond, if◌then◌else◌, not, nat_lt, List, [], ◌∷◌, length, filter, None, Some, refl, sym, ap, ◌∙◌, arith}
+use Rattle.std.proofs.Common.{◌≡◌, ℕ, suc, ◌+◌, ◌≤◌, Bool, true, false, cond, if◌then◌else◌, not, nat_lt, List, [], ◌∷◌, length, None, Some, refl, ap, ◌∙◌, arith}
 use Rattle.std.specs.List.{position, position_or_len, remove}
 use Rattle.std.proofs.lemmas.Bool.Decides.{nat_tests}
 use Rattle.tlb_model.specs.declared.entry.Entry.{Entry}

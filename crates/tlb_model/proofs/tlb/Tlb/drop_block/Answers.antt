@@ -1,7 +1,7 @@
-use Rattle.std.proofs.Common.{◌≡◌, List, ap, ◌∙◌, take}
+use Rattle.std.proofs.Common.{◌≡◌, List, ap, ◌∙◌}
 use Rattle.std.proofs.lemmas.List.{take_all}
 use Rattle.tlb_model.specs.declared.entry.Entry.{Entry}
-use Rattle.tlb_model.specs.Tlb.{IsTlb, without_block}
+use Rattle.tlb_model.specs.Tlb.{without_block}
 use Rattle.tlb_model.proofs.Kept.{without_block_is}
 use Rattle.tlb_model.proofs.tlb.Tlb.drop_block.Goals as goal
 

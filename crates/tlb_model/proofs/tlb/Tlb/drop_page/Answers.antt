@@ -2,7 +2,7 @@ use Rattle.std.proofs.Common.{◌≡◌, List, ◌∙◌, ap, Some, None, subst}
 use Rattle.std.specs.List.{position}
 use Rattle.tlb_model.specs.declared.entry.Entry.{Entry}
 use Rattle.tlb_model.specs.Entry.{is_of}
-use Rattle.tlb_model.specs.Tlb.{IsSingle, IsTlb, without_page}
+use Rattle.tlb_model.specs.Tlb.{IsSingle, without_page}
 use Rattle.tlb_model.proofs.Kept.{without_page_is}
 use Rattle.tlb_model.proofs.Removed.{removed_None, removed_Some}
 use Rattle.tlb_model.proofs.tlb.Tlb.drop_page.Goals as goal
