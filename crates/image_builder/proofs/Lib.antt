@@ -2,3 +2,6 @@ mod Folds
 mod Stopped
 mod Behind
 mod Booted
+mod Numbers
+mod Pieces
+mod Pushed

@@ -3,7 +3,9 @@
 //! Nothing here knows how a listing is spelled, or what a machine does afterwards.
 #![tactic(auto)]
 
+mod make;
 mod start;
 mod statements;
 
+pub use make::MakeSource;
 pub use start::boot;

@@ -1,0 +1,125 @@
+-- The generated text: pairs of processes that send to one another, and a schedule long enough for all of it. (This
+-- project's own.)
+use Rattle.std.specs.Prelude.{ℕ, zero, suc, ◌+◌, ◌-◌, ◌*◌, ◌/◌, ◌%◌, ◌==◌, nat_le, if◌then◌else◌, List, [], ◌∷◌, ◌++◌, codes, decimal}
+use Rattle.coy_text.specs.Numeral.{hex_text}
+
+-- how many pairs there are, how often each client calls, how many harts there are, and how many rounds are run
+abbrev pub pairs_of : ℕ → ℕ
+pairs_of n = 1 + n % 63
+
+abbrev pub calls_of : ℕ → ℕ
+calls_of n = 1 + n / 64 % 1000
+
+abbrev pub harts_of : ℕ → ℕ
+harts_of n = 1 + n % 8
+
+abbrev pub rounds_of : ℕ → ℕ
+rounds_of n = pairs_of n * (13 * calls_of n + 20)
+
+-- the byte that ends a line
+abbrev pub line_feed : List ℕ
+line_feed = 10 ∷ []
+
+-- the first two lines
+unfoldable pub head_text : ℕ → List ℕ
+head_text n =
+    let twice = decimal (2 * pairs_of n) in
+    codes "coyotos 1" ++ line_feed ++
+    codes "machine " ++ decimal (harts_of n) ++ codes " " ++ twice ++ codes " 0 " ++ twice ++ codes " " ++ twice ++ codes " " ++ twice ++ line_feed
+
+-- an instruction in a page
+unfoldable pub code_line : ℕ → List ℕ → List ℕ
+code_line page rest = codes "code " ++ decimal page ++ rest ++ line_feed
+
+-- the instructions of a client: it sends how many calls are left
+unfoldable pub call_text : ℕ → List ℕ
+call_text c =
+    code_line c (codes " 000 lui x10 0x10") ++
+    code_line c (codes " 004 addi x10 x10 0x61") ++
+    code_line c (codes " 008 addi x11 x5 0") ++
+    code_line c (codes " 00c ecall")
+
+-- it adds up the answers, counts down, and ends
+unfoldable pub counting_text : ℕ → List ℕ
+counting_text c =
+    code_line c (codes " 010 add x6 x6 x11") ++
+    code_line c (codes " 014 addi x5 x5 -1") ++
+    code_line c (codes " 018 bne x5 x0 -24") ++
+    code_line c (codes " 01c addi x10 x0 64") ++
+    code_line c (codes " 020 ecall")
+
+-- the instructions of a server: it receives a first number
+unfoldable pub receiving_text : ℕ → List ℕ
+receiving_text s =
+    code_line s (codes " 000 lui x10 0x80") ++
+    code_line s (codes " 004 addi x10 x10 0x40") ++
+    code_line s (codes " 008 ecall")
+
+-- it doubles the number, counts, answers, and receives the next
+unfoldable pub answering_text : ℕ → List ℕ
+answering_text s =
+    code_line s (codes " 00c add x11 x11 x11") ++
+    code_line s (codes " 010 addi x9 x9 1") ++
+    code_line s (codes " 014 lui x10 0x80") ++
+    code_line s (codes " 018 addi x10 x10 0x65") ++
+    code_line s (codes " 01c jal x0 -20")
+
+-- a number twice in a line
+unfoldable pub double_line : List ℕ → ℕ → List ℕ → ℕ → List ℕ → List ℕ
+double_line front first middle second rest = front ++ decimal first ++ middle ++ decimal second ++ rest ++ line_feed
+
+-- the slots, endpoints and processes of a pair
+unfoldable pub places_text : ℕ → ℕ → List ℕ
+places_text c s =
+    double_line (codes "slot ") c (codes " 0 page:") c (codes "@12/0") ++
+    double_line (codes "slot ") s (codes " 0 page:") s (codes "@12/0") ++
+    double_line (codes "endpoint ") c (codes " process:") s (codes " 00000000 00000000 plain") ++
+    double_line (codes "endpoint ") s (codes " process:") c (codes " 00000000 00000000 plain") ++
+    double_line (codes "process ") c (codes " 0 gpt:") c (codes "@16/0 schedule:3 null run") ++
+    double_line (codes "process ") s (codes " 0 gpt:") s (codes "@16/0 schedule:3 null run")
+
+-- a register of a process
+unfoldable pub register_line : ℕ → List ℕ → List ℕ
+register_line process rest = codes "reg " ++ decimal process ++ rest ++ line_feed
+
+-- the registers of a pair: how often the client calls, its two endpoints' names, and the server's register count
+unfoldable pub registers_text : ℕ → ℕ → ℕ → List ℕ
+registers_text calls c s =
+    register_line c (codes " 5 " ++ hex_text 8 calls) ++
+    register_line c (codes " 18 00000002") ++
+    double_line (codes "capreg ") c (codes " 1 entry:") c (codes ":00000000") ++
+    double_line (codes "capreg ") c (codes " 2 entry:") s (codes ":00000000") ++
+    register_line s (codes " 19 00000005")
+
+-- pair i has the objects 2i and 2i + 1
+abbrev pub pair_text : ℕ → ℕ → List ℕ
+pair_text calls i =
+    call_text (2 * i) ++ counting_text (2 * i) ++ receiving_text (2 * i + 1) ++ answering_text (2 * i + 1) ++
+    places_text (2 * i) (2 * i + 1) ++ registers_text calls (2 * i) (2 * i + 1)
+
+-- the pairs from `i` on, where `left` are left
+unfoldable pub pairs_text : ℕ → ℕ → ℕ → List ℕ
+pairs_text calls i zero = []
+pairs_text calls i (suc left) = pair_text calls i ++ pairs_text calls (i + 1) left
+
+-- the last two lines
+unfoldable pub tail_text : ℕ → List ℕ
+tail_text n = codes "end" ++ line_feed ++ codes "round " ++ decimal (rounds_of n) ++ line_feed
+
+-- the text of a number
+unfoldable pub make_text : ℕ → List ℕ
+make_text n = head_text n ++ (pairs_text (calls_of n) 0 (pairs_of n) ++ tail_text n)
+
+-- ---- the text in pieces: the head, a piece for each pair, and the tail
+
+-- the piece behind the first `done`
+unfoldable pub piece_text : ℕ → ℕ → List ℕ
+piece_text n done =
+    if done == 0 then head_text n
+    else (if nat_le done (pairs_of n) then pair_text (calls_of n) (done - 1) else tail_text n)
+
+-- all that follows the first `done`
+unfoldable pub behind_pieces : ℕ → ℕ → List ℕ
+behind_pieces n done =
+    if done == 0 then make_text n
+    else (if nat_le done (pairs_of n + 1) then pairs_text (calls_of n) (done - 1) (pairs_of n + 1 - done) ++ tail_text n else [])
