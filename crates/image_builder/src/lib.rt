@@ -9,3 +9,6 @@ mod statements;
 
 pub use make::MakeSource;
 pub use start::boot;
+
+#[cfg(test)]
+mod tests;
