@@ -22,3 +22,6 @@ pub use listing::{Listing, read_listing};
 pub use page_bytes::PageBytes;
 pub use schedule::{Timed, read_event};
 pub use statement::Statement;
+
+#[cfg(test)]
+mod tests;
