@@ -13,7 +13,8 @@ use Rattle.object_store.specs.Each.{EachCapability-map, EachCapability-empty_sto
 use Rattle.object_store.specs.Behind.{NoneAhead-set_slot, NoneAhead-set_header, NoneAhead-with_page, NoneAhead-with_cappage, NoneAhead-with_process, NoneAhead-with_endpoint}
 use Rattle.listing_read.specs.declared.statement.Statement.{Statement}
 use Rattle.listing_read.specs.declared.statement.Statement.TheVariants.{Page, Code, CapSlot, Gpt, GptSlot, Endpoint, Process, Reg, CapReg, Count}
-use Rattle.image_builder.specs.Assigned.{counted, with_count_of, assigned, counts_assigned, all_assigned}
+use Rattle.image_builder.specs.Given.{counted}
+use Rattle.image_builder.specs.Assigned.{with_count_of, assigned, counts_assigned, all_assigned}
 
 -- there are no objects of a kind whose capabilities have no count
 no_objects : (counts : CountsValue) (kind : CapKind) → is_counted kind ≡ false → counts_of counts (object_kind kind) ≡ []
@@ -26,7 +27,7 @@ no_objects counts ProcessKind e = cc
 no_objects counts _ e = refl
 
 -- it names no object, or has its object's count
-counted-behind : (o : Items) (c : Capability) → IsBehind o (counted o c)
+counted-behind : (o : Items) (c : Capability) → IsBehind o (counted o.counts c)
 counted-behind o c = on (is_counted c.kind) refl
   where
     on : (b : Bool) → is_counted c.kind ≡ b → IsBehind o (if b then with_count c (count_of o (object_kind c.kind) c.object) else c)
@@ -56,22 +57,22 @@ behind-assigned : (s : Store) (x : Statement) → NoneAhead s → NoneAhead (ass
 behind-assigned s (Page number at bytes) none = NoneAhead-with_page s none number _
 behind-assigned s (Code number at insn) none = NoneAhead-with_page s none number _
 behind-assigned s (CapSlot number slot cap) none =
-    NoneAhead-with_cappage s none number _ (All-set (IsBehind s.items) (cappage_at s number) slot (counted s.items cap) (counted-behind s.items cap) (cappage_at-each (IsBehind s.items) (IsBehind-null s.items) s none number))
+    NoneAhead-with_cappage s none number _ (All-set (IsBehind s.items) (cappage_at s number) slot (counted s.items.counts cap) (counted-behind s.items cap) (cappage_at-each (IsBehind s.items) (IsBehind-null s.items) s none number))
 behind-assigned s (Gpt number header) none = NoneAhead-set_header s none number header
-behind-assigned s (GptSlot number slot cap) none = NoneAhead-set_slot s none number slot (counted s.items cap) (counted-behind s.items cap)
+behind-assigned s (GptSlot number slot cap) none = NoneAhead-set_slot s none number slot (counted s.items.counts cap) (counted-behind s.items cap)
 behind-assigned s (Endpoint number recipient id payload matching) none = NoneAhead-with_endpoint s none number _ (counted-behind s.items recipient)
 behind-assigned s (Process number pc space schedule handler runs) none =
     let P = IsBehind s.items in
     let null_is = IsBehind-null s.items in
     let slots = process_slots-each P null_is s none number in
     NoneAhead-with_process s none number _ (capregs-each P null_is s none number)
-    (All-set P _ 2 (counted s.items handler) (counted-behind s.items handler) (All-set P _ 1 (counted s.items schedule) (counted-behind s.items schedule) (All-set P _ 0 (counted s.items space) (counted-behind s.items space) slots)))
+    (All-set P _ 2 (counted s.items.counts handler) (counted-behind s.items handler) (All-set P _ 1 (counted s.items.counts schedule) (counted-behind s.items schedule) (All-set P _ 0 (counted s.items.counts space) (counted-behind s.items space) slots)))
 behind-assigned s (Reg number index value) none =
     NoneAhead-with_process s none number _ (capregs-each (IsBehind s.items) (IsBehind-null s.items) s none number) (process_slots-each (IsBehind s.items) (IsBehind-null s.items) s none number)
 behind-assigned s (CapReg number index cap) none =
     let P = IsBehind s.items in
     let null_is = IsBehind-null s.items in
-    NoneAhead-with_process s none number _ (capreg_set-each P null_is (process_at s number).capregs index (counted s.items cap) (counted-behind s.items cap) (capregs-each P null_is s none number)) (process_slots-each P null_is s none number)
+    NoneAhead-with_process s none number _ (capreg_set-each P null_is (process_at s number).capregs index (counted s.items.counts cap) (counted-behind s.items cap) (capregs-each P null_is s none number)) (process_slots-each P null_is s none number)
 behind-assigned s (Count kind number count) none = none
 
 pub behind-all_assigned : (s : Store) (xs : List Statement) → NoneAhead s → NoneAhead (all_assigned s xs)

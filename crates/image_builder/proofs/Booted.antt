@@ -14,6 +14,7 @@ use Rattle.listing_read.specs.declared.statement.Statement.{Statement}
 use Rattle.listing_read.specs.Statement.{ListingValue, IsStatement}
 use Rattle.image_builder.specs.Assigned.{counts_assigned, all_assigned, all_flagged, NamesProcess}
 use Rattle.image_builder.specs.Boot.{AllStopped, objects_of, running_of, at_rest, started, booted}
+use Rattle.image_builder.proofs.Tabled.{all_flagged-last, all_assigned-last}
 use Rattle.image_builder.proofs.Folds.{names_process}
 use Rattle.image_builder.proofs.Stopped.{stopped-empty_store, stopped-counts_assigned, stopped-all_assigned}
 use Rattle.image_builder.proofs.Behind.{behind-counts_assigned, behind-all_assigned}
@@ -23,22 +24,27 @@ pub names_all : (sizes : Sizes) (xs : List Statement) → All (IsStatement sizes
 names_all sizes xs all = λ k d there. names_process sizes (get_or xs k d) (all k d there)
 
 -- the objects after all statements
-pub objects_are : (listing : ListingValue) (sizes : Sizes) (xs : List Statement) (o a b : Store)
-    → sizes ≡ listing.sizes → xs ≡ listing.statements → o ≡ empty_store sizes → a ≡ counts_assigned o xs → b ≡ all_assigned a xs → b ≡ objects_of listing
-objects_are listing sizes xs o a b same statements new counts all = rw (all, counts, new, same, statements) refl
+pub objects_are : (sizes : Sizes) (xs : List Statement) (now : Sizes) (statements : List Statement) (o a b : Store)
+    → now ≡ sizes → statements ≡ xs → o ≡ empty_store now → a ≡ counts_assigned o statements → b ≡ all_assigned a statements
+    → b ≡ all_assigned (counts_assigned (empty_store sizes) xs) xs
+objects_are sizes xs now statements o a b same all new counts done = rw (done, counts, new, same, all) refl
 
-pub objects-stopped : (listing : ListingValue) (b : Store) → b ≡ objects_of listing → AllStopped b
-objects-stopped listing b e =
-    subst AllStopped (sym e) (stopped-all_assigned (counts_assigned (empty_store listing.sizes) listing.statements) listing.statements (stopped-counts_assigned (empty_store listing.sizes) listing.statements (stopped-empty_store listing.sizes)))
+pub objects-last : (listing : ListingValue) (b : Store) → All (IsStatement listing.sizes) listing.statements
+    → b ≡ all_assigned (counts_assigned (empty_store listing.sizes) listing.statements) listing.statements → b ≡ objects_of listing
+objects-last listing b all e = e ∙ all_assigned-last listing.sizes listing.statements all
 
-pub objects-behind : (listing : ListingValue) (b : Store) → b ≡ objects_of listing → NoneAhead b
-objects-behind listing b e =
-    subst NoneAhead (sym e) (behind-all_assigned (counts_assigned (empty_store listing.sizes) listing.statements) listing.statements (behind-counts_assigned listing.sizes listing.statements))
+pub objects-stopped : (sizes : Sizes) (xs : List Statement) (b : Store) → b ≡ all_assigned (counts_assigned (empty_store sizes) xs) xs → AllStopped b
+objects-stopped sizes xs b e = subst AllStopped (sym e) (stopped-all_assigned (counts_assigned (empty_store sizes) xs) xs (stopped-counts_assigned (empty_store sizes) xs (stopped-empty_store sizes)))
+
+pub objects-behind : (sizes : Sizes) (xs : List Statement) (b : Store) → b ≡ all_assigned (counts_assigned (empty_store sizes) xs) xs → NoneAhead b
+objects-behind sizes xs b e = subst NoneAhead (sym e) (behind-all_assigned (counts_assigned (empty_store sizes) xs) xs (behind-counts_assigned sizes xs))
 
 -- which processes run after all statements
 pub runs_are : (listing : ListingValue) (sizes : Sizes) (xs : List Statement) (items runs : List Bool)
     → sizes ≡ listing.sizes → xs ≡ listing.statements → items ≡ all_flagged (replicate sizes.processes false) xs → runs ≡ items → runs ≡ running_of listing
-runs_are listing sizes xs items runs same statements all e = rw (e, all, same, statements) refl
+runs_are listing sizes xs items runs same statements all e =
+    let done : runs ≡ all_flagged (replicate listing.sizes.processes false) listing.statements = rw (e, all, same, statements) refl in
+    done ∙ all_flagged-last listing.sizes.processes listing.statements
 
 -- a state by its parts
 abbrev parts : Store → QueuesValue → Bool → State

@@ -1,6 +1,8 @@
 mod Folds
 mod Stopped
 mod Behind
+mod Listed
+mod Tabled
 mod Booted
 mod Numbers
 mod Pieces

@@ -1,33 +1,17 @@
 -- What one statement assigns, and what a list of statements makes of objects, the first statement first.
-use Rattle.std.specs.Prelude.{ℕ, ◌<◌, List, [], ◌∷◌, Bool, slice_set, if◌then◌else◌}
-use Rattle.std.specs.Int.{to_le_bytes, w32}
-use Rattle.cap_format.specs.Kind.{is_counted, object_kind}
-use Rattle.cap_format.specs.Capability.{Capability, with_count}
+use Rattle.std.specs.Prelude.{ℕ, ◌<◌, List, [], ◌∷◌, Bool, slice_set}
+use Rattle.cap_format.specs.Capability.{Capability}
 use Rattle.page_store.specs.Page.{with_bytes}
 use Rattle.page_store.specs.CapPage.{with_cap}
 use Rattle.process_objects.specs.Process.{ProcessValue, with_pc, with_slot, with_reg, with_capreg}
-use Rattle.endpoint_objects.specs.declared.endpoint.Endpoint.{Endpoint as EndpointValue}
-use Rattle.rv32_decode.specs.declared.insn.Insn.{Insn}
-use Rattle.rv32_decode.specs.Word.{word_of}
-use Rattle.object_store.specs.Store.{Items, Store, count_of, page_at, cappage_at, process_at, set_count, set_slot, set_header, with_items, with_page, with_cappage, with_process, with_endpoint}
+use Rattle.object_store.specs.Store.{Store, page_at, cappage_at, process_at, set_count, set_slot, set_header, with_items, with_page, with_cappage, with_process, with_endpoint}
 use Rattle.listing_read.specs.declared.statement.Statement.{Statement}
 use Rattle.listing_read.specs.declared.statement.Statement.TheVariants.{Page, Code, CapSlot, Gpt, GptSlot, Endpoint, Process, Reg, CapReg, Count}
-
--- the capability with the count of its object, and 0 where there is no such object
-abbrev pub counted : Items → Capability → Capability
-counted o c = if is_counted c.kind then with_count c (count_of o (object_kind c.kind) c.object) else c
-
--- the four bytes of an instruction, the lowest first (RV32I)
-abbrev pub instruction_bytes : Insn → List ℕ
-instruction_bytes insn = to_le_bytes w32 (word_of insn)
+use Rattle.image_builder.specs.Given.{counted, endpoint_of, instruction_bytes}
 
 -- a process with this pc and these capabilities for its space, its schedule and its fault handler
 abbrev pub process_with : ProcessValue → ℕ → Capability → Capability → Capability → ProcessValue
 process_with process pc space schedule handler = with_slot (with_slot (with_slot (with_pc process pc) 0 space) 1 schedule) 2 handler
-
--- an endpoint by its parts
-abbrev pub endpoint_of : Capability → ℕ → ℕ → Bool → EndpointValue
-endpoint_of recipient id payload matching = record { recipient = recipient; id = id; payload = payload; matching = matching }
 
 -- the objects with the count that a statement assigns
 abbrev pub with_count_of : Store → Statement → Store
@@ -38,14 +22,14 @@ with_count_of s statement = s
 abbrev pub assigned : Store → Statement → Store
 assigned s (Page number at bytes) = with_page s number (with_bytes (page_at s number) at bytes)
 assigned s (Code number at insn) = with_page s number (with_bytes (page_at s number) at (instruction_bytes insn))
-assigned s (CapSlot number slot cap) = with_cappage s number (with_cap (cappage_at s number) slot (counted s.items cap))
+assigned s (CapSlot number slot cap) = with_cappage s number (with_cap (cappage_at s number) slot (counted s.items.counts cap))
 assigned s (Gpt number header) = with_items s (set_header s.items number header)
-assigned s (GptSlot number slot cap) = with_items s (set_slot s.items number slot (counted s.items cap))
-assigned s (Endpoint number recipient id payload matching) = with_endpoint s number (endpoint_of (counted s.items recipient) id payload matching)
+assigned s (GptSlot number slot cap) = with_items s (set_slot s.items number slot (counted s.items.counts cap))
+assigned s (Endpoint number recipient id payload matching) = with_endpoint s number (endpoint_of (counted s.items.counts recipient) id payload matching)
 assigned s (Process number pc space schedule handler runs) =
-    with_process s number (process_with (process_at s number) pc (counted s.items space) (counted s.items schedule) (counted s.items handler))
+    with_process s number (process_with (process_at s number) pc (counted s.items.counts space) (counted s.items.counts schedule) (counted s.items.counts handler))
 assigned s (Reg number index value) = with_process s number (with_reg (process_at s number) index value)
-assigned s (CapReg number index cap) = with_process s number (with_capreg (process_at s number) index (counted s.items cap))
+assigned s (CapReg number index cap) = with_process s number (with_capreg (process_at s number) index (counted s.items.counts cap))
 assigned s (Count kind number count) = s
 
 -- which processes run, with what a statement says of one

@@ -1,22 +1,26 @@
 -- The state of a machine at its start.
-use Rattle.std.specs.Prelude.{◌≡◌, ℕ, ◌+◌, ◌≤◌, List, [], ◌∷◌, Bool, false, replicate, if◌then◌else◌}
+use Rattle.std.specs.Prelude.{◌≡◌, ℕ, ◌+◌, ◌≤◌, List, [], ◌∷◌, Bool, false, if◌then◌else◌}
 use Rattle.cap_format.specs.declared.kind.CapKind.TheVariants.{Process}
-use Rattle.object_store.specs.Store.{Store, size_of, process_at, empty_store}
+use Rattle.object_store.specs.Store.{CountsValue, Store, size_of, process_at}
 use Rattle.object_store.specs.Meaning.{state_map}
 use Rattle.schedules.specs.Standing.{empty_queues}
 use Rattle.schedules.specs.Ready.{places_due}
 use Rattle.kernel_core.specs.State.{State}
 use Rattle.kernel_core.specs.Setters.{ready}
 use Rattle.listing_read.specs.Statement.{ListingValue}
-use Rattle.image_builder.specs.Assigned.{counts_assigned, all_assigned, all_flagged}
+use Rattle.image_builder.specs.Given.{last_given, listed, count_given, run_given, counts_with, empty_things, things_behind, store_with}
 
--- the objects of a listing
+-- the count of each object in the end
+abbrev pub counts_of_listing : ListingValue → CountsValue
+counts_of_listing listing = counts_with listing.sizes (λ kind n. last_given (count_given kind n) 0 listing.statements)
+
+-- the objects: each thing in them is as the last statement says that assigns it, and empty where none does
 abbrev pub objects_of : ListingValue → Store
-objects_of listing = all_assigned (counts_assigned (empty_store listing.sizes) listing.statements) listing.statements
+objects_of listing = store_with listing.sizes (counts_of_listing listing) (things_behind (counts_of_listing listing) empty_things listing.statements)
 
--- which processes run
+-- which processes run: what the last statement on each says
 abbrev pub running_of : ListingValue → List Bool
-running_of listing = all_flagged (replicate listing.sizes.processes false) listing.statements
+running_of listing = listed listing.sizes.processes (λ p. last_given (run_given p) false listing.statements)
 
 -- a machine with these objects, in which no process stands anywhere
 abbrev pub at_rest : Store → State

@@ -7,7 +7,8 @@ ghost use Rattle.page_store.specs.CapPage.{with_cap};
 ghost use Rattle.process_objects.specs.Process.{with_capreg};
 ghost use Rattle.object_store.specs.Store.{sizes_of, size_of, page_at, cappage_at, process_at, set_slot, with_items, with_page, with_cappage, with_process, with_endpoint};
 ghost use Rattle.listing_read.specs.Statement.{IsStatement};
-ghost use Rattle.image_builder.specs.Assigned.{counted, instruction_bytes, process_with, endpoint_of, with_count_of, assigned, flagged, NamesProcess};
+ghost use Rattle.image_builder.specs.Given.{counted, instruction_bytes, endpoint_of};
+ghost use Rattle.image_builder.specs.Assigned.{process_with, with_count_of, assigned, flagged, NamesProcess};
 
 use cap_format::Cap;
 use endpoint_objects::Endpoint;
@@ -44,7 +45,7 @@ pub(crate) fn note_running(running: &mut Vec<bool>, statement: &Statement)
 
 /// The capability with its object's count, and 0 where there is no such object.
 fn counted(objects: &Objects, cap: Cap) -> Cap
-    ensures { result ≡ counted objects.now.items cap }
+    ensures { result ≡ counted objects.now.items.counts cap }
 {
     let kind = cap.kind();
     if !kind.is_counted() {
@@ -119,7 +120,7 @@ fn assign_code(objects: &mut Objects, number: u16, at: u16, insn: Insn)
 
 fn assign_cap(objects: &mut Objects, number: u16, slot: u8, cap: Cap)
     requires { number < size_of objects.old.items CapPage }
-    ensures { objects.new ≡ with_cappage objects.old number (with_cap (cappage_at objects.old number) slot (counted objects.old.items cap)) }
+    ensures { objects.new ≡ with_cappage objects.old number (with_cap (cappage_at objects.old number) slot (counted objects.old.items.counts cap)) }
 {
     let cap = counted(objects, cap);
     objects.cappage_mut(number).set(slot, cap);
@@ -128,7 +129,7 @@ fn assign_cap(objects: &mut Objects, number: u16, slot: u8, cap: Cap)
 fn assign_slot(objects: &mut Objects, number: u16, slot: u8, cap: Cap)
     requires there { number < size_of objects.old.items Gpt }
     requires slot { slot < 16 }
-    ensures { objects.new ≡ with_items objects.old (set_slot objects.old.items number slot (counted objects.old.items cap)) }
+    ensures { objects.new ≡ with_items objects.old (set_slot objects.old.items number slot (counted objects.old.items.counts cap)) }
 {
     let cap = counted(objects, cap);
     let _item = objects.set_gpt_slot(number, slot, cap);
@@ -143,7 +144,7 @@ fn assign_endpoint(
     matching: bool,
 )
     requires { number < size_of objects.old.items EndpointKind }
-    ensures { objects.new ≡ with_endpoint objects.old number (endpoint_of (counted objects.old.items recipient) id payload matching) }
+    ensures { objects.new ≡ with_endpoint objects.old number (endpoint_of (counted objects.old.items.counts recipient) id payload matching) }
 {
     let recipient = counted(objects, recipient);
     *objects.endpoint_mut(number) = Endpoint {
@@ -164,7 +165,7 @@ fn assign_process(
 )
     requires there { number < size_of objects.old.items Process }
     requires aligned { pc % 4 ≡ 0 }
-    ensures { objects.new ≡ with_process objects.old number (process_with (process_at objects.old number) pc (counted objects.old.items space) (counted objects.old.items schedule) (counted objects.old.items handler)) }
+    ensures { objects.new ≡ with_process objects.old number (process_with (process_at objects.old number) pc (counted objects.old.items.counts space) (counted objects.old.items.counts schedule) (counted objects.old.items.counts handler)) }
 {
     let space = counted(objects, space);
     let schedule = counted(objects, schedule);
@@ -179,7 +180,7 @@ fn assign_process(
 fn assign_capreg(objects: &mut Objects, number: u16, index: u8, cap: Cap)
     requires there { number < size_of objects.old.items Process }
     requires index { index < 32 }
-    ensures { objects.new ≡ with_process objects.old number (with_capreg (process_at objects.old number) index (counted objects.old.items cap)) }
+    ensures { objects.new ≡ with_process objects.old number (with_capreg (process_at objects.old number) index (counted objects.old.items.counts cap)) }
 {
     let cap = counted(objects, cap);
     objects.process_mut(number).set_capreg(index, cap);
