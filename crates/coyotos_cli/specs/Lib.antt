@@ -1,2 +1,9 @@
 pub mod Exit
 pub mod Command
+pub mod Events
+pub mod Leaves
+pub mod Names
+pub mod Ending
+pub mod Told
+pub mod Schedule
+pub mod Session

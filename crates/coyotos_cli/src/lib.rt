@@ -4,8 +4,13 @@
 #![tactic(auto)]
 
 mod command;
+mod ending;
+mod events;
 mod exit;
+mod finishing;
+mod performing;
 mod program;
+mod schedule;
 mod session;
 #[cfg(test)]
 mod tests;

@@ -1,11 +1,15 @@
 //! The top call.
-ghost use Rattle.std.specs.Prelude.{◌≡◌, ◌≢◌, ◌⊎◌, map, string_bytes, Some, None};
+ghost use Rattle.std.specs.Prelude.{◌≡◌, ◌≢◌, ◌⊎◌, map, string_bytes, IfSome, Some, None};
 ghost use Rattle.coy_io.specs.Causes.{Rose};
 ghost use Rattle.coyotos_cli.specs.Command.{command_of};
+ghost use Rattle.coyotos_cli.specs.Ending.{IsGiven, Outputs, usage_text};
+ghost use Rattle.coyotos_cli.specs.Session.{asks_input, out};
+ghost use Rattle.coyotos_cli.specs.declared.command.Command.TheVariants.{Help};
 
 use crate::command::{Command, read_command};
+use crate::ending::end_with;
 use crate::exit::Exit;
-use crate::session::{end_with, session};
+use crate::session::session;
 use coy_io::{Sink, Source};
 use std::alloc::Global;
 use std::sync::ledger::Ledger;
@@ -19,6 +23,14 @@ pub fn coyotos<S: Source, K: Sink, L: Ledger>(
     output: &mut K,
     fetches: &mut Steps<L>,
 ) -> Exit
+    // What is written, and how it ends, where the bytes are told.
+    ensures output { IfSome (S.held input.old) (λ bytes. Outputs (K.taken output.old) (K.taken output.new) result (out (map string_bytes words.now) bytes)) }
+
+    // Words that are of no form, and `--help`, take nothing from the source.
+    ensures no_input { command_of (map string_bytes words.now) ≡ None → input.new ≡ input.old }
+    ensures help { command_of (map string_bytes words.now) ≡ Some Help → input.new ≡ input.old }
+
+    // Why it ends as it does.
     ensures usage { result ≡ Exit.Usage → command_of (map string_bytes words.now) ≡ None }
     ensures no_form { command_of (map string_bytes words.now) ≡ None → (result ≡ Exit.Usage) ⊎ (result ≡ Exit.WriteFault) }
 
@@ -29,18 +41,26 @@ pub fn coyotos<S: Source, K: Sink, L: Ledger>(
 
     ensures unwritten { result ≡ Exit.OutOfMemory → K.taken output.new ≡ K.taken output.old }
 {
-    match read_command(words) {
-        Some(Command::Help) => usage(output, Exit::Done),
-        Some(Command::Check) => session(alloc, Command::Check, input, output, fetches),
-        Some(Command::Run) => session(alloc, Command::Run, input, output, fetches),
-        Some(Command::Trace) => session(alloc, Command::Trace, input, output, fetches),
-        None => usage(output, Exit::Usage),
+    let Some(command) = read_command(words) else {
+        return usage(output, Exit::Usage);
+    };
+    if !asks_input(command) {
+        return usage(output, Exit::Done);
     }
+    session(alloc, command, input, output, fetches)
+}
+
+/// Whether the command reads the source.
+fn asks_input(command: Command) -> bool
+    ensures { result ≡ asks_input command }
+{
+    !matches!(command, Command::Help)
 }
 
 /// Writes how the program is used.
 fn usage<K: Sink>(output: &mut K, exit: Exit) -> Exit
-    requires { exit ≢ Exit.WriteFault }
+    requires { IsGiven exit }
+    ensures output { Outputs (K.taken output.old) (K.taken output.new) result (record { text = usage_text; exit = exit }) }
     ensures exit { result ≢ Exit.WriteFault → result ≡ exit }
     ensures write { result ≡ Exit.WriteFault → Rose (K.faults output.old) (K.faults output.new) }
     ensures write_quiet { result ≢ Exit.WriteFault → K.faults output.new ≡ K.faults output.old }

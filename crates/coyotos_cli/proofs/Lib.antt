@@ -1,0 +1,5 @@
+pub mod Leaves
+pub mod Rounds
+pub mod Told
+pub mod Endings
+pub mod Lines

@@ -1,0 +1,65 @@
+-- The lines of records, by parts.
+use Rattle.std.proofs.Common.{◌≡◌, ◌<◌, ◌+◌, ℕ, suc, List, [], ◌∷◌, ◌++◌, length, get_or, drop, true, refl, sym, ap, ◌∙◌, append_assoc, arith}
+use Rattle.std.proofs.Math.Seq.{drop-cons}
+use Rattle.kernel_core.specs.declared.event.Event.{Event}
+use Rattle.kernel_core.specs.declared.record.Record.{Record}
+use Rattle.kernel_core.specs.Event.{event_of}
+use Rattle.kernel_core.specs.Ran.{run_state-nil, run_state-cons, run_records-nil, run_records-cons}
+use Rattle.kernel_core.specs.Run.{run_state, run_records}
+use Rattle.kernel_core.specs.State.{State}
+use Rattle.coyotos_cli.specs.declared.command.Command.{Command}
+use Rattle.coyotos_cli.specs.Told.{line_of, lines_of, performed, runs, told}
+
+pub lines_of-nil : (command : Command) → lines_of command [] ≡ []
+unfolding lines_of
+lines_of-nil command = refl
+
+pub lines_of-cons : (command : Command) (entry : Record) (entries : List Record) → lines_of command (entry ∷ entries) ≡ line_of command entry ++ lines_of command entries
+unfolding lines_of
+lines_of-cons command entry entries = refl
+
+pub lines_of-append : (command : Command) (first second : List Record) → lines_of command (first ++ second) ≡ lines_of command first ++ lines_of command second
+unfolding lines_of
+lines_of-append command [] second = refl
+lines_of-append command (entry ∷ first) second =
+    ap (λ rest. line_of command entry ++ rest) (lines_of-append command first second)
+    ∙ sym (append_assoc (line_of command entry) (lines_of command first) (lines_of command second))
+
+-- the lines of the records from one on are its own line and those behind it
+pub lines_at : (command : Command) (entries : List Record) (i : ℕ) (entry : Record) → i < length entries → entry ≡ get_or entries i entry
+    → lines_of command (drop i entries) ≡ line_of command entry ++ lines_of command (drop (i + 1) entries)
+lines_at command entries i entry within same =
+    let next : suc i ≡ i + 1 = omega arith in
+    let parts : drop i entries ≡ entry ∷ drop (i + 1) entries =
+    drop-cons entries i entry within ∙ ap (λ e. e ∷ drop (suc i) entries) (sym same) ∙ ap (λ k. entry ∷ drop k entries) next in
+    ap (lines_of command) parts ∙ lines_of-cons command entry (drop (i + 1) entries)
+
+-- ---- a run, event by event
+
+-- the lines of a run whose first event comes to this state and these records
+pub step_lines : (command : Command) (s s1 : State) (event : Event) (events rest : List Event) (records : List Record)
+    → events ≡ event ∷ rest → s1 ≡ (event_of s event).state → records ≡ (event_of s event).records
+    → lines_of command (run_records s events) ≡ lines_of command records ++ lines_of command (run_records s1 rest)
+step_lines command s s1 event events rest records split state told =
+    rw (split, state, told)
+    (ap (lines_of command) (run_records-cons s event rest)
+    ∙ lines_of-append command (event_of s event).records (run_records (event_of s event).state rest))
+
+-- and the state after it
+pub step_state : (s s1 : State) (event : Event) (events rest : List Event) → events ≡ event ∷ rest → s1 ≡ (event_of s event).state
+    → run_state s1 rest ≡ run_state s events
+step_state s s1 event events rest split state = rw (split, state) (sym (run_state-cons s event rest))
+
+-- no event
+pub end_lines : (command : Command) (s : State) (events : List Event) → events ≡ [] → lines_of command (run_records s events) ≡ []
+end_lines command s events none = rw none (ap (lines_of command) (run_records-nil s) ∙ lines_of-nil command)
+
+pub end_state : (s : State) (events : List Event) → events ≡ [] → run_state s events ≡ s
+end_state s events none = rw none (run_state-nil s)
+
+-- a command that lets the machine run
+pub told_runs : (command : Command) (s : State) (events : List Event) → runs command ≡ true → told command s events ≡ lines_of command (run_records s events)
+told_runs command s events on = rw on refl
+
+pub performed_runs : (command : Command) (s : State) (events : List Event) → runs command ≡ true → performed command s events ≡ run_state s events
+performed_runs command s events on = rw on refl

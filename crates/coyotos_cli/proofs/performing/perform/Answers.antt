@@ -1,0 +1,75 @@
+use Rattle.std.proofs.Common.{◌≡◌, ◌<◌, ◌∙◌, ◌∷◌, refl, subst, sym, ap, arith}
+use Rattle.kernel_core.specs.Machine.{hart_in}
+use Rattle.kernel_core.specs.Run.{run_state, run_records}
+use Rattle.kernel_core.specs.State.{state_of}
+use Rattle.run_text.proofs.Texts.{cut, failed, same_cut, same_text}
+use Rattle.coyotos_cli.specs.Events.{events_of, left, OfHarts}
+use Rattle.coyotos_cli.specs.Leaves.{Leaves}
+use Rattle.coyotos_cli.specs.Told.{lines_of}
+use Rattle.coyotos_cli.proofs.Leaves.{leaves_same, leaves_less, leaves_none, leaves_some}
+use Rattle.coyotos_cli.proofs.Rounds.{events_of_harts}
+use Rattle.coyotos_cli.proofs.Told.{step_lines, step_state, end_lines, end_state, told_runs, performed_runs}
+use Rattle.coyotos_cli.proofs.performing.perform.Goals as goal
+
+pub each-init : goal.each-init
+each-init g c =
+    let same = c.new-events.ensures in
+    let s = state_of c.args.machine.now in
+    record {
+      lines = leaves_same _ _ _ (ap (λ es. lines_of c.args.command (run_records s es)) same);
+      state = ap (run_state s) same;
+      there = subst (OfHarts c.args.harts) (sym same) (events_of_harts c.args.harts c.args.timed c.requires.timed);
+      harts = refl;
+      quiet = refl;
+    }
+
+pub event-records-requires : goal.event-records-requires
+event-records-requires g c =
+    let all = subst (OfHarts c.args.harts) c.in-Some.ensures c.each.invariant.there in
+    subst (λ harts. hart_in c.in-Some.event < harts) (sym (c.each.invariant.harts ∙ c.requires.harts)) all.0
+
+pub each-preserved : goal.each-preserved
+each-preserved g c =
+    let split = c.in-Some.ensures in
+    let state = c.event-records.ensures.state in
+    let lines = step_lines c.args.command _ _ _ _ _ _ split state c.event-records.ensures.records in
+    record {
+      lines = leaves_less _ _ _ _ _ _ (subst (Leaves _ _ _) lines c.each.invariant.lines) c.in_ok-put_records.ensures.text;
+      state = step_state _ _ _ _ _ split state ∙ c.each.invariant.state;
+      there = (subst (OfHarts c.args.harts) split c.each.invariant.there).1;
+      harts = c.event-records.ensures.harts ∙ c.each.invariant.harts;
+      quiet = c.in_ok-put_records.ensures.cause.quiet ∙ c.each.invariant.quiet;
+    }
+
+pub returns-in_err-put_records-clause-text : goal.returns-in_err-put_records-clause-text
+returns-in_err-put_records-clause-text g c =
+    let lines = step_lines c.args.command _ _ _ _ _ _ c.in-Some.ensures c.event-records.ensures.state c.event-records.ensures.records in
+    let some = leaves_some _ _ _ _ _ _ (subst (Leaves _ _ _) lines c.each.invariant.lines) c.in_err-put_records.ensures.text in
+    let runs = told_runs c.args.command (state_of c.args.machine.now) (events_of c.args.harts c.args.timed) (sym c.runs.ensures ∙ c.if-not-runs.false) in
+    cut _ _ _ _ c.from_residual.ensures.0 (same_cut _ _ _ _ (sym runs) some)
+
+pub returns-in_err-put_records-clause-harts : goal.returns-in_err-put_records-clause-harts
+returns-in_err-put_records-clause-harts g c = c.event-records.ensures.harts ∙ c.each.invariant.harts
+
+pub returns-in_err-put_records-clause-cause : goal.returns-in_err-put_records-clause-cause
+returns-in_err-put_records-clause-cause g c =
+    failed _ _ _ _ _ c.from_residual.ensures.0 refl c.each.invariant.quiet c.in_err-put_records.ensures.cause
+
+pub returns-clause-text : goal.returns-clause-text
+returns-clause-text g c =
+    let none = end_lines c.args.command (state_of c.each.machine) _ c.in_default.ensures.0 in
+    let runs = told_runs c.args.command (state_of c.args.machine.now) (events_of c.args.harts c.args.timed) (sym c.runs.ensures ∙ c.if-not-runs.false) in
+    same_text _ _ _ _ (sym runs) (leaves_none _ _ _ (subst (Leaves _ _ _) none c.each.invariant.lines))
+
+pub returns-clause-state : goal.returns-clause-state
+returns-clause-state g c =
+    let runs = performed_runs c.args.command (state_of c.args.machine.now) (events_of c.args.harts c.args.timed) (sym c.runs.ensures ∙ c.if-not-runs.false) in
+    sym (end_state (state_of c.each.machine) _ c.in_default.ensures.0) ∙ c.each.invariant.state ∙ sym runs
+
+pub returns-clause-harts : goal.returns-clause-harts
+returns-clause-harts g c = c.each.invariant.harts
+
+pub returns-clause-cause : goal.returns-clause-cause
+returns-clause-cause g c =
+    let same = c.each.invariant.quiet in
+    record { later = omega (arith, same); quiet = same; rose = tt }

@@ -1,0 +1,55 @@
+-- A text and an exit, and the last lines of the program.
+use Rattle.std.specs.Prelude.{◌≡◌, ◌≢◌, ℕ, List, [], ◌++◌, codes, decimal, Option}
+use Rattle.std.specs.Io.KnownBytes.{Keeps, Appends}
+use Rattle.coy_io.specs.Pieces.{AppendsSome}
+use Rattle.listing_read.specs.declared.fault.Fault.{Fault}
+use Rattle.listing_read.specs.declared.fault.ScheduleFault.{ScheduleFault}
+use Rattle.coyotos_cli.specs.Names.{fault_name, schedule_fault_name}
+use Rattle.coyotos_cli.specs.declared.exit.Exit.{Exit}
+use Rattle.coyotos_cli.specs.declared.exit.Exit.TheVariants.{Done, Usage, ListingRefused, ScheduleRefused, ReadFault, WriteFault, OutOfMemory, TooLong}
+
+-- a text and an exit
+pub record Output : Type 0 where
+  pub text : List ℕ
+  pub exit : Exit
+
+-- this text comes first
+abbrev pub before : List ℕ → Output → Output
+before text o = record { text = text ++ o.text; exit = o.exit }
+
+-- how the program is used
+abbrev pub usage_text : List ℕ
+usage_text = codes "usage: coyotos check | run | trace | tables | walk P KIND ADDR | make N [summary]" ++ codes "\n"
+
+-- the number of the line that is refused, and why
+abbrev pub refusal_text : ℕ → List ℕ → List ℕ
+refusal_text line name = codes "refused " ++ decimal line ++ codes " " ++ name ++ codes "\n"
+
+abbrev pub refused_listing : ℕ → Fault → Output
+refused_listing line fault = record { text = refusal_text line (fault_name fault); exit = ListingRefused line fault }
+
+abbrev pub refused_schedule : ℕ → ScheduleFault → Output
+refused_schedule line fault = record { text = refusal_text line (schedule_fault_name fault); exit = ScheduleRefused line fault }
+
+-- the input goes on behind the last byte that is read
+abbrev pub too_long : Output
+too_long = record { text = codes "too long" ++ codes "\n"; exit = TooLong }
+
+-- an exit that no fault of reading or writing and no want of memory gave
+pub record IsGiven (exit : Exit) : Type 0 where
+  pub read : exit ≢ ReadFault
+  pub write : exit ≢ WriteFault
+  pub memory : exit ≢ OutOfMemory
+
+-- what a call wrote and the exit that it gave are those of an output; where writing failed, it wrote a front of the
+-- text, and where memory was wanting nothing
+pub record Outputs (old new : Option (List ℕ)) (exit : Exit) (o : Output) : Type 0 where
+  pub whole : IsGiven exit → (exit ≡ o.exit) × Appends old new o.text
+  pub part : exit ≡ WriteFault → AppendsSome old new o.text
+  pub nothing : exit ≡ OutOfMemory → Keeps old new
+
+-- what was written so far is in front of what is left of an output
+pub record OutputLeaves (old now : Option (List ℕ)) (whole rest : Output) : Type 0 where
+  pub front : List ℕ
+  pub written : Appends old now front
+  pub split : whole ≡ before front rest

@@ -1,0 +1,111 @@
+//! The last lines of the program.
+ghost use Rattle.std.specs.Prelude.{◌≡◌, ◌≢◌, ◌≤◌, length};
+ghost use Rattle.coy_io.specs.Causes.{Rose};
+ghost use Rattle.coyotos_cli.specs.Names.{fault_name, schedule_fault_name};
+ghost use Rattle.coyotos_cli.specs.Ending.{IsGiven, Outputs, refusal_text, refused_listing, refused_schedule, too_long};
+
+use crate::exit::Exit;
+use coy_io::{Sink, put_all};
+use coy_text::LineBuf;
+use listing_read::{Fault, ScheduleFault};
+
+/// Writes the last bytes of the program.
+pub(crate) fn end_with<K: Sink>(bytes: &[u8], exit: Exit, output: &mut K) -> Exit
+    requires { IsGiven exit }
+    ensures output { Outputs (K.taken output.old) (K.taken output.new) result (record { text = bytes.now; exit = exit }) }
+    ensures exit { result ≢ Exit.WriteFault → result ≡ exit }
+    ensures write { result ≡ Exit.WriteFault → Rose (K.faults output.old) (K.faults output.new) }
+    ensures write_quiet { result ≢ Exit.WriteFault → K.faults output.new ≡ K.faults output.old }
+{
+    match put_all(output, bytes) {
+        Ok(()) => exit,
+        Err(_) => Exit::WriteFault,
+    }
+}
+
+/// Tells the fault of a listing and its line.
+pub(crate) fn refuse_listing<K: Sink>(line: u32, fault: Fault, output: &mut K) -> Exit
+    ensures output { Outputs (K.taken output.old) (K.taken output.new) result (refused_listing line fault) }
+    ensures exit { result ≢ Exit.WriteFault → result ≡ Exit.ListingRefused line fault }
+    ensures write { result ≡ Exit.WriteFault → Rose (K.faults output.old) (K.faults output.new) }
+    ensures write_quiet { result ≢ Exit.WriteFault → K.faults output.new ≡ K.faults output.old }
+{
+    let exit = Exit::ListingRefused { line, fault };
+    refuse(line, fault_name(fault), exit, output)
+}
+
+/// Tells the fault of a line of the schedule.
+pub(crate) fn refuse_schedule<K: Sink>(line: u32, fault: ScheduleFault, output: &mut K) -> Exit
+    ensures output { Outputs (K.taken output.old) (K.taken output.new) result (refused_schedule line fault) }
+    ensures exit { result ≢ Exit.WriteFault → result ≡ Exit.ScheduleRefused line fault }
+    ensures write { result ≡ Exit.WriteFault → Rose (K.faults output.old) (K.faults output.new) }
+    ensures write_quiet { result ≢ Exit.WriteFault → K.faults output.new ≡ K.faults output.old }
+{
+    let exit = Exit::ScheduleRefused { line, fault };
+    refuse(line, schedule_fault_name(fault), exit, output)
+}
+
+/// Tells that the input goes on behind the last byte that is read.
+pub(crate) fn end_past_limit<K: Sink>(output: &mut K) -> Exit
+    ensures output { Outputs (K.taken output.old) (K.taken output.new) result too_long }
+    ensures exit { result ≢ Exit.WriteFault → result ≡ Exit.TooLong }
+    ensures write { result ≡ Exit.WriteFault → Rose (K.faults output.old) (K.faults output.new) }
+    ensures write_quiet { result ≢ Exit.WriteFault → K.faults output.new ≡ K.faults output.old }
+{
+    end_with(b"too long\n".as_slice(), Exit::TooLong, output)
+}
+
+#[tactic(auto, using(coy_text::specs::NumeralLaws::length_decimal))]
+fn refuse<K: Sink>(number: u32, name: &str, exit: Exit, output: &mut K) -> Exit
+    requires name { length name.now ≤ 20 }
+    requires exit { IsGiven exit }
+    ensures output { Outputs (K.taken output.old) (K.taken output.new) result (record { text = refusal_text number name.now; exit = exit }) }
+    ensures exit { result ≢ Exit.WriteFault → result ≡ exit }
+    ensures write { result ≡ Exit.WriteFault → Rose (K.faults output.old) (K.faults output.new) }
+    ensures write_quiet { result ≢ Exit.WriteFault → K.faults output.new ≡ K.faults output.old }
+{
+    let mut line = LineBuf::new();
+    line.push_word("refused ");
+    line.push_dec(number as u64);
+    line.push_word(" ");
+    line.push_word(name);
+    line.push_word("\n");
+    end_with(line.as_bytes(), exit, output)
+}
+
+fn fault_name(fault: Fault) -> &'static str
+    ensures name { result.now ≡ fault_name fault }
+    ensures short { length result.now ≤ 20 }
+{
+    match fault {
+        Fault::LineTooLong => "LineTooLong",
+        Fault::BadByte => "BadByte",
+        Fault::BadHeader => "BadHeader",
+        Fault::BadMachine => "BadMachine",
+        Fault::NoEnd => "NoEnd",
+        Fault::UnknownStatement => "UnknownStatement",
+        Fault::WrongWords => "WrongWords",
+        Fault::BadNumber => "BadNumber",
+        Fault::NoObject => "NoObject",
+        Fault::BadValue => "BadValue",
+        Fault::BadHex => "BadHex",
+        Fault::BadInstruction => "BadInstruction",
+        Fault::BadCap => "BadCap",
+        Fault::BadGuard => "BadGuard",
+    }
+}
+
+fn schedule_fault_name(fault: ScheduleFault) -> &'static str
+    ensures name { result.now ≡ schedule_fault_name fault }
+    ensures short { length result.now ≤ 20 }
+{
+    match fault {
+        ScheduleFault::LineTooLong => "LineTooLong",
+        ScheduleFault::BadByte => "BadByte",
+        ScheduleFault::UnknownEvent => "UnknownEvent",
+        ScheduleFault::WrongWords => "WrongWords",
+        ScheduleFault::BadNumber => "BadNumber",
+        ScheduleFault::NoHart => "NoHart",
+        ScheduleFault::BadRepeat => "BadRepeat",
+    }
+}

@@ -1,0 +1,129 @@
+//! What comes behind the records.
+ghost use Rattle.std.specs.Prelude.{◌≡◌, ◌≢◌, ◌<◌};
+ghost use Rattle.coy_io.specs.Causes.{Rose};
+ghost use Rattle.kernel_core.specs.State.{state_of, space_of};
+ghost use Rattle.coyotos_cli.specs.Ending.{Outputs};
+ghost use Rattle.coyotos_cli.specs.Schedule.{finished, count_text, access_text, last_state_text};
+ghost use Rattle.walk_meaning.specs.Walk.{access};
+ghost use Rattle.run_text.specs.Walk.{walk_text};
+ghost use Rattle.object_store.specs.Meaning.{meaning};
+ghost use Rattle.object_store.specs.Store.{size_of};
+ghost use Rattle.cap_format.specs.declared.kind.CapKind.TheVariants.{Process};
+
+use crate::command::Command;
+use crate::ending::end_with;
+use crate::exit::Exit;
+use cap_format::Cap;
+use coy_io::Sink;
+use coy_text::LineBuf;
+use kernel_core::Machine;
+use run_text::{dump, walk_line};
+use std::sync::ledger::Ledger;
+use steps::Steps;
+use walk_engine::{Plain, Trail, walk};
+use walk_meaning::Kind;
+
+/// Writes what comes behind the records: the number of events, the last state, or where a walk ends.
+pub(crate) fn finish<K: Sink, L: Ledger>(
+    command: Command,
+    events: u64,
+    machine: &Machine<Plain>,
+    output: &mut K,
+    fetches: &mut Steps<L>,
+) -> Exit
+    ensures output { Outputs (K.taken output.old) (K.taken output.new) result (finished command (state_of machine.now) events) }
+    ensures exit { result ≢ Exit.WriteFault → result ≡ Exit.Done }
+    ensures write { result ≡ Exit.WriteFault → Rose (K.faults output.old) (K.faults output.new) }
+    ensures write_quiet { result ≢ Exit.WriteFault → K.faults output.new ≡ K.faults output.old }
+{
+    match command {
+        Command::Check => count(events, output),
+        Command::Walk {
+            process,
+            kind,
+            address,
+        } => access(machine, process as u16, kind, address, output, fetches),
+        _ => last_state(machine, output, fetches),
+    }
+}
+
+/// Writes the number of events.
+#[tactic(auto, using(coy_text::specs::NumeralLaws::length_decimal))]
+fn count<K: Sink>(events: u64, output: &mut K) -> Exit
+    ensures output { Outputs (K.taken output.old) (K.taken output.new) result (record { text = count_text events; exit = Exit.Done }) }
+    ensures exit { result ≢ Exit.WriteFault → result ≡ Exit.Done }
+    ensures write { result ≡ Exit.WriteFault → Rose (K.faults output.old) (K.faults output.new) }
+    ensures write_quiet { result ≢ Exit.WriteFault → K.faults output.new ≡ K.faults output.old }
+{
+    let mut line = LineBuf::new();
+    line.push_word("ok events=");
+    line.push_dec(events);
+    line.push_word("\n");
+    end_with(line.as_bytes(), Exit::Done, output)
+}
+
+/// Writes where an access of a process's space ends, by a walk at this moment.
+fn access<K: Sink, L: Ledger>(
+    machine: &Machine<Plain>,
+    process: u16,
+    kind: Kind,
+    address: u32,
+    output: &mut K,
+    fetches: &mut Steps<L>,
+) -> Exit
+    ensures output { Outputs (K.taken output.old) (K.taken output.new) result (record { text = access_text (state_of machine.now) process kind address; exit = Exit.Done }) }
+    ensures exit { result ≢ Exit.WriteFault → result ≡ Exit.Done }
+    ensures write { result ≡ Exit.WriteFault → Rose (K.faults output.old) (K.faults output.new) }
+    ensures write_quiet { result ≢ Exit.WriteFault → K.faults output.new ≡ K.faults output.old }
+{
+    let mut line = LineBuf::new();
+    if process < machine.objects().sizes().processes {
+        walk_from(machine, process, kind, address, &mut line, fetches);
+    } else {
+        line.push_word("no process\n");
+    }
+    end_with(line.as_bytes(), Exit::Done, output)
+}
+
+/// Makes the line of a walk from a process's space.
+fn walk_from<L: Ledger>(
+    machine: &Machine<Plain>,
+    process: u16,
+    kind: Kind,
+    address: u32,
+    line: &mut LineBuf,
+    fetches: &mut Steps<L>,
+)
+    requires { process < size_of machine.now.objects.items Process }
+    ensures { line.new ≡ walk_text (access (state_of machine.now).store.items (space_of (state_of machine.now) process) address kind) }
+{
+    let space = space_of(machine, process);
+    let mut trail = Trail::new();
+    let found = walk(machine.objects(), space, address, kind, &mut trail, fetches);
+    walk_line(&found, line);
+}
+
+/// The capability in a process's slot for its space.
+fn space_of(machine: &Machine<Plain>, process: u16) -> Cap
+    requires { process < size_of machine.now.objects.items Process }
+    ensures { meaning machine.now.objects.items result ≡ space_of (state_of machine.now) process }
+{
+    machine.objects().process(process).slot(0)
+}
+
+/// Writes the last state.
+fn last_state<K: Sink, L: Ledger>(
+    machine: &Machine<Plain>,
+    output: &mut K,
+    fetches: &mut Steps<L>,
+) -> Exit
+    ensures output { Outputs (K.taken output.old) (K.taken output.new) result (record { text = last_state_text (state_of machine.now); exit = Exit.Done }) }
+    ensures exit { result ≢ Exit.WriteFault → result ≡ Exit.Done }
+    ensures write { result ≡ Exit.WriteFault → Rose (K.faults output.old) (K.faults output.new) }
+    ensures write_quiet { result ≢ Exit.WriteFault → K.faults output.new ≡ K.faults output.old }
+{
+    match dump(machine, output, fetches) {
+        Ok(()) => Exit::Done,
+        Err(_) => Exit::WriteFault,
+    }
+}

@@ -1,0 +1,100 @@
+//! The events of a line, performed, and their records, written.
+ghost use Rattle.std.specs.Prelude.{◌≡◌, ◌≢◌, ◌<◌, ◌≤◌, OnOk};
+ghost use Rattle.coy_io.specs.Causes.{HasCause};
+ghost use Rattle.kernel_core.specs.State.{state_of};
+ghost use Rattle.kernel_core.specs.Machine.{hart_in, IsRecord};
+ghost use Rattle.listing_read.specs.Schedule.{IsTimed};
+ghost use Rattle.run_text.specs.Written.{Writes};
+ghost use Rattle.coyotos_cli.specs.Events.{events_of};
+ghost use Rattle.coyotos_cli.specs.Told.{is_told, line_of, lines_of, performed, runs, told};
+
+use crate::command::Command;
+use crate::events::Events;
+use coy_io::{Sink, WriteFault, put_all};
+use coy_text::LineBuf;
+use kernel_core::{Machine, Record, Records};
+use listing_read::Timed;
+use run_text::record_line;
+use std::sync::ledger::Ledger;
+use steps::Steps;
+use walk_engine::Plain;
+
+/// Performs the events of a line, and writes their records. `check` performs nothing.
+pub(crate) fn perform<K: Sink, L: Ledger>(
+    command: Command,
+    timed: Timed,
+    harts: u8,
+    machine: &mut Machine<Plain>,
+    output: &mut K,
+    fetches: &mut Steps<L>,
+) -> Result<(), WriteFault>
+    requires harts { machine.old.objects.harts ≡ harts }
+    requires timed { IsTimed harts timed }
+    ensures text { Writes (K.taken output.old) (K.taken output.new) result (told command (state_of machine.old) (events_of harts timed)) }
+    ensures state { OnOk result (state_of machine.new ≡ performed command (state_of machine.old) (events_of harts timed)) }
+    ensures harts { machine.new.objects.harts ≡ machine.old.objects.harts }
+    ensures cause { HasCause (K.faults output.old) (K.faults output.new) result }
+{
+    if !runs(command) {
+        return Ok(());
+    }
+    let mut events = Events::new(harts, timed);
+    'each: while let Some(event) = events.take() {
+        let records = machine.event(event, fetches);
+        put_records(command, &records, output)?;
+    }
+    Ok(())
+}
+
+/// Whether the command lets the machine run.
+fn runs(command: Command) -> bool
+    ensures { result ≡ runs command }
+{
+    !matches!(command, Command::Check)
+}
+
+/// Writes the lines of the records that the command writes.
+fn put_records<K: Sink>(
+    command: Command,
+    records: &Records,
+    output: &mut K,
+) -> Result<(), WriteFault>
+    ensures text { Writes (K.taken output.old) (K.taken output.new) result (lines_of command records.now) }
+    ensures cause { HasCause (K.faults output.old) (K.faults output.new) result }
+{
+    let all = records.as_slice();
+    let mut line = LineBuf::new();
+    'each: for i in 0..all.len() {
+        put_record(command, &all[i], &mut line, output)?;
+    }
+    Ok(())
+}
+
+/// Writes the line of a record, where the command writes it.
+fn put_record<K: Sink>(
+    command: Command,
+    entry: &Record,
+    line: &mut LineBuf,
+    output: &mut K,
+) -> Result<(), WriteFault>
+    requires { IsRecord entry.now }
+    ensures text { Writes (K.taken output.old) (K.taken output.new) result (line_of command entry.now) }
+    ensures cause { HasCause (K.faults output.old) (K.faults output.new) result }
+{
+    if !is_written(command, entry) {
+        return Ok(());
+    }
+    record_line(entry, line);
+    put_all(output, line.as_bytes())
+}
+
+/// Whether a command writes this record.
+fn is_written(command: Command, entry: &Record) -> bool
+    ensures { result ≡ is_told command entry.now }
+{
+    match command {
+        Command::Trace => true,
+        Command::Run => !matches!(entry, Record::Access { .. } | Record::Insn { .. }),
+        _ => false,
+    }
+}

@@ -1,0 +1,84 @@
+//! The lines behind a listing, and what the machine does by them.
+ghost use Rattle.std.specs.Prelude.{◌≡◌, ◌≢◌, ◌≤◌, false, length};
+ghost use Rattle.coy_io.specs.Causes.{Rose};
+ghost use Rattle.coy_io.specs.Reader.{ahead};
+ghost use Rattle.kernel_core.specs.State.{state_of};
+ghost use Rattle.listing_read.specs.Schedule.{IsTimed};
+ghost use Rattle.coyotos_cli.specs.Ending.{Outputs};
+ghost use Rattle.coyotos_cli.specs.Events.{events_of};
+ghost use Rattle.coyotos_cli.specs.Schedule.{schedule_output, OnParts};
+
+use crate::command::Command;
+use crate::ending::{end_past_limit, refuse_schedule};
+use crate::exit::Exit;
+use crate::finishing::finish;
+use crate::performing::perform;
+use coy_io::{LineFault, LineReader, Sink, Source};
+use kernel_core::Machine;
+use listing_read::{ScheduleFault, Timed, read_event};
+use std::sync::ledger::Ledger;
+use steps::Steps;
+use walk_engine::Plain;
+
+/// Reads the lines behind the listing, and lets the machine run by them.
+pub(crate) fn schedule<S: Source, K: Sink, L: Ledger>(
+    command: Command,
+    harts: u8,
+    machine: &mut Machine<Plain>,
+    lines: &mut LineReader,
+    input: &mut S,
+    output: &mut K,
+    fetches: &mut Steps<L>,
+) -> Exit
+    requires reader { lines.old.failed ≡ false }
+    requires harts { machine.old.objects.harts ≡ harts }
+    requires few { harts ≤ 8 }
+
+    // What the known lines come to.
+    ensures output { OnParts (ahead lines.old (S.held input.old)) (λ parts. Outputs (K.taken output.old) (K.taken output.new) result (schedule_output command harts lines.old.number (state_of machine.old) 0 parts)) }
+
+    // Why it may end otherwise.
+    ensures usage { result ≢ Exit.Usage }
+    ensures memory { result ≢ Exit.OutOfMemory }
+    ensures read { result ≡ Exit.ReadFault → Rose (S.faults input.old) (S.faults input.new) }
+    ensures read_quiet { result ≢ Exit.ReadFault → S.faults input.new ≡ S.faults input.old }
+    ensures write { result ≡ Exit.WriteFault → Rose (K.faults output.old) (K.faults output.new) }
+    ensures write_quiet { result ≢ Exit.WriteFault → K.faults output.new ≡ K.faults output.old }
+{
+    let mut events: u64 = 0;
+    'lines: loop {
+        let number = lines.number();
+        match lines.next(input) {
+            Ok(Some(_)) => {}
+            Ok(None) => return finish(command, events, machine, output, fetches),
+            Err(LineFault::ReadFault) => return Exit::ReadFault,
+            Err(LineFault::LineTooLong) => {
+                return refuse_schedule(number + 1, ScheduleFault::LineTooLong, output);
+            }
+            Err(LineFault::TooLong) => return end_past_limit(output),
+        }
+        match read_event(lines.line(), harts) {
+            Ok(None) => {}
+            Ok(Some(timed)) => match perform(command, timed, harts, machine, output, fetches) {
+                Ok(()) => events += count_of(timed, harts),
+                Err(_) => return Exit::WriteFault,
+            },
+            Err(fault) => return refuse_schedule(number + 1, fault, output),
+        }
+    }
+}
+
+/// How many events a line stands for.
+#[tactic(auto, using(crate::proofs::Rounds::length_rounds, crate::proofs::Rounds::length_steps))]
+fn count_of(timed: Timed, harts: u8) -> u64
+    requires timed { IsTimed harts timed }
+    requires few { harts ≤ 8 }
+    ensures count { result ≡ length (events_of harts timed) }
+    ensures most { result ≤ 8000000 }
+{
+    match timed {
+        Timed::Step { times, .. } => times as u64,
+        Timed::Tick { .. } => 1,
+        Timed::Round { times } => times as u64 * harts as u64,
+    }
+}
