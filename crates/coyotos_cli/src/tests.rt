@@ -8,18 +8,6 @@ use std::sync::ledger::{Blank, Ledger};
 use std::test::Fail;
 use steps::Steps;
 
-const FOUR_INSTRUCTIONS: &str =
-    "coyotos 1\nmachine 1 2 0 1 1 0\npage 0 000 93005000371100002320110083210100\ngpt 0 12\nslot 0 0 page:0@12/0+r\nslot 0 1 page:1@12/0\nprocess 0 00000000 gpt:0@16/0 schedule:3 null run\nend\n";
-
-const FOUR_INSTRUCTIONS_LATER: &str =
-    "state\nhart 0 0\npage 0 000 93005000371100002320110083210100\npage 1 000 05000000000000000000000000000000\nslot 0 0 page:0@12/00000+r\nslot 0 1 page:1@12/00000\nprocess 0 00000010 gpt:0@16/00000 schedule:3 null run\nreg 0 1 00000005\nreg 0 2 00001000\nreg 0 3 00000005\nend\n";
-
-const BOOT_ONLY_LATER: &str =
-    "state\nhart 0 idle\nready 3 0\npage 0 000 93005000371100002320110083210100\nslot 0 0 page:0@12/00000+r\nslot 0 1 page:1@12/00000\nprocess 0 00000000 gpt:0@16/00000 schedule:3 null run\nend\n";
-
-const USAGE: &str =
-    "usage: coyotos check | run | trace | tables | walk P KIND ADDR | make N [summary]\n";
-
 /// What the program writes for these words and bytes, with its status behind it.
 fn written<L: Ledger>(
     alloc: Global,
@@ -66,47 +54,197 @@ fn words_of(alloc: Global, line: &str) -> Result<Vec<String>, Fail> {
     Ok(words)
 }
 
-fn bytes_of(alloc: Global, listing: &str, schedule: &str) -> Result<Vec<u8>, Fail> {
-    let mut bytes = listing.as_bytes().to_vec(alloc)?;
-    bytes.extend_from_slice(schedule.as_bytes())?;
-    Ok(bytes)
-}
-
 /// The same for each of the rows, whose expected outputs are worked out by hand.
 #[test]
 fn rows_give_what_is_written_down_for_them(rt: HostRuntime) -> Result<(), Fail> {
-    // (words, listing, schedule, output, status)
+    // (words, input, output, status)
     let cases = [
         (
             "run",
-            FOUR_INSTRUCTIONS,
-            "step 0 4\n",
-            FOUR_INSTRUCTIONS_LATER,
+            "coyotos 1\nmachine 1 2 0 1 1 0\npage 0 000 93005000371100002320110083210100\ngpt 0 12\nslot 0 0 page:0@12/0+r\nslot 0 1 page:1@12/0\nprocess 0 00000000 gpt:0@16/0 schedule:3 null run\nend\n",
+            "state\nhart 0 idle\nready 3 0\npage 0 000 93005000371100002320110083210100\nslot 0 0 page:0@12/00000+r\nslot 0 1 page:1@12/00000\nprocess 0 00000000 gpt:0@16/00000 schedule:3 null run\nend\n",
             "0",
         ),
-        ("run", FOUR_INSTRUCTIONS, "", BOOT_ONLY_LATER, "0"),
+        (
+            "run -x",
+            "",
+            "usage: coyotos check | run | trace | tables | walk P KIND ADDR | make N [summary]\n",
+            "1",
+        ),
+        ("run", "", "refused 1 BadHeader\n", "2"),
+        (
+            "run",
+            "coyotos 1\nmachine 1 2 0 1 1 0\npage 0 000 93005000371100002320110083210100\ngpt 0 12\nslot 0 0 page:0@12/0+r\nslot 0 1 page:1@12/0\nprocess 0 00000000 gpt:0@16/0 schedule:3 null run\nend\nstep 0 4\n",
+            "state\nhart 0 0\npage 0 000 93005000371100002320110083210100\npage 1 000 05000000000000000000000000000000\nslot 0 0 page:0@12/00000+r\nslot 0 1 page:1@12/00000\nprocess 0 00000010 gpt:0@16/00000 schedule:3 null run\nreg 0 1 00000005\nreg 0 2 00001000\nreg 0 3 00000005\nend\n",
+            "0",
+        ),
+        (
+            "run",
+            "coyotos 1\nmachine 1 2 0 1 1 0\npage 0 000 93005000371100002320110083210100\ngpt 0 12\nslot 0 0 page:0@12/fffff+r\nslot 0 1 page:1@12/0\nprocess 0 00000000 gpt:0@16/0 schedule:3 null run\nend\nstep 0 4\n",
+            "fault 0 InvalidDataReference 00000000 unheard\nstate\nhart 0 idle\npage 0 000 93005000371100002320110083210100\nslot 0 0 page:0@12/fffff+r\nslot 0 1 page:1@12/00000\nprocess 0 00000000 gpt:0@16/00000 schedule:3 null faulted InvalidDataReference 00000000\nend\n",
+            "0",
+        ),
+        (
+            "run",
+            "coyotos 1\nmachine 1 2 0 1 1 0\npage 0 000 93005000371100002320110083210100\ngpt 0 12\nslot 0 0 page:0@11/0+r\nslot 0 1 page:1@12/0\nprocess 0 00000000 gpt:0@16/0 schedule:3 null run\nend\nstep 0 4\n",
+            "refused 5 BadGuard\n",
+            "2",
+        ),
+        (
+            "run",
+            "coyotos 1\nmachine 1 2 0 1 1 0\npage 0 000 93005000371100002320110083210100\ngpt 0 12\nslot 0 0 page:0@12/100000+r\nslot 0 1 page:1@12/0\nprocess 0 00000000 gpt:0@16/0 schedule:3 null run\nend\nstep 0 4\n",
+            "refused 5 BadGuard\n",
+            "2",
+        ),
+        (
+            "tables",
+            "coyotos 1\nmachine 1 2 0 1 1 0\npage 0 000 93005000371100002320110083210100\ngpt 0 12\nslot 0 0 page:0@12/0+r\nslot 0 1 page:1@12/0\nprocess 0 00000000 gpt:0@16/0 schedule:3 null run\nend\nstep 0 4\n",
+            "usage: coyotos check | run | trace | tables | walk P KIND ADDR | make N [summary]\n",
+            "1",
+        ),
         (
             "check",
-            FOUR_INSTRUCTIONS,
-            "step 0 4\n",
+            "coyotos 1\nmachine 1 2 0 1 1 0\npage 0 000 93005000371100002320110083210100\ngpt 0 12\nslot 0 0 page:0@12/0+r\nslot 0 1 page:1@12/0\nprocess 0 00000000 gpt:0@16/0 schedule:3 null run\nend\nstep 0 4\n",
             "ok events=4\n",
             "0",
         ),
-        ("run", "", "", "refused 1 BadHeader\n", "2"),
-        ("run -x", "", "", USAGE, "1"),
-        ("--help", "", "", USAGE, "0"),
+        (
+            "walk 0 capload 0",
+            "coyotos 1\nmachine 1 1 1 1 1 0\nslot 0 0 page:0@12/0+r\nslot 0 1 page:0@12/0+x\nslot 0 2 cappage:0@12/0\nprocess 0 0 gpt:0@16/0 schedule:3 null run\nend\n",
+            "fault CapAccessTypeError none\n",
+            "0",
+        ),
+        (
+            "walk 0 capload 2010",
+            "coyotos 1\nmachine 1 1 1 1 1 0\nslot 0 0 page:0@12/0+r\nslot 0 1 page:0@12/0+x\nslot 0 2 cappage:0@12/0\nprocess 0 0 gpt:0@16/0 schedule:3 null run\nend\n",
+            "reach cappage 0 010 -\n",
+            "0",
+        ),
+        (
+            "walk 0 fetch 1000",
+            "coyotos 1\nmachine 1 1 1 1 1 0\nslot 0 0 page:0@12/0+r\nslot 0 1 page:0@12/0+x\nslot 0 2 cappage:0@12/0\nprocess 0 0 gpt:0@16/0 schedule:3 null run\nend\n",
+            "fault AccessViolation none\n",
+            "0",
+        ),
+        (
+            "walk 0 load 2000",
+            "coyotos 1\nmachine 1 1 1 1 1 0\nslot 0 0 page:0@12/0+r\nslot 0 1 page:0@12/0+x\nslot 0 2 cappage:0@12/0\nprocess 0 0 gpt:0@16/0 schedule:3 null run\nend\n",
+            "fault DataAccessTypeError none\n",
+            "0",
+        ),
+        (
+            "walk 0 load 1000",
+            "coyotos 1\nmachine 1 1 1 1 1 0\nslot 0 0 page:0@12/0+r\nslot 0 1 page:0@12/0+x\nslot 0 2 cappage:0@12/0\nprocess 0 0 gpt:0@16/0+r schedule:3 null run\nend\n",
+            "reach page 0 000 rx\n",
+            "0",
+        ),
+        (
+            "walk 0 store 0",
+            "coyotos 1\nmachine 1 1 1 1 1 0\nslot 0 0 page:0@12/0+r\nslot 0 1 page:0@12/0+x\nslot 0 2 cappage:0@12/0\nprocess 0 0 gpt:0@16/0 schedule:3 null run\nend\n",
+            "fault AccessViolation none\n",
+            "0",
+        ),
+        (
+            "walk 0 store 1000",
+            "coyotos 1\nmachine 1 1 1 1 1 0\nslot 0 0 page:0@12/0+r\nslot 0 1 page:0@12/0+x\nslot 0 2 cappage:0@12/0\nprocess 0 0 gpt:0@16/0+r schedule:3 null run\nend\n",
+            "fault AccessViolation none\n",
+            "0",
+        ),
+        (
+            "walk 1 load 0",
+            "coyotos 1\nmachine 1 1 0 1 1 0\nslot 0 0 gpt:0@12/0\nprocess 0 0 gpt:0@16/0 schedule:3 null run\nend\n",
+            "no process\n",
+            "0",
+        ),
+        (
+            "walk 0 load 0",
+            "coyotos 1\nmachine 1 1 0 1 1 0\nslot 0 0 gpt:0@12/0\nprocess 0 0 gpt:0@16/0 schedule:3 null run\nend\n",
+            "fault MalformedSpace none\n",
+            "0",
+        ),
+        (
+            "walk 0 load 00000ffc",
+            "coyotos 1\nmachine 1 2 0 1 1 0\npage 0 000 93005000371100002320110083210100\ngpt 0 28\nslot 0 0 page:0@12/0+r\nslot 0 1 page:1@12/0\nprocess 0 00000000 gpt:0@32/0 schedule:3 null run\nend\n",
+            "reach page 0 ffc r\n",
+            "0",
+        ),
+        (
+            "walk 0 load ffffffff",
+            "coyotos 1\nmachine 1 2 0 1 1 0\npage 0 000 93005000371100002320110083210100\ngpt 0 28\nslot 0 0 page:0@12/0+r\nslot 0 1 page:1@12/0\nprocess 0 00000000 gpt:0@32/0 schedule:3 null run\nend\n",
+            "fault InvalidDataReference none\n",
+            "0",
+        ),
+        (
+            "run",
+            "coyotos 1\nmachine 1 1 0 1 1 0\ncode 0 000 jal x1 2\nslot 0 0 page:0@12/0\nprocess 0 0 gpt:0@16/0 schedule:3 null run\nend\nstep 0 1\n",
+            "fault 0 BadAlign 00000002 unheard\nstate\nhart 0 idle\npage 0 000 ef002000000000000000000000000000\nslot 0 0 page:0@12/00000\nprocess 0 00000000 gpt:0@16/00000 schedule:3 null faulted BadAlign 00000002\nend\n",
+            "0",
+        ),
         (
             "trace",
-            FOUR_INSTRUCTIONS,
-            "step 0 1\nstep 0 1\ntick 9\n",
+            "coyotos 1\nmachine 1 2 0 1 1 0\npage 0 000 93005000371100002320110083210100\ngpt 0 12\nslot 0 0 page:0@12/0+r\nslot 0 1 page:1@12/0\nprocess 0 00000000 gpt:0@16/0 schedule:3 null run\nend\nstep 0 4\n",
+            "fetch 0 00000000 page 0\ninsn 0 00000000 addi x1 x0 5\nfetch 0 00000004 page 0\ninsn 0 00000004 lui x2 1\nfetch 0 00000008 page 0\ninsn 0 00000008 sw x1 0(x2)\nstore 0 00001000 page 1\nfetch 0 0000000c page 0\ninsn 0 0000000c lw x3 0(x2)\nload 0 00001000 page 1\nstate\nhart 0 0\npage 0 000 93005000371100002320110083210100\npage 1 000 05000000000000000000000000000000\nslot 0 0 page:0@12/00000+r\nslot 0 1 page:1@12/00000\nprocess 0 00000010 gpt:0@16/00000 schedule:3 null run\nreg 0 1 00000005\nreg 0 2 00001000\nreg 0 3 00000005\nend\n",
+            "0",
+        ),
+        (
+            "walk 0 load e0000",
+            "coyotos 1\nmachine 1 4 0 3 1 0\ngpt 0 16 bg\nslot 0 1 gpt:1@16/0\nslot 0 14 gpt:2@20/0\nslot 1 2 window:00005000@12/0\nslot 2 5 page:3@12/0\nprocess 0 0 gpt:0@32/0 schedule:3 null run\nend\n",
+            "fault InvalidDataReference none\n",
+            "0",
+        ),
+        (
+            "walk 0 load 12034",
+            "coyotos 1\nmachine 1 4 0 3 1 0\ngpt 0 16 bg\nslot 0 1 gpt:1@16/0\nslot 0 14 gpt:2@20/0\nslot 1 2 window:00005000@12/0\nslot 2 5 page:3@12/0\nprocess 0 0 gpt:0@32/0 schedule:3 null run\nend\n",
+            "reach page 3 034 -\n",
+            "0",
+        ),
+        (
+            "walk 0 load e0000",
+            "coyotos 1\nmachine 1 4 0 3 1 0\ngpt 0 16 ha bg\nslot 0 1 gpt:1@16/0\nslot 0 14 gpt:2@20/0\nslot 0 15 range\nslot 1 2 window:00005000@12/0\nslot 2 5 page:3@12/0\nprocess 0 0 gpt:0@32/0+n schedule:3 null run\nend\n",
+            "fault InvalidDataReference none\n",
+            "0",
+        ),
+        (
+            "walk 0 load e0000",
+            "coyotos 1\nmachine 1 4 0 3 1 0\ngpt 0 16 ha bg\nslot 0 1 gpt:1@16/0\nslot 0 14 gpt:2@20/0\nslot 0 15 range\nslot 1 2 window:00005000@12/0\nslot 2 5 page:3@12/0\nprocess 0 0 gpt:0@32/0 schedule:3 null run\nend\n",
+            "fault InvalidDataReference range\n",
+            "0",
+        ),
+        (
+            "walk 0 load 3000",
+            "coyotos 1\nmachine 1 1 1 1 1 0\nslot 0 0 page:0@12/0+r\nslot 0 1 page:0@12/0+x\nslot 0 2 cappage:0@12/0\nslot 0 3 local:3:00000000@12/0\nprocess 0 0 gpt:0@16/0 schedule:3 null run\nend\n",
+            "fault MalformedSpace none\n",
+            "0",
+        ),
+        (
+            "run",
+            "coyotos 1\nmachine 1 1 0 1 2 0\ncode 0 000 addi x1 x1 1\ncode 0 004 jal x0 -4\nslot 0 0 page:0@12/0\nprocess 0 0 gpt:0@16/0 schedule:3 null run\nprocess 1 0 gpt:0@16/0 null null run\nend\nstep 0 2\ntick 0\nstep 0 3\n",
+            "state\nhart 0 0\npage 0 000 938010006ff0dfff0000000000000000\nslot 0 0 page:0@12/00000\nprocess 0 00000004 gpt:0@16/00000 schedule:3 null run\nreg 0 1 00000003\nprocess 1 00000000 gpt:0@16/00000 null null faulted NoSchedule 00000000\nend\n",
+            "0",
+        ),
+        (
+            "run",
+            "coyotos 1\nmachine 1 1 0 1 2 0\ncode 0 000 addi x1 x1 1\ncode 0 004 jal x0 -4\nslot 0 0 page:0@12/0\nprocess 0 0 gpt:0@16/0 schedule:3 null run\nprocess 1 0 gpt:0@16/0 schedule:3 null run\nend\nstep 0 2\ntick 0\nstep 0 3\n",
+            "state\nhart 0 1\nready 3 0\npage 0 000 938010006ff0dfff0000000000000000\nslot 0 0 page:0@12/00000\nprocess 0 00000000 gpt:0@16/00000 schedule:3 null run\nreg 0 1 00000001\nprocess 1 00000004 gpt:0@16/00000 schedule:3 null run\nreg 1 1 00000002\nend\n",
+            "0",
+        ),
+        (
+            "trace",
+            "coyotos 1\nmachine 1 2 0 1 1 0\npage 0 000 93005000371100002320110083210100\ngpt 0 12\nslot 0 0 page:0@12/0+r\nslot 0 1 page:1@12/0\nprocess 0 00000000 gpt:0@16/0 schedule:3 null run\nend\nstep 0 1\nstep 0 1\ntick 9\n",
             "fetch 0 00000000 page 0\ninsn 0 00000000 addi x1 x0 5\nfetch 0 00000004 page 0\ninsn 0 00000004 lui x2 1\nrefused 11 NoHart\n",
             "3",
         ),
+        (
+            "--help",
+            "",
+            "usage: coyotos check | run | trace | tables | walk P KIND ADDR | make N [summary]\n",
+            "0",
+        ),
     ];
-    for (words, listing, schedule, output, status) in cases {
+    for (words, input, output, status) in cases {
         for piece in [1, 7, 513, 65536] {
             let asked = words_of(rt.alloc(), words)?;
-            let bytes = bytes_of(rt.alloc(), listing, schedule)?;
+            let bytes = input.as_bytes().to_vec(rt.alloc())?;
             let text = written::<Brand>(rt.alloc(), asked, bytes, piece, Blank::new(1))?;
             let mut expected = output.as_bytes().to_vec(rt.alloc())?;
             expected.extend_from_slice(status.as_bytes())?;
