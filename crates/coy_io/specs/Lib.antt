@@ -5,3 +5,4 @@ pub mod Lines
 pub mod LineLaws
 pub mod Reader
 pub mod Found
+pub mod GivenLaws

@@ -1,10 +1,10 @@
 -- Laws of lines: what bytes in front do to the parts of those behind.
 use Rattle.std.specs.Prelude.{◌≡◌, ◌≤◌, ◌<◌, ℕ, suc, ◌+◌, ◌-◌, List, [], ◌∷◌, ◌++◌, length, Bool, true, false, cond, not}
-use Rattle.std.proofs.Common.{refl, ap, ◌∙◌, append_assoc, append-nil, arith}
+use Rattle.std.proofs.Common.{refl, sym, ap, ◌∙◌, append_assoc, append-nil, arith}
 use Rattle.std.proofs.Math.Nat.{sub-zero}
 use Rattle.std.proofs.lemmas.Bool.{ne_eqb, le-leb}
 use Rattle.coy_io.specs.declared.TheConstants.{LINE_LIMIT}
-use Rattle.coy_io.specs.Lines.{Line, is_line_feed, line_len, IsUnfinished, part_of, parts}
+use Rattle.coy_io.specs.Lines.{Line, is_line_feed, line_len, IsUnfinished, part_of, parts, whole_lines}
 
 tail_of : (feed : Bool) (n m : ℕ) → cond (not feed) (1 + n) 0 ≡ suc m → (feed ≡ false) × (n ≡ m)
 tail_of true n m e = absurd (omega arith)
@@ -50,3 +50,33 @@ parts-line_in_front line bytes room u short h =
     ∙ parts-feed bytes line (room - length line) (omega arith)
     ∙ ap (λ p. p ∷ parts [] (room - length line - 1) bytes) (short_part line short)
     ∙ ap (λ k. Line line ∷ parts [] k bytes) left
+
+-- a byte that ends no line
+whole_lines-step : (byte : ℕ) (bytes line : List ℕ) → is_line_feed byte ≡ false → whole_lines line (byte ∷ bytes) ≡ whole_lines (line ++ byte ∷ []) bytes
+unfolding whole_lines
+whole_lines-step byte bytes line e = rw e refl
+
+-- a byte that ends a line
+pub whole_lines-feed : (bytes line : List ℕ) → whole_lines line (10 ∷ bytes) ≡ part_of line ∷ whole_lines [] bytes
+unfolding whole_lines
+whole_lines-feed bytes line = refl
+
+-- bytes without a line feed move into the unfinished line
+pub whole_lines-append : (bytes line left : List ℕ) → IsUnfinished bytes → whole_lines line (bytes ++ left) ≡ whole_lines (line ++ bytes) left
+whole_lines-append [] line left u = rw append-nil refl
+whole_lines-append (byte ∷ bytes) line left u =
+    let t = unfinished_tail byte bytes u in
+    whole_lines-step byte (bytes ++ left) line t.0
+    ∙ whole_lines-append bytes (line ++ byte ∷ []) left t.1
+    ∙ ap (λ l. whole_lines l left) (append_assoc line (byte ∷ []) bytes)
+
+-- and make no whole line
+pub whole_lines-unfinished : (bytes line : List ℕ) → IsUnfinished bytes → whole_lines line bytes ≡ []
+unfolding whole_lines
+whole_lines-unfinished bytes line u =
+    ap (whole_lines line) (sym (append-nil bytes)) ∙ whole_lines-append bytes line [] u
+
+-- a line with its line feed in front is the first whole line
+pub whole_lines-line_in_front : (line behind : List ℕ) → IsUnfinished line → whole_lines [] (line ++ (10 ∷ behind)) ≡ part_of line ∷ whole_lines [] behind
+whole_lines-line_in_front line behind u =
+    whole_lines-append line [] (10 ∷ behind) u ∙ whole_lines-feed behind line

@@ -45,6 +45,11 @@ parts line room [] = if length line == 0 then [] else part_of line ∷ []
 parts line room (byte ∷ bytes) =
     if room == 0 then cut_part_of line ∷ [] else ended_by byte line ++ parts (kept_by byte line) (room - 1) bytes
 
+-- the whole lines of a byte string, where `line` has come since the last line feed: those whose line feed is in it
+unfoldable pub whole_lines : List ℕ → List ℕ → List Part
+whole_lines line [] = []
+whole_lines line (byte ∷ bytes) = ended_by byte line ++ whole_lines (kept_by byte line) bytes
+
 -- the lines of a byte string
 abbrev pub parts_of : List ℕ → List Part
 parts_of bytes = parts [] INPUT_LIMIT bytes

@@ -5,7 +5,7 @@ use Rattle.std.specs.Io.KnownBytes.{Keeps, Consumes, IsAtEnd, prepend_known}
 use Rattle.coy_io.specs.declared.TheConstants.{LINE_LIMIT, INPUT_LIMIT}
 use Rattle.coy_io.specs.declared.lines.LineFault.{LineFault}
 use Rattle.coy_io.specs.declared.lines.LineFault.TheVariants.{ReadFault, LineTooLong, TooLong}
-use Rattle.coy_io.specs.Lines.{Part, Line, LongLine, PastLimit, IsUnfinished, parts}
+use Rattle.coy_io.specs.Lines.{Part, Line, LongLine, PastLimit, IsUnfinished, parts, whole_lines}
 
 -- a reader of lines
 pub record Reader : Type 0 where
@@ -117,3 +117,13 @@ abbrev pub lines_in : Result (Option ℕ) LineFault → ℕ
 lines_in (Ok (Some n)) = 1
 lines_in (Ok None) = 0
 lines_in (Err fault) = 0
+
+-- these bytes are exactly these whole lines, whatever follows
+abbrev pub AreLines : List ℕ → List Part → Type 0
+AreLines bytes given = (behind : List ℕ) → whole_lines [] (bytes ++ behind) ≡ given ++ whole_lines [] behind
+
+-- between two moments these whole lines were given: the known bytes to come lost the lines' bytes and no others
+pub record GivesLines (old new : Option (List ℕ)) (given : List Part) : Type 0 where
+  pub bytes : List ℕ
+  pub consumed : Consumes old new bytes
+  pub lines : AreLines bytes given

@@ -1,10 +1,10 @@
 //! Readers and writers of the standard library as a source and a sink. They tell no bytes.
 ghost use Rattle.std.specs.Prelude.{◌≡◌, ◌+◌, ◌≤◌, ◌⊎◌, None, length, IfOk};
-ghost use Rattle.std.specs.Io.KnownBytes.{ReadConsumes, WriteAppends};
+ghost use Rattle.std.specs.Io.KnownBytes.{Keeps, ReadConsumes, WriteAppends};
 ghost use Rattle.coy_io.specs.Causes.{HasCause, faults_after};
 ghost use Rattle.coy_io.specs.Pieces.{moved};
 
-use crate::{Failed, Sink, Source};
+use crate::{Failed, Sink, Source, WriteFault};
 use std::io::{Read, Write};
 
 /// A source over a reader. Each error of the reader is a fault.
@@ -59,6 +59,22 @@ impl<W> WriteSink<W> {
         ensures faults { result.faults ≡ 0 }
     {
         WriteSink { writer, faults: 0 }
+    }
+}
+
+impl<W: Write> WriteSink<W> {
+    /// Hands on what the writer still keeps back, as one with a buffer does. Until then a piece
+    /// that was taken may not have gone out yet. A flush that fails is a fault of the sink.
+    pub fn flush(&mut self) -> Result<(), WriteFault>
+        ensures cause { HasCause self.old.faults self.new.faults result }
+        ensures faults { self.new.faults ≡ faults_after self.old.faults result }
+        ensures writer { Keeps (W.contents self.old.writer) (W.contents self.new.writer) }
+    {
+        if self.writer.flush().is_err() {
+            self.faults = self.faults.saturating_add(1);
+            return Err(WriteFault);
+        }
+        Ok(())
     }
 }
 
