@@ -6,7 +6,20 @@ use Rattle.std.proofs.KnownBytes.{Consumes-nil, Consumes-trans, Consumes-kept}
 use Rattle.coy_io.specs.declared.TheConstants.{LINE_LIMIT}
 use Rattle.coy_io.specs.Lines.{Part, Line, IsUnfinished, whole_lines}
 use Rattle.coy_io.specs.LineLaws.{short_part, whole_lines-unfinished, whole_lines-line_in_front}
-use Rattle.coy_io.specs.Reader.{Reader, IsLine, IsSpent, line_feed_of, bytes_ahead, new_reader, AreLines, GivesLines}
+use Rattle.coy_io.specs.Reader.{Reader, IsLine, IsSpent, line_feed_of, bytes_ahead, new_reader, Advances, AreLines, GivesLines}
+
+-- no part was given
+pub Advances-nil : (parts : Option (List Part)) → Advances parts parts []
+Advances-nil None = tt
+Advances-nil (Some parts) = refl
+
+-- some parts were given, and then others
+pub Advances-trans : (old mid new : Option (List Part)) (first given : List Part) → Advances old mid first → Advances mid new given → Advances old new (first ++ given)
+Advances-trans None mid new first given p q = tt
+Advances-trans (Some x) None new first given p q = absurd p
+Advances-trans (Some x) (Some y) None first given p q = absurd q
+Advances-trans (Some x) (Some y) (Some z) first given p q =
+    p ∙ ap (λ parts. first ++ parts) q ∙ sym (append_assoc first given z)
 
 -- a line with its line feed
 pub AreLines-line : (line : List ℕ) → IsUnfinished line → length line ≤ LINE_LIMIT → AreLines (line ++ 10 ∷ []) (Line line ∷ [])

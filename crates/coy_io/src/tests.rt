@@ -3,7 +3,7 @@ use crate::{
     SureSource, WriteFault, WriteSink, put_all,
 };
 use std::alloc::Global;
-use std::io::{self, Read};
+use std::io::{self, BufWriter, Read};
 use std::test::Fail;
 
 fn source_of(alloc: Global, bytes: Vec<u8>, piece: usize, by_line: bool) -> MemSource {
@@ -220,5 +220,12 @@ fn standard_readers_and_writers_are_sources_and_sinks(rt: HostRuntime) -> Result
     let mut room = [0; 2];
     let mut full = WriteSink::new(room.as_mut_slice());
     assert_eq!(rt; put_all(&mut full, b"abc"), Err(WriteFault));
+
+    // Behind a buffer the same comes out at the flush.
+    let mut room = [0; 2];
+    let buffered = BufWriter::with_capacity(alloc, 8, room.as_mut_slice())?;
+    let mut late = WriteSink::new(buffered);
+    assert_eq!(rt; put_all(&mut late, b"abc"), Ok(()));
+    assert_eq!(rt; late.flush(), Err(WriteFault));
     Ok(())
 }
