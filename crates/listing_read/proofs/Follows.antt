@@ -1,10 +1,10 @@
--- The listing while it is read: what the lines to come make, behind what those before them made, is what all make.
-use Rattle.std.proofs.Common.{ℕ, ◌≡◌, ◌+◌, ◌<◌, ◌^◌, refl, sym, ap, ◌∙◌, append_assoc, append-nil, List, [], ◌∷◌, ◌++◌, length, Option, Some, None, Result, Ok, Err, subst}
-use Rattle.std.specs.Prelude.{⊤}
+-- The listing while it is read: what the lines given and any others make is what those others make behind these statements.
+use Rattle.std.proofs.Common.{ℕ, ◌≡◌, ◌+◌, ◌<◌, ◌^◌, refl, sym, ap, ◌∙◌, append_assoc, append-nil, List, [], ◌∷◌, ◌++◌, length, Option, Some, None, Result, Ok, Err, false, subst}
 use Rattle.std.specs.List.{All}
 use Rattle.std.proofs.lemmas.List.Elements.{All-append, All-cons, All-nil}
 use Rattle.coy_io.specs.Lines.{Part, Line}
-use Rattle.coy_io.specs.Reader.{Advances}
+use Rattle.coy_io.specs.Reader.{Reader, Advances, GivesLines, bytes_ahead, ahead}
+use Rattle.coy_io.specs.GivenLaws.{Advances-nil, Advances-trans, GivesLines-nil, GivesLines-trans, GivesLines-kept}
 use Rattle.object_store.specs.Ranges.{IsWithinLimits}
 use Rattle.object_store.specs.declared.sizes.Sizes.{Sizes}
 use Rattle.listing_read.specs.declared.fault.Fault.{Fault}
@@ -15,15 +15,9 @@ use Rattle.listing_read.specs.declared.place.Place.TheVariants.{Header, Machine,
 use Rattle.listing_read.specs.declared.place.Said.{Said}
 use Rattle.listing_read.specs.declared.place.Said.TheVariants.{Nothing, Opens, Says, Ends}
 use Rattle.listing_read.specs.declared.statement.Statement.{Statement}
-use Rattle.listing_read.specs.Statement.{IsStatement, IsListing}
-use Rattle.listing_read.specs.Listing.{Listed, Good, Refused, Past, with_front, place_behind, listed_by, judged, listing_of, IsListed, IsCause, IsPlace, IsSaid}
-
--- what all lines make is what those to come make, behind these statements
-abbrev pub Follows : Place → ℕ → Option (List Part) → List Statement → Place → ℕ → Option (List Part) → Type 0
-Follows place0 n0 None statements place n now = ⊤
-Follows place0 n0 (Some all) statements place n None = ⊥
-Follows place0 n0 (Some all) statements place n (Some parts) =
-    with_front statements (listing_of place n parts) ≡ listing_of place0 n0 all
+use Rattle.listing_read.specs.Statement.{IsStatement, IsListing, ListingValue}
+use Rattle.listing_read.specs.Listing.{Listed, Good, Refused, Past, with_front, place_behind, listed_by, judged, listing_of, fault_at_end, IsListed, IsCause, IsPlace, IsSaid}
+use Rattle.listing_read.specs.Reads.{ReadsLine, IsStopped, GivesListing, GivesFront}
 
 -- no statement in front
 with_front-nil : (listed : Listed) → with_front [] listed ≡ listed
@@ -37,88 +31,165 @@ with_front-append xs ys (Good listing last rest) = ap (λ s. Good (record listin
 with_front-append xs ys (Refused line fault) = refl
 with_front-append xs ys Past = refl
 
--- at the start
-pub follows_start : (place : Place) (n : ℕ) (parts : Option (List Part)) → Follows place n parts [] place n parts
-follows_start place n None = tt
-follows_start place n (Some parts) = with_front-nil (listing_of place n parts)
-
 -- what the first of the lines to come makes
 listing_of-line : (place : Place) (n : ℕ) (line : List ℕ) (parts : List Part) (said : Result Said Fault) → judged place line ≡ said
     → listing_of place n (Line line ∷ parts) ≡ listed_by n parts said (listing_of (place_behind place said) (n + 1) parts)
 unfolding listing_of
 listing_of-line place n line parts said says = ap (λ said. listed_by n parts said (listing_of (place_behind place said) (n + 1) parts)) says
 
-module _ (place0 : Place) (n0 : ℕ) where
-  -- a fault of the lines to come is one of all
-  pub cause_follows : (all : Option (List Part)) (statements : List Statement) (place : Place) (n : ℕ) (old : Option (List Part)) (fault : ListingFault)
-      → Follows place0 n0 all statements place n old → IsCause fault place n old → IsCause fault place0 n0 all
-  cause_follows None statements place n old fault follows cause = tt
-  cause_follows (Some all) statements place n None fault follows cause = absurd follows
-  cause_follows (Some all) statements place n (Some parts) (faults.Refused line fault) follows cause =
-      sym follows ∙ ap (with_front statements) cause
-  cause_follows (Some all) statements place n (Some parts) faults.TooLong follows cause =
-      sym follows ∙ ap (with_front statements) cause
-  cause_follows (Some all) statements place n (Some parts) faults.ReadFault follows cause = tt
-  cause_follows (Some all) statements place n (Some parts) faults.OutOfMemory follows cause = tt
+-- no line to come makes no listing
+listing_of-nil : (place : Place) (n : ℕ) → listing_of place n [] ≡ Refused n (fault_at_end place)
+unfolding listing_of
+listing_of-nil place n = refl
 
-  -- what all lines make, by what the next line says
-  next_said : (all : List Part) (statements : List Statement) (place : Place) (n : ℕ) (parts rest : List Part) (line : List ℕ) (said : Result Said Fault)
-      → with_front statements (listing_of place n parts) ≡ listing_of place0 n0 all → parts ≡ Line line ∷ rest → judged place line ≡ said
-      → with_front statements (listed_by n rest said (listing_of (place_behind place said) (n + 1) rest)) ≡ listing_of place0 n0 all
-  next_said all statements place n parts rest line said follows advances says =
-      ap (with_front statements) (sym (ap (listing_of place n) advances ∙ listing_of-line place n line rest said says)) ∙ follows
+-- the lines given and any others make what those others make from line n on, in this place and behind these statements
+abbrev pub Makes : ℕ → List Part → List Statement → Place → ℕ → Type 0
+Makes start given statements place n = (rest : List Part) → listing_of Header start (given ++ rest) ≡ with_front statements (listing_of place n rest)
 
-  -- the fault of the next line is that of all
-  pub cause_judged : (all : Option (List Part)) (statements : List Statement) (place : Place) (n : ℕ) (old new : Option (List Part)) (line : List ℕ) (fault : Fault)
-      → Follows place0 n0 all statements place n old → Advances old new (Line line ∷ []) → judged place line ≡ Err fault
-      → IsCause (faults.Refused n fault) place0 n0 all
-  cause_judged None statements place n old new line fault follows advances says = tt
-  cause_judged (Some all) statements place n None new line fault follows advances says = absurd follows
-  cause_judged (Some all) statements place n (Some parts) None line fault follows advances says = absurd advances
-  cause_judged (Some all) statements place n (Some parts) (Some rest) line fault follows advances says =
-      sym (next_said all statements place n parts rest line (Err fault) follows advances says)
+-- one more line was given
+makes_line : (start : ℕ) (given : List Part) (statements : List Statement) (place : Place) (n : ℕ) (line : List ℕ) (said : Result Said Fault)
+    → Makes start given statements place n → judged place line ≡ said → (rest : List Part)
+    → listing_of Header start ((given ++ Line line ∷ []) ++ rest) ≡ with_front statements (listed_by n rest said (listing_of (place_behind place said) (n + 1) rest))
+makes_line start given statements place n line said makes says rest =
+    ap (listing_of Header start) (append_assoc given (Line line ∷ []) rest)
+    ∙ makes (Line line ∷ rest)
+    ∙ ap (with_front statements) (listing_of-line place n line rest said says)
 
-  -- the next line ends the listing
-  pub listed_end : (all : Option (List Part)) (statements : List Statement) (place : Place) (n : ℕ) (old new : Option (List Part)) (line : List ℕ) (sizes : Sizes)
-      → Follows place0 n0 all statements place n old → Advances old new (Line line ∷ []) → judged place line ≡ Ok (Ends sizes)
-      → IsListed place0 n0 all (record { sizes = sizes; statements = statements }) n new
-  listed_end None statements place n old new line sizes follows advances says = tt
-  listed_end (Some all) statements place n None new line sizes follows advances says = absurd follows
-  listed_end (Some all) statements place n (Some parts) None line sizes follows advances says = absurd advances
-  listed_end (Some all) statements place n (Some parts) (Some rest) line sizes follows advances says =
-      sym (next_said all statements place n parts rest line (Ok (Ends sizes)) follows advances says)
-      ∙ ap (λ s. Good (record { sizes = sizes; statements = s }) n rest) (append-nil statements)
+-- lines that make a listing whatever follows them make it in front of the known lines that follow
+listed : (start : ℕ) (all now : Option (List Part)) (given : List Part) (listing : ListingValue) (last : ℕ) → Advances all now given
+    → ((rest : List Part) → listing_of Header start (given ++ rest) ≡ Good listing last rest) → IsListed Header start all listing last now
+listed start None now given listing last advances makes = tt
+listed start (Some all) None given listing last advances makes = absurd advances
+listed start (Some all) (Some rest) given listing last advances makes = ap (listing_of Header start) advances ∙ makes rest
 
-  -- the next line says nothing
-  pub follows_nothing : (all : Option (List Part)) (statements : List Statement) (place : Place) (n : ℕ) (old new : Option (List Part)) (line : List ℕ)
-      → Follows place0 n0 all statements place n old → Advances old new (Line line ∷ []) → judged place line ≡ Ok Nothing
-      → Follows place0 n0 all statements place (n + 1) new
-  follows_nothing None statements place n old new line follows advances says = tt
-  follows_nothing (Some all) statements place n None new line follows advances says = absurd follows
-  follows_nothing (Some all) statements place n (Some parts) None line follows advances says = absurd advances
-  follows_nothing (Some all) statements place n (Some parts) (Some rest) line follows advances says =
-      next_said all statements place n parts rest line (Ok Nothing) follows advances says
+-- and so with a fault
+refused : (start : ℕ) (all now : Option (List Part)) (given : List Part) (n : ℕ) (fault : Fault) → Advances all now given
+    → ((rest : List Part) → listing_of Header start (given ++ rest) ≡ Refused n fault) → IsCause (faults.Refused n fault) Header start all
+refused start None now given n fault advances makes = tt
+refused start (Some all) None given n fault advances makes = absurd advances
+refused start (Some all) (Some rest) given n fault advances makes = ap (listing_of Header start) advances ∙ makes rest
+
+-- the fault of the lines behind those given is that of all
+caused : (start : ℕ) (all now : Option (List Part)) (given : List Part) (statements : List Statement) (place : Place) (n : ℕ) (fault : ListingFault)
+    → Advances all now given → Makes start given statements place n → IsCause fault place n now → IsCause fault Header start all
+caused start None now given statements place n fault advances makes cause = tt
+caused start (Some all) None given statements place n fault advances makes cause = absurd advances
+caused start (Some all) (Some rest) given statements place n (faults.Refused line fault) advances makes cause =
+    ap (listing_of Header start) advances ∙ makes rest ∙ ap (with_front statements) cause
+caused start (Some all) (Some rest) given statements place n faults.TooLong advances makes cause =
+    ap (listing_of Header start) advances ∙ makes rest ∙ ap (with_front statements) cause
+caused start (Some all) (Some rest) given statements place n faults.ReadFault advances makes cause = tt
+caused start (Some all) (Some rest) given statements place n faults.OutOfMemory advances makes cause = tt
+
+-- what was read so far: the lines given, what they make, and that no byte of others was lost
+pub record Follows (old now : Reader) (held held' : Option (List ℕ)) (statements : List Statement) (place : Place) : Type 0 where
+  pub given : List Part
+  pub makes : Makes (old.number + 1) given statements place (now.number + 1)
+  pub advances : Advances (ahead old held) (ahead now held') given
+  pub gives : now.ended ≡ false → (old.ended ≡ false) × GivesLines (bytes_ahead old held) (bytes_ahead now held') given
+
+-- at the start
+pub follows_start : (reader : Reader) (held : Option (List ℕ)) → Follows reader reader held held [] Header
+follows_start reader held = record {
+  given = [];
+  makes = λ rest. sym (with_front-nil (listing_of Header (reader.number + 1) rest));
+  advances = Advances-nil (ahead reader held);
+  gives = λ unended. (unended, GivesLines-nil (bytes_ahead reader held));
+}
+
+module _ (old mid new : Reader) (held held' held'' : Option (List ℕ)) (statements : List Statement) (place : Place) where
+  -- the known parts with one line more
+  line_advances : (follows : Follows old mid held held' statements place) → ReadsLine mid new held' held''
+      → Advances (ahead old held) (ahead new held'') (follows.given ++ Line new.line ∷ [])
+  line_advances follows reads = Advances-trans (ahead old held) (ahead mid held') (ahead new held'') follows.given (Line new.line ∷ []) follows.advances reads.line
+
+  -- the bytes with one line more
+  line_gives : (follows : Follows old mid held held' statements place) → ReadsLine mid new held' held'' → new.ended ≡ false
+      → (old.ended ≡ false) × GivesLines (bytes_ahead old held) (bytes_ahead new held'') (follows.given ++ Line new.line ∷ [])
+  line_gives follows reads unended =
+      let before = follows.gives reads.before in
+      (before.0, GivesLines-trans (bytes_ahead old held) (bytes_ahead mid held') (bytes_ahead new held'') follows.given (Line new.line ∷ []) before.1 (reads.given unended))
+
+  -- the next line makes these statements and opens this place
+  follows_line : (more : List Statement) (next : Place) (follows : Follows old mid held held' statements place) → ReadsLine mid new held' held''
+      → Makes (old.number + 1) (follows.given ++ Line new.line ∷ []) more next (mid.number + 1 + 1) → Follows old new held held'' more next
+  follows_line more next follows reads makes = record {
+    given = follows.given ++ Line new.line ∷ [];
+    makes = rw reads.counted makes;
+    advances = line_advances follows reads;
+    gives = line_gives follows reads;
+  }
+
+  -- it says nothing
+  pub follows_nothing : Follows old mid held held' statements place → ReadsLine mid new held' held'' → judged place new.line ≡ Ok Nothing
+      → Follows old new held held'' statements place
+  follows_nothing follows reads says =
+      follows_line statements place follows reads (makes_line (old.number + 1) follows.given statements place (mid.number + 1) new.line (Ok Nothing) follows.makes says)
 
   -- it opens the next place
-  pub follows_opens : (all : Option (List Part)) (statements : List Statement) (place : Place) (n : ℕ) (old new : Option (List Part)) (line : List ℕ) (next : Place)
-      → Follows place0 n0 all statements place n old → Advances old new (Line line ∷ []) → judged place line ≡ Ok (Opens next)
-      → Follows place0 n0 all statements next (n + 1) new
-  follows_opens None statements place n old new line next follows advances says = tt
-  follows_opens (Some all) statements place n None new line next follows advances says = absurd follows
-  follows_opens (Some all) statements place n (Some parts) None line next follows advances says = absurd advances
-  follows_opens (Some all) statements place n (Some parts) (Some rest) line next follows advances says =
-      next_said all statements place n parts rest line (Ok (Opens next)) follows advances says
+  pub follows_opens : (next : Place) → Follows old mid held held' statements place → ReadsLine mid new held' held'' → judged place new.line ≡ Ok (Opens next)
+      → Follows old new held held'' statements next
+  follows_opens next follows reads says =
+      follows_line statements next follows reads (makes_line (old.number + 1) follows.given statements place (mid.number + 1) new.line (Ok (Opens next)) follows.makes says)
 
   -- it is a statement
-  pub follows_says : (all : Option (List Part)) (statements : List Statement) (place : Place) (n : ℕ) (old new : Option (List Part)) (line : List ℕ) (statement : Statement)
-      → Follows place0 n0 all statements place n old → Advances old new (Line line ∷ []) → judged place line ≡ Ok (Says statement)
-      → Follows place0 n0 all (statements ++ statement ∷ []) place (n + 1) new
-  follows_says None statements place n old new line statement follows advances says = tt
-  follows_says (Some all) statements place n None new line statement follows advances says = absurd follows
-  follows_says (Some all) statements place n (Some parts) None line statement follows advances says = absurd advances
-  follows_says (Some all) statements place n (Some parts) (Some rest) line statement follows advances says =
-      with_front-append statements (statement ∷ []) (listing_of place (n + 1) rest)
-      ∙ next_said all statements place n parts rest line (Ok (Says statement)) follows advances says
+  pub follows_says : (statement : Statement) → Follows old mid held held' statements place → ReadsLine mid new held' held'' → judged place new.line ≡ Ok (Says statement)
+      → Follows old new held held'' (statements ++ statement ∷ []) place
+  follows_says statement follows reads says =
+      follows_line (statements ++ statement ∷ []) place follows reads
+      (λ rest. makes_line (old.number + 1) follows.given statements place (mid.number + 1) new.line (Ok (Says statement)) follows.makes says rest
+      ∙ sym (with_front-append statements (statement ∷ []) (listing_of place (mid.number + 1 + 1) rest)))
+
+  -- it ends the listing
+  makes_listing : (sizes : Sizes) (follows : Follows old mid held held' statements place) → ReadsLine mid new held' held'' → judged place new.line ≡ Ok (Ends sizes)
+      → (rest : List Part) → listing_of Header (old.number + 1) ((follows.given ++ Line new.line ∷ []) ++ rest) ≡ Good (record { sizes = sizes; statements = statements }) new.number rest
+  makes_listing sizes follows reads says rest =
+      makes_line (old.number + 1) follows.given statements place (mid.number + 1) new.line (Ok (Ends sizes)) follows.makes says rest
+      ∙ ap (λ s. Good (record { sizes = sizes; statements = s }) (mid.number + 1) rest) (append-nil statements)
+      ∙ ap (λ n. Good (record { sizes = sizes; statements = statements }) n rest) (sym reads.counted)
+
+  -- the known lines make it
+  pub listed_end : (sizes : Sizes) → Follows old mid held held' statements place → ReadsLine mid new held' held'' → judged place new.line ≡ Ok (Ends sizes)
+      → IsListed Header (old.number + 1) (ahead old held) (record { sizes = sizes; statements = statements }) new.number (ahead new held'')
+  listed_end sizes follows reads says =
+      listed (old.number + 1) (ahead old held) (ahead new held'') _ _ new.number (line_advances follows reads) (makes_listing sizes follows reads says)
+
+  -- the lines given make it
+  pub gives_end : (sizes : Sizes) → Follows old mid held held' statements place → ReadsLine mid new held' held'' → judged place new.line ≡ Ok (Ends sizes)
+      → new.ended ≡ false → GivesListing old new held held'' (record { sizes = sizes; statements = statements })
+  gives_end sizes follows reads says unended =
+      let gives = line_gives follows reads unended in
+      record {
+        before = gives.0;
+        given = follows.given ++ Line new.line ∷ [];
+        gives = gives.1;
+        makes = makes_listing sizes follows reads says;
+      }
+
+  -- the fault of the next line is that of all
+  pub cause_judged : (fault : Fault) → Follows old mid held held' statements place → ReadsLine mid new held' held'' → judged place new.line ≡ Err fault
+      → IsCause (faults.Refused (mid.number + 1) fault) Header (old.number + 1) (ahead old held)
+  cause_judged fault follows reads says =
+      refused (old.number + 1) (ahead old held) (ahead new held'') _ (mid.number + 1) fault (line_advances follows reads)
+      (makes_line (old.number + 1) follows.given statements place (mid.number + 1) new.line (Err fault) follows.makes says)
+
+  -- a fault of the lines to come is one of all
+  pub cause_follows : (fault : ListingFault) → Follows old mid held held' statements place → IsCause fault place (mid.number + 1) (ahead mid held')
+      → IsCause fault Header (old.number + 1) (ahead old held)
+  cause_follows fault follows cause =
+      caused (old.number + 1) (ahead old held) (ahead mid held') follows.given statements place (mid.number + 1) fault follows.advances follows.makes cause
+
+  -- the source failed, and the lines given make no listing yet
+  pub gives_front : Follows old mid held held' statements place → IsStopped mid new held' held'' → GivesFront old new held held''
+  gives_front follows stopped =
+      let gives = follows.gives stopped.before in
+      record {
+        unended = stopped.unended;
+        unfinished = stopped.unfinished;
+        given = follows.given;
+        gives = GivesLines-kept (bytes_ahead old held) (bytes_ahead mid held') (bytes_ahead new held'') follows.given gives.1 stopped.kept;
+        ends_early = (mid.number + 1, fault_at_end place, ap (listing_of Header (old.number + 1)) (sym (append-nil follows.given)) ∙ follows.makes [] ∙ ap (with_front statements) (listing_of-nil place (mid.number + 1)));
+      }
 
 -- the statements so far are ones of the place's machine, and there are none before it is known
 abbrev pub HoldsIn : Place → List Statement → Type 0

@@ -10,3 +10,4 @@ pub mod StatementLines
 pub mod Machine
 pub mod Listing
 pub mod Schedule
+pub mod Reads

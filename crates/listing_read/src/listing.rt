@@ -3,12 +3,12 @@ ghost use Rattle.std.specs.Prelude.{◌≡◌, ◌≢◌, ◌≤◌, ◌<◌, �
 ghost use Rattle.std.specs.List.{All};
 ghost use Rattle.coy_text.specs.Words.{words_of};
 ghost use Rattle.coy_io.specs.Causes.{Rose};
-ghost use Rattle.coy_io.specs.Lines.{Line};
-ghost use Rattle.coy_io.specs.Reader.{Advances, ahead};
+ghost use Rattle.coy_io.specs.Reader.{ahead, TellsEnd};
 ghost use Rattle.object_store.specs.Ranges.{IsWithinLimits};
 ghost use Rattle.listing_read.specs.declared.place.Place.TheVariants.{Header};
 ghost use Rattle.listing_read.specs.Statement.{IsStatement};
 ghost use Rattle.listing_read.specs.Listing.{IsListed, IsCause, is_end};
+ghost use Rattle.listing_read.specs.Reads.{ReadsLine, IsStopped, GivesListing, GivesFront};
 
 use crate::fault::{Fault, ListingFault};
 use crate::place::{Place, Said, judge};
@@ -68,7 +68,14 @@ pub fn read_listing<S: Source>(
     ensures fault { let old = ahead lines.old (S.held source.old) in
         IfErr result (λ fault. IsCause fault Header (lines.old.number + 1) old) }
 
+    // The lines given, and that no byte of others was lost.
+    ensures given { IfOk result (λ listing. lines.new.ended ≡ false →
+        GivesListing lines.old lines.new (S.held source.old) (S.held source.new) listing) }
+    ensures front { result ≡ Err ListingFault.ReadFault →
+        GivesFront lines.old lines.new (S.held source.old) (S.held source.new) }
+
     // What happens to the reader and to the source.
+    ensures told { TellsEnd lines.old (S.held source.old) → TellsEnd lines.new (S.held source.new) }
     ensures end { OnOk result (is_end (words_of lines.new.line) ≡ true) }
     ensures reader { OnOk result (lines.new.failed ≡ false) }
     ensures read { result ≡ Err ListingFault.ReadFault → Rose (S.faults source.old) (S.faults source.new) }
@@ -96,14 +103,14 @@ fn next_line<S: Source>(
     source: &mut S,
 ) -> Result<u32, ListingFault>
     requires { lines.old.failed ≡ false }
-    ensures line { let old = ahead lines.old (S.held source.old) in
-        let new = ahead lines.new (S.held source.new) in
-        OnOk result (Advances old new (Line lines.new.line ∷ [])) }
+    ensures reads { OnOk result (ReadsLine lines.old lines.new (S.held source.old) (S.held source.new)) }
+    ensures stopped { result ≡ Err ListingFault.ReadFault →
+        IsStopped lines.old lines.new (S.held source.old) (S.held source.new) }
     ensures fault { let old = ahead lines.old (S.held source.old) in
         IfErr result (λ fault. IsCause fault place (lines.old.number + 1) old) }
+    ensures told { TellsEnd lines.old (S.held source.old) → TellsEnd lines.new (S.held source.new) }
     ensures number { IfOk result (λ number. number ≡ lines.old.number + 1) }
     ensures bound { IfOk result (λ number. number < 2 ^ 32) }
-    ensures counted { OnOk result (lines.new.number ≡ lines.old.number + 1) }
     ensures shorter { OnOk result (lines.new.room < lines.old.room) }
     ensures reader { OnOk result (lines.new.failed ≡ false) }
     ensures read { result ≡ Err ListingFault.ReadFault → Rose (S.faults source.old) (S.faults source.new) }

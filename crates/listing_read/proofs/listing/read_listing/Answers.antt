@@ -1,7 +1,7 @@
-use Rattle.std.proofs.Common.{rules, ◌≡◌, ◌+◌, ◌∷◌, ◌++◌, [], length, sym, ap, ◌∙◌, arith, length-append}
-use Rattle.listing_read.specs.declared.place.Place.TheVariants.{Header}
+use Rattle.std.proofs.Common.{rules, refl, ◌≡◌, ◌∷◌, ◌++◌, [], length, sym, ap, ◌∙◌, arith, length-append}
 use Rattle.listing_read.specs.Listing.{judged}
-use Rattle.listing_read.proofs.Follows.{cause_judged, listed_end, follows_nothing, follows_opens, follows_says, holds_opens, holds_says}
+use Rattle.listing_read.specs.Reads.{IsStopped}
+use Rattle.listing_read.proofs.Follows.{follows_start, gives_front, follows_nothing, follows_opens, follows_says, listed_end, gives_end, cause_judged, holds_opens, holds_says}
 use Rattle.listing_read.proofs.listing.read_listing.Goals as goal
 
 pub lines-preserved-in-Ok-Nothing : goal.lines-preserved-in-Ok-Nothing
@@ -13,9 +13,10 @@ lines-preserved-in-Ok-Nothing g c =
     record {
       going = search rules;
       quiet = search rules;
-      follows = rw next.counted (follows_nothing Header (c.args.lines.now.number + 1) _ _ _ _ _ _ c.next_line.new.lines.line before.follows next.line said);
+      told = λ told. next.told (before.told told);
+      follows = follows_nothing _ c.lines.lines c.next_line.new.lines _ _ _ c.lines.statements.items c.lines.place before.follows next.reads said;
       holds = before.holds;
-      few = omega (arith, before.few, next.counted);
+      few = omega (arith, before.few, next.reads.counted);
     }
 
 pub lines-preserved-in-Ok-Opens : goal.lines-preserved-in-Ok-Opens
@@ -27,9 +28,10 @@ lines-preserved-in-Ok-Opens g c =
     record {
       going = search rules;
       quiet = search rules;
-      follows = rw next.counted (follows_opens Header (c.args.lines.now.number + 1) _ _ _ _ _ _ c.next_line.new.lines.line _ before.follows next.line said);
+      told = λ told. next.told (before.told told);
+      follows = follows_opens _ c.lines.lines c.next_line.new.lines _ _ _ c.lines.statements.items c.lines.place _ before.follows next.reads said;
       holds = holds_opens _ _ _ e.range before.holds;
-      few = omega (arith, before.few, next.counted);
+      few = omega (arith, before.few, next.reads.counted);
     }
 
 pub lines-preserved : goal.lines-preserved
@@ -43,9 +45,10 @@ lines-preserved g c =
     record {
       going = search rules;
       quiet = search rules;
-      follows = rw (items, next.counted) (follows_says Header (c.args.lines.now.number + 1) _ _ _ _ _ _ c.next_line.new.lines.line _ before.follows next.line said);
+      told = λ told. next.told (before.told told);
+      follows = rw items (follows_says _ c.lines.lines c.next_line.new.lines _ _ _ c.lines.statements.items c.lines.place c.in-Ok-Says.statement before.follows next.reads said);
       holds = rw items (holds_says _ _ _ e.range before.holds);
-      few = omega (arith, before.few, next.counted, length_items);
+      few = omega (arith, before.few, next.reads.counted, length_items);
     }
 
 pub returns-in-Ok-Ends-clause-listed : goal.returns-in-Ok-Ends-clause-listed
@@ -53,11 +56,33 @@ returns-in-Ok-Ends-clause-listed g c =
     let e = rw c.in-Ok-Ends.field-0-is at c.in-Ok-Ends.ensures in
     let said = ap (judged c.lines.place) (sym c.line.ensures.value) ∙ sym e.value in
     let next = c.in_ok-number.ensures in
-    rw next.counted (listed_end Header (c.args.lines.now.number + 1) _ _ _ _ _ _ c.next_line.new.lines.line _ c.lines.invariant.follows next.line said)
+    listed_end _ c.lines.lines c.next_line.new.lines _ _ _ c.lines.statements.items c.lines.place _ c.lines.invariant.follows next.reads said
+
+pub returns-in-Ok-Ends-clause-given : goal.returns-in-Ok-Ends-clause-given
+returns-in-Ok-Ends-clause-given g c =
+    let e = rw c.in-Ok-Ends.field-0-is at c.in-Ok-Ends.ensures in
+    let said = ap (judged c.lines.place) (sym c.line.ensures.value) ∙ sym e.value in
+    let next = c.in_ok-number.ensures in
+    gives_end _ c.lines.lines c.next_line.new.lines _ _ _ c.lines.statements.items c.lines.place _ c.lines.invariant.follows next.reads said
 
 pub returns-in-Err-clause-fault : goal.returns-in-Err-clause-fault
 returns-in-Err-clause-fault g c =
     let said = ap (judged c.lines.place) (sym c.line.ensures.value) ∙ sym c.in-Err.ensures.value in
     let next = c.in_ok-number.ensures in
     rw (c.refused.ensures, next.number)
-    (cause_judged Header (c.args.lines.now.number + 1) _ _ _ _ _ _ c.next_line.new.lines.line _ c.lines.invariant.follows next.line said)
+    (cause_judged _ c.lines.lines c.next_line.new.lines _ _ _ c.lines.statements.items c.lines.place _ c.lines.invariant.follows next.reads said)
+
+pub lines-init : goal.lines-init
+lines-init g c = record {
+  going = c.requires;
+  quiet = refl;
+  told = λ told. told;
+  follows = rw c.new-statements.ensures.items (follows_start c.args.lines.now (g.S.Source.held c.args.source.now));
+  holds = c.new-statements.ensures.items;
+  few = rw c.new-statements.ensures.items (omega arith);
+}
+
+pub returns-in_err-number-clause-front : goal.returns-in_err-number-clause-front
+returns-in_err-number-clause-front g c fault =
+    let stopped : IsStopped c.lines.lines c.next_line.new.lines (g.S.Source.held c.lines.source) (g.S.Source.held c.next_line.new.source) = c.in_err-number.ensures.stopped (search rules) in
+    gives_front _ c.lines.lines c.next_line.new.lines _ _ _ c.lines.statements.items c.lines.place c.lines.invariant.follows stopped

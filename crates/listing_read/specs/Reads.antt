@@ -1,0 +1,38 @@
+-- What reading a listing does to its reader: which lines were given, and that no byte of others was lost.
+use Rattle.std.specs.Prelude.{◌≡◌, ℕ, ◌+◌, false, List, [], ◌∷◌, ◌++◌, Option}
+use Rattle.std.specs.Io.KnownBytes.{Keeps}
+use Rattle.coy_io.specs.Lines.{Part, Line, IsUnfinished}
+use Rattle.coy_io.specs.Reader.{Reader, bytes_ahead, ahead, Advances, GivesLines}
+use Rattle.listing_read.specs.Listing.{Good, Refused, listing_of}
+use Rattle.listing_read.specs.Statement.{ListingValue}
+use Rattle.listing_read.specs.declared.fault.Fault.{Fault}
+use Rattle.listing_read.specs.declared.place.Place.TheVariants.{Header}
+
+-- one line more was read: it is the next, and where the input goes on behind it, its bytes alone were lost
+pub record ReadsLine (old new : Reader) (held held' : Option (List ℕ)) : Type 0 where
+  pub counted : new.number ≡ old.number + 1
+  pub before : old.ended ≡ false
+  pub line : Advances (ahead old held) (ahead new held') (Line new.line ∷ [])
+  pub given : new.ended ≡ false → GivesLines (bytes_ahead old held) (bytes_ahead new held') (Line new.line ∷ [])
+
+-- the source failed: no byte was lost, and the reader holds the front of a line
+pub record IsStopped (old new : Reader) (held held' : Option (List ℕ)) : Type 0 where
+  pub before : old.ended ≡ false
+  pub unended : new.ended ≡ false
+  pub unfinished : IsUnfinished new.rest
+  pub kept : Keeps (bytes_ahead old held) (bytes_ahead new held')
+
+-- the lines given make this listing, whatever lines follow them
+pub record GivesListing (old new : Reader) (held held' : Option (List ℕ)) (listing : ListingValue) : Type 0 where
+  pub before : old.ended ≡ false
+  pub given : List Part
+  pub gives : GivesLines (bytes_ahead old held) (bytes_ahead new held') given
+  pub makes : (rest : List Part) → listing_of Header (old.number + 1) (given ++ rest) ≡ Good listing new.number rest
+
+-- the lines given end before their listing does, and behind them the reader holds the front of a line
+pub record GivesFront (old new : Reader) (held held' : Option (List ℕ)) : Type 0 where
+  pub unended : new.ended ≡ false
+  pub unfinished : IsUnfinished new.rest
+  pub given : List Part
+  pub gives : GivesLines (bytes_ahead old held) (bytes_ahead new held') given
+  pub ends_early : (line : ℕ) × (fault : Fault) × (listing_of Header (old.number + 1) given ≡ Refused line fault)
