@@ -37,6 +37,10 @@ listing_of-line : (place : Place) (n : ℕ) (line : List ℕ) (parts : List Part
 unfolding listing_of
 listing_of-line place n line parts said says = ap (λ said. listed_by n parts said (listing_of (place_behind place said) (n + 1) parts)) says
 
+-- what was judged of the slice that a line stands in
+pub says : (place : Place) (slice line : List ℕ) (said : Result Said Fault) → slice ≡ line → said ≡ judged place slice → judged place line ≡ said
+says place slice line said same judgement = ap (judged place) (sym same) ∙ sym judgement
+
 -- no line to come makes no listing
 listing_of-nil : (place : Place) (n : ℕ) → listing_of place n [] ≡ Refused n (fault_at_end place)
 unfolding listing_of
@@ -188,7 +192,8 @@ module _ (old mid new : Reader) (held held' held'' : Option (List ℕ)) (stateme
         unfinished = stopped.unfinished;
         given = follows.given;
         gives = GivesLines-kept (bytes_ahead old held) (bytes_ahead mid held') (bytes_ahead new held'') follows.given gives.1 stopped.kept;
-        ends_early = (mid.number + 1, fault_at_end place, ap (listing_of Header (old.number + 1)) (sym (append-nil follows.given)) ∙ follows.makes [] ∙ ap (with_front statements) (listing_of-nil place (mid.number + 1)));
+        fault = fault_at_end place;
+        ends_early = rw stopped.counted (ap (listing_of Header (old.number + 1)) (sym (append-nil follows.given)) ∙ follows.makes [] ∙ ap (with_front statements) (listing_of-nil place (mid.number + 1)));
       }
 
 -- the statements so far are ones of the place's machine, and there are none before it is known

@@ -17,6 +17,7 @@ pub record ReadsLine (old new : Reader) (held held' : Option (List ℕ)) : Type 
 
 -- the source failed: no byte was lost, and the reader holds the front of a line
 pub record IsStopped (old new : Reader) (held held' : Option (List ℕ)) : Type 0 where
+  pub counted : new.number ≡ old.number
   pub before : old.ended ≡ false
   pub unended : new.ended ≡ false
   pub unfinished : IsUnfinished new.rest
@@ -29,10 +30,12 @@ pub record GivesListing (old new : Reader) (held held' : Option (List ℕ)) (lis
   pub gives : GivesLines (bytes_ahead old held) (bytes_ahead new held') given
   pub makes : (rest : List Part) → listing_of Header (old.number + 1) (given ++ rest) ≡ Good listing new.number rest
 
--- the lines given end before their listing does, and behind them the reader holds the front of a line
+-- the lines given have no fault but that they end before their listing does, which is one of the line behind them, and the
+-- reader holds the front of that line
 pub record GivesFront (old new : Reader) (held held' : Option (List ℕ)) : Type 0 where
   pub unended : new.ended ≡ false
   pub unfinished : IsUnfinished new.rest
   pub given : List Part
   pub gives : GivesLines (bytes_ahead old held) (bytes_ahead new held') given
-  pub ends_early : (line : ℕ) × (fault : Fault) × (listing_of Header (old.number + 1) given ≡ Refused line fault)
+  pub fault : Fault
+  pub ends_early : listing_of Header (old.number + 1) given ≡ Refused (new.number + 1) fault
