@@ -33,13 +33,28 @@ impl<T: Translator> Machine<T> {
         ensures harts { self.new.objects.harts ≡ self.old.objects.harts }
     {
         let mut records = Records::new();
+        self.event_into(e, &mut records, fetches);
+        records
+    }
+
+    /// Performs one event as `event` does, and leaves its records, and no others, in a list that is there already.
+    pub fn event_into<L: Ledger>(&mut self, e: Event, records: &mut Records, fetches: &mut Steps<L>)
+        requires { hart_in e < self.old.objects.harts }
+        ensures state { state_of self.new ≡ (event_of (state_of self.old) e).state }
+        ensures records { records.new ≡ (event_of (state_of self.old) e).records }
+        ensures counted { fetches.new ≡ fetches.old + spent T.cost T.after T.without (T.kept self.old.translator) (event_of (state_of self.old) e).touches }
+        ensures kept { T.kept self.new.translator ≡ kept_after T.cost T.after T.without (T.kept self.old.translator) (event_of (state_of self.old) e).touches }
+        ensures items { self.new.objects.items ≡ self.old.objects.items }
+        ensures harts { self.new.objects.harts ≡ self.old.objects.harts }
+    {
+        records.clear();
         if self.halted() {
-            return records;
+            return;
         }
         match e {
             Event::Step(hart) => {
                 if let Some(p) = self.dispatch(hart) {
-                    instruction(self, p, &mut records, fetches);
+                    instruction(self, p, records, fetches);
                 }
             }
             Event::Tick(hart) => {
@@ -48,7 +63,6 @@ impl<T: Translator> Machine<T> {
                 }
             }
         }
-        records
     }
 }
 

@@ -44,6 +44,13 @@ impl Records {
         self.list.push(entry);
     }
 
+    /// Takes all records out, in the time of those that are there.
+    pub fn clear(&mut self)
+        ensures { self.new ≡ [] }
+    {
+        self.list.clear();
+    }
+
     pub fn as_slice(&self) -> &[Record]
         ensures value { result.now ≡ self.now }
         ensures bound { length self.now ≤ 64 }

@@ -39,8 +39,9 @@ pub fn run<T: Translator, W: Listener, L: Ledger>(
     ensures kept { T.kept machine.new.translator ≡ kept_after T.cost T.after T.without (T.kept machine.old.translator) (run_touches (state_of machine.old) events.now) }
     ensures harts { machine.new.objects.harts ≡ machine.old.objects.harts }
 {
+    let mut records = Records::new();
     'each: for i in 0..events.len() {
-        let records = machine.event(events[i], fetches);
+        machine.event_into(events[i], &mut records, fetches);
         listener.tell(&records);
     }
 }

@@ -13,7 +13,7 @@ each-preserved g c =
     let Rest : List Event → Type 0 = λ rest. IsRun t.cost t.after t.without (t.kept c.args.machine.now.translator) (state_of c.args.machine.now) c.args.events.now (g.W.Listener.told c.args.listener.now) c.args.fetches.now (t.kept l.machine.translator) (state_of l.machine) rest (g.W.Listener.told l.listener) l.fetches in
     let e = get_or c.args.events.now l.i (Step 0) in
     let run = subst Rest (drop_more c.args.events.now l.i (Step 0) c.each-test.true) l.invariant.run in
-    let done = c.event-records.ensures in
+    let done = c.event_into.ensures in
     record {
       run = is_run-step t.cost t.after t.without _ _ _ _ _ _ (state_of l.machine) e (drop (l.i + 1) c.args.events.now) (g.W.Listener.told l.listener) l.fetches _ _ _ _ run done.state (rw (← done.records) c.tell.ensures) done.counted done.kept;
       harts = done.harts ∙ l.invariant.harts;
