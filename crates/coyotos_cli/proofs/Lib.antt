@@ -3,3 +3,4 @@ pub mod Rounds
 pub mod Told
 pub mod Endings
 pub mod Lines
+pub mod Bytes

@@ -1,153 +1,337 @@
 -- Line by line, what the lines behind a listing come to.
-use Rattle.std.proofs.Common.{◌≡◌, ◌≢◌, ◌+◌, ◌∙◌, ◌∷◌, [], ℕ, List, Option, Some, None, Result, Ok, Err, length, refl, sym, ap, subst}
-use Rattle.std.specs.Io.KnownBytes.{Appends}
+use Rattle.std.proofs.Common.{◌≡◌, ◌≢◌, ◌+◌, ◌∙◌, ◌∷◌, ◌++◌, [], ℕ, List, Bool, true, false, Option, Some, None, Result, Ok, Err, length, refl, sym, ap, subst, append_assoc, append-nil, arith}
+use Rattle.std.specs.Io.KnownBytes.{Appends, Keeps}
+use Rattle.std.proofs.KnownBytes.{Appends-nil, Appends-trans}
 use Rattle.coy_io.specs.Pieces.{AppendsSome}
-use Rattle.coy_io.specs.Lines.{Part, Line, LongLine, PastLimit}
-use Rattle.coy_io.specs.Reader.{Advances, Begins, IsDone}
+use Rattle.coy_io.specs.Lines.{Part, Line, LongLine, PastLimit, IsUnfinished}
+use Rattle.coy_io.specs.Reader.{Reader, Advances, Begins, IsDone, IsLine, IsNext, IsSpent, GivesLines, ahead, bytes_ahead}
+use Rattle.coy_io.specs.declared.lines.LineFault.{LineFault}
+use Rattle.coy_io.specs.GivenLaws.{Advances-nil, Advances-trans, GivesLines-nil, GivesLines-trans, GivesLines-kept, GivesLines-line}
 use Rattle.kernel_core.specs.State.{State}
 use Rattle.listing_read.specs.Schedule.{event_of}
 use Rattle.listing_read.specs.declared.fault.ScheduleFault.{ScheduleFault}
 use Rattle.listing_read.specs.declared.fault.ScheduleFault.TheVariants.{LineTooLong}
 use Rattle.listing_read.specs.declared.schedule.Timed.{Timed}
-use Rattle.coyotos_cli.specs.Ending.{Output, Outputs, OutputLeaves, before, refused_schedule, too_long}
+use Rattle.coyotos_cli.specs.Exit.{status_of}
+use Rattle.coyotos_cli.specs.Ending.{Outputs, refused_schedule, too_long}
 use Rattle.coyotos_cli.specs.Events.{events_of}
-use Rattle.coyotos_cli.specs.Schedule.{finished, line_output, schedule_output, OnParts, Comes}
-use Rattle.coyotos_cli.specs.Told.{performed, told}
+use Rattle.coyotos_cli.specs.Schedule.{finished, AtEnd, AtFault, AtLimit, Course, preceded, stops, line_course, course_of, stop_output, course_output, course_fetches, last_fetches, OnParts, FailsBehind}
+use Rattle.coyotos_cli.specs.Told.{performed, told, spent_on}
 use Rattle.coyotos_cli.specs.declared.command.Command.{Command}
 use Rattle.coyotos_cli.specs.declared.exit.Exit.{Exit}
 use Rattle.coyotos_cli.specs.declared.exit.Exit.TheVariants.{OutOfMemory, WriteFault}
-use Rattle.coyotos_cli.proofs.Endings.{output_leaves_all, output_leaves_less, outputs_behind, output_cut}
+use Rattle.coyotos_cli.proofs.Endings.{outputs_text, outputs_behind, outputs_cut}
 
--- the lines from one on, where that line is `line`
-abbrev pub from_line : Command → ℕ → ℕ → State → ℕ → List ℕ → List Part → Output
-from_line command harts n s events line parts =
-    line_output command harts (n + 1) s events (event_of harts line) (λ s events. schedule_output command harts (n + 1) s events parts)
+-- ---- courses
 
-schedule_output-line : (command : Command) (harts n : ℕ) (s : State) (events : ℕ) (line : List ℕ) (parts : List Part)
-    → schedule_output command harts n s events (Line line ∷ parts) ≡ from_line command harts n s events line parts
-unfolding schedule_output
-schedule_output-line command harts n s events line parts = refl
+preceded-nil : (course : Course) → preceded [] 0 course ≡ course
+preceded-nil course =
+    let same : 0 + course.fetches ≡ course.fetches = omega arith in
+    ap (λ k. record { records = course.records; fetches = k; stop = course.stop }) same
 
-schedule_output-end : (command : Command) (harts n : ℕ) (s : State) (events : ℕ) → schedule_output command harts n s events [] ≡ finished command s events
-unfolding schedule_output
-schedule_output-end command harts n s events = refl
+preceded-append : (first second : List ℕ) (m n : ℕ) (course : Course) → preceded first m (preceded second n course) ≡ preceded (first ++ second) (m + n) course
+preceded-append first second m n course =
+    let same : m + (n + course.fetches) ≡ m + n + course.fetches = omega arith in
+    ap (λ r. record { records = r; fetches = m + (n + course.fetches); stop = course.stop }) (sym (append_assoc first second course.records))
+    ∙ ap (λ k. record { records = (first ++ second) ++ course.records; fetches = k; stop = course.stop }) same
 
-schedule_output-long : (command : Command) (harts n : ℕ) (s : State) (events : ℕ) (parts : List Part)
-    → schedule_output command harts n s events (LongLine ∷ parts) ≡ refused_schedule (n + 1) LineTooLong
-unfolding schedule_output
-schedule_output-long command harts n s events parts = refl
+module _ (command : Command) (harts n : ℕ) (s : State) (events : ℕ) where
+  -- the lines from one on, where that line asks for this
+  from_line : Result (Option Timed) ScheduleFault → List Part → Course
+  from_line asked parts = line_course command harts (n + 1) s events asked (λ s events. course_of command harts (n + 1) s events parts)
 
-schedule_output-past : (command : Command) (harts n : ℕ) (s : State) (events : ℕ) (parts : List Part)
-    → schedule_output command harts n s events (PastLimit ∷ parts) ≡ too_long
-unfolding schedule_output
-schedule_output-past command harts n s events parts = refl
+  course_of-line : (line : List ℕ) (parts : List Part) → course_of command harts n s events (Line line ∷ parts) ≡ from_line (event_of harts line) parts
+  unfolding course_of from_line
+  course_of-line line parts = refl
 
--- no line was given yet
-pub comes_start : (parts : Option (List Part)) (now : Option (List ℕ)) (to : List Part → Output) → Comes parts parts now now to to
-comes_start None now to = tt
-comes_start (Some parts) now to = output_leaves_all now (to parts)
+  course_of-end : course_of command harts n s events [] ≡ stops (AtEnd s events)
+  unfolding course_of
+  course_of-end = refl
 
--- what is left is the same for all lines
-comes_same : (first left : Option (List Part)) (old now : Option (List ℕ)) (from to next : List Part → Output) → ((parts : List Part) → to parts ≡ next parts)
-    → Comes first left old now from to → Comes first left old now from next
-comes_same None left old now from to next same c = tt
-comes_same (Some parts) None old now from to next same c = absurd c
-comes_same (Some parts) (Some left) old now from to next same c = subst (OutputLeaves old now (from parts)) (same left) c
+  course_of-long : (parts : List Part) → course_of command harts n s events (LongLine ∷ parts) ≡ stops (AtFault (n + 1) LineTooLong)
+  unfolding course_of
+  course_of-long parts = refl
 
--- a line was given
-pub comes_line : (first left rest : Option (List Part)) (old now : Option (List ℕ)) (from : List Part → Output) (command : Command) (harts n : ℕ) (s : State) (events : ℕ) (line : List ℕ)
-    → Advances left rest (Line line ∷ []) → Comes first left old now from (schedule_output command harts n s events)
-    → Comes first rest old now from (from_line command harts n s events line)
-comes_line None left rest old now from command harts n s events line a c = tt
-comes_line (Some parts) None rest old now from command harts n s events line a c = absurd c
-comes_line (Some parts) (Some left) None old now from command harts n s events line a c = absurd a
-comes_line (Some parts) (Some left) (Some rest) old now from command harts n s events line a c =
-    subst (OutputLeaves old now (from parts)) (ap (schedule_output command harts n s events) a ∙ schedule_output-line command harts n s events line rest) c
+  course_of-past : (parts : List Part) → course_of command harts n s events (PastLimit ∷ parts) ≡ stops AtLimit
+  unfolding course_of
+  course_of-past parts = refl
 
--- it is skipped
-pub comes_skipped : (first rest : Option (List Part)) (old now : Option (List ℕ)) (from : List Part → Output) (command : Command) (harts n n1 : ℕ) (s : State) (events : ℕ) (line : List ℕ)
-    → event_of harts line ≡ Ok None → n1 ≡ n + 1 → Comes first rest old now from (from_line command harts n s events line)
-    → Comes first rest old now from (schedule_output command harts n1 s events)
-comes_skipped first rest old now from command harts n n1 s events line none number c =
-    rw number
-    (comes_same first rest old now from _ _ (λ parts. ap (λ asked. line_output command harts (n + 1) s events asked (λ s events. schedule_output command harts (n + 1) s events parts)) none) c)
+  -- what each line comes to
+  module _ (line : List ℕ) (rest : List Part) where
+    asked_course : (asked : Result (Option Timed) ScheduleFault) → event_of harts line ≡ asked → course_of command harts n s events (Line line ∷ rest) ≡ from_line asked rest
+    asked_course asked same = course_of-line line rest ∙ ap (λ a. from_line a rest) same
 
--- it asks for events, which were performed, and their records were written
-comes_timed : (first rest : Option (List Part)) (old now : Option (List ℕ)) (from : List Part → Output) (command : Command) (harts n : ℕ) (s : State) (events : ℕ) (line : List ℕ) (timed : Timed)
-    → event_of harts line ≡ Ok (Some timed) → Comes first rest old now from (from_line command harts n s events line)
-    → Comes first rest old now from (λ parts. before (told command s (events_of harts timed)) (schedule_output command harts (n + 1) (performed command s (events_of harts timed)) (events + length (events_of harts timed)) parts))
-comes_timed first rest old now from command harts n s events line timed asks c =
-    comes_same first rest old now from _ _ (λ parts. ap (λ asked. line_output command harts (n + 1) s events asked (λ s events. schedule_output command harts (n + 1) s events parts)) asks) c
+    pub course-skipped : (n1 : ℕ) → event_of harts line ≡ Ok None → n1 ≡ n + 1
+        → course_of command harts n s events (Line line ∷ rest) ≡ preceded [] 0 (course_of command harts n1 s events rest)
+    unfolding from_line
+    course-skipped n1 none number = asked_course (Ok None) none ∙ rw number (sym (preceded-nil (course_of command harts (n + 1) s events rest)))
 
-comes_less : (first rest : Option (List Part)) (old now new : Option (List ℕ)) (from to : List Part → Output) (piece : List ℕ)
-    → Comes first rest old now from (λ parts. before piece (to parts)) → Appends now new piece → Comes first rest old new from to
-comes_less None rest old now new from to piece c more = tt
-comes_less (Some parts) None old now new from to piece c more = absurd c
-comes_less (Some parts) (Some rest) old now new from to piece c more = output_leaves_less old now new (from parts) (to rest) piece c more
+    course-asked : (timed : Timed) → event_of harts line ≡ Ok (Some timed) → course_of command harts n s events (Line line ∷ rest)
+        ≡ preceded (told command s (events_of harts timed)) (spent_on command s (events_of harts timed))
+        (course_of command harts (n + 1) (performed command s (events_of harts timed)) (events + length (events_of harts timed)) rest)
+    unfolding from_line
+    course-asked timed asks = asked_course (Ok (Some timed)) asks
 
-pub comes_performed : (first rest : Option (List Part)) (old now new : Option (List ℕ)) (from : List Part → Output) (command : Command) (harts n n1 : ℕ) (s s1 : State) (events events1 : ℕ) (line : List ℕ) (timed : Timed)
-    → event_of harts line ≡ Ok (Some timed) → n1 ≡ n + 1 → s1 ≡ performed command s (events_of harts timed) → events1 ≡ events + length (events_of harts timed)
-    → Comes first rest old now from (from_line command harts n s events line) → Appends now new (told command s (events_of harts timed))
-    → Comes first rest old new from (schedule_output command harts n1 s1 events1)
-comes_performed first rest old now new from command harts n n1 s s1 events events1 line timed asks number state count c more =
-    rw (number, state, count)
-    (comes_less first rest old now new from _ _ (comes_timed first rest old now from command harts n s events line timed asks c) more)
+    pub course-performed : (timed : Timed) (n1 : ℕ) (s1 : State) (events1 : ℕ)
+        → event_of harts line ≡ Ok (Some timed) → n1 ≡ n + 1 → s1 ≡ performed command s (events_of harts timed) → events1 ≡ events + length (events_of harts timed)
+        → course_of command harts n s events (Line line ∷ rest)
+        ≡ preceded (told command s (events_of harts timed)) (spent_on command s (events_of harts timed)) (course_of command harts n1 s1 events1 rest)
+    course-performed timed n1 s1 events1 asks number state count = rw (number, state, count) (course-asked timed asks)
 
--- writing failed in their records
-cut_of : (first rest : Option (List Part)) (old now new : Option (List ℕ)) (from to : List Part → Output) (piece : List ℕ)
-    → Comes first rest old now from (λ parts. before piece (to parts)) → AppendsSome now new piece → OnParts first (λ parts. Outputs old new WriteFault (from parts))
-cut_of None rest old now new from to piece c some = tt
-cut_of (Some parts) None old now new from to piece c some = absurd c
-cut_of (Some parts) (Some rest) old now new from to piece c some = output_cut old now new (from parts) (to rest) piece c some
+    course-refused : (fault : ScheduleFault) → event_of harts line ≡ Err fault → course_of command harts n s events (Line line ∷ rest) ≡ stops (AtFault (n + 1) fault)
+    unfolding from_line
+    course-refused fault bad = asked_course (Err fault) bad
 
-pub comes_cut : (first rest : Option (List Part)) (old now new : Option (List ℕ)) (from : List Part → Output) (command : Command) (harts n : ℕ) (s : State) (events : ℕ) (line : List ℕ) (timed : Timed)
-    → event_of harts line ≡ Ok (Some timed) → Comes first rest old now from (from_line command harts n s events line) → AppendsSome now new (told command s (events_of harts timed))
-    → OnParts first (λ parts. Outputs old new WriteFault (from parts))
-comes_cut first rest old now new from command harts n s events line timed asks c some =
-    cut_of first rest old now new from _ _ (comes_timed first rest old now from command harts n s events line timed asks c) some
+-- ---- a run over lines
 
--- the last piece was written
-comes_end : (first rest : Option (List Part)) (old now new : Option (List ℕ)) (from to : List Part → Output) (exit : Exit) (last : Output) → exit ≢ OutOfMemory
-    → ((parts : List Part) → to parts ≡ last) → Comes first rest old now from to → Outputs now new exit last
-    → OnParts first (λ parts. Outputs old new exit (from parts))
-comes_end None rest old now new from to exit last memory same c o = tt
-comes_end (Some parts) None old now new from to exit last memory same c o = absurd c
-comes_end (Some parts) (Some rest) old now new from to exit last memory same c o =
-    outputs_behind old now new exit (from parts) last memory (subst (OutputLeaves old now (from parts)) (same rest) c) o
+-- where a run over lines stands: behind this line, in this state after so many events, with these lines and bytes to
+-- come, with these bytes written and so many slots fetched
+pub record Moment : Type 0 where
+  pub number : ℕ
+  pub state : State
+  pub events : ℕ
+  pub left : Option (List Part)
+  pub bytes : Option (List ℕ)
+  pub ended : Bool
+  pub taken : Option (List ℕ)
+  pub fetches : ℕ
 
--- it is refused
-pub comes_refused : (first rest : Option (List Part)) (old now new : Option (List ℕ)) (from : List Part → Output) (command : Command) (harts n number : ℕ) (s : State) (events : ℕ) (line : List ℕ) (fault : ScheduleFault) (exit : Exit) → exit ≢ OutOfMemory
-    → event_of harts line ≡ Err fault → number ≡ n → Comes first rest old now from (from_line command harts n s events line) → Outputs now new exit (refused_schedule (number + 1) fault)
-    → OnParts first (λ parts. Outputs old new exit (from parts))
-comes_refused first rest old now new from command harts n number s events line fault exit memory bad same c o =
-    comes_end first rest old now new from _ exit _ memory (λ parts. ap (λ asked. line_output command harts (n + 1) s events asked (λ s events. schedule_output command harts (n + 1) s events parts)) bad) c (subst (λ k. Outputs now new exit (refused_schedule (k + 1) fault)) same o)
+abbrev pub moment : Reader → Option (List ℕ) → State → ℕ → Option (List ℕ) → ℕ → Moment
+moment reader held s events taken fetches = record {
+  number = reader.number;
+  state = s;
+  events = events;
+  left = ahead reader held;
+  bytes = bytes_ahead reader held;
+  ended = reader.ended;
+  taken = taken;
+  fetches = fetches;
+}
 
--- what is left begins with a part that no line is
-comes_stop : (first left : Option (List Part)) (old now new : Option (List ℕ)) (from to : List Part → Output) (part : Part) (exit : Exit) (last : Output) → exit ≢ OutOfMemory
-    → ((parts : List Part) → to (part ∷ parts) ≡ last) → Begins left part → Comes first left old now from to → Outputs now new exit last
-    → OnParts first (λ parts. Outputs old new exit (from parts))
-comes_stop None left old now new from to part exit last memory same b c o = tt
-comes_stop (Some parts) None old now new from to part exit last memory same b c o = absurd c
-comes_stop (Some parts) (Some left) old now new from to part exit last memory same b c o =
-    outputs_behind old now new exit (from parts) last memory (subst (OutputLeaves old now (from parts)) (ap to b.1 ∙ same b.0) c) o
+-- what lines come to from a moment on
+abbrev pub course_at : Command → ℕ → Moment → List Part → Course
+course_at command harts m parts = course_of command harts m.number m.state m.events parts
 
-pub comes_long : (first left : Option (List Part)) (old now new : Option (List ℕ)) (from : List Part → Output) (command : Command) (harts n number : ℕ) (s : State) (events : ℕ) (exit : Exit) → exit ≢ OutOfMemory
-    → number ≡ n → Begins left LongLine → Comes first left old now from (schedule_output command harts n s events) → Outputs now new exit (refused_schedule (number + 1) LineTooLong)
-    → OnParts first (λ parts. Outputs old new exit (from parts))
-comes_long first left old now new from command harts n number s events exit memory same b c o =
-    comes_stop first left old now new from _ LongLine exit _ memory (schedule_output-long command harts n s events) b c (subst (λ k. Outputs now new exit (refused_schedule (k + 1) LineTooLong)) same o)
+-- between two moments lines were given, and what was written and fetched is what they come to
+pub record Comes (command : Command) (harts : ℕ) (start now : Moment) : Type 0 where
+  pub given : List Part
+  pub records : List ℕ
+  pub spent : ℕ
+  pub lines : Advances start.left now.left given
+  pub before : now.ended ≡ false → start.ended ≡ false
+  pub bytes : now.ended ≡ false → GivesLines start.bytes now.bytes given
+  pub written : Appends start.taken now.taken records
+  pub counted : now.fetches ≡ start.fetches + spent
+  pub course : (rest : List Part) → course_at command harts start (given ++ rest) ≡ preceded records spent (course_at command harts now rest)
 
-pub comes_past : (first left : Option (List Part)) (old now new : Option (List ℕ)) (from : List Part → Output) (command : Command) (harts n : ℕ) (s : State) (events : ℕ) (exit : Exit) → exit ≢ OutOfMemory
-    → Begins left PastLimit → Comes first left old now from (schedule_output command harts n s events) → Outputs now new exit too_long
-    → OnParts first (λ parts. Outputs old new exit (from parts))
-comes_past first left old now new from command harts n s events exit memory b c o =
-    comes_stop first left old now new from _ PastLimit exit _ memory (schedule_output-past command harts n s events) b c o
+-- a line in front of what is left
+pub begins-line : (left rest : Option (List Part)) (part : Part) → Advances left rest (part ∷ []) → Begins left part
+begins-line None rest part a = tt
+begins-line (Some parts) None part a = absurd a
+begins-line (Some parts) (Some rest) part a = (rest, a)
 
--- no line is left
-pub comes_done : (first left : Option (List Part)) (old now new : Option (List ℕ)) (from : List Part → Output) (command : Command) (harts n : ℕ) (s : State) (events : ℕ) (exit : Exit) → exit ≢ OutOfMemory
-    → IsDone left → Comes first left old now from (schedule_output command harts n s events) → Outputs now new exit (finished command s events)
-    → OnParts first (λ parts. Outputs old new exit (from parts))
-comes_done None left old now new from command harts n s events exit memory d c o = tt
-comes_done (Some parts) None old now new from command harts n s events exit memory d c o = absurd c
-comes_done (Some parts) (Some left) old now new from command harts n s events exit memory d c o =
-    outputs_behind old now new exit (from parts) _ memory (subst (OutputLeaves old now (from parts)) (ap (schedule_output command harts n s events) d ∙ schedule_output-end command harts n s events) c) o
+-- what is so of the lines given with all that may follow them is so of the lines known
+on_given : (first left : Option (List Part)) (given : List Part) (P : List Part → Type 0) → Advances first left given
+    → ((rest : List Part) → left ≡ Some rest → P (given ++ rest)) → OnParts first P
+on_given None left given P a all = tt
+on_given (Some parts) None given P a all = absurd a
+on_given (Some parts) (Some rest) given P a all = subst P (sym a) (all rest refl)
+
+on_begun : (left : Option (List Part)) (part : Part) (P : List Part → Type 0) → Begins left part → ((rest : List Part) → P (part ∷ rest))
+    → (rest : List Part) → left ≡ Some rest → P rest
+on_begun None part P b all rest same = cc
+on_begun (Some parts) part P b all rest same =
+    let front : rest ≡ part ∷ b.0 = let begun = b.1 in cc in
+    subst P (sym front) (all b.0)
+
+on_none : (left : Option (List Part)) (P : List Part → Type 0) → IsDone left → P [] → (rest : List Part) → left ≡ Some rest → P rest
+on_none None P d all rest same = cc
+on_none (Some parts) P d all rest same =
+    let none : rest ≡ [] = cc in
+    subst P (sym none) all
+
+-- between two moments one line was given
+pub record GivesLine (now new : Moment) (line : List ℕ) : Type 0 where
+  pub lines : Advances now.left new.left (Line line ∷ [])
+  pub before : now.ended ≡ false
+  pub bytes : new.ended ≡ false → GivesLines now.bytes new.bytes (Line line ∷ [])
+
+pub not_ended : {A X : Type 0} (ended : Bool) (x y : A) → (ended ≡ true → (x ≡ y) × X) → (x ≡ y → ⊥) → ended ≡ false
+not_ended true x y last other = absurd (other (last refl).0)
+not_ended false x y last other = refl
+
+-- a reader's answer
+abbrev Answer : Type 0
+Answer = Result (Option ℕ) LineFault
+
+abbrev gave : ℕ → Answer
+gave n = Ok (Some n)
+
+abbrev gave_none : Answer
+gave_none = Ok None
+
+gave-none : (n : ℕ) → gave n ≡ gave_none → ⊥
+gave-none n e = cc
+
+-- a reader gave it
+pub reader-gives : {X : Type 0} (n : ℕ) (old reader : Reader) (held rest : Option (List ℕ)) (s t : State) (events more : ℕ) (taken written : Option (List ℕ)) (fetches fetched : ℕ)
+    → IsNext (Ok (Some n)) reader.line (ahead old held) (ahead reader rest) → IsSpent (Ok (Some n)) reader (bytes_ahead old held) (bytes_ahead reader rest)
+    → IsLine n reader.line → (old.ended ≡ true → (gave n ≡ gave_none) × X)
+    → GivesLine (moment old held s events taken fetches) (moment reader rest t more written fetched) reader.line
+reader-gives n old reader held rest s t events more taken written fetches fetched next spent line ended = record {
+  lines = next;
+  before = not_ended old.ended (gave n) gave_none ended (gave-none n);
+  bytes = λ going. GivesLines-line n reader (bytes_ahead old held) (bytes_ahead reader rest) going line spent;
+}
+
+module _ (command : Command) (harts : ℕ) (start now : Moment) where
+  -- one line more was given, and what it asks for was done
+  comes-line : (new : Moment) (line piece : List ℕ) (cost : ℕ) → Comes command harts start now → GivesLine now new line
+      → Appends now.taken new.taken piece → new.fetches ≡ now.fetches + cost
+      → ((rest : List Part) → course_at command harts now (Line line ∷ rest) ≡ preceded piece cost (course_at command harts new rest))
+      → Comes command harts start new
+  comes-line new line piece cost c next more fetched same =
+      let counted = c.counted in
+      record {
+        given = c.given ++ (Line line ∷ []);
+        records = c.records ++ piece;
+        spent = c.spent + cost;
+        lines = Advances-trans start.left now.left new.left c.given (Line line ∷ []) c.lines next.lines;
+        before = λ still. c.before next.before;
+        bytes = λ still. GivesLines-trans start.bytes now.bytes new.bytes c.given (Line line ∷ []) (c.bytes next.before) (next.bytes still);
+        written = Appends-trans start.taken now.taken new.taken c.records piece c.written more;
+        counted = omega (arith, counted, fetched);
+        course = λ rest.
+            ap (course_at command harts start) (append_assoc c.given (Line line ∷ []) rest) ∙ c.course (Line line ∷ rest)
+            ∙ ap (preceded c.records c.spent) (same rest) ∙ preceded-append c.records piece c.spent cost (course_at command harts new rest);
+      }
+
+  pub comes-skipped : (number : ℕ) (left : Option (List Part)) (bytes : Option (List ℕ)) (ended : Bool) (line : List ℕ) → Comes command harts start now
+      → GivesLine now (record now { number = number; left = left; bytes = bytes; ended = ended }) line → event_of harts line ≡ Ok None → number ≡ now.number + 1
+      → Comes command harts start (record now { number = number; left = left; bytes = bytes; ended = ended })
+  comes-skipped number left bytes ended line c next none more =
+      comes-line (record now { number = number; left = left; bytes = bytes; ended = ended }) line [] 0 c next (Appends-nil now.taken) (omega arith)
+      (λ rest. course-skipped command harts now.number now.state now.events line rest number none more)
+
+  pub comes-performed : (new : Moment) (line : List ℕ) (timed : Timed) → Comes command harts start now → GivesLine now new line
+      → event_of harts line ≡ Ok (Some timed) → new.number ≡ now.number + 1 → new.state ≡ performed command now.state (events_of harts timed)
+      → new.events ≡ now.events + length (events_of harts timed) → Appends now.taken new.taken (told command now.state (events_of harts timed))
+      → new.fetches ≡ now.fetches + spent_on command now.state (events_of harts timed) → Comes command harts start new
+  comes-performed new line timed c next asks number state count more fetched =
+      comes-line new line _ _ c next more fetched
+      (λ rest. course-performed command harts now.number now.state now.events line rest timed new.number new.state new.events asks number state count)
+
+  module _ (taken : Option (List ℕ)) (exit : Exit) where
+    -- what was written behind the lines given ends the output
+    abbrev Ends : List Part → Type 0
+    Ends rest = Outputs now.taken taken exit (course_output command (course_at command harts now rest))
+
+    outputs-preceded : (records : List ℕ) (spent : ℕ) (course : Course) → exit ≢ OutOfMemory → Appends start.taken now.taken records
+        → Outputs now.taken taken exit (course_output command course) → Outputs start.taken taken exit (course_output command (preceded records spent course))
+    outputs-preceded records spent course memory written o =
+        let last = stop_output command course.stop in
+        outputs_text start.taken taken exit last.exit _ _ (sym (append_assoc records course.records last.text))
+        (outputs_behind start.taken now.taken taken exit records (course_output command course) memory written o)
+
+    comes-ends : exit ≢ OutOfMemory → Comes command harts start now → ((rest : List Part) → now.left ≡ Some rest → Ends rest)
+        → OnParts start.left (λ parts. Outputs start.taken taken exit (course_output command (course_at command harts start parts)))
+    comes-ends memory c ends =
+        let P : List Part → Type 0 = λ parts. Outputs start.taken taken exit (course_output command (course_at command harts start parts)) in
+        on_given start.left now.left c.given P c.lines
+        (λ rest same. subst (λ course. Outputs start.taken taken exit (course_output command course)) (sym (c.course rest))
+        (outputs-preceded c.records c.spent (course_at command harts now rest) memory c.written (ends rest same)))
+
+    -- the same, by what is left
+    abbrev Course_ends : Course → Type 0
+    Course_ends course = Outputs now.taken taken exit (course_output command course)
+
+    pub comes-done : exit ≢ OutOfMemory → Comes command harts start now → IsDone now.left → Outputs now.taken taken exit (finished command now.state now.events)
+        → OnParts start.left (λ parts. Outputs start.taken taken exit (course_output command (course_at command harts start parts)))
+    comes-done memory c none o =
+        comes-ends memory c (on_none now.left Ends none (subst Course_ends (sym (course_of-end command harts now.number now.state now.events)) o))
+
+    pub comes-long : exit ≢ OutOfMemory → Comes command harts start now → Begins now.left LongLine → (number : ℕ) → number ≡ now.number
+        → Outputs now.taken taken exit (refused_schedule (number + 1) LineTooLong)
+        → OnParts start.left (λ parts. Outputs start.taken taken exit (course_output command (course_at command harts start parts)))
+    comes-long memory c long number same o =
+        let o = subst (λ n. Outputs now.taken taken exit (refused_schedule (n + 1) LineTooLong)) same o in
+        comes-ends memory c (on_begun now.left LongLine Ends long (λ rest. subst Course_ends (sym (course_of-long command harts now.number now.state now.events rest)) o))
+
+    pub comes-past : exit ≢ OutOfMemory → Comes command harts start now → Begins now.left PastLimit → Outputs now.taken taken exit too_long
+        → OnParts start.left (λ parts. Outputs start.taken taken exit (course_output command (course_at command harts start parts)))
+    comes-past memory c past o =
+        comes-ends memory c (on_begun now.left PastLimit Ends past (λ rest. subst Course_ends (sym (course_of-past command harts now.number now.state now.events rest)) o))
+
+    pub comes-refused : (left : Option (List Part)) (line : List ℕ) (fault : ScheduleFault) → exit ≢ OutOfMemory → Comes command harts start now
+        → Advances now.left left (Line line ∷ []) → event_of harts line ≡ Err fault → (number : ℕ) → number ≡ now.number
+        → Outputs now.taken taken exit (refused_schedule (number + 1) fault)
+        → OnParts start.left (λ parts. Outputs start.taken taken exit (course_output command (course_at command harts start parts)))
+    comes-refused left line fault memory c next bad number same o =
+        let o = subst (λ n. Outputs now.taken taken exit (refused_schedule (n + 1) fault)) same o in
+        comes-ends memory c
+        (on_begun now.left (Line line) Ends (begins-line now.left left (Line line) next)
+        (λ rest. subst Course_ends (sym (course-refused command harts now.number now.state now.events line rest fault bad)) o))
+
+  -- writing failed in the records of a line
+  pub comes-cut : (taken : Option (List ℕ)) (left : Option (List Part)) (line : List ℕ) (timed : Timed) → Comes command harts start now
+      → Advances now.left left (Line line ∷ []) → event_of harts line ≡ Ok (Some timed)
+      → AppendsSome now.taken taken (told command now.state (events_of harts timed))
+      → OnParts start.left (λ parts. Outputs start.taken taken WriteFault (course_output command (course_at command harts start parts)))
+  comes-cut taken left line timed c next asks some =
+      let memory : WriteFault ≢ OutOfMemory = λ e. let five : 5 ≡ 6 = ap status_of e in absurd (omega (arith, five)) in
+      let records = told command now.state (events_of harts timed) in
+      let behind : List Part → Course = course_of command harts (now.number + 1) (performed command now.state (events_of harts timed)) (now.events + length (events_of harts timed)) in
+      let cut : (rest : List Part) → Course_ends taken WriteFault (course_at command harts now (Line line ∷ rest)) =
+      λ rest.
+      let o = course_output command (behind rest) in
+      subst (Course_ends taken WriteFault) (sym (course-performed command harts now.number now.state now.events line rest timed _ _ _ asks refl refl refl))
+      (outputs_text now.taken taken WriteFault o.exit _ _ (sym (append_assoc records (behind rest).records (stop_output command (behind rest).stop).text))
+      (outputs_cut now.taken taken records o some)) in
+      comes-ends taken WriteFault memory c (on_begun now.left (Line line) (Ends taken WriteFault) (begins-line now.left left (Line line) next) cut)
+
+  -- what the lines given come to
+  course-given : (c : Comes command harts start now) → course_at command harts start (c.given ++ []) ≡ preceded c.records c.spent (stops (AtEnd now.state now.events))
+  course-given c = c.course [] ∙ ap (preceded c.records c.spent) (course_of-end command harts now.number now.state now.events)
+
+  -- all lines were given, and the last slots were fetched
+  pub comes-counted : (fetches : ℕ) → Comes command harts start now → IsDone now.left → fetches ≡ now.fetches + last_fetches command now.state
+      → OnParts start.left (λ parts. fetches ≡ start.fetches + course_fetches command (course_at command harts start parts))
+  comes-counted fetches c none last =
+      let P : List Part → Type 0 = λ parts. fetches ≡ start.fetches + course_fetches command (course_at command harts start parts) in
+      let counted = c.counted in
+      let all : fetches ≡ start.fetches + course_fetches command (preceded c.records c.spent (stops (AtEnd now.state now.events))) = omega (arith, counted, last) in
+      let all_given : P (c.given ++ []) = subst (λ course. fetches ≡ start.fetches + course_fetches command course) (sym (course-given c)) all in
+      on_given start.left now.left c.given P c.lines (on_none now.left (λ rest. P (c.given ++ rest)) none all_given)
+
+-- at the start
+pub comes-start : (command : Command) (harts : ℕ) (m : Moment) → Comes command harts m m
+comes-start command harts m = record {
+  given = [];
+  records = [];
+  spent = 0;
+  lines = Advances-nil m.left;
+  before = λ going. going;
+  bytes = λ going. GivesLines-nil m.bytes;
+  written = Appends-nil m.taken;
+  counted = omega arith;
+  course = λ rest. sym (preceded-nil (course_at command harts m rest));
+}
+
+-- reading failed
+pub comes-fails : (command : Command) (harts : ℕ) (first reader last : Reader) (held0 held held' taken0 taken : Option (List ℕ)) (s0 s : State) (events0 events fetches0 fetches : ℕ)
+    → Comes command harts (moment first held0 s0 events0 taken0 fetches0) (moment reader held s events taken fetches) → reader.ended ≡ false
+    → last.ended ≡ false → IsUnfinished last.rest → Keeps (bytes_ahead reader held) (bytes_ahead last held')
+    → FailsBehind first last held0 held' taken0 taken (λ given. (course_of command harts first.number s0 events0 given).records)
+comes-fails command harts first reader last held0 held held' taken0 taken s0 s events0 events fetches0 fetches c ended going rest kept =
+    let all = course-given command harts _ _ c in
+    let same : c.records ≡ (course_of command harts first.number s0 events0 c.given).records =
+    sym (append-nil c.records) ∙ sym (ap (λ course. course.records) all)
+    ∙ ap (λ parts. (course_of command harts first.number s0 events0 parts).records) (append-nil c.given) in
+    record {
+      before = c.before ended;
+      going = going;
+      unfinished = rest;
+      given = c.given;
+      gives = GivesLines-kept (bytes_ahead first held0) (bytes_ahead reader held) (bytes_ahead last held') c.given (c.bytes ended) kept;
+      written = subst (Appends taken0 taken) same c.written;
+    }

@@ -1,14 +1,16 @@
 -- The lines of records, by parts.
-use Rattle.std.proofs.Common.{◌≡◌, ◌<◌, ◌+◌, ℕ, suc, List, [], ◌∷◌, ◌++◌, length, get_or, drop, true, refl, sym, ap, ◌∙◌, append_assoc, arith}
+use Rattle.std.proofs.Common.{◌≡◌, ◌<◌, ◌+◌, ℕ, suc, List, [], ◌∷◌, ◌++◌, length, get_or, drop, true, false, refl, sym, ap, ◌∙◌, append_assoc, arith}
 use Rattle.std.proofs.Math.Seq.{drop-cons}
 use Rattle.kernel_core.specs.declared.event.Event.{Event}
 use Rattle.kernel_core.specs.declared.record.Record.{Record}
 use Rattle.kernel_core.specs.Event.{event_of}
-use Rattle.kernel_core.specs.Ran.{run_state-nil, run_state-cons, run_records-nil, run_records-cons}
-use Rattle.kernel_core.specs.Run.{run_state, run_records}
+use Rattle.kernel_core.specs.Ran.{run_state-nil, run_state-cons, run_records-nil, run_records-cons, run_touches-nil, run_touches-cons, spent-append}
+use Rattle.kernel_core.specs.Outcome.{Touch}
+use Rattle.kernel_core.specs.Run.{run_state, run_records, run_touches}
 use Rattle.kernel_core.specs.State.{State}
+use Rattle.walk_meaning.specs.Trail.{slots}
 use Rattle.coyotos_cli.specs.declared.command.Command.{Command}
-use Rattle.coyotos_cli.specs.Told.{line_of, lines_of, performed, runs, told}
+use Rattle.coyotos_cli.specs.Told.{line_of, lines_of, performed, runs, told, walked, spent_on}
 
 pub lines_of-nil : (command : Command) → lines_of command [] ≡ []
 unfolding lines_of
@@ -63,3 +65,27 @@ told_runs command s events on = rw on refl
 
 pub performed_runs : (command : Command) (s : State) (events : List Event) → runs command ≡ true → performed command s events ≡ run_state s events
 performed_runs command s events on = rw on refl
+
+-- ---- the slots that a run fetches
+
+walked-append : (first second : List Touch) → walked (first ++ second) ≡ walked first + walked second
+walked-append first second =
+    spent-append {K = Unit {0}} (λ kept o space address kind. slots o space address kind) (λ kept o space address kind. kept) (λ kept item. kept) tt first second
+
+-- those of a run whose first event comes to this state
+pub step_spent : (s s1 : State) (event : Event) (events rest : List Event) (f f1 : ℕ) → events ≡ event ∷ rest → s1 ≡ (event_of s event).state
+    → f1 ≡ f + walked (event_of s event).touches → f1 + walked (run_touches s1 rest) ≡ f + walked (run_touches s events)
+step_spent s s1 event events rest f f1 split state more =
+    let all : walked (run_touches s (event ∷ rest)) ≡ walked (event_of s event).touches + walked (run_touches (event_of s event).state rest) =
+    ap walked (run_touches-cons s event rest) ∙ walked-append (event_of s event).touches (run_touches (event_of s event).state rest) in
+    rw (split, state) (omega (arith, all, more))
+
+-- no event
+pub end_spent : (s : State) (events : List Event) → events ≡ [] → walked (run_touches s events) ≡ 0
+end_spent s events none = rw none (ap walked (run_touches-nil s))
+
+pub spent_runs : (command : Command) (s : State) (events : List Event) → runs command ≡ true → spent_on command s events ≡ walked (run_touches s events)
+spent_runs command s events on = rw on refl
+
+pub spent_stays : (command : Command) (s : State) (events : List Event) → runs command ≡ false → spent_on command s events ≡ 0
+spent_stays command s events off = rw off refl

@@ -1,12 +1,12 @@
 -- A text and an exit, and the last lines of the program.
-use Rattle.std.specs.Prelude.{◌≡◌, ◌≢◌, ℕ, List, [], ◌++◌, codes, decimal, Option}
+use Rattle.std.specs.Prelude.{◌≡◌, ◌≢◌, ℕ, List, ◌++◌, codes, decimal, Option}
 use Rattle.std.specs.Io.KnownBytes.{Keeps, Appends}
 use Rattle.coy_io.specs.Pieces.{AppendsSome}
 use Rattle.listing_read.specs.declared.fault.Fault.{Fault}
 use Rattle.listing_read.specs.declared.fault.ScheduleFault.{ScheduleFault}
 use Rattle.coyotos_cli.specs.Names.{fault_name, schedule_fault_name}
 use Rattle.coyotos_cli.specs.declared.exit.Exit.{Exit}
-use Rattle.coyotos_cli.specs.declared.exit.Exit.TheVariants.{Done, Usage, ListingRefused, ScheduleRefused, ReadFault, WriteFault, OutOfMemory, TooLong}
+use Rattle.coyotos_cli.specs.declared.exit.Exit.TheVariants.{ListingRefused, ScheduleRefused, ReadFault, WriteFault, OutOfMemory, TooLong}
 
 -- a text and an exit
 pub record Output : Type 0 where
@@ -47,9 +47,3 @@ pub record Outputs (old new : Option (List ℕ)) (exit : Exit) (o : Output) : Ty
   pub whole : IsGiven exit → (exit ≡ o.exit) × Appends old new o.text
   pub part : exit ≡ WriteFault → AppendsSome old new o.text
   pub nothing : exit ≡ OutOfMemory → Keeps old new
-
--- what was written so far is in front of what is left of an output
-pub record OutputLeaves (old now : Option (List ℕ)) (whole rest : Output) : Type 0 where
-  pub front : List ℕ
-  pub written : Appends old now front
-  pub split : whole ≡ before front rest

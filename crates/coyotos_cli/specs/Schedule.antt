@@ -1,8 +1,11 @@
 -- What the lines behind a listing come to: the records of their events, and what stands behind those.
-use Rattle.std.specs.Prelude.{◌≡◌, ◌<◌, ℕ, ◌+◌, nat_lt, if◌then◌else◌, List, [], ◌∷◌, ◌++◌, length, codes, decimal, Option, Some, None, Result, Ok, Err, ⊤}
-use Rattle.coy_io.specs.Lines.{Part, Line, LongLine, PastLimit}
-use Rattle.cap_format.specs.declared.kind.CapKind.TheVariants.{Process}
+use Rattle.std.specs.Prelude.{◌≡◌, ℕ, false, ◌+◌, ◌*◌, nat_lt, if◌then◌else◌, List, [], ◌∷◌, ◌++◌, length, codes, decimal, Option, Some, None, Result, Ok, Err, ⊤}
+use Rattle.std.specs.Io.KnownBytes.{Appends}
+use Rattle.coy_io.specs.Lines.{Part, Line, LongLine, PastLimit, IsUnfinished}
+use Rattle.coy_io.specs.Reader.{Reader, bytes_ahead, GivesLines}
+use Rattle.cap_format.specs.declared.kind.CapKind.TheVariants.{Gpt, Process}
 use Rattle.object_store.specs.Store.{size_of}
+use Rattle.walk_meaning.specs.Trail.{slots}
 use Rattle.walk_meaning.specs.Walk.{access}
 use Rattle.walk_meaning.specs.declared.kind.Kind.{Kind}
 use Rattle.kernel_core.specs.State.{State, space_of}
@@ -13,10 +16,10 @@ use Rattle.listing_read.specs.declared.schedule.Timed.{Timed}
 use Rattle.run_text.specs.State.{state_text}
 use Rattle.run_text.specs.Walk.{walk_text, no_process_text}
 use Rattle.coyotos_cli.specs.Events.{events_of}
-use Rattle.coyotos_cli.specs.Ending.{Output, OutputLeaves, before, refused_schedule, too_long}
-use Rattle.coyotos_cli.specs.Told.{performed, told}
+use Rattle.coyotos_cli.specs.Ending.{Output, before, refused_schedule, too_long}
+use Rattle.coyotos_cli.specs.Told.{performed, told, spent_on}
 use Rattle.coyotos_cli.specs.declared.command.Command.{Command}
-use Rattle.coyotos_cli.specs.declared.command.Command.TheVariants.{Help, Check, Run, Trace, Walk}
+use Rattle.coyotos_cli.specs.declared.command.Command.TheVariants.{Check, Walk}
 use Rattle.coyotos_cli.specs.declared.exit.Exit.TheVariants.{Done}
 
 -- what `walk` writes of a state: where an access of a process's space ends, by a walk at this moment
@@ -39,26 +42,75 @@ last_text Check s events = count_text events
 last_text (Walk process kind address) s events = access_text s process kind address
 last_text _ s events = last_state_text s
 
+-- the slots that are fetched for it: all of each GPT to print a state, and those that the access of `walk` reads
+abbrev pub last_fetches : Command → State → ℕ
+last_fetches Check s = 0
+last_fetches (Walk process kind address) s =
+    if nat_lt process (size_of s.store.items Process) then slots s.store.items (space_of s process) address kind
+    else 0
+last_fetches _ s = 16 * size_of s.store.items Gpt
+
 abbrev pub finished : Command → State → ℕ → Output
 finished command s events = record { text = last_text command s events; exit = Done }
 
 -- ---- the lines behind a listing
 
+-- how the lines behind a listing end: with the last of them, in this state after so many events; at this line, which is
+-- refused; or where the input goes on behind the last byte that is read
+pub data Stop : Type 0 where
+  AtEnd : (s : State) → (events : ℕ) → Stop
+  AtFault : (line : ℕ) → (fault : ScheduleFault) → Stop
+  AtLimit : Stop
+
+-- what lines come to: the records that are written, how many slots are fetched for them, and how the lines end
+pub record Course : Type 0 where
+  pub records : List ℕ
+  pub fetches : ℕ
+  pub stop : Stop
+
+-- these records and so many fetches come first
+abbrev pub preceded : List ℕ → ℕ → Course → Course
+preceded records fetches course = record { records = records ++ course.records; fetches = fetches + course.fetches; stop = course.stop }
+
+-- nothing more comes
+abbrev pub stops : Stop → Course
+stops stop = record { records = []; fetches = 0; stop = stop }
+
 -- what a line asks for, line `n`, with what the lines behind it come to from a state and a number of events on
-abbrev pub line_output : Command → ℕ → ℕ → State → ℕ → Result (Option Timed) ScheduleFault → (State → ℕ → Output) → Output
-line_output command harts n s events (Ok None) behind = behind s events
-line_output command harts n s events (Ok (Some timed)) behind =
-    before (told command s (events_of harts timed))
+abbrev pub line_course : Command → ℕ → ℕ → State → ℕ → Result (Option Timed) ScheduleFault → (State → ℕ → Course) → Course
+line_course command harts n s events (Ok None) behind = behind s events
+line_course command harts n s events (Ok (Some timed)) behind =
+    preceded (told command s (events_of harts timed)) (spent_on command s (events_of harts timed))
     (behind (performed command s (events_of harts timed)) (events + length (events_of harts timed)))
-line_output command harts n s events (Err fault) behind = refused_schedule n fault
+line_course command harts n s events (Err fault) behind = stops (AtFault n fault)
 
 -- what the lines behind line `n` come to, on a machine with so many harts in this state, after so many events
-unfoldable pub schedule_output : Command → ℕ → ℕ → State → ℕ → List Part → Output
-schedule_output command harts n s events [] = finished command s events
-schedule_output command harts n s events (LongLine ∷ parts) = refused_schedule (n + 1) LineTooLong
-schedule_output command harts n s events (PastLimit ∷ parts) = too_long
-schedule_output command harts n s events (Line line ∷ parts) =
-    line_output command harts (n + 1) s events (event_of harts line) (λ s events. schedule_output command harts (n + 1) s events parts)
+unfoldable pub course_of : Command → ℕ → ℕ → State → ℕ → List Part → Course
+course_of command harts n s events [] = stops (AtEnd s events)
+course_of command harts n s events (LongLine ∷ parts) = stops (AtFault (n + 1) LineTooLong)
+course_of command harts n s events (PastLimit ∷ parts) = stops AtLimit
+course_of command harts n s events (Line line ∷ parts) =
+    line_course command harts (n + 1) s events (event_of harts line) (λ s events. course_of command harts (n + 1) s events parts)
+
+-- what comes behind the records
+abbrev pub stop_output : Command → Stop → Output
+stop_output command (AtEnd s events) = finished command s events
+stop_output command (AtFault line fault) = refused_schedule line fault
+stop_output command AtLimit = too_long
+
+-- the records, and what comes behind them
+abbrev pub course_output : Command → Course → Output
+course_output command course = before course.records (stop_output command course.stop)
+
+-- the slots that are fetched for what comes behind the records
+abbrev pub stop_fetches : Command → Stop → ℕ
+stop_fetches command (AtEnd s events) = last_fetches command s
+stop_fetches command (AtFault line fault) = 0
+stop_fetches command AtLimit = 0
+
+-- all slots that are fetched
+abbrev pub course_fetches : Command → Course → ℕ
+course_fetches command course = course.fetches + stop_fetches command course.stop
 
 -- ---- lines that are known in part
 
@@ -67,8 +119,11 @@ abbrev pub OnParts : Option (List Part) → (List Part → Type 0) → Type 0
 OnParts None P = ⊤
 OnParts (Some parts) P = P parts
 
--- the known lines came to what was written so far and then to what the lines that are left come to
-abbrev pub Comes : Option (List Part) → Option (List Part) → Option (List ℕ) → Option (List ℕ) → (List Part → Output) → (List Part → Output) → Type 0
-Comes None left old now from to = ⊤
-Comes (Some parts) None old now from to = ⊥
-Comes (Some parts) (Some left) old now from to = OutputLeaves old now (from parts) (to left)
+-- reading failed behind these lines, whose records were written; the reader holds no whole line
+pub record FailsBehind (old new : Reader) (held held' taken taken' : Option (List ℕ)) (records : List Part → List ℕ) : Type 0 where
+  pub before : old.ended ≡ false
+  pub going : new.ended ≡ false
+  pub unfinished : IsUnfinished new.rest
+  pub given : List Part
+  pub gives : GivesLines (bytes_ahead old held) (bytes_ahead new held') given
+  pub written : Appends taken taken' (records given)

@@ -3,11 +3,13 @@ use Rattle.std.specs.Prelude.{Bool, true, false, not, if◌then◌else◌, List,
 use Rattle.kernel_core.specs.declared.event.Event.{Event}
 use Rattle.kernel_core.specs.declared.record.Record.{Record}
 use Rattle.kernel_core.specs.declared.record.Record.TheVariants.{Access, Insn}
+use Rattle.kernel_core.specs.Outcome.{Touch, spent}
 use Rattle.kernel_core.specs.State.{State}
-use Rattle.kernel_core.specs.Run.{run_state, run_records}
+use Rattle.kernel_core.specs.Run.{run_state, run_records, run_touches}
+use Rattle.walk_meaning.specs.Trail.{slots}
 use Rattle.run_text.specs.Record.{record_text}
 use Rattle.coyotos_cli.specs.declared.command.Command.{Command}
-use Rattle.coyotos_cli.specs.declared.command.Command.TheVariants.{Help, Check, Run, Trace, Walk}
+use Rattle.coyotos_cli.specs.declared.command.Command.TheVariants.{Check, Run, Trace}
 
 -- an access or an instruction, which `run` leaves out
 abbrev pub is_detail : Record → Bool
@@ -41,3 +43,11 @@ performed command s events = if runs command then run_state s events else s
 
 abbrev pub told : Command → State → List Event → List ℕ
 told command s events = if runs command then lines_of command (run_records s events) else []
+
+-- how many slots touches fetch where each access of data is a walk
+abbrev pub walked : List Touch → ℕ
+walked touches = spent {K = Unit {0}} (λ kept o space address kind. slots o space address kind) (λ kept o space address kind. kept) (λ kept item. kept) tt touches
+
+-- how many slots are fetched for events
+abbrev pub spent_on : Command → State → List Event → ℕ
+spent_on command s events = if runs command then walked (run_touches s events) else 0

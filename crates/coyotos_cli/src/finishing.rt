@@ -1,14 +1,16 @@
 //! What comes behind the records.
-ghost use Rattle.std.specs.Prelude.{◌≡◌, ◌≢◌, ◌<◌};
+ghost use Rattle.std.specs.Prelude.{◌≡◌, ◌≢◌, ◌<◌, ◌+◌, ◌*◌, false};
 ghost use Rattle.coy_io.specs.Causes.{Rose};
 ghost use Rattle.kernel_core.specs.State.{state_of, space_of};
 ghost use Rattle.coyotos_cli.specs.Ending.{Outputs};
-ghost use Rattle.coyotos_cli.specs.Schedule.{finished, count_text, access_text, last_state_text};
+ghost use Rattle.coyotos_cli.specs.Schedule.{finished, count_text, access_text, last_state_text, last_fetches};
+ghost use Rattle.coyotos_cli.specs.Told.{runs};
+ghost use Rattle.walk_meaning.specs.Trail.{slots};
 ghost use Rattle.walk_meaning.specs.Walk.{access};
 ghost use Rattle.run_text.specs.Walk.{walk_text};
 ghost use Rattle.object_store.specs.Meaning.{meaning};
 ghost use Rattle.object_store.specs.Store.{size_of};
-ghost use Rattle.cap_format.specs.declared.kind.CapKind.TheVariants.{Process};
+ghost use Rattle.cap_format.specs.declared.kind.CapKind.TheVariants.{Gpt, Process};
 
 use crate::command::Command;
 use crate::ending::end_with;
@@ -35,6 +37,8 @@ pub(crate) fn finish<K: Sink, L: Ledger>(
     ensures exit { result ≢ Exit.WriteFault → result ≡ Exit.Done }
     ensures write { result ≡ Exit.WriteFault → Rose (K.faults output.old) (K.faults output.new) }
     ensures write_quiet { result ≢ Exit.WriteFault → K.faults output.new ≡ K.faults output.old }
+    ensures counted { result ≡ Exit.Done → fetches.new ≡ fetches.old + last_fetches command (state_of machine.now) }
+    ensures stays { runs command ≡ false → fetches.new ≡ fetches.old }
 {
     match command {
         Command::Check => count(events, output),
@@ -75,6 +79,7 @@ fn access<K: Sink, L: Ledger>(
     ensures exit { result ≢ Exit.WriteFault → result ≡ Exit.Done }
     ensures write { result ≡ Exit.WriteFault → Rose (K.faults output.old) (K.faults output.new) }
     ensures write_quiet { result ≢ Exit.WriteFault → K.faults output.new ≡ K.faults output.old }
+    ensures counted { fetches.new ≡ fetches.old + last_fetches (Command.Walk process kind address) (state_of machine.now) }
 {
     let mut line = LineBuf::new();
     if process < machine.objects().sizes().processes {
@@ -95,7 +100,8 @@ fn walk_from<L: Ledger>(
     fetches: &mut Steps<L>,
 )
     requires { process < size_of machine.now.objects.items Process }
-    ensures { line.new ≡ walk_text (access (state_of machine.now).store.items (space_of (state_of machine.now) process) address kind) }
+    ensures line { line.new ≡ walk_text (access (state_of machine.now).store.items (space_of (state_of machine.now) process) address kind) }
+    ensures counted { fetches.new ≡ fetches.old + slots (state_of machine.now).store.items (space_of (state_of machine.now) process) address kind }
 {
     let space = space_of(machine, process);
     let mut trail = Trail::new();
@@ -121,6 +127,7 @@ fn last_state<K: Sink, L: Ledger>(
     ensures exit { result ≢ Exit.WriteFault → result ≡ Exit.Done }
     ensures write { result ≡ Exit.WriteFault → Rose (K.faults output.old) (K.faults output.new) }
     ensures write_quiet { result ≢ Exit.WriteFault → K.faults output.new ≡ K.faults output.old }
+    ensures counted { result ≡ Exit.Done → fetches.new ≡ fetches.old + 16 * size_of (state_of machine.now).store.items Gpt }
 {
     match dump(machine, output, fetches) {
         Ok(()) => Exit::Done,

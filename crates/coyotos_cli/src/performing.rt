@@ -1,12 +1,12 @@
 //! The events of a line, performed, and their records, written.
-ghost use Rattle.std.specs.Prelude.{◌≡◌, ◌≢◌, ◌<◌, ◌≤◌, OnOk};
+ghost use Rattle.std.specs.Prelude.{◌≡◌, ◌≢◌, ◌<◌, ◌≤◌, ◌+◌, false, OnOk};
 ghost use Rattle.coy_io.specs.Causes.{HasCause};
 ghost use Rattle.kernel_core.specs.State.{state_of};
 ghost use Rattle.kernel_core.specs.Machine.{hart_in, IsRecord};
 ghost use Rattle.listing_read.specs.Schedule.{IsTimed};
 ghost use Rattle.run_text.specs.Written.{Writes};
 ghost use Rattle.coyotos_cli.specs.Events.{events_of};
-ghost use Rattle.coyotos_cli.specs.Told.{is_told, line_of, lines_of, performed, runs, told};
+ghost use Rattle.coyotos_cli.specs.Told.{is_told, line_of, lines_of, performed, runs, spent_on, told};
 
 use crate::command::Command;
 use crate::events::Events;
@@ -34,6 +34,10 @@ pub(crate) fn perform<K: Sink, L: Ledger>(
     ensures state { OnOk result (state_of machine.new ≡ performed command (state_of machine.old) (events_of harts timed)) }
     ensures harts { machine.new.objects.harts ≡ machine.old.objects.harts }
     ensures cause { HasCause (K.faults output.old) (K.faults output.new) result }
+
+    // How many slots are fetched.
+    ensures counted { OnOk result (fetches.new ≡ fetches.old + spent_on command (state_of machine.old) (events_of harts timed)) }
+    ensures stays { runs command ≡ false → fetches.new ≡ fetches.old }
 {
     if !runs(command) {
         return Ok(());

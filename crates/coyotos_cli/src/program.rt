@@ -1,9 +1,10 @@
 //! The top call.
-ghost use Rattle.std.specs.Prelude.{◌≡◌, ◌≢◌, ◌⊎◌, map, string_bytes, IfSome, Some, None};
+ghost use Rattle.std.specs.Prelude.{◌≡◌, ◌≢◌, ◌⊎◌, ◌+◌, false, map, string_bytes, IfSome, Some, None};
+ghost use Rattle.std.specs.Io.KnownBytes.{IsAtEnd};
 ghost use Rattle.coy_io.specs.Causes.{Rose};
 ghost use Rattle.coyotos_cli.specs.Command.{command_of};
 ghost use Rattle.coyotos_cli.specs.Ending.{IsGiven, Outputs, usage_text};
-ghost use Rattle.coyotos_cli.specs.Session.{asks_input, out};
+ghost use Rattle.coyotos_cli.specs.Session.{asks_input, asks_run, out, sure, fetched, WritesSure};
 ghost use Rattle.coyotos_cli.specs.declared.command.Command.TheVariants.{Help};
 
 use crate::command::{Command, read_command};
@@ -24,7 +25,15 @@ pub fn coyotos<S: Source, K: Sink, L: Ledger>(
     fetches: &mut Steps<L>,
 ) -> Exit
     // What is written, and how it ends, where the bytes are told.
-    ensures output { IfSome (S.held input.old) (λ bytes. Outputs (K.taken output.old) (K.taken output.new) result (out (map string_bytes words.now) bytes)) }
+    ensures output { IfSome (S.held input.old) (λ bytes.
+        Outputs (K.taken output.old) (K.taken output.new) result (out (map string_bytes words.now) bytes)) }
+
+    // The input is read to its end where all was done.
+    ensures end { result ≡ Exit.Done → command_of (map string_bytes words.now) ≢ Some Help → IsAtEnd (S.held input.new) }
+
+    // Where reading failed, the records of the whole lines that were read were written.
+    ensures sure { result ≡ Exit.ReadFault →
+        WritesSure (S.held input.old) (S.held input.new) (K.taken output.old) (K.taken output.new) (sure (map string_bytes words.now)) }
 
     // Words that are of no form, and `--help`, take nothing from the source.
     ensures no_input { command_of (map string_bytes words.now) ≡ None → input.new ≡ input.old }
@@ -40,6 +49,11 @@ pub fn coyotos<S: Source, K: Sink, L: Ledger>(
     ensures write_quiet { result ≢ Exit.WriteFault → K.faults output.new ≡ K.faults output.old }
 
     ensures unwritten { result ≡ Exit.OutOfMemory → K.taken output.new ≡ K.taken output.old }
+
+    // How many slots are fetched.
+    ensures counted { result ≡ Exit.Done →
+        IfSome (S.held input.old) (λ bytes. fetches.new ≡ fetches.old + fetched (map string_bytes words.now) bytes) }
+    ensures unfetched { asks_run (command_of (map string_bytes words.now)) ≡ false → fetches.new ≡ fetches.old }
 {
     let Some(command) = read_command(words) else {
         return usage(output, Exit::Usage);

@@ -1,12 +1,15 @@
 //! The lines behind a listing, and what the machine does by them.
-ghost use Rattle.std.specs.Prelude.{◌≡◌, ◌≢◌, ◌≤◌, false, length};
+ghost use Rattle.std.specs.Prelude.{◌≡◌, ◌≢◌, ◌≤◌, ◌+◌, List, false, length};
+ghost use Rattle.std.specs.Io.KnownBytes.{IsAtEnd};
 ghost use Rattle.coy_io.specs.Causes.{Rose};
-ghost use Rattle.coy_io.specs.Reader.{ahead};
+ghost use Rattle.coy_io.specs.Lines.{Part};
+ghost use Rattle.coy_io.specs.Reader.{TellsEnd, ahead};
 ghost use Rattle.kernel_core.specs.State.{state_of};
 ghost use Rattle.listing_read.specs.Schedule.{IsTimed};
 ghost use Rattle.coyotos_cli.specs.Ending.{Outputs};
 ghost use Rattle.coyotos_cli.specs.Events.{events_of};
-ghost use Rattle.coyotos_cli.specs.Schedule.{schedule_output, OnParts};
+ghost use Rattle.coyotos_cli.specs.Told.{runs};
+ghost use Rattle.coyotos_cli.specs.Schedule.{course_of, course_output, course_fetches, OnParts, FailsBehind};
 
 use crate::command::Command;
 use crate::ending::{end_past_limit, refuse_schedule};
@@ -33,9 +36,16 @@ pub(crate) fn schedule<S: Source, K: Sink, L: Ledger>(
     requires reader { lines.old.failed ≡ false }
     requires harts { machine.old.objects.harts ≡ harts }
     requires few { harts ≤ 8 }
+    requires told { TellsEnd lines.old (S.held input.old) }
 
-    // What the known lines come to.
-    ensures output { OnParts (ahead lines.old (S.held input.old)) (λ parts. Outputs (K.taken output.old) (K.taken output.new) result (schedule_output command harts lines.old.number (state_of machine.old) 0 parts)) }
+    // What the known lines come to, and where the source stands then.
+    ensures output { OnParts (ahead lines.old (S.held input.old)) (λ parts.
+        let course = course_of command harts lines.old.number (state_of machine.old) 0 parts in
+        Outputs (K.taken output.old) (K.taken output.new) result (course_output command course)) }
+    ensures end { result ≡ Exit.Done → IsAtEnd (S.held input.new) }
+    ensures sure { result ≡ Exit.ReadFault →
+        let records = λ (given : List Part). (course_of command harts lines.old.number (state_of machine.old) 0 given).records in
+        FailsBehind lines.old lines.new (S.held input.old) (S.held input.new) (K.taken output.old) (K.taken output.new) records }
 
     // Why it may end otherwise.
     ensures usage { result ≢ Exit.Usage }
@@ -44,6 +54,12 @@ pub(crate) fn schedule<S: Source, K: Sink, L: Ledger>(
     ensures read_quiet { result ≢ Exit.ReadFault → S.faults input.new ≡ S.faults input.old }
     ensures write { result ≡ Exit.WriteFault → Rose (K.faults output.old) (K.faults output.new) }
     ensures write_quiet { result ≢ Exit.WriteFault → K.faults output.new ≡ K.faults output.old }
+
+    // How many slots are fetched.
+    ensures counted { result ≡ Exit.Done → OnParts (ahead lines.old (S.held input.old)) (λ parts.
+        let course = course_of command harts lines.old.number (state_of machine.old) 0 parts in
+        fetches.new ≡ fetches.old + course_fetches command course) }
+    ensures stays { runs command ≡ false → fetches.new ≡ fetches.old }
 {
     let mut events: u64 = 0;
     'lines: loop {

@@ -1,8 +1,10 @@
 //! A listing and its schedule, from the first line to the last.
-ghost use Rattle.std.specs.Prelude.{◌≡◌, ◌≢◌, IfSome};
+ghost use Rattle.std.specs.Prelude.{◌≡◌, ◌≢◌, ◌+◌, false, IfSome};
+ghost use Rattle.std.specs.Io.KnownBytes.{IsAtEnd};
 ghost use Rattle.coy_io.specs.Causes.{Rose};
 ghost use Rattle.coyotos_cli.specs.Ending.{Outputs};
-ghost use Rattle.coyotos_cli.specs.Session.{input_output};
+ghost use Rattle.coyotos_cli.specs.Session.{input_output, input_records, input_fetches, WritesSure};
+ghost use Rattle.coyotos_cli.specs.Told.{runs};
 
 use crate::command::Command;
 use crate::ending::{end_past_limit, refuse_listing};
@@ -24,9 +26,12 @@ pub(crate) fn session<S: Source, K: Sink, L: Ledger>(
     output: &mut K,
     fetches: &mut Steps<L>,
 ) -> Exit
-
-    // What the known bytes come to.
-    ensures output { IfSome (S.held input.old) (λ bytes. Outputs (K.taken output.old) (K.taken output.new) result (input_output command bytes)) }
+    // What the known bytes come to, and where the source stands then.
+    ensures output { IfSome (S.held input.old) (λ bytes.
+        Outputs (K.taken output.old) (K.taken output.new) result (input_output command bytes)) }
+    ensures end { result ≡ Exit.Done → IsAtEnd (S.held input.new) }
+    ensures sure { result ≡ Exit.ReadFault →
+        WritesSure (S.held input.old) (S.held input.new) (K.taken output.old) (K.taken output.new) (input_records command) }
 
     // Why it may end otherwise.
     ensures usage { result ≢ Exit.Usage }
@@ -35,6 +40,10 @@ pub(crate) fn session<S: Source, K: Sink, L: Ledger>(
     ensures write { result ≡ Exit.WriteFault → Rose (K.faults output.old) (K.faults output.new) }
     ensures write_quiet { result ≢ Exit.WriteFault → K.faults output.new ≡ K.faults output.old }
     ensures unwritten { result ≡ Exit.OutOfMemory → K.taken output.new ≡ K.taken output.old }
+
+    // How many slots are fetched.
+    ensures counted { result ≡ Exit.Done → IfSome (S.held input.old) (λ bytes. fetches.new ≡ fetches.old + input_fetches command bytes) }
+    ensures stays { runs command ≡ false → fetches.new ≡ fetches.old }
 {
     let mut lines = LineReader::new();
     let listing = match read_listing(alloc, &mut lines, input) {

@@ -1,14 +1,14 @@
-use Rattle.std.proofs.Common.{◌≡◌, ◌<◌, ◌∙◌, ◌∷◌, refl, subst, sym, ap, arith}
+use Rattle.std.proofs.Common.{◌<◌, ◌+◌, ◌∙◌, refl, subst, sym, ap, arith}
 use Rattle.kernel_core.specs.Machine.{hart_in}
-use Rattle.kernel_core.specs.Run.{run_state, run_records}
+use Rattle.kernel_core.specs.Run.{run_state, run_records, run_touches}
 use Rattle.kernel_core.specs.State.{state_of}
 use Rattle.run_text.proofs.Texts.{cut, failed, same_cut, same_text}
-use Rattle.coyotos_cli.specs.Events.{events_of, left, OfHarts}
+use Rattle.coyotos_cli.specs.Events.{events_of, OfHarts}
 use Rattle.coyotos_cli.specs.Leaves.{Leaves}
-use Rattle.coyotos_cli.specs.Told.{lines_of}
+use Rattle.coyotos_cli.specs.Told.{lines_of, walked}
 use Rattle.coyotos_cli.proofs.Leaves.{leaves_same, leaves_less, leaves_none, leaves_some}
 use Rattle.coyotos_cli.proofs.Rounds.{events_of_harts}
-use Rattle.coyotos_cli.proofs.Told.{step_lines, step_state, end_lines, end_state, told_runs, performed_runs}
+use Rattle.coyotos_cli.proofs.Told.{step_lines, step_state, step_spent, end_lines, end_state, end_spent, told_runs, performed_runs, spent_runs}
 use Rattle.coyotos_cli.proofs.performing.perform.Goals as goal
 
 pub each-init : goal.each-init
@@ -18,6 +18,7 @@ each-init g c =
     record {
       lines = leaves_same _ _ _ (ap (λ es. lines_of c.args.command (run_records s es)) same);
       state = ap (run_state s) same;
+      spent = ap (λ es. c.args.fetches.now + walked (run_touches s es)) same;
       there = subst (OfHarts c.args.harts) (sym same) (events_of_harts c.args.harts c.args.timed c.requires.timed);
       harts = refl;
       quiet = refl;
@@ -36,6 +37,7 @@ each-preserved g c =
     record {
       lines = leaves_less _ _ _ _ _ _ (subst (Leaves _ _ _) lines c.each.invariant.lines) c.in_ok-put_records.ensures.text;
       state = step_state _ _ _ _ _ split state ∙ c.each.invariant.state;
+      spent = step_spent _ _ _ _ _ _ _ split state c.event-records.ensures.counted ∙ c.each.invariant.spent;
       there = (subst (OfHarts c.args.harts) split c.each.invariant.there).1;
       harts = c.event-records.ensures.harts ∙ c.each.invariant.harts;
       quiet = c.in_ok-put_records.ensures.cause.quiet ∙ c.each.invariant.quiet;
@@ -65,6 +67,13 @@ pub returns-clause-state : goal.returns-clause-state
 returns-clause-state g c =
     let runs = performed_runs c.args.command (state_of c.args.machine.now) (events_of c.args.harts c.args.timed) (sym c.runs.ensures ∙ c.if-not-runs.false) in
     sym (end_state (state_of c.each.machine) _ c.in_default.ensures.0) ∙ c.each.invariant.state ∙ sym runs
+
+pub returns-clause-counted : goal.returns-clause-counted
+returns-clause-counted g c =
+    let none = end_spent (state_of c.each.machine) _ c.in_default.ensures.0 in
+    let runs = spent_runs c.args.command (state_of c.args.machine.now) (events_of c.args.harts c.args.timed) (sym c.runs.ensures ∙ c.if-not-runs.false) in
+    let spent = c.each.invariant.spent in
+    omega (arith, none, runs, spent)
 
 pub returns-clause-harts : goal.returns-clause-harts
 returns-clause-harts g c = c.each.invariant.harts

@@ -1,8 +1,8 @@
-use Rattle.std.proofs.Common.{◌≡◌, ◌<◌, ◌≤◌, ◌∙◌, ◌++◌, [], length, drop, slice_get, Some, subst, sym, ap, arith}
+use Rattle.std.proofs.Common.{◌≡◌, ◌∙◌, [], drop, subst, ap}
 use Rattle.std.proofs.lemmas.List.{drop_all}
 use Rattle.run_text.proofs.Texts.{cut, same_cut, same_text}
 use Rattle.coyotos_cli.specs.Leaves.{Leaves}
-use Rattle.coyotos_cli.specs.Told.{line_of, lines_of}
+use Rattle.coyotos_cli.specs.Told.{lines_of}
 use Rattle.coyotos_cli.proofs.Leaves.{leaves_less, leaves_none, leaves_some}
 use Rattle.coyotos_cli.proofs.Told.{lines_at, lines_of-nil}
 use Rattle.coyotos_cli.proofs.performing.put_records.Goals as goal
