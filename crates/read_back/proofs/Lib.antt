@@ -1,0 +1,5 @@
+mod Printed
+mod Capabilities
+mod Lines
+mod Fields
+mod Statements
