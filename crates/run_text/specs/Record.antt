@@ -2,6 +2,9 @@
 use Rattle.std.specs.Prelude.{ℕ, List, ◌++◌, codes, decimal, flat_map, slice_index, Option, Some, None}
 use Rattle.coy_text.specs.Numeral.{hex_text}
 use Rattle.rv32_asm.specs.Text.{text_of}
+use Rattle.cap_format.specs.declared.fault.FaultCode.{FaultCode}
+use Rattle.rv32_decode.specs.declared.insn.Insn.{Insn as InsnRead}
+use Rattle.walk_meaning.specs.declared.kind.Kind.{Kind}
 use Rattle.kernel_core.specs.declared.record.Record.{Record}
 use Rattle.kernel_core.specs.declared.record.Record.TheVariants.{Access, Insn, Message, Fault, Log, Destroy, Halt}
 use Rattle.run_text.specs.Each.{line_feed}
@@ -26,15 +29,36 @@ abbrev pub hearer_text : Option ℕ → List ℕ
 hearer_text (Some process) = codes "to " ++ decimal process
 hearer_text None = codes "unheard"
 
+-- an access that reached an object
+abbrev pub access_said : ℕ → Kind → ℕ → ℕ → List ℕ
+access_said process kind address number =
+    access_name kind ++ codes " " ++ place_text process address ++ codes " " ++ target_name kind ++ codes " " ++
+    decimal number
+
+-- an instruction
+abbrev pub insn_said : ℕ → ℕ → InsnRead → List ℕ
+insn_said process at insn = codes "insn " ++ place_text process at ++ codes " " ++ text_of insn
+
+-- from whom a message came, to whom it went, and through what
+abbrev pub envelope_said : ℕ → ℕ → ℕ → ℕ → List ℕ
+envelope_said from to endpoint payload =
+    codes "msg " ++ decimal from ++ codes " " ++ decimal to ++ codes " endpoint=" ++ decimal endpoint ++
+    codes " payload=" ++ hex_text 8 payload
+
+-- a fault
+abbrev pub fault_said : ℕ → FaultCode → ℕ → Option ℕ → List ℕ
+fault_said process code address to =
+    codes "fault " ++ decimal process ++ codes " " ++ fault_name code ++ codes " " ++ hex_text 8 address ++
+    codes " " ++ hearer_text to
+
 -- what a record's line says
 abbrev pub said : Record → List ℕ
-said (Access process kind address number) = access_name kind ++ codes " " ++ place_text process address ++ codes " " ++ target_name kind ++ codes " " ++ decimal number
-said (Insn process at insn) = codes "insn " ++ place_text process at ++ codes " " ++ text_of insn
+said (Access process kind address number) = access_said process kind address number
+said (Insn process at insn) = insn_said process at insn
 said (Message from to endpoint payload words length caps) =
-    codes "msg " ++ decimal from ++ codes " " ++ decimal to ++ codes " endpoint=" ++ decimal endpoint ++
-    codes " payload=" ++ hex_text 8 payload ++ codes " words=" ++ words_text words ++
+    envelope_said from to endpoint payload ++ codes " words=" ++ words_text words ++
     codes " len=" ++ decimal length ++ codes " caps=" ++ decimal caps
-said (Fault process code address to) = codes "fault " ++ decimal process ++ codes " " ++ fault_name code ++ codes " " ++ hex_text 8 address ++ codes " " ++ hearer_text to
+said (Fault process code address to) = fault_said process code address to
 said (Log process bytes) = codes "log " ++ decimal process ++ codes " " ++ bytes_text bytes
 said (Destroy kind number) = codes "destroy " ++ object_name kind ++ codes " " ++ decimal number
 said (Halt process) = codes "halt " ++ decimal process

@@ -1,11 +1,9 @@
 //! Records as lines.
-ghost use Rattle.std.specs.Prelude.{◌≡◌, ◌≤◌, ◌+◌, ◌*◌, ◌++◌, codes, decimal, length};
-ghost use Rattle.coy_text.specs.Numeral.{hex_text};
-ghost use Rattle.rv32_asm.specs.Text.{text_of};
+ghost use Rattle.std.specs.Prelude.{◌≡◌, ◌≤◌, ◌+◌, ◌*◌, ◌++◌, codes, length};
 ghost use Rattle.kernel_core.specs.Machine.{IsRecord};
 ghost use Rattle.rv32_decode.specs.InRange.{InRange};
-ghost use Rattle.run_text.specs.Record.{place_text, words_text, bytes_text, hearer_text, said, record_text};
-ghost use Rattle.run_text.specs.Names.{fault_name, access_name, target_name};
+ghost use Rattle.run_text.specs.Record.{place_text, words_text, bytes_text, hearer_text};
+ghost use Rattle.run_text.specs.Record.{access_said, insn_said, envelope_said, fault_said, said, record_text};
 
 use crate::capability::{push_number, push_numbered, push_value};
 use crate::names::{access_name, fault_name, object_name, target_name};
@@ -77,7 +75,7 @@ fn push_record(line: &mut LineBuf, entry: &Record)
 
 fn push_access(line: &mut LineBuf, process: u16, kind: Kind, address: u32, number: u16)
     requires { length line.old ≤ 100 }
-    ensures text { line.new ≡ line.old ++ access_name kind ++ codes " " ++ place_text process address ++ codes " " ++ target_name kind ++ codes " " ++ decimal number }
+    ensures text { line.new ≡ line.old ++ access_said process kind address number }
     ensures len { length line.new ≤ length line.old + 100 }
 {
     line.push_word(access_name(kind));
@@ -91,7 +89,7 @@ fn push_access(line: &mut LineBuf, process: u16, kind: Kind, address: u32, numbe
 fn push_insn(line: &mut LineBuf, process: u16, at: u32, insn: Insn)
     requires room { length line.old ≤ 100 }
     requires range { InRange insn }
-    ensures text { line.new ≡ line.old ++ codes "insn " ++ place_text process at ++ codes " " ++ text_of insn }
+    ensures text { line.new ≡ line.old ++ insn_said process at insn }
     ensures len { length line.new ≤ length line.old + 100 }
 {
     line.push_word("insn ");
@@ -102,7 +100,7 @@ fn push_insn(line: &mut LineBuf, process: u16, at: u32, insn: Insn)
 
 fn push_fault(line: &mut LineBuf, process: u16, code: FaultCode, address: u32, to: Option<u16>)
     requires { length line.old ≤ 100 }
-    ensures text { line.new ≡ line.old ++ codes "fault " ++ decimal process ++ codes " " ++ fault_name code ++ codes " " ++ hex_text 8 address ++ codes " " ++ hearer_text to }
+    ensures text { line.new ≡ line.old ++ fault_said process code address to }
     ensures len { length line.new ≤ length line.old + 100 }
 {
     push_numbered(line, "fault ", process as u32);
@@ -138,7 +136,7 @@ fn push_place(line: &mut LineBuf, process: u16, address: u32)
 /// From whom a message came, to whom it went, and through what.
 fn push_envelope(line: &mut LineBuf, from: u16, to: u16, endpoint: u16, payload: u32)
     requires { length line.old ≤ 100 }
-    ensures text { line.new ≡ line.old ++ codes "msg " ++ decimal from ++ codes " " ++ decimal to ++ codes " endpoint=" ++ decimal endpoint ++ codes " payload=" ++ hex_text 8 payload }
+    ensures text { line.new ≡ line.old ++ envelope_said from to endpoint payload }
     ensures len { length line.new ≤ length line.old + 100 }
 {
     push_numbered(line, "msg ", from as u32);
