@@ -1,5 +1,5 @@
 -- Facts about texts that are written one behind the other.
-use Rattle.std.proofs.Common.{ℕ, zero, suc, ◌≡◌, ◌+◌, ◌-◌, ◌<◌, ◌≤◌, List, [], ◌∷◌, ◌++◌, length, take, drop, slice_get, Option, None, Some, Result, Ok, Err, Bool, true, false, is_none, IsErr, OnOk, refl, sym, ap, subst, ◌∙◌, arith, append_assoc, append-nil, length-append, add-one, add-zero, add-suc, flat_map}
+use Rattle.std.proofs.Common.{ℕ, zero, suc, ◌≡◌, ◌+◌, ◌-◌, ◌<◌, ◌≤◌, List, [], ◌∷◌, ◌++◌, length, take, drop, slice_get, Option, None, Some, Result, Ok, Err, true, false, is_none, IsErr, refl, sym, ap, subst, ◌∙◌, arith, append_assoc, append-nil, length-append, add-one, add-zero, add-suc, flat_map}
 use Rattle.std.proofs.KnownBytes.{Appends-nil, Appends-trans}
 use Rattle.std.proofs.Math.Seq.{take-append-add, take-suc, take-length}
 use Rattle.std.proofs.lemmas.List.{take-append-le, take-append-drop}
@@ -10,7 +10,7 @@ use Rattle.coy_io.specs.Causes.{HasCause, Rose}
 use Rattle.coy_io.specs.Pieces.{AppendsSome}
 use Rattle.run_text.specs.Each.{line_feed, each_below}
 use Rattle.run_text.specs.Standing.{member_text, queue_text}
-use Rattle.run_text.specs.Written.{Writes}
+use Rattle.run_text.specs.Written.{Writes, Wrote}
 
 -- a front part of a text is one of each longer text
 pub cut_before : (a b : Option (List ℕ)) (x y : List ℕ) → AppendsSome a b x → AppendsSome a b (x ++ y)
@@ -127,15 +127,6 @@ failed (Err e) (Err f) a b c is was same cause =
 pub caused : {T E : Type 0} (r : Result T E) (a b c : ℕ) → b ≡ a → HasCause b c r → HasCause a c r
 caused r a b c same cause = subst (λ n. HasCause n c r) same cause
 
--- what is so whatever the answer
-pub always : {T E : Type 0} (r : Result T E) (P : Type 0) → P → OnOk r P
-always (Ok v) P is = is
-always (Err e) P is = tt
-
-pub never : {T E : Type 0} (r : Result T E) (P : Type 0) → IsErr r → OnOk r P
-never (Ok v) P is = cc
-never (Err e) P is = tt
-
 -- a text by another name
 pub same_text : (a b : Option (List ℕ)) (x y : List ℕ) → x ≡ y → Appends a b x → Appends a b y
 same_text a b x y same done = subst (Appends a b) same done
@@ -143,19 +134,67 @@ same_text a b x y same done = subst (Appends a b) same done
 pub same_cut : (a b : Option (List ℕ)) (x y : List ℕ) → x ≡ y → AppendsSome a b x → AppendsSome a b y
 same_cut a b x y same front = subst (AppendsSome a b) same front
 
--- one more of those that have numbers, at its number, and as far as its call came
-pub each_ok : (f : ℕ → List ℕ) (n : ℕ) (a b c : Option (List ℕ)) (line : List ℕ) → Appends a b (each_below f n) → line ≡ f n → Appends b c line → Appends a c (each_below f (n + 1))
-each_ok f n a b c line done same next = each_more f n a b c done (same_text b c line (f n) same next)
+pub same : {T E : Type 0} (r : Result T E) (a b : Option (List ℕ)) (m n : ℕ) (x y : List ℕ) → x ≡ y → Wrote a b m n r x → Wrote a b m n r y
+same r a b m n x y equal wrote = subst (Wrote a b m n r) equal wrote
 
-pub each_err : {T E : Type 0} (f : ℕ → List ℕ) (i n : ℕ) (a b c : Option (List ℕ)) (line : List ℕ) (r : Result T E) → i < n → IsErr r → Appends a b (each_below f i) → line ≡ f i → AppendsSome b c line → Writes a c r (each_below f n)
-each_err f i n a b c line r inside is done same front =
-    cut r a c (each_below f n) is (each_cut f i n a b c inside done (same_cut b c line (f i) same front))
+-- ---- one text behind another
 
--- all of them
-pub each_done : (f : ℕ → List ℕ) (i n : ℕ) (a b : Option (List ℕ)) → n ≤ i → i ≤ n → Appends a b (each_below f i) → Appends a b (each_below f n)
-each_done f i n a b past within done =
-    let same : i ≡ n = omega arith in
-    subst (λ k. Appends a b (each_below f k)) same done
+-- a call that succeeded, and then what the next ones did
+pub go_on : {T E U F : Type 0} (v : T) (r : Result U F) (a b c : Option (List ℕ)) (l m n : ℕ) (x y : List ℕ) → Wrote {T = T} {E = E} a b l m (Ok v) x → Wrote b c m n r y → Wrote a c l n r (x ++ y)
+go_on v r a b c l m n x y first second = record {
+  text = behind r a b c x y first.text second.text;
+  cause = caused r l m n first.cause.quiet second.cause;
+}
 
-pub same_writes : {T E : Type 0} (r : Result T E) (a b : Option (List ℕ)) (x y : List ℕ) → x ≡ y → Writes a b r x → Writes a b r y
-same_writes r a b x y same done = subst (Writes a b r) same done
+-- a call that failed, with other texts to come
+pub stop : {T E U F : Type 0} (e : F) (r : Result T E) (a b : Option (List ℕ)) (m n : ℕ) (x y : List ℕ) → IsErr r → Wrote {T = U} {E = F} a b m n (Err e) x → Wrote a b m n r (x ++ y)
+stop e r a b m n x y is wrote = record {
+  text = cut r a b (x ++ y) is (cut_before a b x y wrote.text);
+  cause = failed r (Err e) m m n is refl refl wrote.cause;
+}
+
+-- ---- what a loop wrote so far
+
+pub record Written (old new : Option (List ℕ)) (was now : ℕ) (text : List ℕ) : Type 0 where
+  pub bytes : Appends old new text
+  pub quiet : now ≡ was
+
+pub whole : {T E : Type 0} (v : T) (a b : Option (List ℕ)) (m n : ℕ) (x : List ℕ) → Written a b m n x → Wrote {T = T} {E = E} a b m n (Ok v) x
+whole v a b m n x done = record {
+  text = done.bytes;
+  cause = let quiet : n ≡ m = done.quiet in record { later = omega arith; quiet = quiet; rose = tt };
+}
+
+-- texts of things that have numbers, one by one
+module _ (f : ℕ → List ℕ) where
+  pub none_yet : (a : Option (List ℕ)) (m : ℕ) → Written a a m m (each_below f 0)
+  none_yet a m = record { bytes = each_none f a; quiet = refl }
+
+  pub one_more : {T E : Type 0} (v : T) (i : ℕ) (a b c : Option (List ℕ)) (l m n : ℕ) → Written a b l m (each_below f i) → Wrote {T = T} {E = E} b c m n (Ok v) (f i) → Written a c l n (each_below f (i + 1))
+  one_more v i a b c l m n done one = record { bytes = each_more f i a b c done.bytes one.text; quiet = one.cause.quiet ∙ done.quiet }
+
+  pub one_stops : {T E U F : Type 0} (e : F) (r : Result T E) (i k : ℕ) (a b c : Option (List ℕ)) (l m n : ℕ) → i < k → IsErr r → Written a b l m (each_below f i) → Wrote {T = U} {E = F} b c m n (Err e) (f i) → Wrote a c l n r (each_below f k)
+  one_stops e r i k a b c l m n inside is done one = record {
+    text = cut r a c (each_below f k) is (each_cut f i k a b c inside done.bytes one.text);
+    cause = failed r (Err e) l m n is refl done.quiet one.cause;
+  }
+
+  pub all_done : {T E : Type 0} (v : T) (i k : ℕ) (a b : Option (List ℕ)) (m n : ℕ) → k ≤ i → i ≤ k → Written a b m n (each_below f i) → Wrote {T = T} {E = E} a b m n (Ok v) (each_below f k)
+  all_done v i k a b m n past within done =
+      let equal : i ≡ k = omega arith in
+      whole v a b m n (each_below f k) (subst (λ j. Written a b m n (each_below f j)) equal done)
+
+-- texts of the members of a list, one by one
+module _ (f : ℕ → List ℕ) (xs : List ℕ) (i p : ℕ) (is : slice_get xs i ≡ Some p) (a b c : Option (List ℕ)) (l m n : ℕ) (done : Written a b l m (flat_map f (take i xs))) where
+  pub member_more : {T E : Type 0} (v : T) → Wrote {T = T} {E = E} b c m n (Ok v) (f p) → Written a c l n (flat_map f (take (i + 1) xs))
+  member_more v one = record { bytes = members_more f xs i p is a b c done.bytes one.text; quiet = one.cause.quiet ∙ done.quiet }
+
+  pub member_stops : {T E U F : Type 0} (e : F) (r : Result T E) → IsErr r → Wrote {T = U} {E = F} b c m n (Err e) (f p) → Wrote a c l n r (flat_map f xs)
+  member_stops e r failing one = record {
+    text = cut r a c (flat_map f xs) failing (members_cut f xs i p is a b c done.bytes one.text);
+    cause = failed r (Err e) l m n failing refl done.quiet one.cause;
+  }
+
+pub members_done : {T E : Type 0} (f : ℕ → List ℕ) (xs : List ℕ) (v : T) (i : ℕ) (a b : Option (List ℕ)) (m n : ℕ) → slice_get xs i ≡ None → i ≤ length xs → Written a b m n (flat_map f (take i xs)) → Wrote {T = T} {E = E} a b m n (Ok v) (flat_map f xs)
+members_done f xs v i a b m n is within done =
+    whole v a b m n (flat_map f xs) (record { bytes = members_all f xs i a b is within done.bytes; quiet = done.quiet })

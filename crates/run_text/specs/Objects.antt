@@ -1,13 +1,13 @@
 -- Objects as the statements that a listing would make them by. What is as in the empty object has no line.
-use Rattle.std.specs.Prelude.{ℕ, ◌*◌, ◌==◌, ◌&&◌, not, Bool, true, false, if◌then◌else◌, List, [], ◌++◌, codes, decimal, flat_map, slice_index}
+use Rattle.std.specs.Prelude.{ℕ, ◌*◌, ◌==◌, ◌&&◌, not, Bool, true, false, if◌then◌else◌, List, [], ◌++◌, codes, decimal, slice_index}
 use Rattle.std.specs.List.{list_all}
 use Rattle.coy_text.specs.Numeral.{hex_text}
 use Rattle.cap_format.specs.declared.kind.CapKind.{CapKind}
-use Rattle.cap_format.specs.declared.kind.CapKind.TheVariants.{Null, Page, CapPage, Gpt, Endpoint as EndpointKind, Process}
+use Rattle.cap_format.specs.declared.kind.CapKind.TheVariants.{Null, Page, CapPage, Gpt, Endpoint, Process}
 use Rattle.cap_format.specs.Capability.{Capability}
 use Rattle.cap_format.specs.Codes.{fault_number}
 use Rattle.gpt_objects.specs.Header.{HeaderValue}
-use Rattle.gpt_objects.specs.Gpt.{GptValue, slot_of}
+use Rattle.gpt_objects.specs.Gpt.{slot_of}
 use Rattle.page_store.specs.Page.{bytes_at}
 use Rattle.page_store.specs.CapPage.{cap_at}
 use Rattle.process_objects.specs.declared.wait.Wait.{Wait}
@@ -16,7 +16,10 @@ use Rattle.process_objects.specs.declared.state.State.{State}
 use Rattle.process_objects.specs.declared.state.State.TheVariants.{Running, Receiving, Faulted}
 use Rattle.process_objects.specs.Accept.{AcceptValue}
 use Rattle.process_objects.specs.Process.{ProcessValue, reg_of, capreg_of, slot_of as process_slot}
-use Rattle.endpoint_objects.specs.declared.endpoint.Endpoint.{Endpoint}
+use Rattle.endpoint_objects.specs.declared.endpoint.Endpoint.{Endpoint as EndpointValue}
+use Rattle.object_store.specs.Store.{Store, count_of, gpt_at, page_at, cappage_at, process_at, endpoint_at}
+use Rattle.run_text.specs.declared.parts.Part.{Part}
+use Rattle.run_text.specs.declared.parts.Part.TheVariants.{Row, PageSlot, GptSlot, Register, CapRegister}
 use Rattle.run_text.specs.Each.{line_feed, each_below}
 use Rattle.run_text.specs.Names.{fault_name, object_name}
 use Rattle.run_text.specs.Capability.{cap_text}
@@ -62,10 +65,10 @@ header_text n header =
     (if header.ha then codes " ha" else []) ++ (if header.bg then codes " bg" else []) ++ line_feed
 
 -- endpoint `n`
-abbrev pub is_empty_endpoint : Endpoint → Bool
+abbrev pub is_empty_endpoint : EndpointValue → Bool
 is_empty_endpoint e = is_null e.recipient && is_zero e.id && is_zero e.payload && not e.matching
 
-unfoldable pub endpoint_text : ℕ → Endpoint → List ℕ
+unfoldable pub endpoint_text : ℕ → EndpointValue → List ℕ
 endpoint_text n e =
     if is_empty_endpoint e then []
     else codes "endpoint " ++ decimal n ++ codes " " ++ cap_text e.recipient ++ codes " " ++ hex_text 8 e.id ++
@@ -117,27 +120,67 @@ register_text n i value =
     if is_zero value then []
     else codes "reg " ++ decimal n ++ codes " " ++ decimal i ++ codes " " ++ hex_text 8 value ++ line_feed
 
--- ---- all lines of object `n` of each kind
+-- ---- the parts of an object that have a line each
 
--- a page: its count and its rows
-abbrev pub page_text : ℕ → ℕ → List ℕ → List ℕ
-page_text n count page = count_text Page n count ++ each_below (λ row. row_text n (16 * row) (bytes_at page (16 * row) 16)) 256
+-- the kind of the objects that have such parts
+abbrev pub owner : Part → CapKind
+owner Row = Page
+owner PageSlot = CapPage
+owner GptSlot = Gpt
+owner Register = Process
+owner CapRegister = Process
 
--- a capability page: its count and its slots
-abbrev pub cappage_text : ℕ → ℕ → List Capability → List ℕ
-cappage_text n count page = count_text CapPage n count ++ each_below (λ i. slot_text (codes "cap") n i (cap_at page i)) 256
+-- how many of them such an object has
+abbrev pub parts_in : Part → ℕ
+parts_in Row = 256
+parts_in PageSlot = 256
+parts_in GptSlot = 16
+parts_in Register = 32
+parts_in CapRegister = 32
 
--- a GPT: its count, its header and its slots
-abbrev pub gpt_text : ℕ → ℕ → GptValue → List ℕ
-gpt_text n count gpt =
-    (count_text Gpt n count ++ header_text n gpt.header) ++ each_below (λ i. slot_text (codes "slot") n i (slot_of gpt i)) 16
+-- part `i` of object `n`
+unfoldable pub part_text : Store → Part → ℕ → ℕ → List ℕ
+part_text s Row n i = row_text n (16 * i) (bytes_at (page_at s n) (16 * i) 16)
+part_text s PageSlot n i = slot_text (codes "cap") n i (cap_at (cappage_at s n) i)
+part_text s GptSlot n i = slot_text (codes "slot") n i (slot_of (gpt_at s.items n) i)
+part_text s Register n i = register_text n i (reg_of (process_at s n) i)
+part_text s CapRegister n i = slot_text (codes "capreg") n i (capreg_of (process_at s n) i)
 
--- an endpoint: its count and its statement
-abbrev pub endpoint_lines : ℕ → ℕ → Endpoint → List ℕ
-endpoint_lines n count e = count_text EndpointKind n count ++ endpoint_text n e
+-- all of them, by their numbers
+abbrev pub parts_text : Store → Part → ℕ → List ℕ
+parts_text s part n = each_below (part_text s part n) (parts_in part)
 
--- a process: its count, its statement, its registers and its capability registers
-abbrev pub process_lines : ℕ → ℕ → ProcessValue → List ℕ
-process_lines n count p =
-    (count_text Process n count ++ process_text n p) ++
-    (each_below (λ i. register_text n i (reg_of p i)) 32 ++ each_below (λ i. slot_text (codes "capreg") n i (capreg_of p i)) 32)
+-- how many slots of GPTs are read for one of them
+abbrev pub reads : Part → ℕ
+reads GptSlot = 1
+reads _ = 0
+
+-- ---- the lines of object `n` of a kind
+
+-- what it is, beside its parts
+abbrev pub statement_text : Store → CapKind → ℕ → List ℕ
+statement_text s Gpt n = header_text n (gpt_at s.items n).header
+statement_text s Endpoint n = endpoint_text n (endpoint_at s n)
+statement_text s Process n = process_text n (process_at s n)
+statement_text s _ n = []
+
+-- its parts: a process has its registers, then its capability registers
+abbrev pub contents_text : Store → CapKind → ℕ → List ℕ
+contents_text s Page n = parts_text s Row n
+contents_text s CapPage n = parts_text s PageSlot n
+contents_text s Gpt n = parts_text s GptSlot n
+contents_text s Process n = parts_text s Register n ++ parts_text s CapRegister n
+contents_text s _ n = []
+
+-- how many slots of GPTs are read for it
+abbrev pub reads_of : CapKind → ℕ
+reads_of Gpt = 16
+reads_of _ = 0
+
+-- its count, unless that is 0, and what it is, unless that is as in the empty object
+abbrev pub heading_text : Store → CapKind → ℕ → List ℕ
+heading_text s kind n = count_text kind n (count_of s.items kind n) ++ statement_text s kind n
+
+-- all its lines
+unfoldable pub object_text : Store → CapKind → ℕ → List ℕ
+object_text s kind n = heading_text s kind n ++ contents_text s kind n

@@ -6,6 +6,7 @@
 mod capability;
 mod names;
 mod objects;
+mod parts;
 mod process;
 mod record;
 mod standing;

@@ -1,11 +1,9 @@
 //! Where processes stand.
 ghost use Rattle.std.specs.Prelude.{◌≡◌, ◌≤◌, ◌<◌, ◌+◌, ◌++◌, length, is_none, slice_get, flat_map};
-ghost use Rattle.coy_io.specs.Causes.{HasCause};
 ghost use Rattle.schedules.specs.Queues.{hart_of};
-ghost use Rattle.run_text.specs.Each.{each_below};
 ghost use Rattle.run_text.specs.Standing.{occupant_text, hart_text, member_text, queue_name, members, queue_text, IsQueue};
 ghost use Rattle.run_text.specs.State.{queue_line, harts_text, ready_text, sleepers_text};
-ghost use Rattle.run_text.specs.Written.{Writes};
+ghost use Rattle.run_text.specs.Written.{WroteTo};
 
 use crate::capability::push_numbered;
 use crate::writing::{put_line, put_text};
@@ -30,14 +28,27 @@ pub(crate) fn put_harts<K: Sink>(
     output: &mut K,
 ) -> Result<(), WriteFault>
     requires { harts ≤ length queues.now.harts }
-    ensures text { Writes (K.taken output.old) (K.taken output.new) result (harts_text queues.now harts) }
-    ensures cause { HasCause (K.faults output.old) (K.faults output.new) result }
+    ensures { WroteTo K.taken K.faults output.old output.new result (harts_text queues.now harts) }
 {
     'each: for hart in 0..harts {
-        make_hart(line, hart, queues.on_hart(hart));
-        put_line(line, output)?;
+        put_hart(queues, hart, line, output)?;
     }
     Ok(())
+}
+
+/// Writes the line of a hart.
+fn put_hart<K: Sink>(
+    queues: &Queues,
+    hart: u8,
+    line: &mut LineBuf,
+    output: &mut K,
+) -> Result<(), WriteFault>
+    requires { hart < length queues.now.harts }
+    ensures { WroteTo K.taken K.faults output.old output.new result
+        (hart_text hart (hart_of queues.now hart)) }
+{
+    make_hart(line, hart, queues.on_hart(hart));
+    put_line(line, output)
 }
 
 /// Makes the line of a hart.
@@ -68,8 +79,7 @@ pub(crate) fn put_ready<K: Sink>(
     line: &mut LineBuf,
     output: &mut K,
 ) -> Result<(), WriteFault>
-    ensures text { Writes (K.taken output.old) (K.taken output.new) result (ready_text queues.now) }
-    ensures cause { HasCause (K.faults output.old) (K.faults output.new) result }
+    ensures { WroteTo K.taken K.faults output.old output.new result (ready_text queues.now) }
 {
     'each: for below in 0..8u8 {
         put_queue(queues, Queue::Ready(7 - below), line, output)?;
@@ -85,8 +95,8 @@ pub(crate) fn put_sleepers<K: Sink>(
     output: &mut K,
 ) -> Result<(), WriteFault>
     requires { processes ≤ length queues.now.sleepers }
-    ensures text { Writes (K.taken output.old) (K.taken output.new) result (sleepers_text queues.now processes) }
-    ensures cause { HasCause (K.faults output.old) (K.faults output.new) result }
+    ensures { WroteTo K.taken K.faults output.old output.new result
+        (sleepers_text queues.now processes) }
 {
     'each: for on in 0..processes {
         put_queue(queues, Queue::Sleepers(on), line, output)?;
@@ -102,19 +112,24 @@ fn put_queue<K: Sink>(
     output: &mut K,
 ) -> Result<(), WriteFault>
     requires { IsQueue queues.now queue }
-    ensures text { Writes (K.taken output.old) (K.taken output.new) result (queue_line queues.now queue) }
-    ensures cause { HasCause (K.faults output.old) (K.faults output.new) result }
+    ensures { WroteTo K.taken K.faults output.old output.new result (queue_line queues.now queue) }
 {
     if is_empty(queues, queue) {
         return Ok(());
     }
-    make_name(line, queue);
-    put_line(line, output)?;
+    put_name(queue, line, output)?;
     put_members(queues, queue, line, output)?;
     put_text("\n", output)
 }
 
-/// Makes the front of the line of a list of processes.
+/// Writes the front of the line of a list of processes.
+fn put_name<K: Sink>(queue: Queue, line: &mut LineBuf, output: &mut K) -> Result<(), WriteFault>
+    ensures { WroteTo K.taken K.faults output.old output.new result (queue_name queue) }
+{
+    make_name(line, queue);
+    put_line(line, output)
+}
+
 fn make_name(line: &mut LineBuf, queue: Queue)
     ensures { line.new ≡ queue_name queue }
 {
@@ -153,21 +168,22 @@ fn put_members<K: Sink>(
     output: &mut K,
 ) -> Result<(), WriteFault>
     requires { IsQueue queues.now queue }
-    ensures text { Writes (K.taken output.old) (K.taken output.new) result (flat_map member_text (members queues.now queue)) }
-    ensures cause { HasCause (K.faults output.old) (K.faults output.new) result }
+    ensures { WroteTo K.taken K.faults output.old output.new result
+        (flat_map member_text (members queues.now queue)) }
 {
     let mut place = 0;
     'each: while let Some(p) = member(queues, queue, place) {
-        make_member(line, p);
-        put_line(line, output)?;
+        put_member(p, line, output)?;
         place += 1;
     }
     Ok(())
 }
 
-fn make_member(line: &mut LineBuf, p: u16)
-    ensures { line.new ≡ member_text p }
+/// Writes a process of a list.
+fn put_member<K: Sink>(p: u16, line: &mut LineBuf, output: &mut K) -> Result<(), WriteFault>
+    ensures { WroteTo K.taken K.faults output.old output.new result (member_text p) }
 {
     line.clear();
     push_numbered(line, " ", p as u32);
+    put_line(line, output)
 }

@@ -3,18 +3,17 @@ ghost use Rattle.std.specs.Prelude.{◌≡◌, ◌≤◌, ◌+◌, ◌*◌, leng
 ghost use Rattle.cap_format.specs.declared.kind.CapKind.TheVariants.{Gpt, Process};
 ghost use Rattle.coy_io.specs.Causes.{HasCause};
 ghost use Rattle.object_store.specs.Store.{size_of};
-ghost use Rattle.object_store.specs.Meaning.{state_map};
 ghost use Rattle.kernel_core.specs.State.{state_of};
-ghost use Rattle.run_text.specs.State.{standing_text, objects_text, halted_text, state_text};
-ghost use Rattle.run_text.specs.Written.{Writes};
+ghost use Rattle.run_text.specs.State.{standing_text, halted_text, front_text, state_text};
+ghost use Rattle.run_text.specs.Written.{Writes, WroteTo};
 
-use crate::objects::{put_cappages, put_endpoints, put_gpts, put_pages, put_processes};
+use crate::objects::put_objects;
 use crate::standing::{put_harts, put_ready, put_sleepers};
 use crate::writing::put_text;
 use coy_io::{Sink, WriteFault};
 use coy_text::LineBuf;
 use kernel_core::Machine;
-use object_store::{Objects, Sizes};
+use object_store::Sizes;
 use schedules::Queues;
 use std::sync::ledger::Ledger;
 use steps::Steps;
@@ -34,24 +33,41 @@ pub fn dump<T: Translator, K: Sink, L: Ledger>(
     ensures most { fetches.new ≤ fetches.old + 16 * size_of machine.now.objects.items Gpt }
 {
     let mut line = LineBuf::new();
-    put_text("state\n", output)?;
-    put_places(machine, &mut line, output)?;
-    put_halted(machine, output)?;
+    put_front_of(machine, &mut line, output)?;
     put_objects(machine.objects(), &mut line, output, fetches)?;
     put_text("end\n", output)
 }
 
-/// Writes who stands where in a machine.
-fn put_places<T: Translator, K: Sink>(
+/// Writes what stands before the objects of a machine.
+fn put_front_of<T: Translator, K: Sink>(
     machine: &Machine<T>,
     line: &mut LineBuf,
     output: &mut K,
 ) -> Result<(), WriteFault>
-    ensures text { Writes (K.taken output.old) (K.taken output.new) result (standing_text machine.now.objects.harts (size_of machine.now.objects.items Process) machine.now.queues) }
-    ensures cause { HasCause (K.faults output.old) (K.faults output.new) result }
+    ensures { WroteTo K.taken K.faults output.old output.new result
+        (front_text machine.now.objects.harts (size_of machine.now.objects.items Process) machine.now.queues machine.now.halted) }
 {
     let sizes = machine.objects().sizes();
-    put_standing(machine.queues(), sizes, line, output)
+    put_front(machine.queues(), sizes, machine.halted(), line, output)
+}
+
+/// Writes what stands before the objects, of queues of these sizes.
+#[tactic(auto, unfolding(crate::specs::State::front_text))]
+pub(crate) fn put_front<K: Sink>(
+    queues: &Queues,
+    sizes: Sizes,
+    halted: bool,
+    line: &mut LineBuf,
+    output: &mut K,
+) -> Result<(), WriteFault>
+    requires harts { sizes.harts ≤ length queues.now.harts }
+    requires processes { sizes.processes ≤ length queues.now.sleepers }
+    ensures { WroteTo K.taken K.faults output.old output.new result
+        (front_text sizes.harts sizes.processes queues.now halted) }
+{
+    put_text("state\n", output)?;
+    put_standing(queues, sizes, line, output)?;
+    put_halted(halted, output)
 }
 
 /// Writes who stands where in queues of these sizes.
@@ -64,8 +80,8 @@ fn put_standing<K: Sink>(
 ) -> Result<(), WriteFault>
     requires harts { sizes.harts ≤ length queues.now.harts }
     requires processes { sizes.processes ≤ length queues.now.sleepers }
-    ensures text { Writes (K.taken output.old) (K.taken output.new) result (standing_text sizes.harts sizes.processes queues.now) }
-    ensures cause { HasCause (K.faults output.old) (K.faults output.new) result }
+    ensures { WroteTo K.taken K.faults output.old output.new result
+        (standing_text sizes.harts sizes.processes queues.now) }
 {
     put_harts(queues, sizes.harts, line, output)?;
     put_ready(queues, line, output)?;
@@ -73,32 +89,8 @@ fn put_standing<K: Sink>(
 }
 
 /// Writes whether a machine is halted.
-fn put_halted<T: Translator, K: Sink>(
-    machine: &Machine<T>,
-    output: &mut K,
-) -> Result<(), WriteFault>
-    ensures text { Writes (K.taken output.old) (K.taken output.new) result (halted_text machine.now.halted) }
-    ensures cause { HasCause (K.faults output.old) (K.faults output.new) result }
+fn put_halted<K: Sink>(halted: bool, output: &mut K) -> Result<(), WriteFault>
+    ensures { WroteTo K.taken K.faults output.old output.new result (halted_text halted) }
 {
-    put_text(if machine.halted() { "halted\n" } else { "" }, output)
-}
-
-/// Writes the lines of all objects.
-#[tactic(auto, unfolding(crate::specs::State::objects_text))]
-fn put_objects<K: Sink, L: Ledger>(
-    objects: &Objects,
-    line: &mut LineBuf,
-    output: &mut K,
-    fetches: &mut Steps<L>,
-) -> Result<(), WriteFault>
-    ensures text { Writes (K.taken output.old) (K.taken output.new) result (objects_text (state_map objects.now)) }
-    ensures cause { HasCause (K.faults output.old) (K.faults output.new) result }
-    ensures counted { OnOk result (fetches.new ≡ fetches.old + 16 * size_of objects.now.items Gpt) }
-    ensures most { fetches.new ≤ fetches.old + 16 * size_of objects.now.items Gpt }
-{
-    put_pages(objects, line, output)?;
-    put_cappages(objects, line, output)?;
-    put_gpts(objects, line, output, fetches)?;
-    put_endpoints(objects, line, output)?;
-    put_processes(objects, line, output)
+    put_text(if halted { "halted\n" } else { "" }, output)
 }

@@ -1,10 +1,8 @@
-use Rattle.std.proofs.Common.{◌≡◌}
-use Rattle.std.specs.Io.KnownBytes.{Appends}
 use Rattle.run_text.specs.State.{harts_text}
+use Rattle.run_text.proofs.Texts.{Written}
 use Rattle.run_text.proofs.standing.put_harts.Given as goal
 
 abbrev pub invariant-each : goal.invariant-each
 invariant-each g l = record {
-  written : Appends (g.K.Sink.taken l.fn.output) (g.K.Sink.taken l.output) (harts_text l.queues l.hart);
-  faults : g.K.Sink.faults l.output ≡ g.K.Sink.faults l.fn.output;
+  written : Written (g.K.Sink.taken l.fn.output) (g.K.Sink.taken l.output) (g.K.Sink.faults l.fn.output) (g.K.Sink.faults l.output) (harts_text l.queues l.hart);
 }

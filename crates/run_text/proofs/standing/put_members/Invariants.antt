@@ -1,12 +1,11 @@
-use Rattle.std.proofs.Common.{◌≡◌, ◌-◌, ◌≤◌, length, take, flat_map}
-use Rattle.std.specs.Io.KnownBytes.{Appends}
+use Rattle.std.proofs.Common.{◌-◌, ◌≤◌, length, take, flat_map}
 use Rattle.run_text.specs.Standing.{member_text, members}
+use Rattle.run_text.proofs.Texts.{Written}
 use Rattle.run_text.proofs.standing.put_members.Given as goal
 
 abbrev pub invariant-each : goal.invariant-each
 invariant-each g l = record {
-  written : Appends (g.K.Sink.taken l.fn.output) (g.K.Sink.taken l.output) (flat_map member_text (take l.place (members l.queues l.queue)));
-  faults : g.K.Sink.faults l.output ≡ g.K.Sink.faults l.fn.output;
+  written : Written (g.K.Sink.taken l.fn.output) (g.K.Sink.taken l.output) (g.K.Sink.faults l.fn.output) (g.K.Sink.faults l.output) (flat_map member_text (take l.place (members l.queues l.queue)));
   within : l.place ≤ length (members l.queues l.queue);
 }
 

@@ -1,0 +1,12 @@
+use Rattle.std.proofs.Common.{◌≡◌, ◌+◌, ◌*◌}
+use Rattle.object_store.specs.Meaning.{state_map}
+use Rattle.run_text.specs.Each.{each_below}
+use Rattle.run_text.specs.Objects.{object_text, reads_of}
+use Rattle.run_text.proofs.Texts.{Written}
+use Rattle.run_text.proofs.objects.put_kind.Given as goal
+
+abbrev pub invariant-each : goal.invariant-each
+invariant-each g l = record {
+  written : Written (g.K.Sink.taken l.fn.output) (g.K.Sink.taken l.output) (g.K.Sink.faults l.fn.output) (g.K.Sink.faults l.output) (each_below (object_text (state_map l.objects) l.kind) l.n);
+  fetches : l.fetches ≡ l.fn.fetches + reads_of l.kind * l.n;
+}
