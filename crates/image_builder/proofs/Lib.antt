@@ -1,8 +1,8 @@
-mod Folds
-mod Stopped
-mod Behind
 mod Listed
-mod Tabled
+mod Finals
+mod Further
+mod AtRest
+mod Ready
 mod Booted
 mod Numbers
 mod Pieces

@@ -1,17 +1,27 @@
--- What one statement assigns, and what a list of statements makes of objects, the first statement first.
-use Rattle.std.specs.Prelude.{ℕ, ◌<◌, List, [], ◌∷◌, Bool, slice_set}
+-- What one statement assigns.
+use Rattle.std.specs.Prelude.{ℕ, ◌<◌, List, Bool, slice_set}
 use Rattle.cap_format.specs.Capability.{Capability}
 use Rattle.page_store.specs.Page.{with_bytes}
 use Rattle.page_store.specs.CapPage.{with_cap}
 use Rattle.process_objects.specs.Process.{ProcessValue, with_pc, with_slot, with_reg, with_capreg}
-use Rattle.object_store.specs.Store.{Store, page_at, cappage_at, process_at, set_count, set_slot, set_header, with_items, with_page, with_cappage, with_process, with_endpoint}
+use Rattle.endpoint_objects.specs.declared.endpoint.Endpoint.{Endpoint as EndpointValue}
+use Rattle.object_store.specs.declared.sizes.Sizes.{Sizes}
+use Rattle.object_store.specs.Store.{CountsValue, Store, page_at, cappage_at, process_at, set_count, set_slot, set_header, with_items, with_page, with_cappage, with_process, with_endpoint, empty_store}
 use Rattle.listing_read.specs.declared.statement.Statement.{Statement}
 use Rattle.listing_read.specs.declared.statement.Statement.TheVariants.{Page, Code, CapSlot, Gpt, GptSlot, Endpoint, Process, Reg, CapReg, Count}
-use Rattle.image_builder.specs.Given.{counted, endpoint_of, instruction_bytes}
+use Rattle.image_builder.specs.Given.{counted, instruction_bytes}
+
+-- empty objects with these counts
+abbrev pub empty_with : Sizes → CountsValue → Store
+empty_with sizes counts = let s = empty_store sizes in with_items s (record s.items { counts = counts })
 
 -- a process with this pc and these capabilities for its space, its schedule and its fault handler
 abbrev pub process_with : ProcessValue → ℕ → Capability → Capability → Capability → ProcessValue
 process_with process pc space schedule handler = with_slot (with_slot (with_slot (with_pc process pc) 0 space) 1 schedule) 2 handler
+
+-- an endpoint by its parts
+abbrev pub endpoint_of : Capability → ℕ → ℕ → Bool → EndpointValue
+endpoint_of recipient id payload matching = record { recipient = recipient; id = id; payload = payload; matching = matching }
 
 -- the objects with the count that a statement assigns
 abbrev pub with_count_of : Store → Statement → Store
@@ -41,16 +51,3 @@ flagged flags statement = flags
 abbrev pub NamesProcess : ℕ → Statement → Type 0
 NamesProcess size (Process number pc space schedule handler runs) = number < size
 NamesProcess size statement = Unit {0}
-
--- the same after all statements, a later one over an earlier one
-unfoldable pub counts_assigned : Store → List Statement → Store
-counts_assigned s [] = s
-counts_assigned s (x ∷ xs) = counts_assigned (with_count_of s x) xs
-
-unfoldable pub all_assigned : Store → List Statement → Store
-all_assigned s [] = s
-all_assigned s (x ∷ xs) = all_assigned (assigned s x) xs
-
-unfoldable pub all_flagged : List Bool → List Statement → List Bool
-all_flagged flags [] = flags
-all_flagged flags (x ∷ xs) = all_flagged (flagged flags x) xs

@@ -1,16 +1,17 @@
 //! The start of a machine.
-ghost use Rattle.std.specs.Prelude.{◌≡◌, ◌≤◌, ◌<◌, ◌+◌, false, IfOk, length, replicate};
-ghost use Rattle.std.specs.List.{All};
-ghost use Rattle.object_store.specs.Store.{sizes_of};
+ghost use Rattle.std.specs.Prelude.{◌≡◌, ◌<◌, ◌+◌, ◌≤◌, false, IfOk, if◌then◌else◌, length, slice_index_or};
+ghost use Rattle.cap_format.specs.declared.kind.CapKind.TheVariants.{Process};
+ghost use Rattle.object_store.specs.Store.{sizes_of, size_of, empty_store};
 ghost use Rattle.kernel_core.specs.State.{state_of};
-ghost use Rattle.listing_read.specs.Statement.{IsStatement};
-ghost use Rattle.image_builder.specs.Assigned.{counts_assigned, all_assigned, all_flagged, NamesProcess};
-ghost use Rattle.image_builder.specs.Boot.{booted, started, started_if, StoppedFrom, AllStopped};
+ghost use Rattle.kernel_core.specs.Setters.{ready};
+ghost use Rattle.image_builder.specs.Given.{listed, final_counts};
+ghost use Rattle.image_builder.specs.Assigned.{empty_with};
+ghost use Rattle.image_builder.specs.Boot.{objects_of, is_running, made_ready, booted, StoppedFrom};
 
 use crate::statements::{assign, assign_count, note_running};
 use cap_format::OutOfMemory;
 use kernel_core::Machine;
-use listing_read::{Listing, Statement};
+use listing_read::Listing;
 use object_store::Objects;
 use std::alloc::{AllocError, Global};
 use walk_engine::Translator;
@@ -29,78 +30,66 @@ pub fn boot<T: Translator>(
     ensures state { IfOk result (λ machine. state_of machine ≡ booted listing.now) }
     ensures translator { IfOk result (λ machine. machine.translator ≡ translator) }
 {
-    let sizes = listing.sizes();
-    let mut objects = Objects::new(alloc, sizes)?;
-    let statements = listing.statements();
-    assign_counts(&mut objects, statements);
-    assign_all(&mut objects, statements);
-    let running = running(alloc, sizes.processes, statements)?;
+    let mut objects = Objects::new(alloc, listing.sizes())?;
+    assign_counts(&mut objects, listing);
+    assign_all(&mut objects, listing);
+    let running = running(alloc, listing)?;
     let mut machine = Machine::new(alloc, objects, translator)?;
-    start_all(&mut machine, running.as_slice(), sizes.processes);
+    start_all(&mut machine, running.as_slice());
     Ok(machine)
 }
 
-fn assign_counts(objects: &mut Objects, statements: &[Statement])
-    requires { All (IsStatement (sizes_of objects.old)) statements.now }
-    ensures value { objects.new ≡ counts_assigned objects.old statements.now }
-    ensures sizes { sizes_of objects.new ≡ sizes_of objects.old }
+/// Assigns all counts.
+fn assign_counts(objects: &mut Objects, listing: &Listing)
+    requires { objects.old ≡ empty_store listing.now.sizes }
+    ensures { objects.new ≡ empty_with listing.now.sizes (final_counts listing.now.sizes listing.now.statements) }
 {
-    'each: for i in 0..statements.len() {
-        assign_count(objects, &statements[i]);
+    'each: for statement in listing.statements() {
+        assign_count(objects, statement);
     }
 }
 
-fn assign_all(objects: &mut Objects, statements: &[Statement])
-    requires { All (IsStatement (sizes_of objects.old)) statements.now }
-    ensures value { objects.new ≡ all_assigned objects.old statements.now }
-    ensures sizes { sizes_of objects.new ≡ sizes_of objects.old }
+/// Assigns all but counts and whether processes run.
+fn assign_all(objects: &mut Objects, listing: &Listing)
+    requires { objects.old ≡ empty_with listing.now.sizes (final_counts listing.now.sizes listing.now.statements) }
+    ensures { objects.new ≡ objects_of listing.now }
 {
-    'each: for i in 0..statements.len() {
-        assign(objects, &statements[i]);
+    'each: for statement in listing.statements() {
+        assign(objects, statement);
     }
 }
 
 /// Which processes run: for each what its last `process` statement says.
-fn running(alloc: Global, processes: u16, statements: &[Statement]) -> Result<Vec<bool>, AllocError>
-    requires { All (NamesProcess processes) statements.now }
-    ensures { IfOk result (λ runs. runs.items ≡ all_flagged (replicate processes false) statements.now) }
+fn running(alloc: Global, listing: &Listing) -> Result<Vec<bool>, AllocError>
+    ensures { IfOk result (λ runs. runs.items ≡ listed listing.now.sizes.processes (λ p. is_running listing.now p)) }
 {
-    let mut all = stopped(alloc, processes)?;
-    'each: for i in 0..statements.len() {
-        note_running(&mut all, &statements[i]);
+    let mut all = vec![in alloc; false; listing.sizes().processes as usize]?;
+    'each: for statement in listing.statements() {
+        note_running(&mut all, statement);
     }
     Ok(all)
 }
 
-fn stopped(alloc: Global, processes: u16) -> Result<Vec<bool>, AllocError>
-    ensures { IfOk result (λ runs. runs.items ≡ replicate processes false) }
-{
-    let mut all = Vec::new(alloc);
-    'each: for _ in 0..processes {
-        all.push(false)?;
-    }
-    Ok(all)
-}
-
-fn start_all<T: Translator>(machine: &mut Machine<T>, running: &[bool], processes: u16)
-    requires running { length running.now ≡ processes }
-    requires there { (sizes_of machine.old.objects).processes ≡ processes }
-    requires stopped { AllStopped machine.old.objects }
-    ensures state { state_of machine.new ≡ started 0 running.now (state_of machine.old) }
+/// Starts the processes that run, in the order of their numbers.
+fn start_all<T: Translator>(machine: &mut Machine<T>, running: &[bool])
+    requires running { length running.now ≡ size_of machine.old.objects.items Process }
+    requires stopped { StoppedFrom 0 machine.old.objects }
+    ensures state { state_of machine.new ≡ made_ready (λ p. slice_index_or running.now p false) (length running.now) (state_of machine.old) }
     ensures translator { machine.new.translator ≡ machine.old.translator }
     ensures sizes { sizes_of machine.new.objects ≡ sizes_of machine.old.objects }
 {
+    let processes = machine.objects().sizes().processes;
     'each: for p in 0..processes {
         start_if(machine, p, running[p as usize]);
     }
 }
 
 /// Starts a process where it runs.
-#[tactic(auto, using(crate::proofs::Stopped::stopped_after))]
+#[tactic(auto, using(crate::proofs::Ready::stopped_after))]
 fn start_if<T: Translator>(machine: &mut Machine<T>, p: u16, runs: bool)
-    requires there { p < (sizes_of machine.old.objects).processes }
+    requires there { p < size_of machine.old.objects.items Process }
     requires stopped { StoppedFrom p machine.old.objects }
-    ensures state { state_of machine.new ≡ started_if runs p (state_of machine.old) }
+    ensures state { state_of machine.new ≡ (if runs then ready (state_of machine.old) p else state_of machine.old) }
     ensures translator { machine.new.translator ≡ machine.old.translator }
     ensures stopped { StoppedFrom (p + 1) machine.new.objects }
     ensures sizes { sizes_of machine.new.objects ≡ sizes_of machine.old.objects }

@@ -7,8 +7,8 @@ ghost use Rattle.page_store.specs.CapPage.{with_cap};
 ghost use Rattle.process_objects.specs.Process.{with_capreg};
 ghost use Rattle.object_store.specs.Store.{sizes_of, size_of, page_at, cappage_at, process_at, set_slot, with_items, with_page, with_cappage, with_process, with_endpoint};
 ghost use Rattle.listing_read.specs.Statement.{IsStatement};
-ghost use Rattle.image_builder.specs.Given.{counted, instruction_bytes, endpoint_of};
-ghost use Rattle.image_builder.specs.Assigned.{process_with, with_count_of, assigned, flagged, NamesProcess};
+ghost use Rattle.image_builder.specs.Given.{counted, instruction_bytes};
+ghost use Rattle.image_builder.specs.Assigned.{endpoint_of, process_with, with_count_of, assigned, flagged, NamesProcess};
 
 use cap_format::Cap;
 use endpoint_objects::Endpoint;
@@ -17,11 +17,9 @@ use object_store::Objects;
 use rv32_decode::{Insn, encode};
 
 /// Assigns a count. Any other statement assigns nothing here.
-#[tactic(auto, using(crate::specs::Sizes::sizes_recounted))]
 pub(crate) fn assign_count(objects: &mut Objects, statement: &Statement)
     requires { IsStatement (sizes_of objects.old) statement.now }
-    ensures value { objects.new ≡ with_count_of objects.old statement.now }
-    ensures sizes { sizes_of objects.new ≡ sizes_of objects.old }
+    ensures { objects.new ≡ with_count_of objects.old statement.now }
 {
     if let Statement::Count {
         kind,
@@ -60,8 +58,7 @@ fn counted(objects: &Objects, cap: Cap) -> Cap
 /// Assigns all but counts and whether a process runs. Counts are the final ones.
 pub(crate) fn assign(objects: &mut Objects, statement: &Statement)
     requires { IsStatement (sizes_of objects.old) statement.now }
-    ensures value { objects.new ≡ assigned objects.old statement.now }
-    ensures sizes { sizes_of objects.new ≡ sizes_of objects.old }
+    ensures { objects.new ≡ assigned objects.old statement.now }
 {
     match statement {
         Statement::Page { number, at, bytes } => {

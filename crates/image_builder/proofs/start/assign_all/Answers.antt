@@ -1,20 +1,17 @@
-use Rattle.std.proofs.Common.{◌≡◌, ◌+◌, ◌∙◌, List, drop, get_or, refl, sym, ap}
-use Rattle.std.proofs.lemmas.List.{drop_all}
-use Rattle.image_builder.specs.Assigned.{all_assigned}
-use Rattle.image_builder.proofs.Folds.{drop_at, all_assigned-nil, all_assigned-cons}
+use Rattle.std.proofs.Common.{◌∙◌}
+use Rattle.image_builder.proofs.Finals.{final_objects-nil}
+use Rattle.image_builder.proofs.Further.{thing_stated, assigned_further}
 use Rattle.image_builder.proofs.start.assign_all.Goals as goal
+
+pub each-init : goal.each-init
+each-init c = c.requires ∙ final_objects-nil c.args.listing.now.sizes _
+
+pub assign-requires : goal.assign-requires
+assign-requires c =
+    let told = c.statements-statement-items.ensures in
+    thing_stated _ _ _ _ _ told.value c.each-test.true c.statement-item.is _ c.each.invariant told.range
 
 pub each-preserved : goal.each-preserved
 each-preserved c =
-    let l = c.each in
-    let xs = c.args.statements.now in
-    let x = c.index-statements-i.result in
-    record {
-      value = ap (λ s. all_assigned s (drop (l.i + 1) xs)) c.assign.ensures.value ∙ (sym (all_assigned-cons l.objects x (drop (l.i + 1) xs)) ∙ (ap (all_assigned l.objects) (sym (drop_at xs l.i x c.each-test.true c.index-statements-i.is)) ∙ l.invariant.value));
-      sizes = c.assign.ensures.sizes ∙ l.invariant.sizes;
-    }
-
-pub returns-clause-value : goal.returns-clause-value
-returns-clause-value c =
-    let l = c.each in
-    sym (all_assigned-nil l.objects) ∙ (ap (all_assigned l.objects) (sym (drop_all l.i c.args.statements.now c.each-test.false)) ∙ l.invariant.value)
+    let told = c.statements-statement-items.ensures in
+    assigned_further _ _ _ _ _ told.value c.each-test.true c.statement-item.is _ _ c.each.invariant told.range c.assign.ensures

@@ -1,10 +1,6 @@
-use Rattle.std.proofs.Common.{◌≡◌, drop}
-use Rattle.object_store.specs.Store.{sizes_of}
-use Rattle.image_builder.specs.Assigned.{all_assigned}
+use Rattle.std.proofs.Common.{◌≡◌, take}
+use Rattle.image_builder.specs.Given.{final_counts, final_objects}
 use Rattle.image_builder.proofs.start.assign_all.Given as goal
 
 abbrev pub invariant-each : goal.invariant-each
-invariant-each l = record {
-  value : all_assigned l.objects (drop l.i l.statements) ≡ all_assigned l.fn.objects l.statements;
-  sizes : sizes_of l.objects ≡ sizes_of l.fn.objects;
-}
+invariant-each l = l.objects ≡ final_objects (final_counts l.fn.listing.sizes l.fn.listing.statements) (take l.statement-index l.fn.listing.statements) l.fn.listing.sizes

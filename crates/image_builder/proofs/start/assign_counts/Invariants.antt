@@ -1,10 +1,7 @@
-use Rattle.std.proofs.Common.{◌≡◌, drop}
-use Rattle.object_store.specs.Store.{sizes_of}
-use Rattle.image_builder.specs.Assigned.{counts_assigned}
+use Rattle.std.proofs.Common.{◌≡◌, take}
+use Rattle.image_builder.specs.Given.{final_counts}
+use Rattle.image_builder.specs.Assigned.{empty_with}
 use Rattle.image_builder.proofs.start.assign_counts.Given as goal
 
 abbrev pub invariant-each : goal.invariant-each
-invariant-each l = record {
-  value : counts_assigned l.objects (drop l.i l.statements) ≡ counts_assigned l.fn.objects l.statements;
-  sizes : sizes_of l.objects ≡ sizes_of l.fn.objects;
-}
+invariant-each l = l.objects ≡ empty_with l.fn.listing.sizes (final_counts l.fn.listing.sizes (take l.statement-index l.fn.listing.statements))

@@ -1,20 +1,18 @@
-use Rattle.std.proofs.Common.{◌≡◌, ◌+◌, ◌∙◌, List, drop, get_or, length, refl, sym, ap, rules}
-use Rattle.std.proofs.lemmas.List.{drop_all}
-use Rattle.image_builder.specs.Assigned.{flagged, all_flagged}
-use Rattle.image_builder.proofs.Folds.{drop_at, all_flagged-nil, all_flagged-cons, length-flagged}
+use Rattle.std.proofs.Common.{false, replicate, ap, ◌∙◌}
+use Rattle.object_store.specs.declared.sizes.Sizes.{Sizes}
+use Rattle.image_builder.proofs.Further.{flagged_first, process_named, flagged_further}
 use Rattle.image_builder.proofs.start.running.Goals as goal
+
+pub each-init : goal.each-init
+each-init c =
+    c.in_ok-all.ensures.items_if_clones_equal (λ y same. same)
+    ∙ (ap (λ (sizes : Sizes). replicate sizes.processes false) c.sizes.ensures.value ∙ flagged_first c.args.listing.now.sizes.processes)
+
+pub note_running-requires : goal.note_running-requires
+note_running-requires c =
+    let told = c.statements-statement-items.ensures in
+    process_named _ _ _ _ _ told.value c.each-test.true c.statement-item.is _ _ c.each.invariant told.range
 
 pub each-preserved : goal.each-preserved
 each-preserved c =
-    let l = c.each in
-    let xs = c.args.statements.now in
-    let x = c.index-statements-i.result in
-    record {
-      value = ap (λ s. all_flagged s (drop (l.i + 1) xs)) c.note_running.ensures ∙ (sym (all_flagged-cons l.all.items x (drop (l.i + 1) xs)) ∙ (ap (all_flagged l.all.items) (sym (drop_at xs l.i x c.each-test.true c.index-statements-i.is)) ∙ l.invariant.value));
-      size = ap length c.note_running.ensures ∙ (length-flagged l.all.items x ∙ l.invariant.size);
-    }
-
-pub returns : goal.returns
-returns c =
-    let l = c.each in
-    sym (all_flagged-nil l.all.items) ∙ (ap (all_flagged l.all.items) (sym (drop_all l.i c.args.statements.now c.each-test.false)) ∙ l.invariant.value)
+    flagged_further c.args.listing.now.sizes _ _ _ _ c.statements-statement-items.ensures.value c.each-test.true c.statement-item.is _ _ c.each.invariant c.note_running.ensures

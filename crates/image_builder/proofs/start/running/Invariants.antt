@@ -1,9 +1,6 @@
-use Rattle.std.proofs.Common.{◌≡◌, drop, length, replicate, false}
-use Rattle.image_builder.specs.Assigned.{all_flagged}
+use Rattle.std.proofs.Common.{◌≡◌, false, take}
+use Rattle.image_builder.specs.Given.{listed, last_given, run_given}
 use Rattle.image_builder.proofs.start.running.Given as goal
 
 abbrev pub invariant-each : goal.invariant-each
-invariant-each l = record {
-  value : all_flagged l.all.items (drop l.i l.statements) ≡ all_flagged (replicate l.processes false) l.statements;
-  size : length l.all.items ≡ l.processes;
-}
+invariant-each l = l.all.items ≡ listed l.fn.listing.sizes.processes (λ p. last_given (run_given p) false (take l.statement-index l.fn.listing.statements))
