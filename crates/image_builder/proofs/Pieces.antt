@@ -1,9 +1,9 @@
 -- The pieces of the generated text, one behind the other, are the text.
-use Rattle.std.proofs.Common.{ℕ, zero, suc, ◌≡◌, ◌+◌, ◌-◌, ◌<◌, ◌≤◌, ◌⊎◌, inl, inr, List, [], ◌++◌, length, take, drop, min, true, false, refl, sym, ap, subst, ◌∙◌, arith, append_assoc, append-nil, take-append-drop}
+use Rattle.std.proofs.Common.{ℕ, zero, suc, ◌≡◌, ◌+◌, ◌-◌, ◌<◌, ◌≤◌, ◌⊎◌, inl, inr, List, [], ◌++◌, length, take, drop, min, refl, sym, ap, subst, ◌∙◌, arith, append_assoc, append-nil, take-append-drop}
 use Rattle.std.proofs.Math.ListN.{drop_of_length-le}
 use Rattle.std.proofs.lemmas.List.{drop-drop}
 use Rattle.std.proofs.lemmas.Bool.{le-leb, lt-leb, ne_eqb, cases_lt}
-use Rattle.image_builder.specs.Make.{pairs_of, calls_of, head_text, pair_text, pairs_text, tail_text, make_text, piece_text, behind_pieces}
+use Rattle.image_builder.specs.Make.{pairs_of, calls_of, pair_text, pairs_text, tail_text, make_text, piece_text, behind_pieces}
 
 -- what the piece of a pair and the last piece are, and what follows them
 pair_piece : (n i : ℕ) → i < pairs_of n → piece_text n (i + 1) ≡ pair_text (calls_of n) i

@@ -1,6 +1,6 @@
 -- The generated text: pairs of processes that send to one another, and a schedule long enough for all of it. (This
 -- project's own.)
-use Rattle.std.specs.Prelude.{ℕ, zero, suc, ◌+◌, ◌-◌, ◌*◌, ◌/◌, ◌%◌, ◌==◌, nat_le, if◌then◌else◌, List, [], ◌∷◌, ◌++◌, codes, decimal}
+use Rattle.std.specs.Prelude.{ℕ, zero, suc, ◌+◌, ◌-◌, ◌*◌, ◌/◌, ◌%◌, ◌==◌, nat_le, if◌then◌else◌, List, [], ◌∷◌, ◌++◌, drop, codes, decimal}
 use Rattle.coy_text.specs.Numeral.{hex_text}
 
 -- how many pairs there are, how often each client calls, how many harts there are, and how many rounds are run
@@ -123,3 +123,7 @@ unfoldable pub behind_pieces : ℕ → ℕ → List ℕ
 behind_pieces n done =
     if done == 0 then make_text n
     else (if nat_le done (pairs_of n + 1) then pairs_text (calls_of n) (done - 1) (pairs_of n + 1 - done) ++ tail_text n else [])
+
+-- what is left, where offset `at` of a piece is reached and `done` pieces were made with it
+abbrev pub ahead_of : ℕ → ℕ → List ℕ → ℕ → List ℕ
+ahead_of n done piece at = drop at piece ++ behind_pieces n done

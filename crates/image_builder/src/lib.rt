@@ -4,6 +4,7 @@
 #![tactic(auto)]
 
 mod make;
+mod pair;
 mod start;
 mod statements;
 

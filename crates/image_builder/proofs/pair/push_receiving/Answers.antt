@@ -1,6 +1,6 @@
 use Rattle.image_builder.specs.Make.{receiving_text}
 use Rattle.image_builder.proofs.Pushed.{pushed}
-use Rattle.image_builder.proofs.make.push_receiving.Goals as goal
+use Rattle.image_builder.proofs.pair.push_receiving.Goals as goal
 
 pub returns-clause-text : goal.returns-clause-text
 unfolding receiving_text

@@ -1,5 +1,5 @@
 use Rattle.image_builder.proofs.Pushed.{pushed}
-use Rattle.image_builder.proofs.make.push_pair.Goals as goal
+use Rattle.image_builder.proofs.pair.push_pair.Goals as goal
 
 pub returns-clause-text : goal.returns-clause-text
 returns-clause-text c =
