@@ -1,6 +1,7 @@
 -- The generated text: pairs of processes that send to one another, and a schedule long enough for all of it. (This
 -- project's own.)
-use Rattle.std.specs.Prelude.{ℕ, zero, suc, ◌+◌, ◌-◌, ◌*◌, ◌/◌, ◌%◌, ◌==◌, nat_le, if◌then◌else◌, List, [], ◌∷◌, ◌++◌, drop, codes, decimal}
+use Rattle.std.specs.Prelude.{ℕ, ◌+◌, ◌*◌, ◌/◌, ◌%◌, List, [], ◌∷◌, ◌++◌, map, drop, codes, decimal}
+use Rattle.std.specs.List.{range_with_len, concat}
 use Rattle.coy_text.specs.Numeral.{hex_text}
 
 -- how many pairs there are, how often each client calls, how many harts there are, and how many rounds are run
@@ -97,33 +98,18 @@ pair_text calls i =
     call_text (2 * i) ++ counting_text (2 * i) ++ receiving_text (2 * i + 1) ++ answering_text (2 * i + 1) ++
     places_text (2 * i) (2 * i + 1) ++ registers_text calls (2 * i) (2 * i + 1)
 
--- the pairs from `i` on, where `left` are left
-unfoldable pub pairs_text : ℕ → ℕ → ℕ → List ℕ
-pairs_text calls i zero = []
-pairs_text calls i (suc left) = pair_text calls i ++ pairs_text calls (i + 1) left
-
 -- the last two lines
 unfoldable pub tail_text : ℕ → List ℕ
 tail_text n = codes "end" ++ line_feed ++ codes "round " ++ decimal (rounds_of n) ++ line_feed
 
+-- the first two lines, the lines of each pair, and the last two lines
+unfoldable pub pieces_of : ℕ → List (List ℕ)
+pieces_of n = head_text n ∷ (map (λ i. pair_text (calls_of n) i) (range_with_len 0 (pairs_of n)) ++ tail_text n ∷ [])
+
 -- the text of a number
-unfoldable pub make_text : ℕ → List ℕ
-make_text n = head_text n ++ (pairs_text (calls_of n) 0 (pairs_of n) ++ tail_text n)
+abbrev pub make_text : ℕ → List ℕ
+make_text n = concat (pieces_of n)
 
--- ---- the text in pieces: the head, a piece for each pair, and the tail
-
--- the piece behind the first `done`
-unfoldable pub piece_text : ℕ → ℕ → List ℕ
-piece_text n done =
-    if done == 0 then head_text n
-    else (if nat_le done (pairs_of n) then pair_text (calls_of n) (done - 1) else tail_text n)
-
--- all that follows the first `done`
-unfoldable pub behind_pieces : ℕ → ℕ → List ℕ
-behind_pieces n done =
-    if done == 0 then make_text n
-    else (if nat_le done (pairs_of n + 1) then pairs_text (calls_of n) (done - 1) (pairs_of n + 1 - done) ++ tail_text n else [])
-
--- what is left, where offset `at` of a piece is reached and `done` pieces were made with it
+-- what is left of it behind the first `done` pieces and the first `at` bytes of the last of them
 abbrev pub ahead_of : ℕ → ℕ → List ℕ → ℕ → List ℕ
-ahead_of n done piece at = drop at piece ++ behind_pieces n done
+ahead_of n done piece at = drop at piece ++ concat (drop done (pieces_of n))

@@ -1,15 +1,15 @@
 //! The generated text as a source: it is made pair by pair, and never held whole.
-ghost use Rattle.std.specs.Prelude.{◌≡◌, ◌≤◌, ◌+◌, ◌-◌, ◌++◌, Some, [], length, min, take, drop, decimal, IsOk, IfOk};
+ghost use Rattle.std.specs.Prelude.{◌≡◌, ◌≤◌, ◌+◌, ◌-◌, ◌++◌, Some, [], length, min, take, drop, slice_index_or, decimal, IsOk, IfOk};
 ghost use Rattle.std.specs.Io.KnownBytes.{ReadConsumes};
 ghost use Rattle.coy_io.specs.Causes.{HasCause};
-ghost use Rattle.image_builder.specs.Make.{pairs_of, calls_of, head_text, tail_text, make_text, piece_text, ahead_of};
+ghost use Rattle.image_builder.specs.Make.{pairs_of, calls_of, head_text, tail_text, make_text, pieces_of, ahead_of};
 
 use crate::pair::push_pair;
 use coy_io::{Failed, Source};
 use coy_text::LineBuf;
 
-/// The text of a number: pairs of processes that send to one another, and a schedule in which all calls end. As a
-/// source it never fails, takes constant memory, and needs time that is linear in the bytes given.
+/// The text of a number: pairs of processes that send to one another, and a schedule in which all
+/// calls end. It takes constant memory, and time that is linear in the bytes given.
 #[derive(Drop)]
 pub struct MakeSource {
     n: u32,
@@ -38,7 +38,8 @@ impl MakeSource {
     fn refill(&mut self)
         ensures held { let s = self.old in let t = self.new in
             ahead_of t.n t.done t.piece t.at ≡ ahead_of s.n s.done s.piece s.at }
-        ensures end { let t = self.new in length t.piece ≤ t.at → ahead_of t.n t.done t.piece t.at ≡ [] }
+        ensures end { let t = self.new in
+            length t.piece ≤ t.at → ahead_of t.n t.done t.piece t.at ≡ [] }
     {
         if self.at < self.piece.as_bytes().len() {
             return;
@@ -60,7 +61,9 @@ impl Source for MakeSource {
     fn take(&mut self, buf: &mut [u8]) -> Result<usize, Failed>
         ensures bound { IfOk result (λ n. n ≤ length buf.new) }
         ensures bytes { let s = self.old in let t = self.new in
-            ReadConsumes (Some (ahead_of s.n s.done s.piece s.at)) (Some (ahead_of t.n t.done t.piece t.at)) result buf.new }
+            let before = ahead_of s.n s.done s.piece s.at in
+            let left = ahead_of t.n t.done t.piece t.at in
+            ReadConsumes (Some before) (Some left) result buf.new }
         ensures never_fails { IsOk result }
         ensures cause { HasCause 0 0 result }
     {
@@ -100,9 +103,10 @@ fn calls(n: u32) -> u32
 }
 
 /// Makes the piece behind the first `done`.
-#[tactic(auto, unfolding(crate::specs::Make::piece_text))]
+#[tactic(auto, using(crate::proofs::Pieces::first_piece, crate::proofs::Pieces::pair_piece, crate::proofs::Pieces::last_piece))]
 fn make_piece(line: &mut LineBuf, n: u32, done: u8)
-    ensures text { line.new ≡ piece_text n done }
+    requires { done ≤ pairs_of n + 1 }
+    ensures text { line.new ≡ slice_index_or (pieces_of n) done [] }
     ensures some { 1 ≤ length line.new }
 {
     line.clear();

@@ -108,7 +108,8 @@ fn push_answering(line: &mut LineBuf, page: u8)
 fn push_double(line: &mut LineBuf, front: &str, first: u8, middle: &str, second: u8, rest: &str)
     requires { length line.old + length front.now + length middle.now + length rest.now ≤ 980 }
     ensures text { line.new ≡ line.old ++ double_line front.now first middle.now second rest.now }
-    ensures len { length line.new ≤ length line.old + length front.now + length middle.now + length rest.now + 7 }
+    ensures len { let words = length front.now + length middle.now + length rest.now in
+        length line.new ≤ length line.old + words + 7 }
     ensures more { length line.old < length line.new }
 {
     line.push_word(front);

@@ -1,5 +1,5 @@
 //! The start of a machine.
-ghost use Rattle.std.specs.Prelude.{◌≡◌, ◌<◌, ◌+◌, ◌≤◌, false, IfOk, if◌then◌else◌, length, slice_index_or};
+ghost use Rattle.std.specs.Prelude.{◌≡◌, ℕ, ◌<◌, ◌+◌, ◌≤◌, false, IfOk, if◌then◌else◌, length, slice_index_or};
 ghost use Rattle.cap_format.specs.declared.kind.CapKind.TheVariants.{Process};
 ghost use Rattle.object_store.specs.Store.{sizes_of, size_of, empty_store};
 ghost use Rattle.kernel_core.specs.State.{state_of};
@@ -42,7 +42,8 @@ pub fn boot<T: Translator>(
 /// Assigns all counts.
 fn assign_counts(objects: &mut Objects, listing: &Listing)
     requires { objects.old ≡ empty_store listing.now.sizes }
-    ensures { objects.new ≡ empty_with listing.now.sizes (final_counts listing.now.sizes listing.now.statements) }
+    ensures { let l = listing.now in
+        objects.new ≡ empty_with l.sizes (final_counts l.sizes l.statements) }
 {
     'each: for statement in listing.statements() {
         assign_count(objects, statement);
@@ -51,7 +52,8 @@ fn assign_counts(objects: &mut Objects, listing: &Listing)
 
 /// Assigns all but counts and whether processes run.
 fn assign_all(objects: &mut Objects, listing: &Listing)
-    requires { objects.old ≡ empty_with listing.now.sizes (final_counts listing.now.sizes listing.now.statements) }
+    requires { let l = listing.now in
+        objects.old ≡ empty_with l.sizes (final_counts l.sizes l.statements) }
     ensures { objects.new ≡ objects_of listing.now }
 {
     'each: for statement in listing.statements() {
@@ -61,7 +63,8 @@ fn assign_all(objects: &mut Objects, listing: &Listing)
 
 /// Which processes run: for each what its last `process` statement says.
 fn running(alloc: Global, listing: &Listing) -> Result<Vec<bool>, AllocError>
-    ensures { IfOk result (λ runs. runs.items ≡ listed listing.now.sizes.processes (λ p. is_running listing.now p)) }
+    ensures { let l = listing.now in
+        IfOk result (λ runs. runs.items ≡ listed l.sizes.processes (λ p. is_running l p)) }
 {
     let mut all = vec![in alloc; false; listing.sizes().processes as usize]?;
     'each: for statement in listing.statements() {
@@ -74,7 +77,8 @@ fn running(alloc: Global, listing: &Listing) -> Result<Vec<bool>, AllocError>
 fn start_all<T: Translator>(machine: &mut Machine<T>, running: &[bool])
     requires running { length running.now ≡ size_of machine.old.objects.items Process }
     requires stopped { StoppedFrom 0 machine.old.objects }
-    ensures state { state_of machine.new ≡ made_ready (λ p. slice_index_or running.now p false) (length running.now) (state_of machine.old) }
+    ensures state { let runs = λ (p : ℕ). slice_index_or running.now p false in
+        state_of machine.new ≡ made_ready runs (length running.now) (state_of machine.old) }
     ensures translator { machine.new.translator ≡ machine.old.translator }
     ensures sizes { sizes_of machine.new.objects ≡ sizes_of machine.old.objects }
 {
@@ -89,7 +93,8 @@ fn start_all<T: Translator>(machine: &mut Machine<T>, running: &[bool])
 fn start_if<T: Translator>(machine: &mut Machine<T>, p: u16, runs: bool)
     requires there { p < size_of machine.old.objects.items Process }
     requires stopped { StoppedFrom p machine.old.objects }
-    ensures state { state_of machine.new ≡ (if runs then ready (state_of machine.old) p else state_of machine.old) }
+    ensures state { let s = state_of machine.old in
+        state_of machine.new ≡ (if runs then ready s p else s) }
     ensures translator { machine.new.translator ≡ machine.old.translator }
     ensures stopped { StoppedFrom (p + 1) machine.new.objects }
     ensures sizes { sizes_of machine.new.objects ≡ sizes_of machine.old.objects }

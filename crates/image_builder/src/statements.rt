@@ -2,13 +2,10 @@
 ghost use Rattle.std.specs.Prelude.{◌≡◌, ◌+◌, ◌<◌, ◌≤◌, ◌%◌, length};
 ghost use Rattle.cap_format.specs.declared.kind.CapKind.TheVariants.{Page, CapPage, Gpt, Endpoint as EndpointKind, Process};
 ghost use Rattle.rv32_decode.specs.InRange.{InRange};
-ghost use Rattle.page_store.specs.Page.{with_bytes};
-ghost use Rattle.page_store.specs.CapPage.{with_cap};
-ghost use Rattle.process_objects.specs.Process.{with_capreg};
-ghost use Rattle.object_store.specs.Store.{sizes_of, size_of, page_at, cappage_at, process_at, set_slot, with_items, with_page, with_cappage, with_process, with_endpoint};
+ghost use Rattle.object_store.specs.Store.{sizes_of, size_of, process_at, with_process};
 ghost use Rattle.listing_read.specs.Statement.{IsStatement};
-ghost use Rattle.image_builder.specs.Given.{counted, instruction_bytes};
-ghost use Rattle.image_builder.specs.Assigned.{endpoint_of, process_with, with_count_of, assigned, flagged, NamesProcess};
+ghost use Rattle.image_builder.specs.Given.{counted};
+ghost use Rattle.image_builder.specs.Assigned.{process_with, with_count_of, assigned, flagged, NamesProcess};
 
 use cap_format::Cap;
 use endpoint_objects::Endpoint;
@@ -100,7 +97,7 @@ pub(crate) fn assign(objects: &mut Objects, statement: &Statement)
 fn assign_bytes(objects: &mut Objects, number: u16, at: u16, bytes: &[u8])
     requires there { number < size_of objects.old.items Page }
     requires within { at + length bytes.now ≤ 4096 }
-    ensures { objects.new ≡ with_page objects.old number (with_bytes (page_at objects.old number) at bytes.now) }
+    ensures { objects.new ≡ assigned objects.old (Statement.Page number at bytes.now) }
 {
     objects.page_mut(number).write(at, bytes);
 }
@@ -109,7 +106,7 @@ fn assign_code(objects: &mut Objects, number: u16, at: u16, insn: Insn)
     requires there { number < size_of objects.old.items Page }
     requires within { at + 4 ≤ 4096 }
     requires insn { InRange insn }
-    ensures { objects.new ≡ with_page objects.old number (with_bytes (page_at objects.old number) at (instruction_bytes insn)) }
+    ensures { objects.new ≡ assigned objects.old (Statement.Code number at insn) }
 {
     let word = encode(insn).to_le_bytes();
     assign_bytes(objects, number, at, word.as_slice());
@@ -117,7 +114,7 @@ fn assign_code(objects: &mut Objects, number: u16, at: u16, insn: Insn)
 
 fn assign_cap(objects: &mut Objects, number: u16, slot: u8, cap: Cap)
     requires { number < size_of objects.old.items CapPage }
-    ensures { objects.new ≡ with_cappage objects.old number (with_cap (cappage_at objects.old number) slot (counted objects.old.items.counts cap)) }
+    ensures { objects.new ≡ assigned objects.old (Statement.CapSlot number slot cap) }
 {
     let cap = counted(objects, cap);
     objects.cappage_mut(number).set(slot, cap);
@@ -126,7 +123,7 @@ fn assign_cap(objects: &mut Objects, number: u16, slot: u8, cap: Cap)
 fn assign_slot(objects: &mut Objects, number: u16, slot: u8, cap: Cap)
     requires there { number < size_of objects.old.items Gpt }
     requires slot { slot < 16 }
-    ensures { objects.new ≡ with_items objects.old (set_slot objects.old.items number slot (counted objects.old.items.counts cap)) }
+    ensures { objects.new ≡ assigned objects.old (Statement.GptSlot number slot cap) }
 {
     let cap = counted(objects, cap);
     let _item = objects.set_gpt_slot(number, slot, cap);
@@ -141,7 +138,8 @@ fn assign_endpoint(
     matching: bool,
 )
     requires { number < size_of objects.old.items EndpointKind }
-    ensures { objects.new ≡ with_endpoint objects.old number (endpoint_of (counted objects.old.items.counts recipient) id payload matching) }
+    ensures { let statement = Statement.Endpoint number recipient id payload matching in
+        objects.new ≡ assigned objects.old statement }
 {
     let recipient = counted(objects, recipient);
     *objects.endpoint_mut(number) = Endpoint {
@@ -162,7 +160,10 @@ fn assign_process(
 )
     requires there { number < size_of objects.old.items Process }
     requires aligned { pc % 4 ≡ 0 }
-    ensures { objects.new ≡ with_process objects.old number (process_with (process_at objects.old number) pc (counted objects.old.items.counts space) (counted objects.old.items.counts schedule) (counted objects.old.items.counts handler)) }
+    ensures { let whole = counted objects.old.items.counts in
+        let old = process_at objects.old number in
+        let new = process_with old pc (whole space) (whole schedule) (whole handler) in
+        objects.new ≡ with_process objects.old number new }
 {
     let space = counted(objects, space);
     let schedule = counted(objects, schedule);
@@ -177,7 +178,7 @@ fn assign_process(
 fn assign_capreg(objects: &mut Objects, number: u16, index: u8, cap: Cap)
     requires there { number < size_of objects.old.items Process }
     requires index { index < 32 }
-    ensures { objects.new ≡ with_process objects.old number (with_capreg (process_at objects.old number) index (counted objects.old.items.counts cap)) }
+    ensures { objects.new ≡ assigned objects.old (Statement.CapReg number index cap) }
 {
     let cap = counted(objects, cap);
     objects.process_mut(number).set_capreg(index, cap);

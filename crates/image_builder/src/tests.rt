@@ -1,4 +1,5 @@
-//! The generated text, by lengths and digests of the same text made by another program, and a start worked out by hand.
+//! The generated text, by lengths and digests of the same text made by another program, and a
+//! start worked out by hand.
 ghost use Rattle.std.specs.Prelude.{◌≡◌};
 
 use crate::{MakeSource, boot};
@@ -41,9 +42,19 @@ fn the_generated_text_has_its_length_and_digest(rt: HostRuntime) {
     }
 }
 
-/// Three processes, of which the last statements let 0 and 2 run, and page 1 with the count 5 behind a capability to it.
-const LISTING: &str =
-    "coyotos 1\nmachine 1 2 0 0 3 0\nprocess 2 0 null schedule:3 null run\nprocess 1 4 null schedule:3 null run\nprocess 0 8 null schedule:3 null run\ncapreg 0 1 page:1@12/0\nprocess 1 c null schedule:3 null stop\ncount page 1 4\ncount page 1 5\nend\n";
+/// Three processes, of which the last statements let 0 and 2 run, and a capability to page 1, whose
+/// count in the end is 5.
+const LISTING: &str = "coyotos 1
+machine 1 2 0 0 3 0
+process 2 0 null schedule:3 null run
+process 1 4 null schedule:3 null run
+process 0 8 null schedule:3 null run
+capreg 0 1 page:1@12/0
+process 1 c null schedule:3 null stop
+count page 1 4
+count page 1 5
+end
+";
 
 #[test]
 fn a_machine_starts_as_its_listing_says(rt: HostRuntime) -> Result<(), Fail> {
