@@ -1,0 +1,22 @@
+//! Values that were worked out by hand, or by another program, against the public calls of the crates below.
+//!
+//! It has tests alone: those crates are proved once without them, and the tests are proved here. A row of a table
+//! is a line of text, whose numbers are hexadecimal.
+#![tactic(auto)]
+
+#[cfg(test)]
+mod caches;
+#[cfg(test)]
+mod capabilities;
+#[cfg(test)]
+mod instructions;
+#[cfg(test)]
+mod machine;
+#[cfg(test)]
+mod numbers;
+#[cfg(test)]
+mod objects;
+#[cfg(test)]
+mod rows;
+#[cfg(test)]
+mod walks;
