@@ -42,25 +42,3 @@ impl<L: Ledger> Steps<L> {
         self.book.add(&mut self.share, 1);
     }
 }
-
-#[cfg(test)]
-mod tests {
-    use super::*;
-    use std::marker::Brand;
-
-    fn bytes_of_a_counter<L: Ledger>(blank: Blank) -> usize
-        requires name { blank.name ≡ L.name }
-        requires parts { blank.parts ≡ L.parts }
-        requires some { 0 < blank.parts }
-    {
-        let mut steps = Steps::<L>::new(blank);
-        steps.tick();
-        size_of::<Steps<L>>()
-    }
-
-    #[test]
-    fn a_caller_that_counts_nothing_makes_a_counter_of_no_bytes(rt: HostRuntime) {
-        let bytes = bytes_of_a_counter::<Brand>(Blank::new(1));
-        assert_eq!(rt; bytes, 0);
-    }
-}
