@@ -11,6 +11,3 @@ mod words;
 pub use line_buf::LineBuf;
 pub use numeral::{BadNumber, numbers_read_back, read_dec, read_hex};
 pub use words::{cut, word, word_count, words_from};
-
-#[cfg(test)]
-mod tests;
