@@ -14,8 +14,6 @@ mod limits;
 mod memory;
 mod message;
 mod restr;
-#[cfg(test)]
-mod tests;
 mod weakening;
 
 pub use cap::{Cap, Misaligned};
