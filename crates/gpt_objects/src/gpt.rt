@@ -81,37 +81,3 @@ fn nulls() -> [Cap; 16]
 {
     [Cap::null(); 16]
 }
-
-#[cfg(test)]
-mod tests {
-    use super::*;
-    use cap_format::CapKind;
-    use std::marker::Brand;
-    use std::sync::ledger::Blank;
-
-    /// The kinds of the capabilities in slots 14 and 15.
-    fn last_kinds<L: Ledger>(gpt: &Gpt, blank: Blank) -> (CapKind, CapKind)
-        requires name { blank.name ≡ L.name }
-        requires parts { blank.parts ≡ L.parts }
-        requires some { 0 < blank.parts }
-    {
-        let mut fetches = Steps::<L>::new(blank);
-        let background = gpt.slot(14, &mut fetches);
-        let handler = gpt.slot(15, &mut fetches);
-        (background.kind(), handler.kind())
-    }
-
-    #[test]
-    fn a_written_slot_is_read_and_the_one_beside_it_stays(rt: HostRuntime) {
-        let mut gpt = Gpt::new();
-        gpt.set_header(GptHeader::new(31, true, false));
-        gpt.set_slot(15, Cap::plain(CapKind::KernLog));
-        let (background, handler) = last_kinds::<Brand>(&gpt, Blank::new(1));
-        assert_eq!(rt; background, CapKind::Null);
-        assert_eq!(rt; handler, CapKind::KernLog);
-        let header = gpt.header();
-        assert_eq!(rt; header.l2v(), 31);
-        assert!(rt; header.ha());
-        assert!(rt; !header.bg());
-    }
-}

@@ -1,7 +1,3 @@
-use Rattle.std.proofs.Common.{◌≡◌, List, ap, sym, subst, ◌∙◌}
-use Rattle.cap_format.specs.Capability.{Capability}
-use Rattle.gpt_objects.specs.Header.{HeaderValue}
-use Rattle.gpt_objects.specs.Gpt.{GptValue, IsGpt, empty_gpt}
 use Rattle.gpt_objects.specs.Ranges.{IsGpt-empty_gpt}
 use Rattle.gpt_objects.proofs.gpt.Gpt.new.Goals as goal
 
