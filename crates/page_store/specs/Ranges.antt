@@ -1,5 +1,5 @@
 -- What keeps pages in their ranges.
-use Rattle.std.proofs.Common.{ℕ, ◌≡◌, ◌∙◌, List, All, length}
+use Rattle.std.proofs.Common.{ℕ, ◌∙◌, List}
 use Rattle.std.proofs.lemmas.List.{length-replicate, length-set}
 use Rattle.std.proofs.lemmas.List.Elements.{All-set, All-replicate}
 use Rattle.cap_format.specs.Capability.{Capability, IsCapability, null}

@@ -63,19 +63,3 @@ fn nulls() -> [Cap; 256]
 {
     [Cap::null(); 256]
 }
-
-#[cfg(test)]
-mod tests {
-    use super::*;
-    use cap_format::CapKind;
-
-    #[test]
-    fn the_last_slot_is_written_alone_and_erased(rt: HostRuntime) {
-        let mut page = CapPage::new();
-        page.set(255, Cap::plain(CapKind::KernLog));
-        assert_eq!(rt; page.get(255).kind(), CapKind::KernLog);
-        assert_eq!(rt; page.get(254).kind(), CapKind::Null);
-        page.erase();
-        assert_eq!(rt; page.get(255).kind(), CapKind::Null);
-    }
-}

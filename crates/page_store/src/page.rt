@@ -66,25 +66,3 @@ fn zeros() -> [u8; 4096]
 {
     [0; 4096]
 }
-
-#[cfg(test)]
-mod tests {
-    use super::*;
-
-    #[test]
-    fn bytes_are_read_where_they_were_written(rt: HostRuntime) {
-        let mut page = Page::new();
-        page.write(0xffd, &[1, 2, 3]);
-        // (offset, the two bytes that stand there)
-        let cases = [(0xffb, [0, 0]), (0xffc, [0, 1]), (0xffe, [2, 3])];
-        for (at, want) in cases {
-            let mut bytes = [9; 2];
-            page.read(at, &mut bytes);
-            assert_eq!(rt; bytes, want, "at {at:x}");
-        }
-        page.erase();
-        let mut bytes = [9; 2];
-        page.read(0xffe, &mut bytes);
-        assert_eq!(rt; bytes, [0, 0]);
-    }
-}

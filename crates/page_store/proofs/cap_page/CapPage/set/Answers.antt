@@ -1,0 +1,6 @@
+use Rattle.page_store.specs.Ranges.{IsCapPage-with_cap}
+use Rattle.page_store.proofs.cap_page.CapPage.set.Goals as goal
+
+pub returns-clause-range : goal.returns-clause-range
+returns-clause-range c =
+    IsCapPage-with_cap c.self.inside.caps c.args.i c.args.cap c.kind-kind.ensures.range c.self.invariant
