@@ -1,6 +1,6 @@
 -- What keeps a process in its ranges.
-use Rattle.std.proofs.Common.{ℕ, ◌≡◌, ◌≢◌, ◌∙◌, refl, All, slice_set, length, replicate}
-use Rattle.std.proofs.lemmas.List.{length-set, length-replicate, get_or-set_other}
+use Rattle.std.proofs.Common.{ℕ, ◌≢◌, ◌∙◌, refl, slice_set}
+use Rattle.std.proofs.lemmas.List.{length-set, get_or-set_other}
 use Rattle.std.proofs.lemmas.List.Elements.{All-set, All-replicate}
 use Rattle.cap_format.specs.Capability.{Capability, IsCapability, null}
 use Rattle.cap_format.specs.Ranges.{IsCapability-null, IsCapability-at}

@@ -1,5 +1,4 @@
-use Rattle.std.proofs.Common.{◌≡◌, ◌≢◌, arith, sym}
-use Rattle.process_objects.specs.Process.{IsProcess}
+use Rattle.std.proofs.Common.{arith}
 use Rattle.process_objects.specs.Ranges.{IsProcess-capreg}
 use Rattle.process_objects.proofs.process.Process.set_capreg.Goals as goal
 
