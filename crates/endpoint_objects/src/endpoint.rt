@@ -37,18 +37,3 @@ impl Endpoint {
         self.payload = self.payload.wrapping_add(1);
     }
 }
-
-#[cfg(test)]
-mod tests {
-    use super::*;
-
-    #[test]
-    fn the_payload_after_the_last_is_0(rt: HostRuntime) {
-        for (payload, next) in [(0, 1), (0x7fff_ffff, 0x8000_0000), (0xffff_ffff, 0)] {
-            let mut endpoint = Endpoint::new();
-            endpoint.payload = payload;
-            endpoint.raise();
-            assert_eq!(rt; endpoint.payload, next);
-        }
-    }
-}
