@@ -8,8 +8,6 @@ mod laws;
 mod objects;
 mod sizes;
 mod tables;
-#[cfg(test)]
-mod tests;
 
 pub use laws::{destruction_means, difference_laws, none_comes_ahead, reads_mean, writes_mean};
 pub use objects::{CountSpent, NoObject, Objects};
