@@ -13,6 +13,3 @@ mod words;
 pub use code::{decode, encode};
 pub use illegal::Illegal;
 pub use insn::Insn;
-
-#[cfg(test)]
-mod tests;
