@@ -11,13 +11,13 @@ use crate::action::Action::{Link, Only, Write};
 use crate::effect::Effect;
 use crate::effect::Effect::{Misaligned, Next};
 use crate::word::{
-    difference, is_aligned, low_bytes, next, plus, register, shifted_left, shifted_right,
+    difference, is_aligned, low_bytes, next, plus, register as x, shifted_left, shifted_right,
     shifted_right_signed, signed, sum, unsigned,
 };
 use rv32_decode::Insn;
 
 /// What an instruction does, with the values that it read.
-#[derive(Clone, Copy, Debug, PartialEq, Eq)]
+#[derive(Clone, Copy)]
 pub enum Action {
     /// Writes the word to the register, and goes on with the next instruction.
     Write(u8, u32),
@@ -34,43 +34,49 @@ pub fn prepare(regs: &[u32; 32], pc: u32, insn: Insn) -> Action
     ensures table { result ≡ action_of regs.now pc insn }
     ensures parts { IsAction result }
 {
-    // x(n) is the register x[n] of the manual.
-    let x = |number: u8| register(regs, number);
+    // x(regs, n) is the register x[n] of the manual.
     match insn {
-        Insn::Add { rd, rs1, rs2 } => Write(rd, sum(x(rs1), x(rs2))),
-        Insn::Sub { rd, rs1, rs2 } => Write(rd, difference(x(rs1), x(rs2))),
-        Insn::Sll { rd, rs1, rs2 } => Write(rd, shifted_left(x(rs1), x(rs2))),
-        Insn::Slt { rd, rs1, rs2 } => Write(rd, u32::from(signed(x(rs1)) < signed(x(rs2)))),
-        Insn::Sltu { rd, rs1, rs2 } => Write(rd, u32::from(x(rs1) < x(rs2))),
-        Insn::Xor { rd, rs1, rs2 } => Write(rd, x(rs1) ^ x(rs2)),
-        Insn::Srl { rd, rs1, rs2 } => Write(rd, shifted_right(x(rs1), x(rs2))),
-        Insn::Sra { rd, rs1, rs2 } => Write(rd, shifted_right_signed(x(rs1), x(rs2))),
-        Insn::Or { rd, rs1, rs2 } => Write(rd, x(rs1) | x(rs2)),
-        Insn::And { rd, rs1, rs2 } => Write(rd, x(rs1) & x(rs2)),
-        Insn::Addi { rd, rs1, imm } => Write(rd, plus(x(rs1), imm)),
-        Insn::Slti { rd, rs1, imm } => Write(rd, u32::from(signed(x(rs1)) < imm)),
-        Insn::Sltiu { rd, rs1, imm } => Write(rd, u32::from(x(rs1) < unsigned(imm))),
-        Insn::Xori { rd, rs1, imm } => Write(rd, x(rs1) ^ unsigned(imm)),
-        Insn::Ori { rd, rs1, imm } => Write(rd, x(rs1) | unsigned(imm)),
-        Insn::Andi { rd, rs1, imm } => Write(rd, x(rs1) & unsigned(imm)),
-        Insn::Slli { rd, rs1, sh } => Write(rd, shifted_left(x(rs1), u32::from(sh))),
-        Insn::Srli { rd, rs1, sh } => Write(rd, shifted_right(x(rs1), u32::from(sh))),
-        Insn::Srai { rd, rs1, sh } => Write(rd, shifted_right_signed(x(rs1), u32::from(sh))),
-        Insn::Lb { rd, rs1, imm } => load(plus(x(rs1), imm), 1, true, rd),
-        Insn::Lh { rd, rs1, imm } => load(plus(x(rs1), imm), 2, true, rd),
-        Insn::Lw { rd, rs1, imm } => load(plus(x(rs1), imm), 4, true, rd),
-        Insn::Lbu { rd, rs1, imm } => load(plus(x(rs1), imm), 1, false, rd),
-        Insn::Lhu { rd, rs1, imm } => load(plus(x(rs1), imm), 2, false, rd),
-        Insn::Jalr { rd, rs1, imm } => Link(rd, plus(x(rs1), imm) & !1),
-        Insn::Sb { rs1, rs2, imm } => store(plus(x(rs1), imm), 1, x(rs2)),
-        Insn::Sh { rs1, rs2, imm } => store(plus(x(rs1), imm), 2, x(rs2)),
-        Insn::Sw { rs1, rs2, imm } => store(plus(x(rs1), imm), 4, x(rs2)),
-        Insn::Beq { rs1, rs2, off } => branch(pc, off, x(rs1) == x(rs2)),
-        Insn::Bne { rs1, rs2, off } => branch(pc, off, x(rs1) != x(rs2)),
-        Insn::Blt { rs1, rs2, off } => branch(pc, off, signed(x(rs1)) < signed(x(rs2))),
-        Insn::Bge { rs1, rs2, off } => branch(pc, off, signed(x(rs1)) >= signed(x(rs2))),
-        Insn::Bltu { rs1, rs2, off } => branch(pc, off, x(rs1) < x(rs2)),
-        Insn::Bgeu { rs1, rs2, off } => branch(pc, off, x(rs1) >= x(rs2)),
+        Insn::Add { rd, rs1, rs2 } => Write(rd, sum(x(regs, rs1), x(regs, rs2))),
+        Insn::Sub { rd, rs1, rs2 } => Write(rd, difference(x(regs, rs1), x(regs, rs2))),
+        Insn::Sll { rd, rs1, rs2 } => Write(rd, shifted_left(x(regs, rs1), x(regs, rs2))),
+        Insn::Slt { rd, rs1, rs2 } => Write(
+            rd,
+            u32::from(signed(x(regs, rs1)) < signed(x(regs, rs2))),
+        ),
+        Insn::Sltu { rd, rs1, rs2 } => Write(rd, u32::from(x(regs, rs1) < x(regs, rs2))),
+        Insn::Xor { rd, rs1, rs2 } => Write(rd, x(regs, rs1) ^ x(regs, rs2)),
+        Insn::Srl { rd, rs1, rs2 } => Write(rd, shifted_right(x(regs, rs1), x(regs, rs2))),
+        Insn::Sra { rd, rs1, rs2 } => Write(rd, shifted_right_signed(x(regs, rs1), x(regs, rs2))),
+        Insn::Or { rd, rs1, rs2 } => Write(rd, x(regs, rs1) | x(regs, rs2)),
+        Insn::And { rd, rs1, rs2 } => Write(rd, x(regs, rs1) & x(regs, rs2)),
+        Insn::Addi { rd, rs1, imm } => Write(rd, plus(x(regs, rs1), imm)),
+        Insn::Slti { rd, rs1, imm } => Write(rd, u32::from(signed(x(regs, rs1)) < imm)),
+        Insn::Sltiu { rd, rs1, imm } => Write(rd, u32::from(x(regs, rs1) < unsigned(imm))),
+        Insn::Xori { rd, rs1, imm } => Write(rd, x(regs, rs1) ^ unsigned(imm)),
+        Insn::Ori { rd, rs1, imm } => Write(rd, x(regs, rs1) | unsigned(imm)),
+        Insn::Andi { rd, rs1, imm } => Write(rd, x(regs, rs1) & unsigned(imm)),
+        Insn::Slli { rd, rs1, sh } => Write(rd, shifted_left(x(regs, rs1), u32::from(sh))),
+        Insn::Srli { rd, rs1, sh } => Write(rd, shifted_right(x(regs, rs1), u32::from(sh))),
+        Insn::Srai { rd, rs1, sh } => Write(rd, shifted_right_signed(x(regs, rs1), u32::from(sh))),
+        Insn::Lb { rd, rs1, imm } => load(plus(x(regs, rs1), imm), 1, true, rd),
+        Insn::Lh { rd, rs1, imm } => load(plus(x(regs, rs1), imm), 2, true, rd),
+        Insn::Lw { rd, rs1, imm } => load(plus(x(regs, rs1), imm), 4, true, rd),
+        Insn::Lbu { rd, rs1, imm } => load(plus(x(regs, rs1), imm), 1, false, rd),
+        Insn::Lhu { rd, rs1, imm } => load(plus(x(regs, rs1), imm), 2, false, rd),
+        Insn::Jalr { rd, rs1, imm } => Link(rd, plus(x(regs, rs1), imm) & !1),
+        Insn::Sb { rs1, rs2, imm } => store(plus(x(regs, rs1), imm), 1, x(regs, rs2)),
+        Insn::Sh { rs1, rs2, imm } => store(plus(x(regs, rs1), imm), 2, x(regs, rs2)),
+        Insn::Sw { rs1, rs2, imm } => store(plus(x(regs, rs1), imm), 4, x(regs, rs2)),
+        Insn::Beq { rs1, rs2, off } => branch(pc, off, x(regs, rs1) == x(regs, rs2)),
+        Insn::Bne { rs1, rs2, off } => branch(pc, off, x(regs, rs1) != x(regs, rs2)),
+        Insn::Blt { rs1, rs2, off } => branch(pc, off, signed(x(regs, rs1)) < signed(x(regs, rs2))),
+        Insn::Bge { rs1, rs2, off } => branch(
+            pc,
+            off,
+            signed(x(regs, rs1)) >= signed(x(regs, rs2)),
+        ),
+        Insn::Bltu { rs1, rs2, off } => branch(pc, off, x(regs, rs1) < x(regs, rs2)),
+        Insn::Bgeu { rs1, rs2, off } => branch(pc, off, x(regs, rs1) >= x(regs, rs2)),
         Insn::Jal { rd, off } => Link(rd, plus(pc, off)),
         Insn::Lui { rd, imm } => Write(rd, imm << 12),
         Insn::Auipc { rd, imm } => Write(rd, sum(pc, imm << 12)),

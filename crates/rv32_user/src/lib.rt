@@ -7,8 +7,6 @@
 mod action;
 mod effect;
 mod machine;
-#[cfg(test)]
-mod tests;
 mod word;
 
 pub use effect::Effect;
