@@ -1,7 +1,7 @@
 use cap_format::Restr;
 
 /// Where a walk stands between two capabilities.
-#[derive(Clone, Copy, Debug, PartialEq, Eq)]
+#[derive(Clone, Copy)]
 pub struct At {
     /// The GPT whose slot held the capability that is met next.
     pub holding: Option<u16>,

@@ -3,7 +3,7 @@ use crate::place::Place;
 use cap_format::FaultCode;
 
 /// What one capability makes of a walk.
-#[derive(Clone, Copy, Debug, PartialEq, Eq)]
+#[derive(Clone, Copy)]
 pub enum Step {
     /// The walk ends here.
     Reach(Place),
