@@ -9,8 +9,6 @@ mod hit;
 mod laws;
 mod met;
 mod plain;
-#[cfg(test)]
-mod tests;
 mod translator;
 mod walking;
 

@@ -1,4 +1,0 @@
-use Rattle.walk_engine.proofs.tests.worked_walks_give_their_place_or_fault_and_their_reads.Given as goal
-
-abbrev pub ghosts-walked : goal.ghosts-walked
-ghosts-walked g a = record { name = a.blank.name; parts = a.blank.parts }
