@@ -8,8 +8,6 @@ mod frame_use;
 mod leaf;
 mod pool;
 mod refusal;
-#[cfg(test)]
-mod tests;
 mod word;
 mod words;
 
