@@ -14,6 +14,3 @@ mod printing;
 
 pub use assembly::{AsmFault, assemble, assemble_insn};
 pub use printing::disassemble;
-
-#[cfg(test)]
-mod tests;
