@@ -6,8 +6,6 @@
 mod process_list;
 mod queues;
 mod spot;
-#[cfg(test)]
-mod tests;
 
 pub use queues::Queues;
 pub use spot::Spot;
