@@ -5,8 +5,6 @@
 
 mod entry;
 mod laws;
-#[cfg(test)]
-mod tests;
 mod tlb;
 
 pub use entry::Entry;
