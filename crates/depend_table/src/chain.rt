@@ -8,7 +8,7 @@ use guard_math::Block;
 use std::alloc::{AllocError, Global};
 
 /// Records of one item, from the one under the key `first` on.
-#[derive(Clone, Copy, Debug, PartialEq, Eq)]
+#[derive(Clone, Copy)]
 pub struct Chain {
     pub first: Option<usize>,
     /// How many there are.
@@ -16,7 +16,7 @@ pub struct Chain {
 }
 
 /// A record, with those of its item that were there when it was noted.
-#[derive(Clone, Copy, Debug, PartialEq, Eq)]
+#[derive(Clone, Copy)]
 pub struct Node {
     pub item: Item,
     pub root: u16,

@@ -6,7 +6,5 @@
 mod chain;
 mod depends;
 mod place;
-#[cfg(test)]
-mod tests;
 
 pub use depends::{Depends, Full, RECORDS};
