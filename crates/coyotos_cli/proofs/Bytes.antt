@@ -34,7 +34,7 @@ module _ (command : Command) (held held' taken taken' : Option (List ℕ)) where
   sure-listing first reader new front written =
       let front = subst (λ r. GivesFront r reader held held') new front in
       writes-given reader front.given front.unended front.unfinished front.gives
-      (subst (λ listed. Appends taken taken' (session_records command listed)) (sym front.ends_early.2) written)
+      (subst (λ listed. Appends taken taken' (session_records command listed)) (sym front.ends_early) written)
 
   -- reading failed behind it
   pub sure-schedule : (mid : Option (List ℕ)) (first middle reader : Reader) (listing : ListingValue) (harts : ℕ) (s : State) → first ≡ new_reader → harts ≡ listing.sizes.harts → s ≡ booted listing
