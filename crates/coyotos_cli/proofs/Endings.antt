@@ -8,7 +8,7 @@ use Rattle.run_text.proofs.Texts.{cut_before, cut_behind}
 use Rattle.coyotos_cli.specs.declared.exit.Exit.{Exit}
 use Rattle.coyotos_cli.specs.declared.exit.Exit.TheVariants.{OutOfMemory, WriteFault}
 use Rattle.coyotos_cli.specs.Exit.{status_of}
-use Rattle.coyotos_cli.specs.Ending.{Output, Outputs, before}
+use Rattle.coyotos_cli.specs.Ending.{Output, Outputs, Ends, before}
 
 -- the same text
 pub outputs_text : (old new : Option (List ℕ)) (exit end : Exit) (x y : List ℕ) → x ≡ y
@@ -32,11 +32,16 @@ outputs_cut now new piece rest some = record {
   nothing = λ none. let five : 5 ≡ 6 = ap status_of none in absurd (omega (arith, five));
 }
 
--- an exit that can only be a fault of writing, or one that is no want of memory
-pub not_memory : (exit end : Exit) → (status_of end ≡ 6 → ⊥) → (exit ≢ WriteFault → exit ≡ end) → exit ≢ OutOfMemory
-not_memory exit end other given none =
+-- the last text by another name
+pub ends_text : (old new : Option (List ℕ)) (faults faults' : ℕ) (exit end : Exit) (x y : List ℕ) → x ≡ y
+    → Ends old new faults faults' exit (record { text = x; exit = end }) → Ends old new faults faults' exit (record { text = y; exit = end })
+ends_text old new faults faults' exit end x y same e = subst (λ text. Ends old new faults faults' exit (record { text = text; exit = end })) same e
+
+-- an exit that can only be that of the last text or a fault of writing is no want of memory
+pub ends-memory : (old new : Option (List ℕ)) (faults faults' : ℕ) (exit : Exit) (o : Output) → Ends old new faults faults' exit o → (status_of o.exit ≡ 6 → ⊥) → exit ≢ OutOfMemory
+ends-memory old new faults faults' exit o e other none =
     let written : exit ≢ WriteFault = λ cut. let six : 6 ≡ 5 = ap status_of (sym none ∙ cut) in absurd (omega (arith, six)) in
-    other (ap status_of (sym (given written) ∙ none))
+    other (ap status_of (sym (e.given written) ∙ none))
 
 -- an answer is no fault
 abbrev pub IsAnswer : {A E : Type 0} → Result A E → Type 0

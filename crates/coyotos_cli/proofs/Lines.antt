@@ -13,14 +13,14 @@ use Rattle.listing_read.specs.declared.fault.ScheduleFault.{ScheduleFault}
 use Rattle.listing_read.specs.declared.fault.ScheduleFault.TheVariants.{LineTooLong}
 use Rattle.listing_read.specs.declared.schedule.Timed.{Timed}
 use Rattle.coyotos_cli.specs.Exit.{status_of}
-use Rattle.coyotos_cli.specs.Ending.{Outputs, refused_schedule, too_long}
+use Rattle.coyotos_cli.specs.Ending.{Outputs, Ends, refused_schedule, too_long}
 use Rattle.coyotos_cli.specs.Events.{events_of}
 use Rattle.coyotos_cli.specs.Schedule.{finished, AtEnd, AtFault, AtLimit, Course, preceded, stops, line_course, course_of, stop_output, course_output, course_fetches, last_fetches, OnParts, FailsBehind}
 use Rattle.coyotos_cli.specs.Told.{performed, told, spent_on}
 use Rattle.coyotos_cli.specs.declared.command.Command.{Command}
 use Rattle.coyotos_cli.specs.declared.exit.Exit.{Exit}
 use Rattle.coyotos_cli.specs.declared.exit.Exit.TheVariants.{OutOfMemory, WriteFault}
-use Rattle.coyotos_cli.proofs.Endings.{outputs_text, outputs_behind, outputs_cut}
+use Rattle.coyotos_cli.proofs.Endings.{outputs_text, outputs_behind, outputs_cut, ends-memory}
 
 -- ---- courses
 
@@ -223,8 +223,8 @@ module _ (command : Command) (harts : ℕ) (start now : Moment) where
 
   module _ (taken : Option (List ℕ)) (exit : Exit) where
     -- what was written behind the lines given ends the output
-    abbrev Ends : List Part → Type 0
-    Ends rest = Outputs now.taken taken exit (course_output command (course_at command harts now rest))
+    abbrev Rest_ends : List Part → Type 0
+    Rest_ends rest = Outputs now.taken taken exit (course_output command (course_at command harts now rest))
 
     outputs-preceded : (records : List ℕ) (spent : ℕ) (course : Course) → exit ≢ OutOfMemory → Appends start.taken now.taken records
         → Outputs now.taken taken exit (course_output command course) → Outputs start.taken taken exit (course_output command (preceded records spent course))
@@ -233,7 +233,7 @@ module _ (command : Command) (harts : ℕ) (start now : Moment) where
         outputs_text start.taken taken exit last.exit _ _ (sym (append_assoc records course.records last.text))
         (outputs_behind start.taken now.taken taken exit records (course_output command course) memory written o)
 
-    comes-ends : exit ≢ OutOfMemory → Comes command harts start now → ((rest : List Part) → now.left ≡ Some rest → Ends rest)
+    comes-ends : exit ≢ OutOfMemory → Comes command harts start now → ((rest : List Part) → now.left ≡ Some rest → Rest_ends rest)
         → OnParts start.left (λ parts. Outputs start.taken taken exit (course_output command (course_at command harts start parts)))
     comes-ends memory c ends =
         let P : List Part → Type 0 = λ parts. Outputs start.taken taken exit (course_output command (course_at command harts start parts)) in
@@ -245,32 +245,41 @@ module _ (command : Command) (harts : ℕ) (start now : Moment) where
     abbrev Course_ends : Course → Type 0
     Course_ends course = Outputs now.taken taken exit (course_output command course)
 
-    pub comes-done : exit ≢ OutOfMemory → Comes command harts start now → IsDone now.left → Outputs now.taken taken exit (finished command now.state now.events)
+    pub comes-done : (faults faults' : ℕ) → Comes command harts start now → IsDone now.left → Ends now.taken taken faults faults' exit (finished command now.state now.events)
         → OnParts start.left (λ parts. Outputs start.taken taken exit (course_output command (course_at command harts start parts)))
-    comes-done memory c none o =
-        comes-ends memory c (on_none now.left Ends none (subst Course_ends (sym (course_of-end command harts now.number now.state now.events)) o))
+    comes-done faults faults' c none e =
+        let memory = ends-memory now.taken taken faults faults' exit _ e (λ s. let six : 0 ≡ 6 = s in absurd (omega (arith, six))) in
+        comes-ends memory c (on_none now.left Rest_ends none (subst Course_ends (sym (course_of-end command harts now.number now.state now.events)) e.output))
 
-    pub comes-long : exit ≢ OutOfMemory → Comes command harts start now → Begins now.left LongLine → (number : ℕ) → number ≡ now.number
-        → Outputs now.taken taken exit (refused_schedule (number + 1) LineTooLong)
+    -- the next line is refused
+    refused : (faults faults' : ℕ) (part : Part) (fault : ScheduleFault) (number : ℕ) → Comes command harts start now → Begins now.left part
+        → ((rest : List Part) → course_at command harts now (part ∷ rest) ≡ stops (AtFault (now.number + 1) fault)) → number ≡ now.number
+        → Ends now.taken taken faults faults' exit (refused_schedule (number + 1) fault)
         → OnParts start.left (λ parts. Outputs start.taken taken exit (course_output command (course_at command harts start parts)))
-    comes-long memory c long number same o =
-        let o = subst (λ n. Outputs now.taken taken exit (refused_schedule (n + 1) LineTooLong)) same o in
-        comes-ends memory c (on_begun now.left LongLine Ends long (λ rest. subst Course_ends (sym (course_of-long command harts now.number now.state now.events rest)) o))
+    refused faults faults' part fault number c begins stop same e =
+        let e = subst (λ n. Ends now.taken taken faults faults' exit (refused_schedule (n + 1) fault)) same e in
+        let memory = ends-memory now.taken taken faults faults' exit _ e (λ s. let six : 3 ≡ 6 = s in absurd (omega (arith, six))) in
+        comes-ends memory c (on_begun now.left part Rest_ends begins (λ rest. subst Course_ends (sym (stop rest)) e.output))
 
-    pub comes-past : exit ≢ OutOfMemory → Comes command harts start now → Begins now.left PastLimit → Outputs now.taken taken exit too_long
+    pub comes-long : (faults faults' : ℕ) → Comes command harts start now → Begins now.left LongLine → (number : ℕ) → number ≡ now.number
+        → Ends now.taken taken faults faults' exit (refused_schedule (number + 1) LineTooLong)
         → OnParts start.left (λ parts. Outputs start.taken taken exit (course_output command (course_at command harts start parts)))
-    comes-past memory c past o =
-        comes-ends memory c (on_begun now.left PastLimit Ends past (λ rest. subst Course_ends (sym (course_of-past command harts now.number now.state now.events rest)) o))
+    comes-long faults faults' c long number same e =
+        refused faults faults' LongLine LineTooLong number c long (course_of-long command harts now.number now.state now.events) same e
 
-    pub comes-refused : (left : Option (List Part)) (line : List ℕ) (fault : ScheduleFault) → exit ≢ OutOfMemory → Comes command harts start now
+    pub comes-past : (faults faults' : ℕ) → Comes command harts start now → Begins now.left PastLimit → Ends now.taken taken faults faults' exit too_long
+        → OnParts start.left (λ parts. Outputs start.taken taken exit (course_output command (course_at command harts start parts)))
+    comes-past faults faults' c past e =
+        let memory = ends-memory now.taken taken faults faults' exit _ e (λ s. let six : 7 ≡ 6 = s in absurd (omega (arith, six))) in
+        comes-ends memory c (on_begun now.left PastLimit Rest_ends past (λ rest. subst Course_ends (sym (course_of-past command harts now.number now.state now.events rest)) e.output))
+
+    pub comes-refused : (faults faults' : ℕ) (left : Option (List Part)) (line : List ℕ) (fault : ScheduleFault) → Comes command harts start now
         → Advances now.left left (Line line ∷ []) → event_of harts line ≡ Err fault → (number : ℕ) → number ≡ now.number
-        → Outputs now.taken taken exit (refused_schedule (number + 1) fault)
+        → Ends now.taken taken faults faults' exit (refused_schedule (number + 1) fault)
         → OnParts start.left (λ parts. Outputs start.taken taken exit (course_output command (course_at command harts start parts)))
-    comes-refused left line fault memory c next bad number same o =
-        let o = subst (λ n. Outputs now.taken taken exit (refused_schedule (n + 1) fault)) same o in
-        comes-ends memory c
-        (on_begun now.left (Line line) Ends (begins-line now.left left (Line line) next)
-        (λ rest. subst Course_ends (sym (course-refused command harts now.number now.state now.events line rest fault bad)) o))
+    comes-refused faults faults' left line fault c next bad number same e =
+        refused faults faults' (Line line) fault number c (begins-line now.left left (Line line) next)
+        (λ rest. course-refused command harts now.number now.state now.events line rest fault bad) same e
 
   -- writing failed in the records of a line
   pub comes-cut : (taken : Option (List ℕ)) (left : Option (List Part)) (line : List ℕ) (timed : Timed) → Comes command harts start now
@@ -287,7 +296,7 @@ module _ (command : Command) (harts : ℕ) (start now : Moment) where
       subst (Course_ends taken WriteFault) (sym (course-performed command harts now.number now.state now.events line rest timed _ _ _ asks refl refl refl))
       (outputs_text now.taken taken WriteFault o.exit _ _ (sym (append_assoc records (behind rest).records (stop_output command (behind rest).stop).text))
       (outputs_cut now.taken taken records o some)) in
-      comes-ends taken WriteFault memory c (on_begun now.left (Line line) (Ends taken WriteFault) (begins-line now.left left (Line line) next) cut)
+      comes-ends taken WriteFault memory c (on_begun now.left (Line line) (Rest_ends taken WriteFault) (begins-line now.left left (Line line) next) cut)
 
   -- what the lines given come to
   course-given : (c : Comes command harts start now) → course_at command harts start (c.given ++ []) ≡ preceded c.records c.spent (stops (AtEnd now.state now.events))

@@ -1,6 +1,7 @@
 -- A text and an exit, and the last lines of the program.
 use Rattle.std.specs.Prelude.{◌≡◌, ◌≢◌, ℕ, List, ◌++◌, codes, decimal, Option}
 use Rattle.std.specs.Io.KnownBytes.{Keeps, Appends}
+use Rattle.coy_io.specs.Causes.{Rose}
 use Rattle.coy_io.specs.Pieces.{AppendsSome}
 use Rattle.listing_read.specs.declared.fault.Fault.{Fault}
 use Rattle.listing_read.specs.declared.fault.ScheduleFault.{ScheduleFault}
@@ -47,3 +48,10 @@ pub record Outputs (old new : Option (List ℕ)) (exit : Exit) (o : Output) : Ty
   pub whole : IsGiven exit → (exit ≡ o.exit) × Appends old new o.text
   pub part : exit ≡ WriteFault → AppendsSome old new o.text
   pub nothing : exit ≡ OutOfMemory → Keeps old new
+
+-- the last text was written as far as writing came: how the program ends then, and the count of the sink's faults
+pub record Ends (old new : Option (List ℕ)) (faults faults' : ℕ) (exit : Exit) (o : Output) : Type 0 where
+  pub output : Outputs old new exit o
+  pub given : exit ≢ WriteFault → exit ≡ o.exit
+  pub write : exit ≡ WriteFault → Rose faults faults'
+  pub write_quiet : exit ≢ WriteFault → faults' ≡ faults

@@ -1,8 +1,7 @@
 //! What comes behind the records.
-ghost use Rattle.std.specs.Prelude.{◌≡◌, ◌≢◌, ◌<◌, ◌+◌, ◌*◌, false};
-ghost use Rattle.coy_io.specs.Causes.{Rose};
+ghost use Rattle.std.specs.Prelude.{◌≡◌, ◌<◌, ◌+◌, ◌*◌, false};
 ghost use Rattle.kernel_core.specs.State.{state_of, space_of};
-ghost use Rattle.coyotos_cli.specs.Ending.{Outputs};
+ghost use Rattle.coyotos_cli.specs.Ending.{Ends};
 ghost use Rattle.coyotos_cli.specs.Schedule.{finished, count_text, access_text, last_state_text, last_fetches};
 ghost use Rattle.coyotos_cli.specs.Told.{runs};
 ghost use Rattle.walk_meaning.specs.Trail.{slots};
@@ -33,11 +32,10 @@ pub(crate) fn finish<K: Sink, L: Ledger>(
     output: &mut K,
     fetches: &mut Steps<L>,
 ) -> Exit
-    ensures output { Outputs (K.taken output.old) (K.taken output.new) result (finished command (state_of machine.now) events) }
-    ensures exit { result ≢ Exit.WriteFault → result ≡ Exit.Done }
-    ensures write { result ≡ Exit.WriteFault → Rose (K.faults output.old) (K.faults output.new) }
-    ensures write_quiet { result ≢ Exit.WriteFault → K.faults output.new ≡ K.faults output.old }
-    ensures counted { result ≡ Exit.Done → fetches.new ≡ fetches.old + last_fetches command (state_of machine.now) }
+    ensures ends { Ends (K.taken output.old) (K.taken output.new) (K.faults output.old) (K.faults output.new)
+        result (finished command (state_of machine.now) events) }
+    ensures counted { result ≡ Exit.Done →
+        fetches.new ≡ fetches.old + last_fetches command (state_of machine.now) }
     ensures stays { runs command ≡ false → fetches.new ≡ fetches.old }
 {
     match command {
@@ -54,10 +52,8 @@ pub(crate) fn finish<K: Sink, L: Ledger>(
 /// Writes the number of events.
 #[tactic(auto, using(coy_text::specs::NumeralLaws::length_decimal))]
 fn count<K: Sink>(events: u64, output: &mut K) -> Exit
-    ensures output { Outputs (K.taken output.old) (K.taken output.new) result (record { text = count_text events; exit = Exit.Done }) }
-    ensures exit { result ≢ Exit.WriteFault → result ≡ Exit.Done }
-    ensures write { result ≡ Exit.WriteFault → Rose (K.faults output.old) (K.faults output.new) }
-    ensures write_quiet { result ≢ Exit.WriteFault → K.faults output.new ≡ K.faults output.old }
+    ensures { Ends (K.taken output.old) (K.taken output.new) (K.faults output.old) (K.faults output.new)
+        result (record { text = count_text events; exit = Exit.Done }) }
 {
     let mut line = LineBuf::new();
     line.push_word("ok events=");
@@ -75,11 +71,10 @@ fn access<K: Sink, L: Ledger>(
     output: &mut K,
     fetches: &mut Steps<L>,
 ) -> Exit
-    ensures output { Outputs (K.taken output.old) (K.taken output.new) result (record { text = access_text (state_of machine.now) process kind address; exit = Exit.Done }) }
-    ensures exit { result ≢ Exit.WriteFault → result ≡ Exit.Done }
-    ensures write { result ≡ Exit.WriteFault → Rose (K.faults output.old) (K.faults output.new) }
-    ensures write_quiet { result ≢ Exit.WriteFault → K.faults output.new ≡ K.faults output.old }
-    ensures counted { fetches.new ≡ fetches.old + last_fetches (Command.Walk process kind address) (state_of machine.now) }
+    ensures ends { Ends (K.taken output.old) (K.taken output.new) (K.faults output.old) (K.faults output.new)
+        result (record { text = access_text (state_of machine.now) process kind address; exit = Exit.Done }) }
+    ensures counted { let command = Command.Walk process kind address in
+        fetches.new ≡ fetches.old + last_fetches command (state_of machine.now) }
 {
     let mut line = LineBuf::new();
     if process < machine.objects().sizes().processes {
@@ -100,8 +95,10 @@ fn walk_from<L: Ledger>(
     fetches: &mut Steps<L>,
 )
     requires { process < size_of machine.now.objects.items Process }
-    ensures line { line.new ≡ walk_text (access (state_of machine.now).store.items (space_of (state_of machine.now) process) address kind) }
-    ensures counted { fetches.new ≡ fetches.old + slots (state_of machine.now).store.items (space_of (state_of machine.now) process) address kind }
+    ensures line { let s = state_of machine.now in
+        line.new ≡ walk_text (access s.store.items (space_of s process) address kind) }
+    ensures counted { let s = state_of machine.now in
+        fetches.new ≡ fetches.old + slots s.store.items (space_of s process) address kind }
 {
     let space = space_of(machine, process);
     let mut trail = Trail::new();
@@ -123,11 +120,10 @@ fn last_state<K: Sink, L: Ledger>(
     output: &mut K,
     fetches: &mut Steps<L>,
 ) -> Exit
-    ensures output { Outputs (K.taken output.old) (K.taken output.new) result (record { text = last_state_text (state_of machine.now); exit = Exit.Done }) }
-    ensures exit { result ≢ Exit.WriteFault → result ≡ Exit.Done }
-    ensures write { result ≡ Exit.WriteFault → Rose (K.faults output.old) (K.faults output.new) }
-    ensures write_quiet { result ≢ Exit.WriteFault → K.faults output.new ≡ K.faults output.old }
-    ensures counted { result ≡ Exit.Done → fetches.new ≡ fetches.old + 16 * size_of (state_of machine.now).store.items Gpt }
+    ensures ends { Ends (K.taken output.old) (K.taken output.new) (K.faults output.old) (K.faults output.new)
+        result (record { text = last_state_text (state_of machine.now); exit = Exit.Done }) }
+    ensures counted { result ≡ Exit.Done →
+        fetches.new ≡ fetches.old + 16 * size_of (state_of machine.now).store.items Gpt }
 {
     match dump(machine, output, fetches) {
         Ok(()) => Exit::Done,

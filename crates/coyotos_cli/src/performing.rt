@@ -30,13 +30,16 @@ pub(crate) fn perform<K: Sink, L: Ledger>(
 ) -> Result<(), WriteFault>
     requires harts { machine.old.objects.harts ≡ harts }
     requires timed { IsTimed harts timed }
-    ensures text { Writes (K.taken output.old) (K.taken output.new) result (told command (state_of machine.old) (events_of harts timed)) }
-    ensures state { OnOk result (state_of machine.new ≡ performed command (state_of machine.old) (events_of harts timed)) }
+    ensures text { let text = told command (state_of machine.old) (events_of harts timed) in
+        Writes (K.taken output.old) (K.taken output.new) result text }
+    ensures state { let s = performed command (state_of machine.old) (events_of harts timed) in
+        OnOk result (state_of machine.new ≡ s) }
     ensures harts { machine.new.objects.harts ≡ machine.old.objects.harts }
     ensures cause { HasCause (K.faults output.old) (K.faults output.new) result }
 
     // How many slots are fetched.
-    ensures counted { OnOk result (fetches.new ≡ fetches.old + spent_on command (state_of machine.old) (events_of harts timed)) }
+    ensures counted { let spent = spent_on command (state_of machine.old) (events_of harts timed) in
+        OnOk result (fetches.new ≡ fetches.old + spent) }
     ensures stays { runs command ≡ false → fetches.new ≡ fetches.old }
 {
     if !runs(command) {

@@ -3,7 +3,7 @@ ghost use Rattle.std.specs.Prelude.{◌≡◌, ◌≢◌, ◌⊎◌, ◌+◌, fa
 ghost use Rattle.std.specs.Io.KnownBytes.{IsAtEnd};
 ghost use Rattle.coy_io.specs.Causes.{Rose};
 ghost use Rattle.coyotos_cli.specs.Command.{command_of};
-ghost use Rattle.coyotos_cli.specs.Ending.{IsGiven, Outputs, usage_text};
+ghost use Rattle.coyotos_cli.specs.Ending.{IsGiven, Ends, Outputs, usage_text};
 ghost use Rattle.coyotos_cli.specs.Session.{asks_input, asks_run, out, sure, fetched, WritesSure};
 ghost use Rattle.coyotos_cli.specs.declared.command.Command.TheVariants.{Help};
 
@@ -29,11 +29,12 @@ pub fn coyotos<S: Source, K: Sink, L: Ledger>(
         Outputs (K.taken output.old) (K.taken output.new) result (out (map string_bytes words.now) bytes)) }
 
     // The input is read to its end where all was done.
-    ensures end { result ≡ Exit.Done → command_of (map string_bytes words.now) ≢ Some Help → IsAtEnd (S.held input.new) }
+    ensures end { let asked = command_of (map string_bytes words.now) in
+        result ≡ Exit.Done → asked ≢ Some Help → IsAtEnd (S.held input.new) }
 
     // Where reading failed, the records of the whole lines that were read were written.
-    ensures sure { result ≡ Exit.ReadFault →
-        WritesSure (S.held input.old) (S.held input.new) (K.taken output.old) (K.taken output.new) (sure (map string_bytes words.now)) }
+    ensures sure { let text = sure (map string_bytes words.now) in result ≡ Exit.ReadFault →
+        WritesSure (S.held input.old) (S.held input.new) (K.taken output.old) (K.taken output.new) text }
 
     // Words that are of no form, and `--help`, take nothing from the source.
     ensures no_input { command_of (map string_bytes words.now) ≡ None → input.new ≡ input.old }
@@ -41,7 +42,8 @@ pub fn coyotos<S: Source, K: Sink, L: Ledger>(
 
     // Why it ends as it does.
     ensures usage { result ≡ Exit.Usage → command_of (map string_bytes words.now) ≡ None }
-    ensures no_form { command_of (map string_bytes words.now) ≡ None → (result ≡ Exit.Usage) ⊎ (result ≡ Exit.WriteFault) }
+    ensures no_form { command_of (map string_bytes words.now) ≡ None →
+        (result ≡ Exit.Usage) ⊎ (result ≡ Exit.WriteFault) }
 
     ensures read { result ≡ Exit.ReadFault → Rose (S.faults input.old) (S.faults input.new) }
     ensures read_quiet { result ≢ Exit.ReadFault → S.faults input.new ≡ S.faults input.old }
@@ -51,9 +53,10 @@ pub fn coyotos<S: Source, K: Sink, L: Ledger>(
     ensures unwritten { result ≡ Exit.OutOfMemory → K.taken output.new ≡ K.taken output.old }
 
     // How many slots are fetched.
-    ensures counted { result ≡ Exit.Done →
-        IfSome (S.held input.old) (λ bytes. fetches.new ≡ fetches.old + fetched (map string_bytes words.now) bytes) }
-    ensures unfetched { asks_run (command_of (map string_bytes words.now)) ≡ false → fetches.new ≡ fetches.old }
+    ensures counted { result ≡ Exit.Done → IfSome (S.held input.old) (λ bytes.
+        fetches.new ≡ fetches.old + fetched (map string_bytes words.now) bytes) }
+    ensures unfetched { asks_run (command_of (map string_bytes words.now)) ≡ false →
+        fetches.new ≡ fetches.old }
 {
     let Some(command) = read_command(words) else {
         return usage(output, Exit::Usage);
@@ -74,10 +77,8 @@ fn asks_input(command: Command) -> bool
 /// Writes how the program is used.
 fn usage<K: Sink>(output: &mut K, exit: Exit) -> Exit
     requires { IsGiven exit }
-    ensures output { Outputs (K.taken output.old) (K.taken output.new) result (record { text = usage_text; exit = exit }) }
-    ensures exit { result ≢ Exit.WriteFault → result ≡ exit }
-    ensures write { result ≡ Exit.WriteFault → Rose (K.faults output.old) (K.faults output.new) }
-    ensures write_quiet { result ≢ Exit.WriteFault → K.faults output.new ≡ K.faults output.old }
+    ensures { Ends (K.taken output.old) (K.taken output.new) (K.faults output.old) (K.faults output.new)
+        result (record { text = usage_text; exit = exit }) }
 {
     let line =
         b"usage: coyotos check | run | trace | tables | walk P KIND ADDR | make N [summary]\n";

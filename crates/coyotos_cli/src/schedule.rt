@@ -43,9 +43,10 @@ pub(crate) fn schedule<S: Source, K: Sink, L: Ledger>(
         let course = course_of command harts lines.old.number (state_of machine.old) 0 parts in
         Outputs (K.taken output.old) (K.taken output.new) result (course_output command course)) }
     ensures end { result ≡ Exit.Done → IsAtEnd (S.held input.new) }
-    ensures sure { result ≡ Exit.ReadFault →
-        let records = λ (given : List Part). (course_of command harts lines.old.number (state_of machine.old) 0 given).records in
-        FailsBehind lines.old lines.new (S.held input.old) (S.held input.new) (K.taken output.old) (K.taken output.new) records }
+    ensures sure { let s = state_of machine.old in
+        let records = λ (given : List Part). (course_of command harts lines.old.number s 0 given).records in
+        result ≡ Exit.ReadFault → FailsBehind lines.old lines.new (S.held input.old) (S.held input.new)
+        (K.taken output.old) (K.taken output.new) records }
 
     // Why it may end otherwise.
     ensures usage { result ≢ Exit.Usage }

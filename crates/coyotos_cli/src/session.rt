@@ -30,8 +30,8 @@ pub(crate) fn session<S: Source, K: Sink, L: Ledger>(
     ensures output { IfSome (S.held input.old) (λ bytes.
         Outputs (K.taken output.old) (K.taken output.new) result (input_output command bytes)) }
     ensures end { result ≡ Exit.Done → IsAtEnd (S.held input.new) }
-    ensures sure { result ≡ Exit.ReadFault →
-        WritesSure (S.held input.old) (S.held input.new) (K.taken output.old) (K.taken output.new) (input_records command) }
+    ensures sure { let text = input_records command in result ≡ Exit.ReadFault →
+        WritesSure (S.held input.old) (S.held input.new) (K.taken output.old) (K.taken output.new) text }
 
     // Why it may end otherwise.
     ensures usage { result ≢ Exit.Usage }
@@ -42,7 +42,8 @@ pub(crate) fn session<S: Source, K: Sink, L: Ledger>(
     ensures unwritten { result ≡ Exit.OutOfMemory → K.taken output.new ≡ K.taken output.old }
 
     // How many slots are fetched.
-    ensures counted { result ≡ Exit.Done → IfSome (S.held input.old) (λ bytes. fetches.new ≡ fetches.old + input_fetches command bytes) }
+    ensures counted { result ≡ Exit.Done → IfSome (S.held input.old) (λ bytes.
+        fetches.new ≡ fetches.old + input_fetches command bytes) }
     ensures stays { runs command ≡ false → fetches.new ≡ fetches.old }
 {
     let mut lines = LineReader::new();

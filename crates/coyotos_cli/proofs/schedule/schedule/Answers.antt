@@ -1,6 +1,6 @@
-use Rattle.std.proofs.Common.{◌≡◌, ◌+◌, ◌∙◌, refl, sym, ap, arith}
+use Rattle.std.proofs.Common.{◌+◌, ◌∙◌, refl, sym, ap, arith}
 use Rattle.listing_read.specs.Schedule.{event_of}
-use Rattle.coyotos_cli.proofs.Endings.{no_fault, not_memory}
+use Rattle.coyotos_cli.proofs.Endings.{no_fault}
 use Rattle.coyotos_cli.proofs.Lines.{reader-gives, not_ended, comes-start, comes-skipped, comes-performed, comes-cut, comes-refused, comes-long, comes-past, comes-done, comes-counted, comes-fails}
 use Rattle.coyotos_cli.proofs.schedule.schedule.Goals as goal
 
@@ -19,8 +19,7 @@ lines-init g c = record {
 pub returns-in-Ok-None-clause-output : goal.returns-in-Ok-None-clause-output
 returns-in-Ok-None-clause-output g c =
     let next = rw c.in-Ok-None.field-0-is at c.in-Ok-None.ensures.next in
-    let memory = not_memory c.finish.result _ (λ e. let six : 0 ≡ 6 = e in absurd (omega (arith, six))) c.finish.ensures.exit in
-    comes-done _ _ _ _ _ _ memory c.lines.invariant.comes next.0 c.finish.ensures.output
+    comes-done _ _ _ _ _ _ _ _ c.lines.invariant.comes next.0 c.finish.ensures.ends
 
 pub returns-in-Ok-None-clause-end : goal.returns-in-Ok-None-clause-end
 returns-in-Ok-None-clause-end g c =
@@ -41,14 +40,12 @@ returns-in-Err-ReadFault-clause-sure g c =
 pub returns-in-Err-LineTooLong-clause-output : goal.returns-in-Err-LineTooLong-clause-output
 returns-in-Err-LineTooLong-clause-output g c =
     let next = rw c.in-Err-LineTooLong.field-0-is at c.in-Err-LineTooLong.ensures.next in
-    let memory = not_memory c.refuse_schedule.result _ (λ e. let six : 3 ≡ 6 = e in absurd (omega (arith, six))) c.refuse_schedule.ensures.exit in
-    comes-long _ _ _ _ _ _ memory c.lines.invariant.comes next _ c.number-number.ensures.value c.refuse_schedule.ensures.output
+    comes-long _ _ _ _ _ _ _ _ c.lines.invariant.comes next _ c.number-number.ensures.value c.refuse_schedule.ensures
 
 pub returns-in-Err-TooLong-clause-output : goal.returns-in-Err-TooLong-clause-output
 returns-in-Err-TooLong-clause-output g c =
     let next = rw c.in-Err-TooLong.field-0-is at c.in-Err-TooLong.ensures.next in
-    let memory = not_memory c.end_past_limit.result _ (λ e. let six : 7 ≡ 6 = e in absurd (omega (arith, six))) c.end_past_limit.ensures.exit in
-    comes-past _ _ _ _ _ _ memory c.lines.invariant.comes next c.end_past_limit.ensures.output
+    comes-past _ _ _ _ _ _ _ _ c.lines.invariant.comes next c.end_past_limit.ensures
 
 pub lines-preserved-in-Ok-None-read_event : goal.lines-preserved-in-Ok-None-read_event
 lines-preserved-in-Ok-None-read_event g c =
@@ -97,6 +94,5 @@ lines-preserved g c =
 pub returns-in-Err-clause-output : goal.returns-in-Err-clause-output
 returns-in-Err-clause-output g c =
     let e = rw c.in-Ok-Some.field-0-is at c.in-Ok-Some.ensures in
-    let memory = not_memory c.refuse_schedule-in-Err.result _ (λ e. let six : 3 ≡ 6 = e in absurd (omega (arith, six))) c.refuse_schedule-in-Err.ensures.exit in
     let bad = ap (event_of c.args.harts) (sym c.line.ensures.value) ∙ sym c.in-Err.ensures.value in
-    comes-refused _ _ _ _ _ _ _ _ c.in-Err.fault memory c.lines.invariant.comes e.next bad _ c.number-number.ensures.value c.refuse_schedule-in-Err.ensures.output
+    comes-refused _ _ _ _ _ _ _ _ _ _ c.in-Err.fault c.lines.invariant.comes e.next bad _ c.number-number.ensures.value c.refuse_schedule-in-Err.ensures
