@@ -8,29 +8,49 @@ use std::sync::ledger::{Blank, Ledger};
 use std::test::Fail;
 use steps::Steps;
 
-/// What the program writes for these words and bytes, with its status behind it.
-fn written<L: Ledger>(
+/// How a source and a sink in memory answer their calls.
+#[derive(Clone, Copy)]
+struct Calls {
+    /// The most bytes that a call moves.
+    piece: usize,
+    /// Whether the source gives no byte past the next line feed.
+    by_line: bool,
+    /// The call of the source that fails, 0 where none does.
+    failing_take: u64,
+    /// The call of the sink that fails, 0 where none does.
+    failing_put: u64,
+}
+
+/// What the program writes for these words and bytes, and its status.
+#[derive(Drop)]
+struct Answer {
+    text: Vec<u8>,
+    status: u8,
+}
+
+fn ask<L: Ledger>(
     alloc: Global,
     words: Vec<String>,
     bytes: Vec<u8>,
-    piece: usize,
+    calls: Calls,
     blank: Blank,
-) -> Result<Vec<u8>, Fail>
+) -> Result<Answer, Fail>
     requires name { blank.name ≡ L.name }
     requires parts { blank.parts ≡ L.parts }
     requires some { 0 < blank.parts }
 {
-    let piece = piece.max(1);
+    let piece = calls.piece.max(1);
     let mut input = MemSource {
         bytes,
         at: 0,
         calls: 0,
-        failing: Vec::new(alloc),
+        failing: vec![in alloc; calls.failing_take]?,
         piece,
-        by_line: false,
+        by_line: calls.by_line,
         faults: 0,
     };
-    let Ok(mut output) = MemSink::new(alloc, 65536, Vec::new(alloc), piece) else {
+    let failing = vec![in alloc; calls.failing_put]?;
+    let Ok(mut output) = MemSink::new(alloc, 65536, failing, piece) else {
         return Err(Fail::from("no memory for the sink"));
     };
     let mut fetches = Steps::<L>::new(blank);
@@ -41,9 +61,10 @@ fn written<L: Ledger>(
         &mut output,
         &mut fetches,
     );
-    let mut text = output.bytes;
-    text.push(b'0' + exit.status().min(9))?;
-    Ok(text)
+    Ok(Answer {
+        text: output.bytes,
+        status: exit.status(),
+    })
 }
 
 fn words_of(alloc: Global, line: &str) -> Result<Vec<String>, Fail> {
@@ -63,196 +84,240 @@ fn rows_give_what_is_written_down_for_them(rt: HostRuntime) -> Result<(), Fail> 
             "run",
             "coyotos 1\nmachine 1 2 0 1 1 0\npage 0 000 93005000371100002320110083210100\ngpt 0 12\nslot 0 0 page:0@12/0+r\nslot 0 1 page:1@12/0\nprocess 0 00000000 gpt:0@16/0 schedule:3 null run\nend\n",
             "state\nhart 0 idle\nready 3 0\npage 0 000 93005000371100002320110083210100\nslot 0 0 page:0@12/00000+r\nslot 0 1 page:1@12/00000\nprocess 0 00000000 gpt:0@16/00000 schedule:3 null run\nend\n",
-            "0",
+            0,
         ),
         (
             "run -x",
             "",
             "usage: coyotos check | run | trace | tables | walk P KIND ADDR | make N [summary]\n",
-            "1",
+            1,
         ),
-        ("run", "", "refused 1 BadHeader\n", "2"),
+        ("run", "", "refused 1 BadHeader\n", 2),
         (
             "run",
             "coyotos 1\nmachine 1 2 0 1 1 0\npage 0 000 93005000371100002320110083210100\ngpt 0 12\nslot 0 0 page:0@12/0+r\nslot 0 1 page:1@12/0\nprocess 0 00000000 gpt:0@16/0 schedule:3 null run\nend\nstep 0 4\n",
             "state\nhart 0 0\npage 0 000 93005000371100002320110083210100\npage 1 000 05000000000000000000000000000000\nslot 0 0 page:0@12/00000+r\nslot 0 1 page:1@12/00000\nprocess 0 00000010 gpt:0@16/00000 schedule:3 null run\nreg 0 1 00000005\nreg 0 2 00001000\nreg 0 3 00000005\nend\n",
-            "0",
+            0,
         ),
         (
             "run",
             "coyotos 1\nmachine 1 2 0 1 1 0\npage 0 000 93005000371100002320110083210100\ngpt 0 12\nslot 0 0 page:0@12/fffff+r\nslot 0 1 page:1@12/0\nprocess 0 00000000 gpt:0@16/0 schedule:3 null run\nend\nstep 0 4\n",
             "fault 0 InvalidDataReference 00000000 unheard\nstate\nhart 0 idle\npage 0 000 93005000371100002320110083210100\nslot 0 0 page:0@12/fffff+r\nslot 0 1 page:1@12/00000\nprocess 0 00000000 gpt:0@16/00000 schedule:3 null faulted InvalidDataReference 00000000\nend\n",
-            "0",
+            0,
         ),
         (
             "run",
             "coyotos 1\nmachine 1 2 0 1 1 0\npage 0 000 93005000371100002320110083210100\ngpt 0 12\nslot 0 0 page:0@11/0+r\nslot 0 1 page:1@12/0\nprocess 0 00000000 gpt:0@16/0 schedule:3 null run\nend\nstep 0 4\n",
             "refused 5 BadGuard\n",
-            "2",
+            2,
         ),
         (
             "run",
             "coyotos 1\nmachine 1 2 0 1 1 0\npage 0 000 93005000371100002320110083210100\ngpt 0 12\nslot 0 0 page:0@12/100000+r\nslot 0 1 page:1@12/0\nprocess 0 00000000 gpt:0@16/0 schedule:3 null run\nend\nstep 0 4\n",
             "refused 5 BadGuard\n",
-            "2",
+            2,
         ),
         (
             "tables",
             "coyotos 1\nmachine 1 2 0 1 1 0\npage 0 000 93005000371100002320110083210100\ngpt 0 12\nslot 0 0 page:0@12/0+r\nslot 0 1 page:1@12/0\nprocess 0 00000000 gpt:0@16/0 schedule:3 null run\nend\nstep 0 4\n",
             "usage: coyotos check | run | trace | tables | walk P KIND ADDR | make N [summary]\n",
-            "1",
+            1,
         ),
         (
             "check",
             "coyotos 1\nmachine 1 2 0 1 1 0\npage 0 000 93005000371100002320110083210100\ngpt 0 12\nslot 0 0 page:0@12/0+r\nslot 0 1 page:1@12/0\nprocess 0 00000000 gpt:0@16/0 schedule:3 null run\nend\nstep 0 4\n",
             "ok events=4\n",
-            "0",
+            0,
         ),
         (
             "walk 0 capload 0",
             "coyotos 1\nmachine 1 1 1 1 1 0\nslot 0 0 page:0@12/0+r\nslot 0 1 page:0@12/0+x\nslot 0 2 cappage:0@12/0\nprocess 0 0 gpt:0@16/0 schedule:3 null run\nend\n",
             "fault CapAccessTypeError none\n",
-            "0",
+            0,
         ),
         (
             "walk 0 capload 2010",
             "coyotos 1\nmachine 1 1 1 1 1 0\nslot 0 0 page:0@12/0+r\nslot 0 1 page:0@12/0+x\nslot 0 2 cappage:0@12/0\nprocess 0 0 gpt:0@16/0 schedule:3 null run\nend\n",
             "reach cappage 0 010 -\n",
-            "0",
+            0,
         ),
         (
             "walk 0 fetch 1000",
             "coyotos 1\nmachine 1 1 1 1 1 0\nslot 0 0 page:0@12/0+r\nslot 0 1 page:0@12/0+x\nslot 0 2 cappage:0@12/0\nprocess 0 0 gpt:0@16/0 schedule:3 null run\nend\n",
             "fault AccessViolation none\n",
-            "0",
+            0,
         ),
         (
             "walk 0 load 2000",
             "coyotos 1\nmachine 1 1 1 1 1 0\nslot 0 0 page:0@12/0+r\nslot 0 1 page:0@12/0+x\nslot 0 2 cappage:0@12/0\nprocess 0 0 gpt:0@16/0 schedule:3 null run\nend\n",
             "fault DataAccessTypeError none\n",
-            "0",
+            0,
         ),
         (
             "walk 0 load 1000",
             "coyotos 1\nmachine 1 1 1 1 1 0\nslot 0 0 page:0@12/0+r\nslot 0 1 page:0@12/0+x\nslot 0 2 cappage:0@12/0\nprocess 0 0 gpt:0@16/0+r schedule:3 null run\nend\n",
             "reach page 0 000 rx\n",
-            "0",
+            0,
         ),
         (
             "walk 0 store 0",
             "coyotos 1\nmachine 1 1 1 1 1 0\nslot 0 0 page:0@12/0+r\nslot 0 1 page:0@12/0+x\nslot 0 2 cappage:0@12/0\nprocess 0 0 gpt:0@16/0 schedule:3 null run\nend\n",
             "fault AccessViolation none\n",
-            "0",
+            0,
         ),
         (
             "walk 0 store 1000",
             "coyotos 1\nmachine 1 1 1 1 1 0\nslot 0 0 page:0@12/0+r\nslot 0 1 page:0@12/0+x\nslot 0 2 cappage:0@12/0\nprocess 0 0 gpt:0@16/0+r schedule:3 null run\nend\n",
             "fault AccessViolation none\n",
-            "0",
+            0,
         ),
         (
             "walk 1 load 0",
             "coyotos 1\nmachine 1 1 0 1 1 0\nslot 0 0 gpt:0@12/0\nprocess 0 0 gpt:0@16/0 schedule:3 null run\nend\n",
             "no process\n",
-            "0",
+            0,
         ),
         (
             "walk 0 load 0",
             "coyotos 1\nmachine 1 1 0 1 1 0\nslot 0 0 gpt:0@12/0\nprocess 0 0 gpt:0@16/0 schedule:3 null run\nend\n",
             "fault MalformedSpace none\n",
-            "0",
+            0,
         ),
         (
             "walk 0 load 00000ffc",
             "coyotos 1\nmachine 1 2 0 1 1 0\npage 0 000 93005000371100002320110083210100\ngpt 0 28\nslot 0 0 page:0@12/0+r\nslot 0 1 page:1@12/0\nprocess 0 00000000 gpt:0@32/0 schedule:3 null run\nend\n",
             "reach page 0 ffc r\n",
-            "0",
+            0,
         ),
         (
             "walk 0 load ffffffff",
             "coyotos 1\nmachine 1 2 0 1 1 0\npage 0 000 93005000371100002320110083210100\ngpt 0 28\nslot 0 0 page:0@12/0+r\nslot 0 1 page:1@12/0\nprocess 0 00000000 gpt:0@32/0 schedule:3 null run\nend\n",
             "fault InvalidDataReference none\n",
-            "0",
+            0,
         ),
         (
             "run",
             "coyotos 1\nmachine 1 1 0 1 1 0\ncode 0 000 jal x1 2\nslot 0 0 page:0@12/0\nprocess 0 0 gpt:0@16/0 schedule:3 null run\nend\nstep 0 1\n",
             "fault 0 BadAlign 00000002 unheard\nstate\nhart 0 idle\npage 0 000 ef002000000000000000000000000000\nslot 0 0 page:0@12/00000\nprocess 0 00000000 gpt:0@16/00000 schedule:3 null faulted BadAlign 00000002\nend\n",
-            "0",
+            0,
         ),
         (
             "trace",
             "coyotos 1\nmachine 1 2 0 1 1 0\npage 0 000 93005000371100002320110083210100\ngpt 0 12\nslot 0 0 page:0@12/0+r\nslot 0 1 page:1@12/0\nprocess 0 00000000 gpt:0@16/0 schedule:3 null run\nend\nstep 0 4\n",
             "fetch 0 00000000 page 0\ninsn 0 00000000 addi x1 x0 5\nfetch 0 00000004 page 0\ninsn 0 00000004 lui x2 1\nfetch 0 00000008 page 0\ninsn 0 00000008 sw x1 0(x2)\nstore 0 00001000 page 1\nfetch 0 0000000c page 0\ninsn 0 0000000c lw x3 0(x2)\nload 0 00001000 page 1\nstate\nhart 0 0\npage 0 000 93005000371100002320110083210100\npage 1 000 05000000000000000000000000000000\nslot 0 0 page:0@12/00000+r\nslot 0 1 page:1@12/00000\nprocess 0 00000010 gpt:0@16/00000 schedule:3 null run\nreg 0 1 00000005\nreg 0 2 00001000\nreg 0 3 00000005\nend\n",
-            "0",
+            0,
         ),
         (
             "walk 0 load e0000",
             "coyotos 1\nmachine 1 4 0 3 1 0\ngpt 0 16 bg\nslot 0 1 gpt:1@16/0\nslot 0 14 gpt:2@20/0\nslot 1 2 window:00005000@12/0\nslot 2 5 page:3@12/0\nprocess 0 0 gpt:0@32/0 schedule:3 null run\nend\n",
             "fault InvalidDataReference none\n",
-            "0",
+            0,
         ),
         (
             "walk 0 load 12034",
             "coyotos 1\nmachine 1 4 0 3 1 0\ngpt 0 16 bg\nslot 0 1 gpt:1@16/0\nslot 0 14 gpt:2@20/0\nslot 1 2 window:00005000@12/0\nslot 2 5 page:3@12/0\nprocess 0 0 gpt:0@32/0 schedule:3 null run\nend\n",
             "reach page 3 034 -\n",
-            "0",
+            0,
         ),
         (
             "walk 0 load e0000",
             "coyotos 1\nmachine 1 4 0 3 1 0\ngpt 0 16 ha bg\nslot 0 1 gpt:1@16/0\nslot 0 14 gpt:2@20/0\nslot 0 15 range\nslot 1 2 window:00005000@12/0\nslot 2 5 page:3@12/0\nprocess 0 0 gpt:0@32/0+n schedule:3 null run\nend\n",
             "fault InvalidDataReference none\n",
-            "0",
+            0,
         ),
         (
             "walk 0 load e0000",
             "coyotos 1\nmachine 1 4 0 3 1 0\ngpt 0 16 ha bg\nslot 0 1 gpt:1@16/0\nslot 0 14 gpt:2@20/0\nslot 0 15 range\nslot 1 2 window:00005000@12/0\nslot 2 5 page:3@12/0\nprocess 0 0 gpt:0@32/0 schedule:3 null run\nend\n",
             "fault InvalidDataReference range\n",
-            "0",
+            0,
         ),
         (
             "walk 0 load 3000",
             "coyotos 1\nmachine 1 1 1 1 1 0\nslot 0 0 page:0@12/0+r\nslot 0 1 page:0@12/0+x\nslot 0 2 cappage:0@12/0\nslot 0 3 local:3:00000000@12/0\nprocess 0 0 gpt:0@16/0 schedule:3 null run\nend\n",
             "fault MalformedSpace none\n",
-            "0",
+            0,
         ),
         (
             "run",
             "coyotos 1\nmachine 1 1 0 1 2 0\ncode 0 000 addi x1 x1 1\ncode 0 004 jal x0 -4\nslot 0 0 page:0@12/0\nprocess 0 0 gpt:0@16/0 schedule:3 null run\nprocess 1 0 gpt:0@16/0 null null run\nend\nstep 0 2\ntick 0\nstep 0 3\n",
             "state\nhart 0 0\npage 0 000 938010006ff0dfff0000000000000000\nslot 0 0 page:0@12/00000\nprocess 0 00000004 gpt:0@16/00000 schedule:3 null run\nreg 0 1 00000003\nprocess 1 00000000 gpt:0@16/00000 null null faulted NoSchedule 00000000\nend\n",
-            "0",
+            0,
         ),
         (
             "run",
             "coyotos 1\nmachine 1 1 0 1 2 0\ncode 0 000 addi x1 x1 1\ncode 0 004 jal x0 -4\nslot 0 0 page:0@12/0\nprocess 0 0 gpt:0@16/0 schedule:3 null run\nprocess 1 0 gpt:0@16/0 schedule:3 null run\nend\nstep 0 2\ntick 0\nstep 0 3\n",
             "state\nhart 0 1\nready 3 0\npage 0 000 938010006ff0dfff0000000000000000\nslot 0 0 page:0@12/00000\nprocess 0 00000000 gpt:0@16/00000 schedule:3 null run\nreg 0 1 00000001\nprocess 1 00000004 gpt:0@16/00000 schedule:3 null run\nreg 1 1 00000002\nend\n",
-            "0",
+            0,
         ),
         (
             "trace",
             "coyotos 1\nmachine 1 2 0 1 1 0\npage 0 000 93005000371100002320110083210100\ngpt 0 12\nslot 0 0 page:0@12/0+r\nslot 0 1 page:1@12/0\nprocess 0 00000000 gpt:0@16/0 schedule:3 null run\nend\nstep 0 1\nstep 0 1\ntick 9\n",
             "fetch 0 00000000 page 0\ninsn 0 00000000 addi x1 x0 5\nfetch 0 00000004 page 0\ninsn 0 00000004 lui x2 1\nrefused 11 NoHart\n",
-            "3",
+            3,
         ),
         (
             "--help",
             "",
             "usage: coyotos check | run | trace | tables | walk P KIND ADDR | make N [summary]\n",
-            "0",
+            0,
         ),
     ];
     for (words, input, output, status) in cases {
         for piece in [1, 7, 513, 65536] {
+            let calls = Calls {
+                piece,
+                by_line: false,
+                failing_take: 0,
+                failing_put: 0,
+            };
             let asked = words_of(rt.alloc(), words)?;
             let bytes = input.as_bytes().to_vec(rt.alloc())?;
-            let text = written::<Brand>(rt.alloc(), asked, bytes, piece, Blank::new(1))?;
-            let mut expected = output.as_bytes().to_vec(rt.alloc())?;
-            expected.extend_from_slice(status.as_bytes())?;
+            let answer = ask::<Brand>(rt.alloc(), asked, bytes, calls, Blank::new(1))?;
             assert!(rt;
-                text.as_slice() == expected.as_slice(),
+                answer.text.as_slice() == output.as_bytes() && answer.status == status,
                 "`{words}` in pieces of {piece}"
             );
         }
+    }
+    Ok(())
+}
+
+/// Where a call fails, a front of the row's text stands. The rows say how long it is at most: where the sink fails, it
+/// is not the whole text, and where the source fails behind line 9, it is of the first two lines.
+#[test]
+fn a_failing_call_leaves_a_front_of_the_text(rt: HostRuntime) -> Result<(), Fail> {
+    let input =
+        "coyotos 1\nmachine 1 2 0 1 1 0\npage 0 000 93005000371100002320110083210100\ngpt 0 12\nslot 0 0 page:0@12/0+r\nslot 0 1 page:1@12/0\nprocess 0 00000000 gpt:0@16/0 schedule:3 null run\nend\nstep 0 1\nstep 0 1\ntick 9\n";
+    // (the call of the source that fails, that of the sink, the longest front, status)
+    let cases = [
+        (
+            0,
+            2,
+            "fetch 0 00000000 page 0\ninsn 0 00000000 addi x1 x0 5\nfetch 0 00000004 page 0\ninsn 0 00000004 lui x2 1\nrefused 11 NoHart",
+            5,
+        ),
+        (
+            10,
+            0,
+            "fetch 0 00000000 page 0\ninsn 0 00000000 addi x1 x0 5\n",
+            4,
+        ),
+        (1, 0, "", 4),
+    ];
+    for (failing_take, failing_put, longest, status) in cases {
+        let calls = Calls {
+            piece: 65536,
+            by_line: true,
+            failing_take,
+            failing_put,
+        };
+        let asked = words_of(rt.alloc(), "trace")?;
+        let bytes = input.as_bytes().to_vec(rt.alloc())?;
+        let answer = ask::<Brand>(rt.alloc(), asked, bytes, calls, Blank::new(1))?;
+        assert!(rt;
+            longest.as_bytes().starts_with(answer.text.as_slice()) && answer.status == status,
+            "call {failing_take} of the source or {failing_put} of the sink"
+        );
     }
     Ok(())
 }

@@ -1,4 +1,4 @@
 use Rattle.coyotos_cli.proofs.tests.rows_give_what_is_written_down_for_them.Given as goal
 
-abbrev pub ghosts-written : goal.ghosts-written
-ghosts-written g a = record { name = a.blank.name; parts = a.blank.parts }
+abbrev pub ghosts-ask : goal.ghosts-ask
+ghosts-ask g a = record { name = a.blank.name; parts = a.blank.parts }
