@@ -1,5 +1,5 @@
 -- A text and an exit, and the last lines of the program.
-use Rattle.std.specs.Prelude.{◌≡◌, ◌≢◌, ℕ, List, ◌++◌, codes, decimal, Option}
+use Rattle.std.specs.Prelude.{◌≡◌, ◌≢◌, ◌⊎◌, ℕ, List, ◌++◌, codes, decimal, Option}
 use Rattle.std.specs.Io.KnownBytes.{Keeps, Appends}
 use Rattle.coy_io.specs.Causes.{Rose}
 use Rattle.coy_io.specs.Pieces.{AppendsSome}
@@ -48,6 +48,10 @@ pub record Outputs (old new : Option (List ℕ)) (exit : Exit) (o : Output) : Ty
   pub whole : IsGiven exit → (exit ≡ o.exit) × Appends old new o.text
   pub part : exit ≡ WriteFault → AppendsSome old new o.text
   pub nothing : exit ≡ OutOfMemory → Keeps old new
+
+-- an output's exit was given and its whole text was written, or memory was wanting and nothing was written
+abbrev pub Completes : Option (List ℕ) → Option (List ℕ) → Exit → Output → Type 0
+Completes old new exit o = ((exit ≡ o.exit) × Appends old new o.text) ⊎ ((exit ≡ OutOfMemory) × Keeps old new)
 
 -- the last text was written as far as writing came: how the program ends then, and the count of the sink's faults
 pub record Ends (old new : Option (List ℕ)) (faults faults' : ℕ) (exit : Exit) (o : Output) : Type 0 where

@@ -3,7 +3,7 @@ ghost use Rattle.std.specs.Prelude.{◌≡◌, ◌≢◌, ◌⊎◌, ◌+◌, fa
 ghost use Rattle.std.specs.Io.KnownBytes.{IsAtEnd};
 ghost use Rattle.coy_io.specs.Causes.{Rose};
 ghost use Rattle.coyotos_cli.specs.Command.{command_of};
-ghost use Rattle.coyotos_cli.specs.Ending.{IsGiven, Ends, Outputs, usage_text};
+ghost use Rattle.coyotos_cli.specs.Ending.{IsGiven, Completes, Ends, Outputs, usage_text};
 ghost use Rattle.coyotos_cli.specs.Session.{asks_input, asks_run, out, sure, fetched, WritesSure};
 ghost use Rattle.coyotos_cli.specs.declared.command.Command.TheVariants.{Help};
 
@@ -27,6 +27,11 @@ pub fn coyotos<S: Source, K: Sink, L: Ledger>(
     // What is written, and how it ends, where the bytes are told.
     ensures output { IfSome (S.held input.old) (λ bytes.
         Outputs (K.taken output.old) (K.taken output.new) result (out (map string_bytes words.now) bytes)) }
+
+    // Where nothing failed, that is the whole answer, or there was no memory for it.
+    ensures complete { ¬ Rose (S.faults input.old) (S.faults input.new) →
+        ¬ Rose (K.faults output.old) (K.faults output.new) → IfSome (S.held input.old) (λ bytes.
+        Completes (K.taken output.old) (K.taken output.new) result (out (map string_bytes words.now) bytes)) }
 
     // The input is read to its end where all was done.
     ensures end { let asked = command_of (map string_bytes words.now) in
