@@ -19,12 +19,14 @@ use std::sync::ledger::Ledger;
 use steps::Steps;
 use walk_engine::Plain;
 
-/// Performs the events of a line, and writes their records. `check` performs nothing.
+/// Performs the events of a line, and writes their records, each event's in the place of those before. `check` performs
+/// nothing.
 pub(crate) fn perform<K: Sink, L: Ledger>(
     command: Command,
     timed: Timed,
     harts: u8,
     machine: &mut Machine<Plain>,
+    records: &mut Records,
     output: &mut K,
     fetches: &mut Steps<L>,
 ) -> Result<(), WriteFault>
@@ -47,8 +49,8 @@ pub(crate) fn perform<K: Sink, L: Ledger>(
     }
     let mut events = Events::new(harts, timed);
     'each: while let Some(event) = events.take() {
-        let records = machine.event(event, fetches);
-        put_records(command, &records, output)?;
+        machine.event_into(event, records, fetches);
+        put_records(command, records, output)?;
     }
     Ok(())
 }

@@ -17,7 +17,7 @@ use crate::exit::Exit;
 use crate::finishing::finish;
 use crate::performing::perform;
 use coy_io::{LineFault, LineReader, Sink, Source};
-use kernel_core::Machine;
+use kernel_core::{Machine, Records};
 use listing_read::{ScheduleFault, Timed, read_event};
 use std::sync::ledger::Ledger;
 use steps::Steps;
@@ -62,6 +62,7 @@ pub(crate) fn schedule<S: Source, K: Sink, L: Ledger>(
         fetches.new ≡ fetches.old + course_fetches command course) }
     ensures stays { runs command ≡ false → fetches.new ≡ fetches.old }
 {
+    let mut records = Records::new();
     let mut events: u64 = 0;
     'lines: loop {
         let number = lines.number();
@@ -76,10 +77,20 @@ pub(crate) fn schedule<S: Source, K: Sink, L: Ledger>(
         }
         match read_event(lines.line(), harts) {
             Ok(None) => {}
-            Ok(Some(timed)) => match perform(command, timed, harts, machine, output, fetches) {
-                Ok(()) => events += count_of(timed, harts),
-                Err(_) => return Exit::WriteFault,
-            },
+            Ok(Some(timed)) => {
+                match perform(
+                    command,
+                    timed,
+                    harts,
+                    machine,
+                    &mut records,
+                    output,
+                    fetches,
+                ) {
+                    Ok(()) => events += count_of(timed, harts),
+                    Err(_) => return Exit::WriteFault,
+                }
+            }
             Err(fault) => return refuse_schedule(number + 1, fault, output),
         }
     }

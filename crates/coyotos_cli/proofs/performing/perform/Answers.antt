@@ -24,34 +24,34 @@ each-init g c =
       quiet = refl;
     }
 
-pub event-records-requires : goal.event-records-requires
-event-records-requires g c =
+pub event_into-requires : goal.event_into-requires
+event_into-requires g c =
     let all = subst (OfHarts c.args.harts) c.in-Some.ensures c.each.invariant.there in
     subst (λ harts. hart_in c.in-Some.event < harts) (sym (c.each.invariant.harts ∙ c.requires.harts)) all.0
 
 pub each-preserved : goal.each-preserved
 each-preserved g c =
     let split = c.in-Some.ensures in
-    let state = c.event-records.ensures.state in
-    let lines = step_lines c.args.command _ _ _ _ _ _ split state c.event-records.ensures.records in
+    let state = c.event_into.ensures.state in
+    let lines = step_lines c.args.command _ _ _ _ _ _ split state c.event_into.ensures.records in
     record {
       lines = leaves_less _ _ _ _ _ _ (subst (Leaves _ _ _) lines c.each.invariant.lines) c.in_ok-put_records.ensures.text;
       state = step_state _ _ _ _ _ split state ∙ c.each.invariant.state;
-      spent = step_spent _ _ _ _ _ _ _ split state c.event-records.ensures.counted ∙ c.each.invariant.spent;
+      spent = step_spent _ _ _ _ _ _ _ split state c.event_into.ensures.counted ∙ c.each.invariant.spent;
       there = (subst (OfHarts c.args.harts) split c.each.invariant.there).1;
-      harts = c.event-records.ensures.harts ∙ c.each.invariant.harts;
+      harts = c.event_into.ensures.harts ∙ c.each.invariant.harts;
       quiet = c.in_ok-put_records.ensures.cause.quiet ∙ c.each.invariant.quiet;
     }
 
 pub returns-in_err-put_records-clause-text : goal.returns-in_err-put_records-clause-text
 returns-in_err-put_records-clause-text g c =
-    let lines = step_lines c.args.command _ _ _ _ _ _ c.in-Some.ensures c.event-records.ensures.state c.event-records.ensures.records in
+    let lines = step_lines c.args.command _ _ _ _ _ _ c.in-Some.ensures c.event_into.ensures.state c.event_into.ensures.records in
     let some = leaves_some _ _ _ _ _ _ (subst (Leaves _ _ _) lines c.each.invariant.lines) c.in_err-put_records.ensures.text in
     let runs = told_runs c.args.command (state_of c.args.machine.now) (events_of c.args.harts c.args.timed) (sym c.runs.ensures ∙ c.if-not-runs.false) in
     cut _ _ _ _ c.from_residual.ensures.0 (same_cut _ _ _ _ (sym runs) some)
 
 pub returns-in_err-put_records-clause-harts : goal.returns-in_err-put_records-clause-harts
-returns-in_err-put_records-clause-harts g c = c.event-records.ensures.harts ∙ c.each.invariant.harts
+returns-in_err-put_records-clause-harts g c = c.event_into.ensures.harts ∙ c.each.invariant.harts
 
 pub returns-in_err-put_records-clause-cause : goal.returns-in_err-put_records-clause-cause
 returns-in_err-put_records-clause-cause g c =
