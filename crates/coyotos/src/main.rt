@@ -2,11 +2,12 @@
 #![tactic(auto)]
 
 ghost use Rattle.std.specs.Prelude.{◌≡◌, ◌≢◌, ◌⊎◌, Some, None, IfSome, map, string_bytes};
+ghost use Rattle.std.specs.Io.KnownBytes.{IsAtEnd};
 ghost use Rattle.coy_io.specs.Causes.{Rose};
 ghost use Rattle.coyotos_cli.specs.Command.{command_of};
 ghost use Rattle.coyotos_cli.specs.declared.command.Command.TheVariants.{Help};
 ghost use Rattle.coyotos_cli.specs.Ending.{IsGiven, Outputs};
-ghost use Rattle.coyotos_cli.specs.Session.{out};
+ghost use Rattle.coyotos_cli.specs.Session.{out, sure, WritesSure};
 ghost use Rattle.coyotos.specs.Flush.{exit_after};
 
 use coy_io::{ReadSource, Sink, Source, WriteFault, WriteSink};
@@ -57,7 +58,12 @@ fn run_and_flush<S: Source, W: Write, L: Ledger>(
     requires one { blank.parts ≡ 1 }
 
     // How it ends, where the bytes are told.
-    ensures exit { IfSome (S.held input.old) (λ bytes. IsGiven result → result ≡ (out (map string_bytes words.now) bytes).exit) }
+    ensures exit { IfSome (S.held input.old) (λ bytes.
+        IsGiven result → result ≡ (out (map string_bytes words.now) bytes).exit) }
+
+    // The input is read to its end where all was done.
+    ensures end { let asked = command_of (map string_bytes words.now) in
+        result ≡ Exit.Done → asked ≢ Some Help → IsAtEnd (S.held input.new) }
 
     // Words that are of no form, and `--help`, take nothing from the source.
     ensures no_input { command_of (map string_bytes words.now) ≡ None → input.new ≡ input.old }
@@ -65,11 +71,13 @@ fn run_and_flush<S: Source, W: Write, L: Ledger>(
 
     // Why it ends as it does.
     ensures usage { result ≡ Exit.Usage → command_of (map string_bytes words.now) ≡ None }
-    ensures no_form { command_of (map string_bytes words.now) ≡ None → (result ≡ Exit.Usage) ⊎ (result ≡ Exit.WriteFault) }
+    ensures no_form { command_of (map string_bytes words.now) ≡ None →
+        (result ≡ Exit.Usage) ⊎ (result ≡ Exit.WriteFault) }
     ensures read { result ≡ Exit.ReadFault → Rose (S.faults input.old) (S.faults input.new) }
     ensures read_quiet { result ≢ Exit.ReadFault → S.faults input.new ≡ S.faults input.old }
     ensures write { result ≡ Exit.WriteFault → Rose output.old.faults output.new.faults }
-    ensures write_quiet { result ≢ Exit.WriteFault → result ≢ Exit.ReadFault → output.new.faults ≡ output.old.faults }
+    ensures write_quiet { result ≢ Exit.WriteFault → result ≢ Exit.ReadFault →
+        output.new.faults ≡ output.old.faults }
 {
     let exit = counted::<_, _, L>(alloc, words, input, output, blank);
     let flushed = output.flush();
@@ -100,7 +108,16 @@ fn counted<S: Source, K: Sink, L: Ledger>(
     requires one { blank.parts ≡ 1 }
 
     // What is written, and how it ends, where the bytes are told.
-    ensures output { IfSome (S.held input.old) (λ bytes. Outputs (K.taken output.old) (K.taken output.new) result (out (map string_bytes words.now) bytes)) }
+    ensures output { IfSome (S.held input.old) (λ bytes.
+        Outputs (K.taken output.old) (K.taken output.new) result (out (map string_bytes words.now) bytes)) }
+
+    // The input is read to its end where all was done.
+    ensures end { let asked = command_of (map string_bytes words.now) in
+        result ≡ Exit.Done → asked ≢ Some Help → IsAtEnd (S.held input.new) }
+
+    // Where reading failed, the records of the whole lines that were read were written.
+    ensures sure { let text = sure (map string_bytes words.now) in result ≡ Exit.ReadFault →
+        WritesSure (S.held input.old) (S.held input.new) (K.taken output.old) (K.taken output.new) text }
 
     // Words that are of no form, and `--help`, take nothing from the source.
     ensures no_input { command_of (map string_bytes words.now) ≡ None → input.new ≡ input.old }
@@ -108,7 +125,8 @@ fn counted<S: Source, K: Sink, L: Ledger>(
 
     // Why it ends as it does.
     ensures usage { result ≡ Exit.Usage → command_of (map string_bytes words.now) ≡ None }
-    ensures no_form { command_of (map string_bytes words.now) ≡ None → (result ≡ Exit.Usage) ⊎ (result ≡ Exit.WriteFault) }
+    ensures no_form { command_of (map string_bytes words.now) ≡ None →
+        (result ≡ Exit.Usage) ⊎ (result ≡ Exit.WriteFault) }
     ensures read { result ≡ Exit.ReadFault → Rose (S.faults input.old) (S.faults input.new) }
     ensures read_quiet { result ≢ Exit.ReadFault → S.faults input.new ≡ S.faults input.old }
     ensures write { result ≡ Exit.WriteFault → Rose (K.faults output.old) (K.faults output.new) }
