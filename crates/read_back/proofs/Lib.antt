@@ -3,3 +3,5 @@ mod Capabilities
 mod Lines
 mod Fields
 mod Statements
+mod Listed
+mod Objects

@@ -4,6 +4,7 @@
 #![tactic(auto)]
 
 ghost use Rattle.read_back.specs.Laws.{CapabilitiesReadBack, CountsReadBack, RowsReadBack, CapPageSlotsReadBack, HeadersReadBack, GptSlotsReadBack, EndpointsReadBack, ProcessesReadBack, RegistersReadBack, CapRegistersReadBack, TextsAreListed};
+ghost use Rattle.read_back.specs.ObjectLaws.{NothingIsListed, LinesAreListed, BothAreListed, EachIsListed, ObjectsAreListed};
 
 /// The word that is printed for a capability is read as that capability, in a machine that has what it names. No word
 /// shows a count, so the capability that is read has count 0.
@@ -34,4 +35,18 @@ pub fn processes_read_back()
 /// the bytes behind it are read as they would be without it.
 pub fn texts_are_listed()
     ensures { TextsAreListed }
+{}
+
+/// Texts of several lines are read as their statements, one behind the other.
+pub fn texts_list_statements()
+    ensures nothing { NothingIsListed }
+    ensures one { LinesAreListed }
+    ensures both { BothAreListed }
+    ensures each { EachIsListed }
+{}
+
+/// All that is printed of the objects of a state is read as statements: of each thing that is not as in the empty object
+/// the one that would make it, in the printed order. Of each process it has to be known whether it runs or was stopped.
+pub fn objects_are_listed()
+    ensures { ObjectsAreListed }
 {}
