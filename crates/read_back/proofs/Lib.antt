@@ -5,3 +5,6 @@ mod Fields
 mod Statements
 mod Listed
 mod Objects
+mod Given
+mod Stands
+mod Boots

@@ -73,6 +73,10 @@ no_register n i value empty = rw empty refl
 above : (n : ℕ) → (n == 0) ≡ false → 1 ≤ n
 above n some = grind (arith, nat_tests)
 
+-- a capability without its count
+uncounted : {sizes : Sizes} {c : Capability} → IsStated sizes c → IsStated sizes (bare c)
+uncounted stated = record { uncounted = refl; there = stated.there }
+
 -- what is not as in register 0 stands in another one
 past_x0 : (i value : ℕ) → (i ≡ 0 → value ≡ 0) → 1 ≤ value → 1 ≤ i
 past_x0 i value x0 some = elim (cases_lt 0 i) [
@@ -154,19 +158,19 @@ module _ (s : Store) (is : IsListable s) where
   }
 
   -- what stands at a number
-  page_is : (n : ℕ) → n < size_of s.items kinds.Page → n < length s.contents.pages
+  pub page_is : (n : ℕ) → n < size_of s.items kinds.Page → n < length s.contents.pages
   page_is n there = omega (arith, is.store.sized.pages)
 
-  cappage_is : (n : ℕ) → n < size_of s.items kinds.CapPage → n < length s.contents.cappages
+  pub cappage_is : (n : ℕ) → n < size_of s.items kinds.CapPage → n < length s.contents.cappages
   cappage_is n there = omega (arith, is.store.sized.cappages)
 
-  gpt_is : (n : ℕ) → n < size_of s.items kinds.Gpt → n < length s.items.gpts
+  pub gpt_is : (n : ℕ) → n < size_of s.items kinds.Gpt → n < length s.items.gpts
   gpt_is n there = omega (arith, is.store.ranged.each)
 
-  endpoint_is : (n : ℕ) → n < size_of s.items kinds.Endpoint → n < length s.contents.endpoints
+  pub endpoint_is : (n : ℕ) → n < size_of s.items kinds.Endpoint → n < length s.contents.endpoints
   endpoint_is n there = omega (arith, is.store.sized.endpoints)
 
-  process_is : (n : ℕ) → n < size_of s.items kinds.Process → n < length s.contents.processes
+  pub process_is : (n : ℕ) → n < size_of s.items kinds.Process → n < length s.contents.processes
   process_is n there = omega (arith, is.store.sized.processes)
 
   -- the parts of each kind of objects
@@ -184,7 +188,7 @@ module _ (s : Store) (is : IsListable s) where
       let page : IsCapPage (cappage_at s n) = is.cappages n empty_cappage stored in
       each (sizes_of s) _ (λ i. cap_said n i (cap_at (cappage_at s n) i)) 256
       (λ i below. cap_lists (sizes_of s) limits n i (cap_at (cappage_at s n) i) there below (IsCapability-cap_at (cappage_at s n) i page)
-      (is.there.cappages n empty_cappage stored i null (omega (arith, page.size))))
+      (uncounted (is.stated.cappages n empty_cappage stored i null (omega (arith, page.size)))))
 
   slots_list : (n : ℕ) → n < size_of s.items kinds.Gpt → Lists (sizes_of s) (contents_text s kinds.Gpt n) (slots_said s n)
   unfolding part_text
@@ -193,7 +197,7 @@ module _ (s : Store) (is : IsListable s) where
       let gpt : IsGpt (gpt_at s.items n) = is.store.ranged.gpts n empty_gpt stored in
       each (sizes_of s) _ (λ i. slot_said n i (slot_of (gpt_at s.items n) i)) 16
       (λ i below. slot_lists (sizes_of s) limits n i (slot_of (gpt_at s.items n) i) there below (IsCapability-slot_of (gpt_at s.items n) i gpt)
-      (is.there.slots n empty_gpt stored i null (omega (arith, gpt.sixteen))))
+      (uncounted (is.stated.slots n empty_gpt stored i null (omega (arith, gpt.sixteen)))))
 
   registers_list : (n : ℕ) → n < size_of s.items kinds.Process → Lists (sizes_of s) (contents_text s kinds.Process n) (registers_said s n ++ capregs_said s n)
   unfolding part_text
@@ -206,7 +210,7 @@ module _ (s : Store) (is : IsListable s) where
       (is.registers n empty_process stored i 0 (omega (arith, process.registers)))))
       (each (sizes_of s) _ (λ i. capreg_said n i (capreg_of (process_at s n) i)) 32
       (λ i below. capreg_lists (sizes_of s) limits n i (capreg_of (process_at s n) i) there below (λ c0. ap (capreg_of (process_at s n)) c0 ∙ process.c0)
-      (IsCapability-capreg_of (process_at s n) i process) (is.there.capregs n empty_process stored i null (omega (arith, process.cap_registers)))))
+      (IsCapability-capreg_of (process_at s n) i process) (uncounted (is.stated.capregs n empty_process stored i null (omega (arith, process.cap_registers))))))
 
   -- an object, of a kind whose sizes and counts are these
   object_lists : (kind : CapKind) → is_object kind ≡ true → size_of s.items kind ≡ size_in (sizes_of s) kind → All (λ count. count < 2 ^ 20) (counts_of s.items.counts kind) → ((n : ℕ) → n < size_of s.items kind → Lists (sizes_of s) (statement_text s kind n) (itself_said s kind n)) → ((n : ℕ) → n < size_of s.items kind → Lists (sizes_of s) (contents_text s kind n) (contents_said s kind n)) → (n : ℕ) → n < size_of s.items kind → Lists (sizes_of s) (object_text s kind n) (object_said s kind n)
@@ -229,7 +233,7 @@ module _ (s : Store) (is : IsListable s) where
   endpoint_itself : (n : ℕ) → n < size_of s.items kinds.Endpoint → Lists (sizes_of s) (statement_text s kinds.Endpoint n) (itself_said s kinds.Endpoint n)
   endpoint_itself n there =
       let stored = endpoint_is n there in
-      endpoint_lists (sizes_of s) limits n (endpoint_at s n) there (is.receive n empty_endpoint stored) (is.there.recipients n empty_endpoint stored)
+      endpoint_lists (sizes_of s) limits n (endpoint_at s n) there (is.receive n empty_endpoint stored) (uncounted (is.stated.recipients n empty_endpoint stored))
       (is.recipients n empty_endpoint stored) (is.ids n empty_endpoint stored) (is.payloads n empty_endpoint stored)
 
   process_itself : (n : ℕ) → n < size_of s.items kinds.Process → Lists (sizes_of s) (statement_text s kinds.Process n) (itself_said s kinds.Process n)
@@ -237,7 +241,7 @@ module _ (s : Store) (is : IsListable s) where
       let stored = process_is n there in
       let process : IsProcess (process_at s n) = is.processes n empty_process stored in
       running_lists (sizes_of s) limits n (process_at s n) (runs_of (process_at s n).state) refl (is.running n empty_process stored) there process (is.pcs n empty_process stored)
-      (λ i below. is.there.process_slots n empty_process stored i null (omega (arith, process.three)))
+      (λ i below. uncounted (is.stated.process_slots n empty_process stored i null (omega (arith, process.three))))
 
 -- all objects
 pub objects_listed : ObjectsAreListed

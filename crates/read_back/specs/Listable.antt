@@ -1,8 +1,8 @@
--- The objects that a listing can say: those of a machine at its start are such ones.
+-- The objects that a listing can say: all that stands in them is in its range, and no process waits or is at a fault.
 use Rattle.std.specs.Prelude.{◌≡◌, ◌<◌, ◌^◌, true}
 use Rattle.std.specs.List.{All}
 use Rattle.std.specs.Option.{is_some}
-use Rattle.cap_format.specs.Capability.{IsCapability, bare}
+use Rattle.cap_format.specs.Capability.{IsCapability}
 use Rattle.page_store.specs.Page.{IsPage}
 use Rattle.page_store.specs.CapPage.{IsCapPage}
 use Rattle.process_objects.specs.Process.{IsProcess}
@@ -32,7 +32,7 @@ pub record IsListable (s : Store) : Type 0 where
   -- an endpoint's recipient is a process or Null
   pub recipients : All (λ endpoint. IsCapability endpoint.recipient) s.contents.endpoints
   pub receive : All (λ endpoint. is_recipient endpoint.recipient.kind ≡ true) s.contents.endpoints
-  -- each capability to an object names one that is there
-  pub there : EachCapability (λ cap. IsStated (sizes_of s) (bare cap)) s
+  -- each capability is without a count, and names an object that is there if it is to one
+  pub stated : EachCapability (IsStated (sizes_of s)) s
   -- each process runs or was stopped
   pub running : All (λ process. is_some (runs_of process.state) ≡ true) s.contents.processes
