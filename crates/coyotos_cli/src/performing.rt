@@ -72,20 +72,14 @@ fn put_records<K: Sink>(
     ensures cause { HasCause (K.faults output.old) (K.faults output.new) result }
 {
     let all = records.as_slice();
-    let mut line = LineBuf::new();
     'each: for i in 0..all.len() {
-        put_record(command, &all[i], &mut line, output)?;
+        put_record(command, &all[i], output)?;
     }
     Ok(())
 }
 
 /// Writes the line of a record, where the command writes it.
-fn put_record<K: Sink>(
-    command: Command,
-    entry: &Record,
-    line: &mut LineBuf,
-    output: &mut K,
-) -> Result<(), WriteFault>
+fn put_record<K: Sink>(command: Command, entry: &Record, output: &mut K) -> Result<(), WriteFault>
     requires { IsRecord entry.now }
     ensures text { Writes (K.taken output.old) (K.taken output.new) result (line_of command entry.now) }
     ensures cause { HasCause (K.faults output.old) (K.faults output.new) result }
@@ -93,7 +87,8 @@ fn put_record<K: Sink>(
     if !is_written(command, entry) {
         return Ok(());
     }
-    record_line(entry, line);
+    let mut line = LineBuf::new();
+    record_line(entry, &mut line);
     put_all(output, line.as_bytes())
 }
 
