@@ -4,7 +4,5 @@ mod Lines
 mod Fields
 mod Statements
 mod Listed
+pub mod Stored
 mod Objects
-mod Given
-mod Stands
-mod Boots

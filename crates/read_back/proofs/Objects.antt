@@ -37,6 +37,7 @@ use Rattle.read_back.specs.Printed.{count_said, row_said, cap_said, header_said,
 use Rattle.read_back.specs.Listable.{IsListable}
 use Rattle.read_back.specs.ObjectLaws.{ObjectsAreListed}
 use Rattle.read_back.proofs.Listed.{nothing, both, each, unless}
+use Rattle.read_back.proofs.Stored.{limits, page_is, cappage_is, gpt_is, endpoint_is, process_is}
 use Rattle.read_back.proofs.Statements.{count_reads, row_reads, cap_reads, header_reads, slot_reads, endpoint_reads, process_reads, register_reads, capreg_reads}
 
 -- ---- what is as in the empty object has no text
@@ -146,70 +147,43 @@ module _ (sizes : Sizes) (limits : IsWithinLimits sizes) where
 -- ---- the objects of a store
 
 module _ (s : Store) (is : IsListable s) where
-  limits : IsWithinLimits (sizes_of s)
-  limits = record {
-    some_hart = is.store.sized.some_hart;
-    harts = is.store.sized.most_harts;
-    pages = is.store.ranged.counts.pages.size;
-    cappages = is.store.ranged.counts.cappages.size;
-    gpts = is.store.ranged.counts.gpts.size;
-    processes = is.store.ranged.counts.processes.size;
-    endpoints = is.store.ranged.counts.endpoints.size;
-  }
-
-  -- what stands at a number
-  pub page_is : (n : ℕ) → n < size_of s.items kinds.Page → n < length s.contents.pages
-  page_is n there = omega (arith, is.store.sized.pages)
-
-  pub cappage_is : (n : ℕ) → n < size_of s.items kinds.CapPage → n < length s.contents.cappages
-  cappage_is n there = omega (arith, is.store.sized.cappages)
-
-  pub gpt_is : (n : ℕ) → n < size_of s.items kinds.Gpt → n < length s.items.gpts
-  gpt_is n there = omega (arith, is.store.ranged.each)
-
-  pub endpoint_is : (n : ℕ) → n < size_of s.items kinds.Endpoint → n < length s.contents.endpoints
-  endpoint_is n there = omega (arith, is.store.sized.endpoints)
-
-  pub process_is : (n : ℕ) → n < size_of s.items kinds.Process → n < length s.contents.processes
-  process_is n there = omega (arith, is.store.sized.processes)
-
   -- the parts of each kind of objects
   rows_list : (n : ℕ) → n < size_of s.items kinds.Page → Lists (sizes_of s) (contents_text s kinds.Page n) (rows_said s n)
   unfolding part_text
   rows_list n there =
-      let stored = page_is n there in
+      let stored = page_is s is n there in
       each (sizes_of s) _ (λ i. row_said n (16 * i) (bytes_at (page_at s n) (16 * i) 16)) 256
-      (λ i below. row_lists (sizes_of s) limits n i (page_at s n) there (is.pages n empty_page stored) (is.bytes n empty_page stored) below)
+      (λ i below. row_lists (sizes_of s) (limits s is) n i (page_at s n) there (is.pages n empty_page stored) (is.bytes n empty_page stored) below)
 
   caps_list : (n : ℕ) → n < size_of s.items kinds.CapPage → Lists (sizes_of s) (contents_text s kinds.CapPage n) (caps_said s n)
   unfolding part_text
   caps_list n there =
-      let stored = cappage_is n there in
+      let stored = cappage_is s is n there in
       let page : IsCapPage (cappage_at s n) = is.cappages n empty_cappage stored in
       each (sizes_of s) _ (λ i. cap_said n i (cap_at (cappage_at s n) i)) 256
-      (λ i below. cap_lists (sizes_of s) limits n i (cap_at (cappage_at s n) i) there below (IsCapability-cap_at (cappage_at s n) i page)
+      (λ i below. cap_lists (sizes_of s) (limits s is) n i (cap_at (cappage_at s n) i) there below (IsCapability-cap_at (cappage_at s n) i page)
       (uncounted (is.stated.cappages n empty_cappage stored i null (omega (arith, page.size)))))
 
   slots_list : (n : ℕ) → n < size_of s.items kinds.Gpt → Lists (sizes_of s) (contents_text s kinds.Gpt n) (slots_said s n)
   unfolding part_text
   slots_list n there =
-      let stored = gpt_is n there in
+      let stored = gpt_is s is n there in
       let gpt : IsGpt (gpt_at s.items n) = is.store.ranged.gpts n empty_gpt stored in
       each (sizes_of s) _ (λ i. slot_said n i (slot_of (gpt_at s.items n) i)) 16
-      (λ i below. slot_lists (sizes_of s) limits n i (slot_of (gpt_at s.items n) i) there below (IsCapability-slot_of (gpt_at s.items n) i gpt)
+      (λ i below. slot_lists (sizes_of s) (limits s is) n i (slot_of (gpt_at s.items n) i) there below (IsCapability-slot_of (gpt_at s.items n) i gpt)
       (uncounted (is.stated.slots n empty_gpt stored i null (omega (arith, gpt.sixteen)))))
 
   registers_list : (n : ℕ) → n < size_of s.items kinds.Process → Lists (sizes_of s) (contents_text s kinds.Process n) (registers_said s n ++ capregs_said s n)
   unfolding part_text
   registers_list n there =
-      let stored = process_is n there in
+      let stored = process_is s is n there in
       let process : IsProcess (process_at s n) = is.processes n empty_process stored in
       both (sizes_of s) _ _ _ _
       (each (sizes_of s) _ (λ i. register_said n i (reg_of (process_at s n) i)) 32
-      (λ i below. register_lists (sizes_of s) limits n i (reg_of (process_at s n) i) there below (λ x0. ap (reg_of (process_at s n)) x0 ∙ process.x0)
+      (λ i below. register_lists (sizes_of s) (limits s is) n i (reg_of (process_at s n) i) there below (λ x0. ap (reg_of (process_at s n)) x0 ∙ process.x0)
       (is.registers n empty_process stored i 0 (omega (arith, process.registers)))))
       (each (sizes_of s) _ (λ i. capreg_said n i (capreg_of (process_at s n) i)) 32
-      (λ i below. capreg_lists (sizes_of s) limits n i (capreg_of (process_at s n) i) there below (λ c0. ap (capreg_of (process_at s n)) c0 ∙ process.c0)
+      (λ i below. capreg_lists (sizes_of s) (limits s is) n i (capreg_of (process_at s n) i) there below (λ c0. ap (capreg_of (process_at s n)) c0 ∙ process.c0)
       (IsCapability-capreg_of (process_at s n) i process) (uncounted (is.stated.capregs n empty_process stored i null (omega (arith, process.cap_registers))))))
 
   -- an object, of a kind whose sizes and counts are these
@@ -217,7 +191,7 @@ module _ (s : Store) (is : IsListable s) where
   unfolding object_text
   object_lists kind object same counts itself contents n there =
       both (sizes_of s) _ _ _ _
-      (both (sizes_of s) _ _ _ _ (count_lists (sizes_of s) limits kind n (count_of s.items kind n) (omega arith) (counts n 0 there) object) (itself n there))
+      (both (sizes_of s) _ _ _ _ (count_lists (sizes_of s) (limits s is) kind n (count_of s.items kind n) (omega arith) (counts n 0 there) object) (itself n there))
       (contents n there)
 
   -- all objects of a kind
@@ -227,20 +201,20 @@ module _ (s : Store) (is : IsListable s) where
   -- what an object is, beside its parts
   gpt_itself : (n : ℕ) → n < size_of s.items kinds.Gpt → Lists (sizes_of s) (statement_text s kinds.Gpt n) (itself_said s kinds.Gpt n)
   gpt_itself n there =
-      let gpt : IsGpt (gpt_at s.items n) = is.store.ranged.gpts n empty_gpt (gpt_is n there) in
-      header_lists (sizes_of s) limits n (gpt_at s.items n).header there gpt.header
+      let gpt : IsGpt (gpt_at s.items n) = is.store.ranged.gpts n empty_gpt (gpt_is s is n there) in
+      header_lists (sizes_of s) (limits s is) n (gpt_at s.items n).header there gpt.header
 
   endpoint_itself : (n : ℕ) → n < size_of s.items kinds.Endpoint → Lists (sizes_of s) (statement_text s kinds.Endpoint n) (itself_said s kinds.Endpoint n)
   endpoint_itself n there =
-      let stored = endpoint_is n there in
-      endpoint_lists (sizes_of s) limits n (endpoint_at s n) there (is.receive n empty_endpoint stored) (uncounted (is.stated.recipients n empty_endpoint stored))
+      let stored = endpoint_is s is n there in
+      endpoint_lists (sizes_of s) (limits s is) n (endpoint_at s n) there (is.receive n empty_endpoint stored) (uncounted (is.stated.recipients n empty_endpoint stored))
       (is.recipients n empty_endpoint stored) (is.ids n empty_endpoint stored) (is.payloads n empty_endpoint stored)
 
   process_itself : (n : ℕ) → n < size_of s.items kinds.Process → Lists (sizes_of s) (statement_text s kinds.Process n) (itself_said s kinds.Process n)
   process_itself n there =
-      let stored = process_is n there in
+      let stored = process_is s is n there in
       let process : IsProcess (process_at s n) = is.processes n empty_process stored in
-      running_lists (sizes_of s) limits n (process_at s n) (runs_of (process_at s n).state) refl (is.running n empty_process stored) there process (is.pcs n empty_process stored)
+      running_lists (sizes_of s) (limits s is) n (process_at s n) (runs_of (process_at s n).state) refl (is.running n empty_process stored) there process (is.pcs n empty_process stored)
       (λ i below. uncounted (is.stated.process_slots n empty_process stored i null (omega (arith, process.three))))
 
 -- all objects

@@ -4,4 +4,3 @@ pub mod Lists
 pub mod Printed
 pub mod Listable
 pub mod ObjectLaws
-pub mod Boots

@@ -5,7 +5,6 @@
 
 ghost use Rattle.read_back.specs.Laws.{CapabilitiesReadBack, CountsReadBack, RowsReadBack, CapPageSlotsReadBack, HeadersReadBack, GptSlotsReadBack, EndpointsReadBack, ProcessesReadBack, RegistersReadBack, CapRegistersReadBack, TextsAreListed};
 ghost use Rattle.read_back.specs.ObjectLaws.{NothingIsListed, LinesAreListed, BothAreListed, EachIsListed, ObjectsAreListed};
-ghost use Rattle.read_back.specs.Boots.{PrintedObjectsBoot};
 
 /// The word that is printed for a capability is read as that capability, in a machine that has what it names. No word
 /// shows a count, so the capability that is read has count 0.
@@ -50,10 +49,4 @@ pub fn texts_list_statements()
 /// the one that would make it, in the printed order. Of each process it has to be known whether it runs or was stopped.
 pub fn objects_are_listed()
     ensures { ObjectsAreListed }
-{}
-
-/// The statements that are printed of the objects of a state make these objects again, in a machine that is booted with
-/// them: each thing and each count is as it was, and those processes are made ready that ran.
-pub fn printed_objects_boot()
-    ensures { PrintedObjectsBoot }
 {}

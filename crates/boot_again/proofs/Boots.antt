@@ -29,9 +29,9 @@ use Rattle.image_builder.specs.Given.{last_given, listed, counted, count_given, 
 use Rattle.read_back.specs.Laws.{runs_of}
 use Rattle.read_back.specs.Printed.{statements_of}
 use Rattle.read_back.specs.Listable.{IsListable}
-use Rattle.read_back.specs.Boots.{all_stopped, PrintedObjectsBoot}
-use Rattle.read_back.proofs.Objects.{page_is, cappage_is, gpt_is, endpoint_is, process_is}
-use Rattle.read_back.proofs.Stands.{some_is, count_stands, byte_stands, cap_stands, header_stands, slot_stands, endpoint_stands, pc_stands, run_stands, place_stands, reg_stands, capreg_stands, returned}
+use Rattle.boot_again.specs.Boots.{all_stopped, PrintedObjectsBoot}
+use Rattle.read_back.proofs.Stored.{page_is, cappage_is, gpt_is, endpoint_is, process_is}
+use Rattle.boot_again.proofs.Stands.{some_is, count_stands, byte_stands, cap_stands, header_stands, slot_stands, endpoint_stands, pc_stands, run_stands, place_stands, reg_stands, capreg_stands, returned}
 
 -- ---- lists of things by their numbers
 

@@ -34,7 +34,7 @@ use Rattle.image_builder.specs.Given.{last_given, count_given, byte_given, cap_g
 use Rattle.run_text.specs.Objects.{is_zero, is_null_kind, is_null, is_empty_header, is_empty_endpoint, is_stopped, is_still, is_empty_process}
 use Rattle.read_back.specs.Laws.{runs_of}
 use Rattle.read_back.specs.Printed.{unless_empty, count_said, row_said, cap_said, slot_said, register_said, capreg_said, running_said, rows_said, caps_said, slots_said, registers_said, capregs_said, itself_said, contents_said, statements_of}
-use Rattle.read_back.proofs.Given.{Silent, Names, silent_both, silent_unless, silent_below, pick, last_one, from_count, from_itself, from_contents, picked, names_count, names_byte, names_cap, names_header, names_slot, names_endpoint, names_pc, names_run, names_place, names_reg, names_capreg}
+use Rattle.boot_again.proofs.Given.{Silent, Names, silent_both, silent_unless, silent_below, pick, last_one, from_count, from_itself, from_contents, picked, names_count, names_byte, names_cap, names_header, names_slot, names_endpoint, names_pc, names_run, names_place, names_reg, names_capreg}
 
 -- ---- what is as in the empty object is the empty one
 
