@@ -1,3 +1,7 @@
 mod Given
 mod Stands
 mod Boots
+mod Kept
+mod AtRest
+mod Ready
+mod Again

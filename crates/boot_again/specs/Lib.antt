@@ -1,1 +1,3 @@
 pub mod Boots
+pub mod Typed
+pub mod Again

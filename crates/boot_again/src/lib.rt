@@ -4,9 +4,22 @@
 #![tactic(auto)]
 
 ghost use Rattle.boot_again.specs.Boots.{PrintedObjectsBoot};
+ghost use Rattle.boot_again.specs.Again.{BootedIsListable, BootedAgain};
 
 /// The statements that are printed of the objects of a state make these objects again, in a machine that is booted with
 /// them: each thing and each count is as it was, and those processes are made ready that ran.
 pub fn printed_objects_boot()
     ensures { PrintedObjectsBoot }
+{}
+
+/// A listing can say the objects of a machine that is booted from one, where no process was refused for want of a
+/// schedule: one that was refused is at a fault, which no statement says.
+pub fn booted_is_listable()
+    ensures { BootedIsListable }
+{}
+
+/// The listing of what is printed of the objects of a machine that is booted makes that machine again: its objects with
+/// their counts and states, its queues, its harts, and that it is not halted.
+pub fn booted_again()
+    ensures { BootedAgain }
 {}

@@ -1,0 +1,25 @@
+-- What a machine that is booted from a listing prints makes the same machine again.
+use Rattle.std.specs.Prelude.{◌≡◌, true}
+use Rattle.std.specs.List.{All}
+use Rattle.std.specs.Option.{is_some}
+use Rattle.listing_read.specs.Statement.{ListingValue, IsListing}
+use Rattle.image_builder.specs.Boot.{booted}
+use Rattle.read_back.specs.Laws.{runs_of}
+use Rattle.read_back.specs.Listable.{IsListable}
+use Rattle.boot_again.specs.Typed.{IsTyped}
+use Rattle.boot_again.specs.Boots.{printed_listing}
+
+-- a listing of which at its start each process runs or was stopped: none was refused for want of a schedule
+pub record IsAccepted (listing : ListingValue) : Type 0 where
+  pub listing_is : IsListing listing
+  pub typed : All IsTyped listing.statements
+  pub accepted : All (λ process. is_some (runs_of process.state) ≡ true) (booted listing).store.contents.processes
+
+-- a listing can say the objects of the machine that it makes
+abbrev pub BootedIsListable : Type 0
+BootedIsListable = (listing : ListingValue) → IsAccepted listing → IsListable (booted listing).store
+
+-- and the listing of what is printed of these objects makes that machine: the same objects, queues and harts
+abbrev pub BootedAgain : Type 0
+BootedAgain =
+    (listing : ListingValue) → IsAccepted listing → booted (printed_listing (booted listing).store) ≡ booted listing
