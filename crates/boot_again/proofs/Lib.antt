@@ -5,3 +5,4 @@ mod Kept
 mod AtRest
 mod Ready
 mod Again
+mod Text

@@ -5,6 +5,7 @@
 
 ghost use Rattle.boot_again.specs.Boots.{PrintedObjectsBoot};
 ghost use Rattle.boot_again.specs.Again.{BootedIsListable, BootedAgain};
+ghost use Rattle.boot_again.specs.Text.{PrintedIsListing};
 
 /// The statements that are printed of the objects of a state make these objects again, in a machine that is booted with
 /// them: each thing and each count is as it was, and those processes are made ready that ran.
@@ -22,4 +23,10 @@ pub fn booted_is_listable()
 /// their counts and states, its queues, its harts, and that it is not halted.
 pub fn booted_again()
     ensures { BootedAgain }
+{}
+
+/// What is printed of objects, between the two lines that open a listing and the line `end`, is read as the listing of
+/// these objects, to its last line. The text has at most as many bytes as an input may have.
+pub fn printed_is_listing()
+    ensures { PrintedIsListing }
 {}

@@ -1,8 +1,8 @@
-mod Printed
+pub mod Printed
 mod Capabilities
-mod Lines
+pub mod Lines
 mod Fields
 mod Statements
 mod Listed
 pub mod Stored
-mod Objects
+pub mod Objects
