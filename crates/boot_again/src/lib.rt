@@ -13,14 +13,15 @@ pub fn printed_objects_boot()
     ensures { PrintedObjectsBoot }
 {}
 
-/// A listing can say the objects of a machine that is booted from one, where no process was refused for want of a
-/// schedule: one that was refused is at a fault, which no statement says.
+/// Where the values of a listing are in the ranges of their types, and none of its processes is refused for want of a
+/// schedule, a listing can say the objects of the machine that is booted from it. A process that was refused is at a
+/// fault, which no statement says.
 pub fn booted_is_listable()
     ensures { BootedIsListable }
 {}
 
-/// The listing of what is printed of the objects of a machine that is booted makes that machine again: its objects with
-/// their counts and states, its queues, its harts, and that it is not halted.
+/// The listing of what is printed of these objects makes that machine again: its objects with their counts and the
+/// states of its processes, its queues in their order, its harts, and that it is not halted.
 pub fn booted_again()
     ensures { BootedAgain }
 {}
