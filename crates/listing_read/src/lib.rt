@@ -22,6 +22,3 @@ pub use listing::{Listing, read_listing};
 pub use page_bytes::PageBytes;
 pub use schedule::{Timed, read_event};
 pub use statement::Statement;
-
-#[cfg(test)]
-mod tests;

@@ -1,8 +1,10 @@
 //! Lines of listings and schedules with what they say, worked out by hand from their grammar.
-use crate::{Fault, ListingFault, ScheduleFault, Statement, Timed, read_event, read_listing};
 use bitflags::Flags;
 use cap_format::Cap;
 use coy_io::{Failed, INPUT_LIMIT, LineReader, MemSource, Source};
+use listing_read::{
+    Fault, ListingFault, ScheduleFault, Statement, Timed, read_event, read_listing,
+};
 use rv32_decode::Insn;
 use std::alloc::Global;
 use std::test::Fail;
