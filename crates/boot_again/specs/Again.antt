@@ -9,13 +9,17 @@ use Rattle.read_back.specs.Listable.{IsListable}
 use Rattle.boot_again.specs.Typed.{IsTyped}
 use Rattle.boot_again.specs.Boots.{printed_listing}
 
+-- each process of the machine of a listing runs or was stopped: none was refused for want of a schedule
+abbrev pub AllAccepted : ListingValue → Type 0
+AllAccepted listing = All (λ process. is_some (runs_of process.state) ≡ true) (booted listing).store.contents.processes
+
 -- a listing of which every process is accepted at its start
 pub record IsAccepted (listing : ListingValue) : Type 0 where
   -- it keeps what every listing keeps, and its values are in the ranges of their types
   pub listing_is : IsListing listing
   pub typed : All IsTyped listing.statements
-  -- each process of its machine runs or was stopped: none was refused for want of a schedule
-  pub accepted : All (λ process. is_some (runs_of process.state) ≡ true) (booted listing).store.contents.processes
+  -- none of its processes is refused for want of a schedule
+  pub accepted : AllAccepted listing
 
 -- a listing can say the objects of the machine that it makes
 abbrev pub BootedIsListable : Type 0

@@ -1,11 +1,20 @@
 //! Laws: a printed state, read and booted, is that state again.
 //!
-//! There is no code here. Each function has a law as its contract.
+//! There is no code here but what reads values, so that their types tell their ranges. Each function has a law as its
+//! contract.
 #![tactic(auto)]
 
-ghost use Rattle.boot_again.specs.Boots.{PrintedObjectsBoot};
-ghost use Rattle.boot_again.specs.Again.{BootedIsListable, BootedAgain};
+ghost use Rattle.std.specs.Prelude.{◌≡◌};
+ghost use Rattle.image_builder.specs.Boot.{booted};
+ghost use Rattle.read_back.specs.Listable.{IsListable};
+ghost use Rattle.boot_again.specs.Boots.{PrintedObjectsBoot, printed_listing};
+ghost use Rattle.boot_again.specs.Again.{AllAccepted, BootedIsListable, BootedAgain};
 ghost use Rattle.boot_again.specs.Text.{PrintedIsListing};
+
+mod typed;
+
+use listing_read::Listing;
+pub use typed::listing_is_typed;
 
 /// The statements that are printed of the objects of a state make these objects again, in a machine that is booted with
 /// them: each thing and each count is as it was, and those processes are made ready that ran.
@@ -25,6 +34,20 @@ pub fn booted_is_listable()
 pub fn booted_again()
     ensures { BootedAgain }
 {}
+
+/// The same two laws of a listing that was read: nothing is asked of its values, since their types keep the ranges.
+/// Where none of its processes is refused for want of a schedule, what the booted machine prints makes it again.
+pub fn listing_boots_again(listing: &Listing)
+    ensures listable { AllAccepted listing.now → IsListable (booted listing.now).store }
+    ensures again { AllAccepted listing.now →
+        booted (printed_listing (booted listing.now).store) ≡ booted listing.now }
+{
+    let _sizes = listing.sizes();
+    let _statements = listing.statements();
+    listing_is_typed(listing);
+    booted_is_listable();
+    booted_again();
+}
 
 /// What is printed of objects, between the two lines that open a listing and the line `end`, is read as the listing of
 /// these objects, to its last line. The text has at most as many bytes as an input may have.
