@@ -9,7 +9,7 @@ use Rattle.object_store.specs.Meaning.{is_current, is_live, meaning}
 use Rattle.object_store.specs.Differ.{Names, Forgets}
 use Rattle.object_store.specs.Lists.{get_or-set}
 
--- the counts of one kind after a write to the counts of one: written there, or the same
+-- after a write of one count the counts of a kind are those before with it written, or the same
 pub recounted-of : (counts : CountsValue) (kind : CapKind) (n count : ℕ) (k : CapKind) →
     ((k ≡ kind) × (counts_of (recounted counts kind n count) k ≡ slice_set (counts_of counts k) n count))
     ⊎ (counts_of (recounted counts kind n count) k ≡ counts_of counts k)
@@ -32,7 +32,7 @@ size_of-recounted counts kind n count k = elim (recounted-of counts kind n count
   | inr same ↦ ap length same
 ]
 
--- a count after such a write: the one that was written, or the same
+-- after a write of one count each count is the one that was written, or the same
 pub count_of-recounted : (counts : CountsValue) (kind : CapKind) (n count : ℕ) (k : CapKind) (m : ℕ) →
     ((k ≡ kind) × (m ≡ n) × (slice_index (counts_of (recounted counts kind n count) k) m ≡ count))
     ⊎ (slice_index (counts_of (recounted counts kind n count) k) m ≡ slice_index (counts_of counts k) m)
@@ -48,7 +48,7 @@ count_of-recounted counts kind n count k m = elim (recounted-of counts kind n co
     at_kind is_kind e (inl here) = inl (is_kind, here.0, ap (λ xs. slice_index xs m) e ∙ here.1)
     at_kind is_kind e (inr other) = inr (ap (λ xs. slice_index xs m) e ∙ other)
 
--- the count that was written, of an object that is there
+-- a count that is written for an object that is there is read again
 pub count_of-recounted_here : (counts : CountsValue) (kind : CapKind) (n count : ℕ) → n < length (counts_of counts kind) → slice_index (counts_of (recounted counts kind n count) kind) n ≡ count
 count_of-recounted_here counts Page n count there = get_or-set_same counts.pages n count 0 there
 count_of-recounted_here counts CapPage n count there = get_or-set_same counts.cappages n count 0 there
@@ -59,7 +59,7 @@ count_of-recounted_here counts kind n count there = absurd (omega arith)
 
 -- ---- the meaning
 
--- the items with other counts for the objects
+-- `o` and `p` are items before and after a write of one count
 module _ (counts : CountsValue) (kind : CapKind) (n count : ℕ) where
   -- a capability is live as before, or it names the object
   pub is_live-recounted : (o p : Items) → o.counts ≡ counts → p.counts ≡ recounted counts kind n count → (c : Capability) → Names kind n c ⊎ (is_live p c ≡ is_live o c)

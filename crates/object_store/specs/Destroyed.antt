@@ -16,12 +16,14 @@ use Rattle.object_store.specs.Each.{EachCapability-map, EachCapability-all, Each
 
 -- ---- the test and the fact that a capability names an object
 
+-- the test finds each capability that names the object
 pub names_from : (kind : CapKind) (n : ℕ) (c : Capability) → Names kind n c → names kind n c ≡ true
 names_from kind n c named =
     and_from _ _ (and_from _ _ named.counted (eq-eqb _ _ (ap number_of named.kind_is))) (eq-eqb _ _ named.object)
 
 -- ---- counts that only rise leave no capability ahead
 
+-- a capability that was not ahead is not ahead after a destruction
 pub IsBehind-emptied : (kind : CapKind) (n : ℕ) (o : Items) (c : Capability) → IsBehind o c → IsBehind (emptied_items kind n o) c
 IsBehind-emptied kind n o c behind there =
     let within : c.object < size_of o (object_kind c.kind) = subst (λ (m : ℕ). c.object < m) (size_of-recounted o.counts kind n _ (object_kind c.kind)) there in
@@ -37,6 +39,7 @@ IsBehind-emptied kind n o c behind there =
         let old : count_of o (object_kind c.kind) c.object ≡ count_of o kind n = rw (is_kind, is_n) refl in
         omega (arith, new, old, was)
 
+-- where no capability was ahead, none is after a destruction
 pub NoneAhead-emptied : (kind : CapKind) (n : ℕ) (s : Store) → NoneAhead s → NoneAhead (emptied kind n s)
 NoneAhead-emptied kind n s none =
     EachCapability-emptied (IsBehind (emptied_items kind n s.items)) (IsBehind-null (emptied_items kind n s.items)) kind n s
@@ -63,7 +66,7 @@ dead kind n o c there named behind = elim (cases_Bool (is_live (emptied_items ki
     ahead : count_of (emptied_items kind n o) (object_kind c.kind) c.object ≡ c.count → ⊥
     ahead now = omega (arith, now, new, old, behind within)
 
--- the test for a capability that names the object, and its opposite
+-- the test finds no other capability
 names_parts : (kind : CapKind) (n : ℕ) (c : Capability) → names kind n c ≡ true → Names kind n c
 names_parts kind n c is =
     let parts = and_parts (is_counted c.kind && (number_of (object_kind c.kind) == number_of kind)) (c.object == n) is in

@@ -16,6 +16,7 @@ use Rattle.object_store.specs.Counted.{size_of-recounted, count_of-recounted, me
 
 -- ---- both directions
 
+-- an equation under an exception, from the other side
 turn : {A : Type 0} {P : Type 0} {x y : A} → P ⊎ (x ≡ y) → P ⊎ (y ≡ x)
 turn (inl here) = inl here
 turn (inr same) = inr (sym same)
@@ -44,7 +45,7 @@ DifferIn-symmetric (Header kind n) o p differ = record {
 
 -- ---- a slot, a header
 
--- another slot of a GPT
+-- another slot of a GPT changes the items in that slot alone
 pub DifferIn-set_slot : (o : Items) (g i : ℕ) (c : Capability) → DifferIn (Slot g i) o (set_slot o g i c)
 DifferIn-set_slot o g i c = record {
   sizes = λ kind. refl;
@@ -66,7 +67,7 @@ DifferIn-set_slot o g i c = record {
       | inr other ↦ inr (ap (λ k. slot_at o k j) written.0 ∙ sym other ∙ sym (ap (λ gpt. slot_of gpt j) written.1))
     ]
 
--- another header of a GPT
+-- another header of a GPT changes the items in that header alone
 pub DifferIn-set_header : (o : Items) (g : ℕ) (header : HeaderValue) → DifferIn (Header Gpt g) o (set_header o g header)
 DifferIn-set_header o g header = record {
   sizes = λ k. refl;
@@ -85,17 +86,18 @@ DifferIn-set_header o g header = record {
     slot_is h i (inl written) = inl (refl, written.0)
     slot_is h i (inr same) = inr (inl (sym (ap (λ gpt. slot_of gpt i) same)))
 
--- the same two writes, by what they mean
+-- another slot of a GPT changes the map in that slot alone
 pub DifferIn-slot_meaning : (o : Items) (g i : ℕ) (c : Capability) → DifferIn (Slot g i) (map_of o) (map_of (set_slot o g i c))
 DifferIn-slot_meaning o g i c = rw (map_of-set_slot o g i c) (DifferIn-set_slot (map_of o) g i (meaning o c))
 
+-- another header of a GPT changes the map in that header alone
 pub DifferIn-header_meaning : (o : Items) (g : ℕ) (header : HeaderValue) → DifferIn (Header Gpt g) (map_of o) (map_of (set_header o g header))
 DifferIn-header_meaning o g header = rw (map_of-set_header o g header) (DifferIn-set_header (map_of o) g header)
 
 -- ---- a count, a destruction
 
--- Another count for one object, whose header and slots may have changed where it is a GPT, by what it means. It does
--- not matter whether a capability is ahead.
+-- Another count for one object, whose header and slots may have changed where it is a GPT, changes the map in that
+-- object's header item alone. It does not matter whether a capability is ahead.
 pub DifferIn-recounted : (o p : Items) (kind : CapKind) (n count : ℕ) → p.counts ≡ recounted o.counts kind n count
     → ((g : ℕ) → ((Gpt ≡ kind) × (g ≡ n)) ⊎ (gpt_at o g ≡ gpt_at p g))
     → DifferIn (Header kind n) (map_of o) (map_of p)
@@ -120,11 +122,11 @@ DifferIn-recounted o p kind n count new gpts = record {
     slot_is g i (inl here) = inl here
     slot_is g i (inr same) = inr (rw (slot_at-map_of o g i, slot_at-map_of p g i, ← ap (λ gpt. slot_of gpt i) same) (meaning-recounted o.counts kind n count o p refl new (slot_at o g i)))
 
--- another count
+-- another count changes the map in the object's header item alone
 pub DifferIn-set_count : (o : Items) (kind : CapKind) (n count : ℕ) → DifferIn (Header kind n) (map_of o) (map_of (set_count o kind n count))
 DifferIn-set_count o kind n count = DifferIn-recounted o (set_count o kind n count) kind n count refl (λ g. inr refl)
 
--- the GPTs after one object became empty
+-- when one object becomes empty, each other GPT stays
 emptied_gpts-at : (o : Items) (kind : CapKind) (n g : ℕ) → ((Gpt ≡ kind) × (g ≡ n)) ⊎ (gpt_at o g ≡ get_or (emptied_gpts kind n o.gpts) g empty_gpt)
 emptied_gpts-at o Gpt n g = elim (get_or-set o.gpts n g empty_gpt empty_gpt) [
   | inl here ↦ inl (refl, here.0)
@@ -132,6 +134,6 @@ emptied_gpts-at o Gpt n g = elim (get_or-set o.gpts n g empty_gpt empty_gpt) [
 ]
 emptied_gpts-at o kind n g = inr refl
 
--- a destruction
+-- a destruction changes the map in the object's header item alone
 pub DifferIn-emptied : (o : Items) (kind : CapKind) (n : ℕ) → DifferIn (Header kind n) (map_of o) (map_of (emptied_items kind n o))
 DifferIn-emptied o kind n = DifferIn-recounted o (emptied_items kind n o) kind n _ refl (emptied_gpts-at o kind n)

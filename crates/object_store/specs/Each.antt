@@ -23,7 +23,7 @@ use Rattle.object_store.specs.Means.{gpt_map-empty, cappage_map-empty, process_m
 
 -- ---- the fact goes on
 
--- a fact that follows from another
+-- a fact that follows from another holds where that one does
 pub EachCapability-map : (P Q : Capability → Type 0) → ((c : Capability) → P c → Q c) → (s : Store) → EachCapability P s → EachCapability Q s
 EachCapability-map P Q then s each = record {
   slots = λ g d there. λ i e within. then _ (each.slots g d there i e within);
@@ -33,19 +33,24 @@ EachCapability-map P Q then s each = record {
   recipients = λ n d there. then _ (each.recipients n d there);
 }
 
+-- a fact of each capability that Null has too, so that empty objects have it
 module _ (P : Capability → Type 0) (of_null : P null) where
+  -- the slots of an empty GPT
   empty_slots-each : All P empty_slots
   unfolding empty_slots
   empty_slots-each = All-replicate P 16 null of_null
 
+  -- the slots of an empty capability page
   empty_cappage-each : All P empty_cappage
   unfolding empty_cappage
   empty_cappage-each = All-replicate P 256 null of_null
 
+  -- the capability registers of an empty process
   empty_capregs-each : All P empty_capregs
   unfolding empty_capregs
   empty_capregs-each = All-replicate P 32 null of_null
 
+  -- the slots of an empty process
   empty_process_slots-each : All P empty_process_slots
   unfolding empty_process_slots
   empty_process_slots-each = All-replicate P 3 null of_null
@@ -60,23 +65,27 @@ module _ (P : Capability → Type 0) (of_null : P null) where
     recipients = All-replicate (λ (endpoint : EndpointValue). P endpoint.recipient) sizes.endpoints empty_endpoint of_null;
   }
 
-  -- the slots of a GPT, also of one that is not there
+  -- the slots of a GPT that is read, the empty one where there is none; so with what is read below
   pub gpt_at-each : (s : Store) → EachCapability P s → (g : ℕ) → All P (gpt_at s.items g).slots
   gpt_at-each s each g = All-at (λ (gpt : GptValue). All P gpt.slots) s.items.gpts empty_gpt empty_slots-each each.slots g
 
-  -- what is read, also of an object that is not there
+  -- one slot of a GPT
   pub slot_at-each : (s : Store) → EachCapability P s → (g i : ℕ) → P (slot_at s.items g i)
   slot_at-each s each g = All-at P (gpt_at s.items g).slots null of_null (gpt_at-each s each g)
 
+  -- the slots of a capability page
   pub cappage_at-each : (s : Store) → EachCapability P s → (n : ℕ) → All P (cappage_at s n)
   cappage_at-each s each n = All-at (All P) s.contents.cappages empty_cappage empty_cappage-each each.cappages n
 
+  -- one slot of a capability page
   pub cap_at-each : (s : Store) → EachCapability P s → (n i : ℕ) → P (cap_at (cappage_at s n) i)
   cap_at-each s each n = All-at P (cappage_at s n) null of_null (cappage_at-each s each n)
 
+  -- the capability registers of a process
   pub capregs-each : (s : Store) → EachCapability P s → (n : ℕ) → All P (process_at s n).capregs
   capregs-each s each n = All-at (λ (process : ProcessValue). All P process.capregs) s.contents.processes empty_process empty_capregs-each each.capregs n
 
+  -- one capability register of a process
   pub capreg_of-each : (s : Store) → EachCapability P s → (n i : ℕ) → P (capreg_of (process_at s n) i)
   capreg_of-each s each n = All-at P (process_at s n).capregs null of_null (capregs-each s each n)
 
@@ -84,16 +93,19 @@ module _ (P : Capability → Type 0) (of_null : P null) where
   pub capreg_set-each : (capregs : List Capability) (i : ℕ) (c : Capability) → P c → All P capregs → All P (capreg_set capregs i c)
   capreg_set-each capregs i c new each = cond_both (i == 0) capregs (set capregs i c) (All P) (λ _. each) (λ _. All-set P capregs i c new each)
 
+  -- the slots of a process
   pub process_slots-each : (s : Store) → EachCapability P s → (n : ℕ) → All P (process_at s n).slots
   process_slots-each s each n = All-at (λ (process : ProcessValue). All P process.slots) s.contents.processes empty_process empty_process_slots-each each.process_slots n
 
+  -- one slot of a process
   pub process_slot-each : (s : Store) → EachCapability P s → (n i : ℕ) → P (process_slot_of (process_at s n) i)
   process_slot-each s each n = All-at P (process_at s n).slots null of_null (process_slots-each s each n)
 
+  -- the recipient of an endpoint
   pub recipient-each : (s : Store) → EachCapability P s → (n : ℕ) → P (endpoint_at s n).recipient
   recipient-each s each n = All-at (λ (endpoint : EndpointValue). P endpoint.recipient) s.contents.endpoints empty_endpoint of_null each.recipients n
 
-  -- another GPT
+  -- another GPT in place of one
   pub EachCapability-set_gpt : (s : Store) (g : ℕ) (gpt : GptValue) → All P gpt.slots → EachCapability P s → EachCapability P (with_items s (set_gpt s.items g gpt))
   EachCapability-set_gpt s g gpt new each = record {
     slots = All-set (λ (x : GptValue). All P x.slots) s.items.gpts g gpt new each.slots;
@@ -103,7 +115,7 @@ module _ (P : Capability → Type 0) (of_null : P null) where
     recipients = each.recipients;
   }
 
-  -- another count
+  -- another count, which is no capability
   pub EachCapability-set_count : (s : Store) (kind : CapKind) (n count : ℕ) → EachCapability P s → EachCapability P (with_items s (set_count s.items kind n count))
   EachCapability-set_count s kind n count each = record {
     slots = each.slots;
@@ -113,15 +125,16 @@ module _ (P : Capability → Type 0) (of_null : P null) where
     recipients = each.recipients;
   }
 
-  -- another slot of a GPT, another header
+  -- another slot of a GPT
   pub EachCapability-set_slot : (s : Store) (g i : ℕ) (c : Capability) → P c → EachCapability P s → EachCapability P (with_items s (set_slot s.items g i c))
   EachCapability-set_slot s g i c new each =
       EachCapability-set_gpt s g (with_slot (gpt_at s.items g) i c) (All-set P (gpt_at s.items g).slots i c new (gpt_at-each s each g)) each
 
+  -- another header of a GPT, which has no capability
   pub EachCapability-set_header : (s : Store) (g : ℕ) (h : HeaderValue) → EachCapability P s → EachCapability P (with_items s (set_header s.items g h))
   EachCapability-set_header s g h each = EachCapability-set_gpt s g (with_header (gpt_at s.items g) h) (gpt_at-each s each g) each
 
-  -- other contents
+  -- other bytes in a page, which has no capability
   pub EachCapability-with_page : (s : Store) (n : ℕ) (page : List ℕ) → EachCapability P s → EachCapability P (with_page s n page)
   EachCapability-with_page s n page each = record {
     slots = each.slots;
@@ -131,6 +144,7 @@ module _ (P : Capability → Type 0) (of_null : P null) where
     recipients = each.recipients;
   }
 
+  -- other slots in a capability page
   pub EachCapability-with_cappage : (s : Store) (n : ℕ) (page : List Capability) → All P page → EachCapability P s → EachCapability P (with_cappage s n page)
   EachCapability-with_cappage s n page new each = record {
     slots = each.slots;
@@ -140,6 +154,7 @@ module _ (P : Capability → Type 0) (of_null : P null) where
     recipients = each.recipients;
   }
 
+  -- another process in place of one
   pub EachCapability-with_process : (s : Store) (n : ℕ) (process : ProcessValue) → All P process.capregs → All P process.slots → EachCapability P s → EachCapability P (with_process s n process)
   EachCapability-with_process s n process capregs slots each = record {
     slots = each.slots;
@@ -149,6 +164,7 @@ module _ (P : Capability → Type 0) (of_null : P null) where
     recipients = each.recipients;
   }
 
+  -- another endpoint in place of one
   pub EachCapability-with_endpoint : (s : Store) (n : ℕ) (endpoint : EndpointValue) → P endpoint.recipient → EachCapability P s → EachCapability P (with_endpoint s n endpoint)
   EachCapability-with_endpoint s n endpoint new each = record {
     slots = each.slots;
@@ -158,11 +174,12 @@ module _ (P : Capability → Type 0) (of_null : P null) where
     recipients = All-set (λ (x : EndpointValue). P x.recipient) s.contents.endpoints n endpoint new each.recipients;
   }
 
-  -- one object empty
+  -- the GPTs when one object becomes empty
   emptied_gpts-each : (kind : CapKind) (n : ℕ) (gpts : List GptValue) → All (λ gpt. All P gpt.slots) gpts → All (λ gpt. All P gpt.slots) (emptied_gpts kind n gpts)
   emptied_gpts-each Gpt n gpts each = All-set (λ (gpt : GptValue). All P gpt.slots) gpts n empty_gpt empty_slots-each each
   emptied_gpts-each kind n gpts each = each
 
+  -- the contents when one object becomes empty
   emptied_contents-each : (harts : ℕ) (items : Items) (kind : CapKind) (n : ℕ) (c : Contents) → EachCapability P (record { harts = harts; items = items; contents = c }) → EachCapability P (record { harts = harts; items = items; contents = emptied_contents kind n c })
   emptied_contents-each harts items Page n c each = EachCapability-with_page (record { harts = harts; items = items; contents = c }) n empty_page each
   emptied_contents-each harts items CapPage n c each = EachCapability-with_cappage (record { harts = harts; items = items; contents = c }) n empty_cappage empty_cappage-each each
@@ -170,6 +187,7 @@ module _ (P : Capability → Type 0) (of_null : P null) where
   emptied_contents-each harts items Endpoint n c each = EachCapability-with_endpoint (record { harts = harts; items = items; contents = c }) n empty_endpoint of_null each
   emptied_contents-each harts items kind n c each = each
 
+  -- all that is stored after a destruction
   pub EachCapability-emptied : (kind : CapKind) (n : ℕ) (s : Store) → EachCapability P s → EachCapability P (emptied kind n s)
   EachCapability-emptied kind n s each =
       let contents = emptied_contents-each s.harts s.items kind n s.contents each in
@@ -183,7 +201,7 @@ module _ (P : Capability → Type 0) (of_null : P null) where
 
 -- ---- a function of each capability
 
--- a fact of what a function makes of each capability
+-- what holds of what a function makes of each capability holds in the store that it makes
 pub EachCapability-store_map : (P : Capability → Type 0) (f : Capability → Capability) (s : Store) → EachCapability (λ c. P (f c)) s → EachCapability P (store_map f s)
 EachCapability-store_map P f s each = record {
   slots = All-map (λ (gpt : GptValue). All P gpt.slots) (gpt_map f) s.items.gpts (λ k d there. All-map P f _ (each.slots k d there));
@@ -193,7 +211,7 @@ EachCapability-store_map P f s each = record {
   recipients = All-map (λ (endpoint : EndpointValue). P endpoint.recipient) (endpoint_map f) s.contents.endpoints each.recipients;
 }
 
--- a fact of all capabilities
+-- a fact of all capabilities holds of those that are stored
 pub EachCapability-all : (P : Capability → Type 0) → ((c : Capability) → P c) → (s : Store) → EachCapability P s
 EachCapability-all P all s = record {
   slots = λ k d there. λ i e within. all _;
@@ -203,9 +221,11 @@ EachCapability-all P all s = record {
   recipients = λ k d there. all _;
 }
 
+-- functions that agree on each slot make one GPT
 gpt_map-same : (f g : Capability → Capability) (gpt : GptValue) → All (λ c. f c ≡ g c) gpt.slots → gpt_map f gpt ≡ gpt_map g gpt
 gpt_map-same f g gpt all = rw (map-same f g gpt.slots all) refl
 
+-- functions that agree on each capability register and slot make one process
 process_map-same : (f g : Capability → Capability) (p : ProcessValue) → All (λ c. f c ≡ g c) p.capregs → All (λ c. f c ≡ g c) p.slots → process_map f p ≡ process_map g p
 process_map-same f g p capregs slots = rw (map-same f g p.capregs capregs, map-same f g p.slots slots) refl
 
@@ -223,7 +243,7 @@ store_map-same f g s each =
     endpoint_map-same : (endpoint : EndpointValue) → f endpoint.recipient ≡ g endpoint.recipient → endpoint_map f endpoint ≡ endpoint_map g endpoint
     endpoint_map-same endpoint e = rw e refl
 
--- one function after the other is their composition
+-- one function after the other makes the store that their composition makes
 pub store_map-store_map : (f g : Capability → Capability) (s : Store) → store_map f (store_map g s) ≡ store_map (λ c. f (g c)) s
 store_map-store_map f g s =
     rw (
@@ -247,15 +267,18 @@ store_map-store_map f g s =
 
 -- a function that leaves Null commutes with making an object empty
 module _ (f : Capability → Capability) (null-is : f null ≡ null) where
+  -- of the GPTs
   gpts-emptied : (kind : CapKind) (n : ℕ) (gpts : List GptValue) → map (gpt_map f) (emptied_gpts kind n gpts) ≡ emptied_gpts kind n (map (gpt_map f) gpts)
   gpts-emptied Gpt n gpts = map-set (gpt_map f) gpts n empty_gpt ∙ ap (set (map (gpt_map f) gpts) n) (gpt_map-empty f null-is)
   gpts-emptied kind n gpts = refl
 
+  -- of the contents
   contents-emptied : (kind : CapKind) (n : ℕ) (c : Contents) → contents_map f (emptied_contents kind n c) ≡ emptied_contents kind n (contents_map f c)
   contents-emptied CapPage n c = rw (map-set (map f) c.cappages n empty_cappage, cappage_map-empty f null-is) refl
   contents-emptied Process n c = rw (map-set (process_map f) c.processes n empty_process, process_map-empty f null-is) refl
   contents-emptied Endpoint n c = rw (map-set (endpoint_map f) c.endpoints n empty_endpoint, endpoint_map-empty f null-is) refl
   contents-emptied kind n c = refl
 
+  -- of the whole store
   pub store_map-emptied : (kind : CapKind) (n : ℕ) (s : Store) → store_map f (emptied kind n s) ≡ emptied kind n (store_map f s)
   store_map-emptied kind n s = rw (gpts-emptied kind n s.items.gpts, contents-emptied kind n s.contents) refl

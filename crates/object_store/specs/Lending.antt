@@ -11,15 +11,18 @@ use Rattle.endpoint_objects.specs.contracts.endpoint.Endpoint.{the_row as endpoi
 use Rattle.object_store.specs.contracts.objects.Objects.{the_row}
 use Rattle.object_store.specs.Store.{Store, with_page, with_cappage, with_process, with_endpoint}
 
--- the last value behind `r` is page `n`, capability page `n`, process `n`, endpoint `n` of the store afterwards
+-- page `n` of the store afterwards is what the borrower of `r` leaves, and all else is as before
 abbrev pub LendsPage : MutBor Store → ℕ → MutBor (List ℕ) → Fml
 LendsPage s n r = Lends the_row page_row s r (with_page s.now n)
 
+-- capability page `n` of the store afterwards is what the borrower of `r` leaves, and all else is as before
 abbrev pub LendsCapPage : MutBor Store → ℕ → MutBor (List Capability) → Fml
 LendsCapPage s n r = Lends the_row cappage_row s r (with_cappage s.now n)
 
+-- process `n` of the store afterwards is what the borrower of `r` leaves, and all else is as before
 abbrev pub LendsProcess : MutBor Store → ℕ → MutBor ProcessValue → Fml
 LendsProcess s n r = Lends the_row process_row s r (with_process s.now n)
 
+-- endpoint `n` of the store afterwards is what the borrower of `r` leaves, and all else is as before
 abbrev pub LendsEndpoint : MutBor Store → ℕ → MutBor EndpointValue → Fml
 LendsEndpoint s n r = Lends the_row endpoint_row s r (with_endpoint s.now n)

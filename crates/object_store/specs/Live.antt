@@ -16,46 +16,55 @@ pub record NamesLive (o : Items) (c : Capability) : Type 0 where
   pub there : c.object < size_of o (object_kind c.kind)
   pub count : count_of o (object_kind c.kind) c.object ≡ c.count
 
+-- a capability that is counted and live names such an object
 pub live_names : (o : Items) (c : Capability) → is_counted c.kind ≡ true → is_live o c ≡ true → NamesLive o c
 live_names o c counted is =
     let current : is_current (counts_of o.counts (object_kind c.kind)) c.object c.count ≡ true = rw counted at is in
     let parts = and_parts _ _ current in
     record { there = ltb-true _ _ parts.0; count = eqb-true _ _ parts.1 }
 
--- the same for a kind that is known
+-- a live capability of a counted kind has the number of an object that is there
 pub live_kind : (kind : CapKind) → is_counted kind ≡ true → (o : Items) (c : Capability) → c.kind ≡ kind → is_live o c ≡ true → c.object < size_of o (object_kind kind)
 live_kind kind counted o c is_kind is =
     subst (λ (k : CapKind). c.object < size_of o (object_kind k)) is_kind (live_names o c (ap is_counted is_kind ∙ counted) is).there
 
+-- a live capability to a page has the number of a page
 pub live_page : (o : Items) (c : Capability) → c.kind ≡ Page → is_live o c ≡ true → c.object < size_of o Page
 live_page = live_kind Page refl
 
+-- a live capability to a capability page has the number of a capability page
 pub live_cappage : (o : Items) (c : Capability) → c.kind ≡ CapPage → is_live o c ≡ true → c.object < size_of o CapPage
 live_cappage = live_kind CapPage refl
 
+-- a live capability to a GPT has the number of a GPT
 pub live_gpt : (o : Items) (c : Capability) → c.kind ≡ Gpt → is_live o c ≡ true → c.object < size_of o Gpt
 live_gpt = live_kind Gpt refl
 
+-- a live capability to an endpoint has the number of an endpoint
 pub live_endpoint : (o : Items) (c : Capability) → c.kind ≡ Endpoint → is_live o c ≡ true → c.object < size_of o Endpoint
 live_endpoint = live_kind Endpoint refl
 
+-- a live entry has the number of an endpoint
 pub live_entry : (o : Items) (c : Capability) → c.kind ≡ Entry → is_live o c ≡ true → c.object < size_of o Endpoint
 live_entry = live_kind Entry refl
 
+-- a live capability to a process has the number of a process
 pub live_process : (o : Items) (c : Capability) → c.kind ≡ Process → is_live o c ≡ true → c.object < size_of o Process
 live_process = live_kind Process refl
 
--- a live capability means itself, and one that is not live means Null
+-- a live capability means itself
 pub meaning_live : (o : Items) (c : Capability) → is_live o c ≡ true → meaning o c ≡ bare c
 meaning_live o c is = ap (λ b. if b then bare c else null) is
 
+-- a capability that is not live means Null
 pub meaning_dead : (o : Items) (c : Capability) → is_live o c ≡ false → meaning o c ≡ null
 meaning_dead o c is = ap (λ b. if b then bare c else null) is
 
--- the capability that `live` gives is live, and its meaning is that of the one it was asked for
+-- what `live` gives is live
 pub is_live-live : (o : Items) (c : Capability) → is_live o (live o c) ≡ true
 is_live-live o c = cond_both (is_live o c) c null (λ d. is_live o d ≡ true) (λ is. is) (λ _. refl)
 
+-- what `live` gives has, without its count, the meaning of what it was asked for
 pub bare-live : (o : Items) (c : Capability) → bare (live o c) ≡ meaning o c
 bare-live o c = by (is_live o c)
   where
@@ -63,12 +72,13 @@ bare-live o c = by (is_live o c)
     by true = refl
     by false = refl
 
--- a weakened capability is Null, or is to the same
+-- two capabilities of one kind to one object with one count
 record IsTo (c d : Capability) : Type 0 where
   kind_is : d.kind ≡ c.kind
   object_is : d.object ≡ c.object
   count_is : d.count ≡ c.count
 
+-- weakening makes Null, or keeps the object and the count
 weakened_is_to : (c : Capability) → (weakened c ≡ null) ⊎ IsTo c (weakened c)
 weakened_is_to c = on c.kind
   where
@@ -127,6 +137,7 @@ no_objects counts Process e = cc
 pub IsBehind-zero : (o : Items) (c : Capability) → c.count ≡ 0 → IsBehind o c
 IsBehind-zero o c zero there = omega arith
 
+-- Null is not ahead
 pub IsBehind-null : (o : Items) → IsBehind o null
 IsBehind-null o there = omega arith
 
@@ -144,6 +155,7 @@ IsBehind-is_live o c is there = by (is_counted c.kind) refl
 pub IsBehind-live : (o : Items) (c : Capability) → IsBehind o (live o c)
 IsBehind-live o c = cond_both (is_live o c) c null (IsBehind o) (λ is. IsBehind-is_live o c is) (λ _. IsBehind-null o)
 
+-- weakening puts no capability ahead
 pub IsBehind-weakened : (o : Items) (c : Capability) → IsBehind o c → IsBehind o (weakened c)
 IsBehind-weakened o c behind = elim (weakened_is_to c) [
   | inl nothing ↦ subst (IsBehind o) (sym nothing) (IsBehind-null o)

@@ -27,18 +27,23 @@ meaning o c = if is_live o c then bare c else null
 
 -- ---- a function of each capability that is stored
 
+-- a GPT with the function applied to each of its slots
 abbrev pub gpt_map : (Capability → Capability) → GptValue → GptValue
 gpt_map f gpt = record gpt { slots = map f gpt.slots }
 
+-- a process with the function applied to its capability registers and slots
 abbrev pub process_map : (Capability → Capability) → ProcessValue → ProcessValue
 process_map f process = record process { capregs = map f process.capregs; slots = map f process.slots }
 
+-- an endpoint with the function applied to its recipient
 abbrev pub endpoint_map : (Capability → Capability) → EndpointValue → EndpointValue
 endpoint_map f endpoint = record endpoint { recipient = f endpoint.recipient }
 
+-- the items with the function applied to each slot of each GPT; no count changes
 abbrev pub items_map : (Capability → Capability) → Items → Items
 items_map f o = record { counts = o.counts; gpts = map (gpt_map f) o.gpts }
 
+-- the contents with the function applied to each capability; no byte of a page changes
 abbrev pub contents_map : (Capability → Capability) → Contents → Contents
 contents_map f c = record {
   pages = c.pages;
@@ -47,6 +52,7 @@ contents_map f c = record {
   endpoints = map (endpoint_map f) c.endpoints;
 }
 
+-- the store with the function applied to each capability that it has anywhere
 abbrev pub store_map : (Capability → Capability) → Store → Store
 store_map f s = record { harts = s.harts; items = items_map f s.items; contents = contents_map f s.contents }
 

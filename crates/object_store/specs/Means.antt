@@ -16,6 +16,7 @@ use Rattle.object_store.specs.Lists.{map-replicate}
 -- ---- a function of each capability that leaves Null, as the meaning is one
 
 module _ (f : Capability → Capability) (null-is : f null ≡ null) where
+  -- the slots of empty objects stay Nulls
   map-empty_slots : map f empty_slots ≡ empty_slots
   unfolding empty_slots
   map-empty_slots = map-replicate f 16 null ∙ ap (replicate 16) null-is
@@ -42,7 +43,7 @@ module _ (f : Capability → Capability) (null-is : f null ≡ null) where
   pub endpoint_map-empty : endpoint_map f empty_endpoint ≡ empty_endpoint
   endpoint_map-empty = rw null-is refl
 
-  -- reading
+  -- what is read afterwards is what the function makes of what was read before
   pub gpt_at-items_map : (o : Items) (g : ℕ) → gpt_at (items_map f o) g ≡ gpt_map f (gpt_at o g)
   gpt_at-items_map o g = ap (get_or (map (gpt_map f) o.gpts) g) (sym gpt_map-empty) ∙ get_or-map (gpt_map f) o.gpts g empty_gpt
 
@@ -73,7 +74,7 @@ module _ (f : Capability → Capability) (null-is : f null ≡ null) where
   pub process_slot-process_map : (process : ProcessValue) (i : ℕ) → process_slot_of (process_map f process) i ≡ f (process_slot_of process i)
   process_slot-process_map process i = cap_at-map process.slots i
 
-  -- writing
+  -- a write and then the function is the function and then the write of what it makes
   pub gpt_map-with_slot : (gpt : GptValue) (i : ℕ) (c : Capability) → gpt_map f (with_slot gpt i c) ≡ with_slot (gpt_map f gpt) i (f c)
   gpt_map-with_slot gpt i c = ap (λ slots. let p : GptValue = record { header = gpt.header; slots = slots } in p) (map-set f gpt.slots i c)
 
@@ -111,19 +112,23 @@ module _ (f : Capability → Capability) (null-is : f null ≡ null) where
 
 -- ---- the meaning
 
--- what is read means what is read in the map
+-- headers have no capability, so the map has them as they are
 pub header_at-map_of : (o : Items) (g : ℕ) → header_at (map_of o) g ≡ header_at o g
 header_at-map_of o = header_at-items_map (meaning o) refl o
 
+-- a slot of the map is the meaning of the slot
 pub slot_at-map_of : (o : Items) (g i : ℕ) → slot_at (map_of o) g i ≡ meaning o (slot_at o g i)
 slot_at-map_of o = slot_at-items_map (meaning o) refl o
 
+-- a capability page of the map has the meaning of each slot
 pub cappage_at-state_map : (s : Store) (n : ℕ) → cappage_at (state_map s) n ≡ map (meaning s.items) (cappage_at s n)
 cappage_at-state_map s = cappage_at-store_map (meaning s.items) refl s
 
+-- a process of the map has the meanings of its capability registers and slots
 pub process_at-state_map : (s : Store) (n : ℕ) → process_at (state_map s) n ≡ process_map (meaning s.items) (process_at s n)
 process_at-state_map s = process_at-store_map (meaning s.items) refl s
 
+-- an endpoint of the map has the meaning of its recipient
 pub endpoint_at-state_map : (s : Store) (n : ℕ) → endpoint_at (state_map s) n ≡ endpoint_map (meaning s.items) (endpoint_at s n)
 endpoint_at-state_map s = endpoint_at-store_map (meaning s.items) refl s
 
@@ -131,24 +136,30 @@ endpoint_at-state_map s = endpoint_at-store_map (meaning s.items) refl s
 pub meaning-map_of : (o : Items) (c : Capability) → meaning (map_of o) c ≡ meaning o c
 meaning-map_of o c = refl
 
--- what is written means the same write to the map
+-- a slot that is written in the items is, as it means, written in the map
 pub map_of-set_slot : (o : Items) (g i : ℕ) (c : Capability) → map_of (set_slot o g i c) ≡ set_slot (map_of o) g i (meaning o c)
 map_of-set_slot o = items_map-set_slot (meaning o) refl o
 
+-- a header that is written in the items is written in the map
 pub map_of-set_header : (o : Items) (g : ℕ) (h : HeaderValue) → map_of (set_header o g h) ≡ set_header (map_of o) g h
 map_of-set_header o = items_map-set_header (meaning o) refl o
 
+-- a slot that is written changes the map of the whole store in that slot alone
 pub state_map-set_slot : (s : Store) (g i : ℕ) (c : Capability) → state_map (with_items s (set_slot s.items g i c)) ≡ with_items (state_map s) (set_slot (map_of s.items) g i (meaning s.items c))
 state_map-set_slot s g i c = ap (with_items (state_map s)) (map_of-set_slot s.items g i c)
 
+-- a header that is written changes the map of the whole store in that header alone
 pub state_map-set_header : (s : Store) (g : ℕ) (h : HeaderValue) → state_map (with_items s (set_header s.items g h)) ≡ with_items (state_map s) (set_header (map_of s.items) g h)
 state_map-set_header s g h = ap (with_items (state_map s)) (map_of-set_header s.items g h)
 
+-- a capability page that is written is, slot by slot as it means, written in the map
 pub state_map-with_cappage : (s : Store) (n : ℕ) (page : List Capability) → state_map (with_cappage s n page) ≡ with_cappage (state_map s) n (map (meaning s.items) page)
 state_map-with_cappage s = store_map-with_cappage (meaning s.items) refl s
 
+-- a process that is written is written in the map with the meanings of its capabilities
 pub state_map-with_process : (s : Store) (n : ℕ) (process : ProcessValue) → state_map (with_process s n process) ≡ with_process (state_map s) n (process_map (meaning s.items) process)
 state_map-with_process s = store_map-with_process (meaning s.items) refl s
 
+-- an endpoint that is written is written in the map with the meaning of its recipient
 pub state_map-with_endpoint : (s : Store) (n : ℕ) (endpoint : EndpointValue) → state_map (with_endpoint s n endpoint) ≡ with_endpoint (state_map s) n (endpoint_map (meaning s.items) endpoint)
 state_map-with_endpoint s = store_map-with_endpoint (meaning s.items) refl s

@@ -14,18 +14,18 @@ use Rattle.object_store.specs.Ranges.{IsTable, IsRanged, IsStore, IsWithinLimits
 use Rattle.object_store.specs.Lists.{All-at}
 use Rattle.object_store.specs.Live.{IsCapability-meaning}
 
--- a table of zeros
+-- a table of zeros is one of counts
 IsTable-zeros : (limit size : ℕ) → size ≤ limit → IsTable limit (replicate size 0)
 IsTable-zeros limit size within = record {
   size = omega (arith, length-replicate {A = ℕ} size 0);
   below = All-replicate (λ count. count < 2 ^ 20) size 0 (lit< tt);
 }
 
--- tables that were made with one size
+-- tables that were made with one size are of one length
 same_size : {A B : Type 0} (size : ℕ) (x : A) (y : B) → length (replicate size x) ≡ length (replicate size y)
 same_size size x y = length-replicate size x ∙ sym (length-replicate size y)
 
--- new objects
+-- new objects are in all ranges
 pub IsStore-empty_store : (sizes : Sizes) → IsWithinLimits sizes → IsStore (empty_store sizes)
 IsStore-empty_store sizes within = record {
   ranged = record {
@@ -49,7 +49,7 @@ IsStore-empty_store sizes within = record {
   };
 }
 
--- another GPT that is in its ranges
+-- a GPT in its ranges that is written keeps the items in theirs
 pub IsRanged-set_gpt : (o : Items) (g : ℕ) (gpt : GptValue) → IsGpt gpt → IsRanged o → IsRanged (set_gpt o g gpt)
 IsRanged-set_gpt o g gpt new ranged = record {
   counts = ranged.counts;
@@ -59,6 +59,7 @@ IsRanged-set_gpt o g gpt new ranged = record {
 
 -- ---- the map of the model
 
+-- a GPT of the map is in its ranges
 IsGpt-gpt_map : (o : Items) (gpt : GptValue) → IsGpt gpt → IsGpt (gpt_map (meaning o) gpt)
 IsGpt-gpt_map o gpt is = record {
   header = is.header;
@@ -66,7 +67,7 @@ IsGpt-gpt_map o gpt is = record {
   slots = All-map IsCapability (meaning o) gpt.slots (λ k d there. IsCapability-meaning o _ (is.slots k d there));
 }
 
--- it is in its ranges too
+-- the map of items in their ranges is in them too
 pub IsRanged-map_of : (o : Items) → IsRanged o → IsRanged (map_of o)
 IsRanged-map_of o ranged = record {
   counts = ranged.counts;
@@ -76,11 +77,14 @@ IsRanged-map_of o ranged = record {
 
 -- ---- what is read, also of a GPT or a slot that is not there
 
+-- each GPT that is read is in its ranges
 pub IsGpt-gpt_at : (o : Items) → IsRanged o → (g : ℕ) → IsGpt (gpt_at o g)
 IsGpt-gpt_at o ranged = All-at IsGpt o.gpts empty_gpt IsGpt-empty_gpt ranged.gpts
 
+-- each header that is read is in its range
 pub IsHeader-header_at : (o : Items) → IsRanged o → (g : ℕ) → IsHeader (header_at o g)
 IsHeader-header_at o ranged g = (IsGpt-gpt_at o ranged g).header
 
+-- each slot that is read has a capability in its ranges
 pub IsCapability-slot_at : (o : Items) → IsRanged o → (g i : ℕ) → IsCapability (slot_at o g i)
 IsCapability-slot_at o ranged g = All-at IsCapability (gpt_at o g).slots null IsCapability-null (IsGpt-gpt_at o ranged g).slots

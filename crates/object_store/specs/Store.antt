@@ -65,26 +65,31 @@ size_of o kind = length (counts_of o.counts kind)
 abbrev pub count_of : Items → CapKind → ℕ → ℕ
 count_of o kind n = slice_index (counts_of o.counts kind) n
 
--- GPT `g`, its header, and its slot `i`
+-- GPT `g`, the empty one where there is none
 abbrev pub gpt_at : Items → ℕ → GptValue
 gpt_at o g = slice_index_or o.gpts g empty_gpt
 
+-- the header of GPT `g`
 abbrev pub header_at : Items → ℕ → HeaderValue
 header_at o g = (gpt_at o g).header
 
+-- the capability in slot `i` of GPT `g`, as it is stored
 abbrev pub slot_at : Items → ℕ → ℕ → Capability
 slot_at o g i = slot_of (gpt_at o g) i
 
--- the bytes of page `n`, the slots of capability page `n`, process `n` and endpoint `n`
+-- the bytes of page `n`, zeros where there is none
 abbrev pub page_at : Store → ℕ → List ℕ
 page_at s n = slice_index_or s.contents.pages n empty_page
 
+-- the slots of capability page `n`, Nulls where there is none
 abbrev pub cappage_at : Store → ℕ → List Capability
 cappage_at s n = slice_index_or s.contents.cappages n empty_cappage
 
+-- process `n`, the empty one where there is none
 abbrev pub process_at : Store → ℕ → ProcessValue
 process_at s n = slice_index_or s.contents.processes n empty_process
 
+-- endpoint `n`, the empty one where there is none
 abbrev pub endpoint_at : Store → ℕ → EndpointValue
 endpoint_at s n = slice_index_or s.contents.endpoints n empty_endpoint
 
@@ -99,16 +104,19 @@ recounted counts Process n count = record counts { processes = slice_set counts.
 recounted counts Endpoint n count = record counts { endpoints = slice_set counts.endpoints n count }
 recounted counts _ n count = counts
 
--- the items with another count for one object, another GPT in place of one, another slot, another header
+-- the items with another count for object `n` of a kind
 abbrev pub set_count : Items → CapKind → ℕ → ℕ → Items
 set_count o kind n count = record { counts = recounted o.counts kind n count; gpts = o.gpts }
 
+-- the items with another GPT in place of GPT `g`
 abbrev pub set_gpt : Items → ℕ → GptValue → Items
 set_gpt o g gpt = record { counts = o.counts; gpts = slice_set o.gpts g gpt }
 
+-- the items with a capability written to slot `i` of GPT `g`
 abbrev pub set_slot : Items → ℕ → ℕ → Capability → Items
 set_slot o g i cap = set_gpt o g (with_slot (gpt_at o g) i cap)
 
+-- the items with another header for GPT `g`, whose slots stay
 abbrev pub set_header : Items → ℕ → HeaderValue → Items
 set_header o g header = set_gpt o g (with_header (gpt_at o g) header)
 
@@ -122,27 +130,30 @@ with_items s items = record { harts = s.harts; items = items; contents = s.conte
 abbrev pub with_contents : Store → Contents → Store
 with_contents s contents = record { harts = s.harts; items = s.items; contents = contents }
 
--- the store with one page, capability page, process or endpoint replaced, and all else the same
+-- the store with other bytes in page `n`
 abbrev pub with_page : Store → ℕ → List ℕ → Store
 with_page s n page = with_contents s (record s.contents { pages = slice_set s.contents.pages n page })
 
+-- the store with other slots in capability page `n`
 abbrev pub with_cappage : Store → ℕ → List Capability → Store
 with_cappage s n page = with_contents s (record s.contents { cappages = slice_set s.contents.cappages n page })
 
+-- the store with another process in place of process `n`
 abbrev pub with_process : Store → ℕ → ProcessValue → Store
 with_process s n process = with_contents s (record s.contents { processes = slice_set s.contents.processes n process })
 
+-- the store with another endpoint in place of endpoint `n`
 abbrev pub with_endpoint : Store → ℕ → EndpointValue → Store
 with_endpoint s n endpoint = with_contents s (record s.contents { endpoints = slice_set s.contents.endpoints n endpoint })
 
 -- ---- emptying one object
 
--- object `n` of a kind empty, where it is a GPT; all else the same
+-- the GPTs with object `n` of a kind empty: one of them where the kind is GPT, and none otherwise
 abbrev pub emptied_gpts : CapKind → ℕ → List GptValue → List GptValue
 emptied_gpts Gpt n gpts = slice_set gpts n empty_gpt
 emptied_gpts _ n gpts = gpts
 
--- object `n` of a kind empty, where it is none; all else the same
+-- the contents with object `n` of a kind empty: none of them where the kind is GPT
 abbrev pub emptied_contents : CapKind → ℕ → Contents → Contents
 emptied_contents Page n c = record c { pages = slice_set c.pages n empty_page }
 emptied_contents CapPage n c = record c { cappages = slice_set c.cappages n empty_cappage }
@@ -150,7 +161,7 @@ emptied_contents Process n c = record c { processes = slice_set c.processes n em
 emptied_contents Endpoint n c = record c { endpoints = slice_set c.endpoints n empty_endpoint }
 emptied_contents _ n c = c
 
--- object `n` of a kind empty, and all else the same
+-- the store with object `n` of a kind empty, its count as it was
 abbrev pub cleared : CapKind → ℕ → Store → Store
 cleared kind n s = record {
   harts = s.harts;
@@ -158,13 +169,14 @@ cleared kind n s = record {
   contents = emptied_contents kind n s.contents;
 }
 
--- object `n` of a kind empty and its count one higher, and all else the same: what is stored after a destruction
+-- the items after a destruction of object `n` of a kind: its count one higher, and it is empty where it is a GPT
 abbrev pub emptied_items : CapKind → ℕ → Items → Items
 emptied_items kind n o = record {
   counts = recounted o.counts kind n (count_of o kind n + 1);
   gpts = emptied_gpts kind n o.gpts;
 }
 
+-- the store after a destruction of object `n` of a kind: it is empty, its count one higher, and all else the same
 abbrev pub emptied : CapKind → ℕ → Store → Store
 emptied kind n s = record {
   harts = s.harts;

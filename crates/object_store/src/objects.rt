@@ -110,7 +110,8 @@ impl Objects {
     /// A capability to an object, without restrictions, through which all of it is seen.
     pub fn cap_to(&self, kind: CapKind, number: u32) -> Result<Cap, NoObject>
         ensures exactly { IsOk result ↔ (number < size_of self.now.items kind) }
-        ensures value { IfOk result (λ cap. cap ≡ to_object kind number (count_of self.now.items kind number)) }
+        ensures value { IfOk result
+            (λ cap. cap ≡ to_object kind number (count_of self.now.items kind number)) }
         ensures means { IfOk result (λ cap. meaning self.now.items cap ≡ to_object kind number 0) }
         ensures is_live { IfOk result (λ cap. is_live self.now.items cap ≡ true) }
         ensures behind { IfOk result (λ cap. IsBehind self.now.items cap) }

@@ -1,6 +1,6 @@
 //! Counts and destruction.
 ghost use Rattle.std.specs.Prelude.{◌≡◌, ◌<◌, ◌≤◌, ◌^◌, ◌↔◌, IsErr, IfOk, OnOk, OnErr};
-ghost use Rattle.object_store.specs.Store.{size_of, count_of, set_count, with_items, with_contents, emptied, emptied_gpts, emptied_contents, cleared};
+ghost use Rattle.object_store.specs.Store.{size_of, count_of, set_count, with_items, emptied, cleared};
 ghost use Rattle.object_store.specs.Meaning.{map_of, state_map};
 ghost use Rattle.object_store.specs.Differ.{DifferIn};
 ghost use Rattle.object_store.specs.Ahead.{NoneAhead};
@@ -30,9 +30,11 @@ impl Objects {
     pub fn set_count(&mut self, kind: CapKind, number: u16, count: u32)
         requires there { number < size_of self.old.items kind }
         requires fits { count ≤ 1048575 }
-        ensures after { self.new ≡ with_items self.old (set_count self.old.items kind number count) }
+        ensures after { self.new ≡
+            with_items self.old (set_count self.old.items kind number count) }
         ensures sizes { (k : CapKind) → size_of self.new.items k ≡ size_of self.old.items k }
-        ensures differ { DifferIn (Item.Header kind number) (map_of self.old.items) (map_of self.new.items) }
+        ensures differ { DifferIn (Item.Header kind number)
+            (map_of self.old.items) (map_of self.new.items) }
     {
         self.put_count(kind, number, count);
     }
@@ -46,8 +48,10 @@ impl Objects {
         ensures item { IfOk result (λ item. item ≡ Item.Header kind number) }
         ensures after { OnOk result (self.new ≡ emptied kind number self.old) }
         ensures sizes { (k : CapKind) → size_of self.new.items k ≡ size_of self.old.items k }
-        ensures means { OnOk result (state_map self.new ≡ destruction kind number (state_map self.old)) }
-        ensures differ { IfOk result (λ item. DifferIn item (map_of self.old.items) (map_of self.new.items)) }
+        ensures means { OnOk result
+            (state_map self.new ≡ destruction kind number (state_map self.old)) }
+        ensures differ { IfOk result
+            (λ item. DifferIn item (map_of self.old.items) (map_of self.new.items)) }
         ensures none_ahead { NoneAhead self.new }
     {
         if self.count(kind, number) == LAST_COUNT {
