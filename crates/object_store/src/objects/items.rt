@@ -35,12 +35,12 @@ impl Objects {
         requires slot { i < 16 }
         ensures item { result ≡ Item.Slot gpt i }
         ensures after { self.new ≡ with_items self.old (set_slot self.old.items gpt i cap) }
-        ensures means { map_of self.new.items ≡ set_slot (map_of self.old.items) gpt i (meaning self.old.items cap) }
+        ensures means { map_of self.new.items ≡
+            set_slot (map_of self.old.items) gpt i (meaning self.old.items cap) }
         ensures differ { DifferIn result (map_of self.old.items) (map_of self.new.items) }
         ensures none_ahead { IsBehind self.old.items cap → NoneAhead self.old → NoneAhead self.new }
     {
-        self.put_slot(gpt, i, cap);
-        Item::Slot(gpt, i)
+        self.put_slot(gpt, i, cap)
     }
 
     /// Gives a GPT another header. Gives the item that changed.
@@ -52,22 +52,25 @@ impl Objects {
         ensures differ { DifferIn result (map_of self.old.items) (map_of self.new.items) }
         ensures none_ahead { NoneAhead self.old → NoneAhead self.new }
     {
-        self.put_header(gpt, h);
-        Item::Header(CapKind::Gpt, gpt)
+        self.put_header(gpt, h)
     }
 
-    fn put_slot(&mut self, gpt: u16, i: u8, cap: Cap)
+    fn put_slot(&mut self, gpt: u16, i: u8, cap: Cap) -> Item
         requires there { gpt < size_of self.old.items CapKind.Gpt }
         requires slot { i < 16 }
-        ensures { self.new ≡ with_items self.old (set_slot self.old.items gpt i cap) }
+        ensures item { result ≡ Item.Slot gpt i }
+        ensures after { self.new ≡ with_items self.old (set_slot self.old.items gpt i cap) }
     {
         self.gpts[gpt as usize].set_slot(i, cap);
+        Item::Slot(gpt, i)
     }
 
-    fn put_header(&mut self, gpt: u16, h: GptHeader)
+    fn put_header(&mut self, gpt: u16, h: GptHeader) -> Item
         requires { gpt < size_of self.old.items CapKind.Gpt }
-        ensures { self.new ≡ with_items self.old (set_header self.old.items gpt h) }
+        ensures item { result ≡ Item.Header CapKind.Gpt gpt }
+        ensures after { self.new ≡ with_items self.old (set_header self.old.items gpt h) }
     {
         self.gpts[gpt as usize].set_header(h);
+        Item::Header(CapKind::Gpt, gpt)
     }
 }

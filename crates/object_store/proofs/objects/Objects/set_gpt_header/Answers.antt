@@ -4,10 +4,10 @@ use Rattle.object_store.specs.Behind.{NoneAhead-set_header}
 use Rattle.object_store.proofs.objects.Objects.set_gpt_header.Goals as goal
 
 pub returns-clause-means : goal.returns-clause-means
-returns-clause-means c = rw c.put_header.ensures (map_of-set_header _ _ _)
+returns-clause-means c = rw c.put_header.ensures.after (map_of-set_header _ _ _)
 
 pub returns-clause-differ : goal.returns-clause-differ
-returns-clause-differ c = rw c.put_header.ensures (DifferIn-header_meaning _ _ _)
+returns-clause-differ c = rw (c.put_header.ensures.item, c.put_header.ensures.after) (DifferIn-header_meaning _ _ _)
 
 pub returns-clause-none_ahead : goal.returns-clause-none_ahead
-returns-clause-none_ahead c = λ none. rw c.put_header.ensures (NoneAhead-set_header _ none _ _)
+returns-clause-none_ahead c = λ none. rw c.put_header.ensures.after (NoneAhead-set_header _ none _ _)
