@@ -32,7 +32,7 @@ impl Gpt {
         ensures range { IsGpt result }
     {
         Gpt {
-            header: GptHeader::new(12, false, false),
+            header: GptHeader::empty(),
             slots: nulls(),
         }
     }

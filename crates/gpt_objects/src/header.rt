@@ -1,6 +1,6 @@
 //! The header of a GPT.
 ghost use Rattle.std.specs.Prelude.{◌≡◌, ◌≤◌};
-ghost use Rattle.gpt_objects.specs.Header.{header_of, IsHeader};
+ghost use Rattle.gpt_objects.specs.Header.{header_of, empty_header, IsHeader};
 
 use std::marker::Model;
 
@@ -31,6 +31,13 @@ impl GptHeader {
         ensures { result ≡ header_of l2v ha bg }
     {
         GptHeader { l2v, ha, bg }
+    }
+
+    /// The header of an empty GPT.
+    pub(crate) fn empty() -> GptHeader
+        ensures { result ≡ empty_header }
+    {
+        GptHeader::new(12, false, false)
     }
 
     /// The logarithm of the number of bytes that one slot covers.
