@@ -53,13 +53,14 @@ impl CapPage {
         ensures empty { self.new ≡ empty_cappage }
         ensures range { IsCapPage self.new }
     {
-        self.caps.fill(Cap::null());
+        self.caps = nulls();
     }
 }
 
 #[tactic(auto, unfolding(crate::specs::CapPage::empty_cappage))]
 fn nulls() -> [Cap; 256]
-    ensures { result ≡ empty_cappage }
+    ensures empty { result ≡ empty_cappage }
+    ensures range { IsCapPage result }
 {
     [Cap::null(); 256]
 }

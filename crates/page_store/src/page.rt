@@ -55,7 +55,7 @@ impl Page {
         ensures empty { self.new ≡ empty_page }
         ensures size { IsPage self.new }
     {
-        self.bytes.fill(0);
+        self.bytes = zeros();
     }
 }
 
