@@ -14,7 +14,7 @@ returns-clause-range c =
       cap_registers = is.cap_registers;
       c0 = is.c0;
       capregs = is.capregs;
-      three = length-set c.self.inside.slots c.args.i c.args.cap ∙ is.three;
-      slots = All-set IsCapability c.self.inside.slots c.args.i c.args.cap c.kind-kind.ensures.range is.slots;
+      three = length-set c.self.inside.slots _ _ ∙ is.three;
+      slots = All-set IsCapability c.self.inside.slots _ _ c.kind-kind.ensures.range is.slots;
       state = is.state;
     }
