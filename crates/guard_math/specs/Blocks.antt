@@ -1,6 +1,6 @@
 -- Facts about blocks: where they lie, which hold which, and what pages they have.
-use Rattle.std.proofs.Common.{ℕ, zero, suc, Bool, true, false, ◌&&◌, nat_le, nat_lt, nat_eq, ◌==◌, ◌≡◌, ◌⊎◌, inl, inr, ◌≤◌, ◌<◌, ◌+◌, ◌-◌, ◌*◌, ◌/◌, ◌%◌, ◌^◌, refl, sym, ap, subst, ◌∙◌, arith}
-use Rattle.std.proofs.Math.Nat.{div-mul-le_self, lt-div-mul-add, div-div-eq-div-mul, div-eq_of_lt-le, mul-mod_left, mul_assoc, mul_comm, mul-div_left, pow-le-pow_right, mod-eq-sub-div-mul, add-mul, mul-le-mul_right}
+use Rattle.std.proofs.Common.{ℕ, true, ◌&&◌, nat_le, nat_lt, nat_eq, ◌≡◌, ◌⊎◌, inl, inr, ◌≤◌, ◌<◌, ◌+◌, ◌-◌, ◌*◌, ◌/◌, ◌%◌, ◌^◌, sym, ap, ◌∙◌, arith}
+use Rattle.std.proofs.Math.Nat.{div-mul-le_self, lt-div-mul-add, div-div-eq-div-mul, div-eq_of_lt-le, mul-mod_left, mul_assoc, mul_comm, pow-le-pow_right, mod-eq-sub-div-mul, add-mul, mul-le-mul_right}
 use Rattle.std.proofs.lemmas.Nat.{pow-add, pow_pos}
 use Rattle.std.proofs.Math.Bool.{and_comm}
 use Rattle.std.proofs.lemmas.Bool.Decides.{nat_tests}

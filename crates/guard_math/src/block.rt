@@ -1,6 +1,6 @@
 //! Blocks: aligned ranges of addresses.
 
-ghost use Rattle.std.specs.Prelude.{◌≡◌, ◌≤◌, ◌&&◌, ◌⊎◌, ◌↔◌, IsTrue, true, ℕ};
+ghost use Rattle.std.specs.Prelude.{◌≡◌, ◌≤◌, ◌*◌, ◌/◌, ◌^◌, ◌&&◌, ◌⊎◌, true, ℕ};
 ghost use Rattle.guard_math.specs.Block.{IsBlock, IsWithin, around, covers, first_page, holds, page_count};
 
 use crate::size::size;
@@ -34,9 +34,8 @@ impl Block {
         ensures range { IsBlock result }
         ensures inside { covers result address ≡ true }
     {
-        let size = size(l2);
         Block {
-            base: (u64::from(address) / size * size) as u32,
+            base: base_of(address, l2),
             l2,
         }
     }
@@ -67,7 +66,8 @@ impl Block {
     /// The addresses that both blocks have. One of the two contains the other.
     pub fn meet(self, other: Block) -> Block
         requires { IsWithin self other ⊎ IsWithin other self }
-        ensures both { (address : ℕ) → covers result address ≡ (covers self address && covers other address) }
+        ensures both { (address : ℕ) →
+            covers result address ≡ (covers self address && covers other address) }
         ensures one { (result ≡ self) ⊎ (result ≡ other) }
         ensures range { IsBlock result }
     {
@@ -98,4 +98,13 @@ impl Block {
         let first = self.first_page();
         first <= page && page - first < self.page_count()
     }
+}
+
+/// The lowest address of the block of `2^l2` addresses in which the address lies.
+fn base_of(address: u32, l2: u8) -> u32
+    requires { l2 ≤ 32 }
+    ensures { result ≡ address / 2 ^ l2 * 2 ^ l2 }
+{
+    let size = size(l2);
+    (u64::from(address) / size * size) as u32
 }

@@ -5,9 +5,9 @@ use Rattle.guard_math.proofs.block.Block.around.Goals as goal
 pub invariant_of-result : goal.invariant_of-result
 invariant_of-result c =
     let fits : c.args.address < 2 ^ 32 = omega arith in
-    rw (c.from.ensures, c.size-size.ensures.value) (IsBlock-around _ _ c.requires.low c.requires.high fits)
+    rw c.base_of.ensures (IsBlock-around _ _ c.requires.low c.requires.high fits)
 
 pub returns-clause-range : goal.returns-clause-range
 returns-clause-range c =
     let fits : c.args.address < 2 ^ 32 = omega arith in
-    rw (c.from.ensures, c.size-size.ensures.value) (IsBlock-around _ _ c.requires.low c.requires.high fits)
+    rw c.base_of.ensures (IsBlock-around _ _ c.requires.low c.requires.high fits)
