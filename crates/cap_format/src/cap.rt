@@ -1,6 +1,7 @@
 //! Capabilities: what a holder may do, as a value.
 
 ghost use Rattle.std.specs.Prelude.{◌≡◌, ◌≤◌, ◌<◌, ◌^◌, ◌%◌, ◌↔◌, true, false, IsTrue, IsOk, IfOk, IsSome, IfSome};
+ghost use Rattle.std.specs.Int.RustNames.{bit_or};
 ghost use Rattle.cap_format.specs.Kind.{is_memory, is_window, is_counted, is_object, object_limit};
 ghost use Rattle.cap_format.specs.Capability.{Capability, IsCapability, capability, null, plain, is_plain, to_object, entry, schedule, window, local_window, with_count, with_guard};
 ghost use Rattle.cap_format.specs.Guard.{Divides, no_guard};
@@ -186,8 +187,10 @@ impl Cap {
         payload: u32,
         slot: u8,
     ) -> Option<Cap>
-        ensures exactly { IsSome result ↔ IsCapability (capability kind restr.0 count guard object payload slot) }
-        ensures value { IfSome result (λ c. c ≡ capability kind restr.0 count guard object payload slot) }
+        ensures exactly { IsSome result ↔
+            IsCapability (capability kind restr.0 count guard object payload slot) }
+        ensures value { IfSome result
+            (λ c. c ≡ capability kind restr.0 count guard object payload slot) }
     {
         if restr.bits() >= kind.restr_limit()
             || count >= kind.count_limit()
@@ -228,7 +231,7 @@ impl Cap {
         ensures { result ≡ reduced self more.0 }
     {
         Cap {
-            restr: self.restr.union(more),
+            restr: joined(self.restr, more),
             ..self
         }
     }
@@ -294,4 +297,11 @@ impl Cap {
     {
         self.slot
     }
+}
+
+/// The restrictions of both sets.
+fn joined(restr: Restr, more: Restr) -> Restr
+    ensures { result.0 ≡ bit_or restr.0 more.0 }
+{
+    restr.union(more)
 }

@@ -138,7 +138,8 @@ fn of_numbers(kind: CapKind, head: u32, second: u32, object: u32, slot: u32) -> 
 
 /// The one guard that a capability of this kind could have with this second number.
 fn guard_in(kind: CapKind, second: u32) -> Option<Guard>
-    ensures memory { (guard : GuardValue) → is_memory kind ≡ true → HasNumber guard second → result ≡ Some guard }
+    ensures memory { (guard : GuardValue) → is_memory kind ≡ true →
+        HasNumber guard second → result ≡ Some guard }
     ensures other { is_memory kind ≡ false → result ≡ Some no_guard }
 {
     if !kind.is_memory() {
