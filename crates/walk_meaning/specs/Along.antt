@@ -102,6 +102,7 @@ low_way o headers c is w next g i low (BySlot k object index free into) =
 low_way o headers c is w next g i low (ByWindow k back index through) = subst (λ (t : At). 12 ≤ t.l2) through (le-min low is.guard.low)
 low_way o headers c is w next g i low (ByLocal k hold index free through) = subst (λ (t : At). 12 ≤ t.l2) through (le-min low is.guard.low)
 
+-- so it is with every step that goes on
 pub goes_low : (o : Items) (headers : (g : ℕ) → IsHeader (header_at o g)) (kind : Kind) (c : Capability) (is : IsCapability c) (w next : At) (g i : ℕ) → 12 ≤ w.l2 → step o kind c w ≡ Go next g i → 12 ≤ next.l2
 goes_low o headers kind c is w next g i low e = low_way o headers c is w next g i low (gone o next g i c kind w e).way
 
@@ -112,6 +113,7 @@ shrinks_way o c w next g i (BySlot k object index free into) =
 shrinks_way o c w next g i (ByWindow k back index through) = subst (λ (t : At). t.l2 ≤ w.l2) through (min-le_left w.l2 c.guard.l2g)
 shrinks_way o c w next g i (ByLocal k hold index free through) = subst (λ (t : At). t.l2 ≤ w.l2) through (min-le_left w.l2 c.guard.l2g)
 
+-- so it is with every step that goes on
 pub goes_shrinks : (o : Items) (kind : Kind) (c : Capability) (w next : At) (g i : ℕ) → step o kind c w ≡ Go next g i → next.l2 ≤ w.l2
 goes_shrinks o kind c w next g i e = shrinks_way o c w next g i (gone o next g i c kind w e).way
 
@@ -120,5 +122,6 @@ pub header-alike : (l a b : ℕ) (c : Capability) (l2 : ℕ) → l ≤ l2 → Al
 header-alike l a b c l2 le alike =
     ap (λ (block : BlockValue). if is_counted c.kind then noted_in (Header (object_kind c.kind) c.object) block ∷ [] else []) (sym (around-alike l l2 a b le alike))
 
+-- so it is with the read of a slot
 pub slot-alike : (l a b g i l2 : ℕ) → l ≤ l2 → Alike l a b → noted (Slot g i) b l2 ≡ noted (Slot g i) a l2
 slot-alike l a b g i l2 le alike = ap (λ (block : BlockValue). noted_in (Slot g i) block) (sym (around-alike l l2 a b le alike))

@@ -27,6 +27,7 @@ use Rattle.walk_meaning.specs.Laws.{BlockLaw}
 
 -- ---- the second list begins as the first, as long as that has blocks of a size not below 2^l
 
+-- the second list has every read of the first up to the one, if any, whose block is smaller than 2^l
 abbrev pub Upto : ℕ → List Noted → List Noted → Type 0
 Upto l [] ys = Unit {0}
 Upto l (x ∷ xs) ys = l ≤ x.block.l2 → (zs : List Noted) × ((ys ≡ x ∷ zs) × Upto l xs zs)
@@ -69,6 +70,7 @@ module _ (l : ℕ) (page : 12 ≤ l) (o : Items) (ranged : IsRanged o) (j k : Ki
 
 -- ---- sizes never rise along a trail
 
+-- no block is larger than 2^top or than the block before it
 abbrev pub Falls : ℕ → List Noted → Type 0
 Falls top [] = Unit {0}
 Falls top (x ∷ xs) = (x.block.l2 ≤ top) × Falls x.block.l2 xs

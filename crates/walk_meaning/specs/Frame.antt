@@ -37,6 +37,7 @@ pub record Agree (x : Item) (o p : Items) : Type 0 where
   pub headers : (g : ℕ) → Header Gpt g ≢ x → header_at o g ≡ header_at p g
   pub slots : (g i : ℕ) → Header Gpt g ≢ x → Slot g i ≢ x → (slot_at o g i ≡ slot_at p g i) ⊎ (NamesItem x (slot_at o g i) ⊎ (slot_at o g i ≡ null))
 
+-- maps that differ in one item alone agree in this sense
 pub agree : (x : Item) (o p : Items) → DifferIn x o p → Agree x o p
 agree (Slot h j) o p d = record {
   sizes = d.sizes;
@@ -132,6 +133,7 @@ pub record Same (o p : Items) (kind : Kind) (a : ℕ) (place : Place) (n : ℕ) 
   pub reads : trail_from p kind a n c w ≡ trail_from o kind a n c w
   pub cost : slots_from p kind n c w ≡ slots_from o kind n c w
 
+-- what is shown of each number of capabilities after a step: both maps go on alike
 pub record SameAfter (o p : Items) (kind : Kind) (a : ℕ) (place : Place) (n : ℕ) (s : Step) : Type 0 where
   pub reached : walk_after p kind n s ≡ Ok place
   pub reads : trail_after p kind a n s ≡ trail_after o kind a n s

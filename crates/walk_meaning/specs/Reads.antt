@@ -43,6 +43,7 @@ named_object _ e = absurd (cc (e))
 named_item : (c : Capability) → IsCapability c → is_counted c.kind ≡ true → IsItem (Header (object_kind c.kind) c.object)
 named_item c is counted = let object = named_object c.kind counted in (object.0, rw object.1 is.object)
 
+-- what holds of each read of two lists holds of each read of both together
 pub each-append : (P : Noted → Type 0) (xs ys : List Noted) → Each P xs → Each P ys → Each P (xs ++ ys)
 each-append P [] ys ps qs = qs
 each-append P (x ∷ xs) ys ps qs = (ps.0, each-append P xs ys ps.1 qs)

@@ -101,6 +101,7 @@ at_slot h g i kind w =
     if nat_lt 15 i || is_reserved h i then Fault (invalid kind) (handler_from h g w)
     else Go (into_slot h g w) g i
 
+-- the rule of GPTs at the slot that the address names
 abbrev pub at_gpt : HeaderValue → ℕ → Kind → At → Step
 at_gpt h g kind w = at_slot h g (w.address / 2 ^ h.l2v) kind w
 
@@ -140,6 +141,7 @@ abbrev pub handler_of : Items → Option ℕ → Option Capability
 handler_of o None = None
 handler_of o (Some g) = Some (slot_at o g 15)
 
+-- the fault of a walk: why it reached nothing, and the capability that handles it
 abbrev pub fault : Items → FaultCode → Option ℕ → WalkFault
 fault o code handler = record { code = code; handler = handler_of o handler }
 

@@ -94,6 +94,7 @@ module _ (o : Items) (next : At) (g i : ℕ) where
 pub step-passed : (o : Items) (kind : Kind) (c : Capability) (w : At) → (is_memory c.kind && passes c.guard w.address) ≡ true → step o kind c w ≡ at_kind o kind c.kind c (past c w)
 step-passed o kind c w passed = ap (λ (b : Bool). if b then at_kind o kind c.kind c (past c w) else Fault (invalid kind) w.handler) passed
 
+-- a GPT leads into the slot that the address names, unless it is reserved
 pub step-slot : (o : Items) (kind : Kind) (c : Capability) (w : At) (i : ℕ) → (is_memory c.kind && passes c.guard w.address) ≡ true → c.kind ≡ Gpt
     → (past c w).address / 2 ^ (header_at o c.object).l2v ≡ i → (nat_lt 15 i || is_reserved (header_at o c.object) i) ≡ false
     → step o kind c w ≡ Go (into_slot (header_at o c.object) c.object (past c w)) c.object i
@@ -103,6 +104,7 @@ step-slot o kind c w i passed k index free =
     ∙ (ap (λ (j : ℕ). at_slot (header_at o c.object) c.object j kind (past c w)) index
     ∙ ap (λ (b : Bool). if b then Fault (invalid kind) (handler_from (header_at o c.object) c.object (past c w)) else Go (into_slot (header_at o c.object) c.object (past c w)) c.object i) free))
 
+-- a window leads into slot 14 of the background GPT
 pub step-window : (o : Items) (kind : Kind) (c : Capability) (w : At) (g : ℕ) → (is_memory c.kind && passes c.guard w.address) ≡ true → c.kind ≡ Window
     → w.background ≡ Some g → step o kind c w ≡ Go (through_window c g (past c w)) g 14
 step-window o kind c w g passed k back =
@@ -110,6 +112,7 @@ step-window o kind c w g passed k back =
     ∙ (ap (λ (k : CapKind). at_kind o kind k c (past c w)) k
     ∙ ap (λ (b : Option ℕ). at_window b c (past c w)) back)
 
+-- a local window leads into its slot of the holding GPT, unless it is reserved
 pub step-local : (o : Items) (kind : Kind) (c : Capability) (w : At) (g : ℕ) → (is_memory c.kind && passes c.guard w.address) ≡ true → c.kind ≡ LocalWindow
     → w.holding ≡ Some g → is_reserved (header_at o g) c.slot ≡ false → step o kind c w ≡ Go (through_window c g (past c w)) g c.slot
 step-local o kind c w g passed k hold free =
