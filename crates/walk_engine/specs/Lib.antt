@@ -1,4 +1,3 @@
 pub mod Windows
 pub mod Answer
 pub mod OnWay
-pub mod AtMost

@@ -1,5 +1,5 @@
 -- A walk on its way: what is still to come, after what was noted and read, is the whole.
-use Rattle.std.specs.Prelude.{◌≡◌, ℕ, zero, suc, ◌+◌, List, [], ◌∷◌, ◌++◌, Option, Ok, Err, refl}
+use Rattle.std.specs.Prelude.{◌≡◌, ℕ, zero, suc, ◌+◌, List, [], ◌∷◌, ◌++◌, Option, Ok, Err}
 use Rattle.std.proofs.Common.{sym, ◌∙◌, ap, subst, append_assoc, append-nil, arith}
 use Rattle.cap_format.specs.Capability.{Capability}
 use Rattle.cap_format.specs.declared.fault.FaultCode.{FaultCode}
@@ -12,7 +12,7 @@ use Rattle.walk_meaning.specs.declared.noted.Noted.{Noted}
 use Rattle.walk_meaning.specs.declared.place.Place.{Place}
 use Rattle.walk_meaning.specs.declared.step.Step.{Step}
 use Rattle.walk_meaning.specs.declared.step.Step.TheVariants.{Reach, Fault, Go}
-use Rattle.walk_meaning.specs.Walk.{step, walk, fault, access, start_at}
+use Rattle.walk_meaning.specs.Walk.{step, walk, fault, access}
 use Rattle.walk_meaning.specs.Trail.{noted, header_noted, trail_from, trail, handler_cost, read_cost, slots_from, slots}
 use Rattle.walk_meaning.specs.Walked.{walk_after, trail_after, slots_after, walk-zero, walk-suc, trail_from-zero, trail_from-suc, slots_from-zero, slots_from-suc}
 
@@ -103,7 +103,3 @@ on_way-unread o space address kind n c d w reads start count none way =
       counted = ap (λ (n : ℕ). count + n) (slots_from-zero o kind d w ∙ sym (slots_from-zero o kind c w)) ∙ now.counted;
     } in
     subst (λ (n : ℕ). IsOnWay o space address kind n d w reads start count) (sym none) there
-
--- the start
-pub on_way-start : (o : Items) (space : Capability) (address : ℕ) (kind : Kind) (start : ℕ) → IsOnWay o space address kind 32 space (start_at address) [] start start
-on_way-start o space address kind start = record { place = refl; noted = refl; counted = refl }

@@ -1,12 +1,14 @@
 //! What one capability makes of a walk: a function for each rule.
 
-ghost use Rattle.std.specs.Prelude.{◌≡◌, ◌≤◌, ◌<◌, ◌/◌, ◌%◌, ◌^◌, ℕ, true, false, ◌&&◌, IfSome, IsNone};
-ghost use Rattle.cap_format.specs.Capability.{IsCapability};
+ghost use Rattle.std.specs.Prelude.{◌≡◌, ◌≤◌, ◌<◌, ◌-◌, ◌/◌, ◌%◌, ◌^◌, ℕ, true, false, ◌&&◌, IfSome, IsNone};
+ghost use Rattle.cap_format.specs.Capability.{IsCapability, bare};
 ghost use Rattle.guard_math.specs.Pass.{passes};
 ghost use Rattle.cap_format.specs.Kind.{is_counted, is_memory, is_window};
 ghost use Rattle.object_store.specs.Store.{size_of, header_at};
-ghost use Rattle.object_store.specs.Meaning.{is_live};
+ghost use Rattle.object_store.specs.Meaning.{is_live, map_of};
 ghost use Rattle.walk_meaning.specs.Walk.{invalid, denied, past, place_of, at_page, at_cappage, at_gpt, at_kind, handler_from, background_from, step};
+ghost use Rattle.walk_meaning.specs.Trail.{slots_from};
+ghost use Rattle.walk_meaning.specs.Walked.{slots_after};
 ghost use Rattle.walk_meaning.specs.Bounds.{Below, IsAt, GoesBelow};
 ghost use Rattle.windows.specs.Resolve.{resolution};
 ghost use Rattle.walk_engine.specs.Windows.{held, context_of, step_through};
@@ -25,6 +27,10 @@ pub fn step(objects: &Objects, kind: Kind, cap: Cap, at: At) -> Step
     requires at { IsAt (size_of objects.now.items CapKind.Gpt) at }
     ensures value { result ≡ step objects.now.items kind cap at }
     ensures below { GoesBelow (size_of objects.now.items CapKind.Gpt) result }
+
+    // The slots that are read from here on, where n capabilities may still be met.
+    ensures slots { (n : ℕ) → 0 < n → slots_from (map_of objects.now.items) kind n (bare cap) at
+        ≡ slots_after (map_of objects.now.items) kind (n - 1) result }
 {
     objects.in_ranges();
     let Some(behind) = behind(cap, at) else {
@@ -36,7 +42,8 @@ pub fn step(objects: &Objects, kind: Kind, cap: Cap, at: At) -> Step
 /// The walk behind the guard of a memory capability, if the address passes it.
 fn behind(cap: Cap, at: At) -> Option<At>
     ensures some { IfSome result (λ w. w ≡ past cap at) }
-    ensures passed { IfSome result (λ w. (is_memory cap.kind && passes cap.guard at.address) ≡ true) }
+    ensures passed { IfSome result
+        (λ w. (is_memory cap.kind && passes cap.guard at.address) ≡ true) }
     ensures none { IsNone result → (is_memory cap.kind && passes cap.guard at.address) ≡ false }
     ensures left { IfSome result (λ w. w.address < 2 ^ cap.guard.l2g) }
     ensures range { IsCapability cap }
@@ -132,7 +139,8 @@ fn at_window(objects: &Objects, window: Cap, at: At) -> Step
     requires window { is_window window.kind ≡ true }
     requires left { at.address < 2 ^ window.guard.l2g }
     requires holding { Below (size_of objects.now.items CapKind.Gpt) at.holding }
-    ensures { result ≡ step_through at (resolution window.kind window at.address (context_of objects.now.items at)) }
+    ensures { result
+        ≡ step_through at (resolution window.kind window at.address (context_of objects.now.items at)) }
 {
     let context = Context {
         holding: held(objects, at.holding),

@@ -37,16 +37,19 @@ pub fn walk<L: Ledger>(
     trail: &mut Trail,
     fetches: &mut Steps<L>,
 ) -> Result<Place, WalkFault>
-    ensures value { answer_meaning result ≡ access (map_of objects.now.items) (meaning objects.now.items space) address kind }
+    ensures value { let o = map_of objects.now.items in let c = meaning objects.now.items space in
+        answer_meaning result ≡ access o c address kind }
     ensures place { IfOk result (λ place. IsPlace objects.now.items kind place) }
     ensures offset { IfOk result (λ place. place.offset ≡ address % 4096) }
     ensures handler { IfErr result (λ fault. HandlerLives objects.now.items fault.handler) }
 
     // What was read.
-    ensures noted { OnOk result (trail.new.items ≡ trail_of (map_of objects.now.items) (meaning objects.now.items space) address kind) }
+    ensures noted { let o = map_of objects.now.items in let c = meaning objects.now.items space in
+        OnOk result (trail.new.items ≡ trail_of o c address kind) }
     ensures emptied { OnErr result (trail.new.items ≡ []) }
 
-    ensures counted { fetches.new ≡ fetches.old + slots (map_of objects.now.items) (meaning objects.now.items space) address kind }
+    ensures counted { let o = map_of objects.now.items in let c = meaning objects.now.items space in
+        fetches.new ≡ fetches.old + slots o c address kind }
     ensures bound { fetches.new ≤ fetches.old + 33 }
 {
     objects.in_ranges();
@@ -54,7 +57,9 @@ pub fn walk<L: Ledger>(
     trail.clear();
     let mut cap = objects.live(space);
     let mut at = start_at(address);
-    'way: for met in 0..32 {
+    let mut left = 32;
+    'way: while left > 0 {
+        left -= 1;
         note_header(cap, address, at.l2, trail);
         match step(objects, kind, cap, at) {
             Step::Reach(place) => return Ok(place),
@@ -64,7 +69,7 @@ pub fn walk<L: Ledger>(
             }
             Step::Go(next, gpt, slot) => {
                 trail.push(noted(Item::Slot(gpt, slot), address, next.l2));
-                cap = read_next(objects, gpt, slot, 31 - met, fetches);
+                cap = read_next(objects, gpt, slot, left, fetches);
                 at = next;
             }
         }
@@ -128,6 +133,7 @@ fn read_next<L: Ledger>(
     ensures value { 0 < left → bare result ≡ slot_at (map_of objects.now.items) gpt slot }
     ensures is_live { is_live objects.now.items result ≡ true }
     ensures counted { fetches.new ≡ fetches.old + read_cost left }
+    ensures most { fetches.new ≤ fetches.old + 1 }
 {
     if left == 0 {
         return Cap::null();
@@ -146,6 +152,7 @@ fn told<L: Ledger>(
     ensures value { fault_meaning result ≡ fault (map_of objects.now.items) code handler }
     ensures handler { HandlerLives objects.now.items result.handler }
     ensures counted { fetches.new ≡ fetches.old + handler_cost handler }
+    ensures most { fetches.new ≤ fetches.old + 1 }
 {
     let Some(gpt) = handler else {
         return WalkFault {

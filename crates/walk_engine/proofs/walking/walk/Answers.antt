@@ -15,58 +15,85 @@ use Rattle.walk_meaning.specs.Trail.{noted, header_noted, read_cost}
 use Rattle.walk_meaning.specs.Ways.{step-map_of}
 use Rattle.walk_meaning.specs.Pages.{page_law}
 use Rattle.walk_meaning.specs.Places.{place_law}
-use Rattle.walk_engine.specs.AtMost.{slots-at_most}
 use Rattle.walk_engine.specs.OnWay.{IsOnWay, on_way-go, on_way-reach, on_way-fault, on_way-end, on_way-unread}
 use Rattle.walk_engine.proofs.walking.walk.Goals as goal
 
-pub returns-in-Reach : goal.returns-in-Reach
-returns-in-Reach g c =
+pub returns-in-Reach-clause-value : goal.returns-in-Reach-clause-value
+returns-in-Reach-clause-value g c =
     let o = c.args.objects.now.items in
-    let fewer : 32 - c.way.met ≡ suc (31 - c.way.met) = omega arith in
+    let fewer : c.way.left ≡ suc (c.way.left - 1) = omega arith in
     let e : step (map_of o) c.args.kind (bare c.way.cap) c.way.at ≡ Reach c.in-Reach.place = step-map_of o c.args.kind c.way.cap c.way.at ∙ sym c.in-Reach.ensures.value in
     let ends = on_way-reach (map_of o) (meaning o c.args.space) c.args.address c.args.kind (bare c.way.cap) c.way.at c.way.trail.items c.args.fetches.now c.way.fetches
-    (32 - c.way.met) (31 - c.way.met) c.in-Reach.place fewer e c.way.invariant.way in
+    c.way.left (c.way.left - 1) c.in-Reach.place fewer e c.way.invariant.way in
+    sym ends.reached
+
+pub returns-in-Reach-clause-place : goal.returns-in-Reach-clause-place
+returns-in-Reach-clause-place g c =
+    let o = c.args.objects.now.items in
+    let fewer : c.way.left ≡ suc (c.way.left - 1) = omega arith in
+    let e : step (map_of o) c.args.kind (bare c.way.cap) c.way.at ≡ Reach c.in-Reach.place = step-map_of o c.args.kind c.way.cap c.way.at ∙ sym c.in-Reach.ensures.value in
+    let ends = on_way-reach (map_of o) (meaning o c.args.space) c.args.address c.args.kind (bare c.way.cap) c.way.at c.way.trail.items c.args.fetches.now c.way.fetches
+    c.way.left (c.way.left - 1) c.in-Reach.place fewer e c.way.invariant.way in
+    place_law o c.args.space c.args.address c.args.kind c.in-Reach.place ends.reached
+
+pub returns-in-Reach-clause-offset : goal.returns-in-Reach-clause-offset
+returns-in-Reach-clause-offset g c =
+    let o = c.args.objects.now.items in
+    let fewer : c.way.left ≡ suc (c.way.left - 1) = omega arith in
+    let e : step (map_of o) c.args.kind (bare c.way.cap) c.way.at ≡ Reach c.in-Reach.place = step-map_of o c.args.kind c.way.cap c.way.at ∙ sym c.in-Reach.ensures.value in
+    let ends = on_way-reach (map_of o) (meaning o c.args.space) c.args.address c.args.kind (bare c.way.cap) c.way.at c.way.trail.items c.args.fetches.now c.way.fetches
+    c.way.left (c.way.left - 1) c.in-Reach.place fewer e c.way.invariant.way in
     let is = IsCapability-meaning o c.args.space c.kind-range.ensures.range in
     let page = page_law (map_of o) (meaning o c.args.space) c.args.address c.args.address c.args.kind c.in-Reach.place (IsRanged-map_of o c.in_ranges.ensures.ranged) is refl ends.reached in
-    record { value = sym ends.reached; place = place_law o c.args.space c.args.address c.args.kind c.in-Reach.place ends.reached; offset = page.offset; handler = tt; noted = c.note_header.ensures.value ∙ ends.noted; emptied = tt; counted = ends.counted; bound = omega (arith, ends.counted, slots-at_most (map_of o) (meaning o c.args.space) c.args.address c.args.kind) }
+    page.offset
 
-pub returns-in-Fault : goal.returns-in-Fault
-returns-in-Fault g c =
+pub returns-in-Reach-clause-noted : goal.returns-in-Reach-clause-noted
+returns-in-Reach-clause-noted g c =
     let o = c.args.objects.now.items in
-    let fewer : 32 - c.way.met ≡ suc (31 - c.way.met) = omega arith in
+    let fewer : c.way.left ≡ suc (c.way.left - 1) = omega arith in
+    let e : step (map_of o) c.args.kind (bare c.way.cap) c.way.at ≡ Reach c.in-Reach.place = step-map_of o c.args.kind c.way.cap c.way.at ∙ sym c.in-Reach.ensures.value in
+    let ends = on_way-reach (map_of o) (meaning o c.args.space) c.args.address c.args.kind (bare c.way.cap) c.way.at c.way.trail.items c.args.fetches.now c.way.fetches
+    c.way.left (c.way.left - 1) c.in-Reach.place fewer e c.way.invariant.way in
+    c.note_header.ensures.value ∙ ends.noted
+
+pub returns-in-Fault-clause-value : goal.returns-in-Fault-clause-value
+returns-in-Fault-clause-value g c =
+    let o = c.args.objects.now.items in
+    let fewer : c.way.left ≡ suc (c.way.left - 1) = omega arith in
     let e : step (map_of o) c.args.kind (bare c.way.cap) c.way.at ≡ Fault c.in-Fault.code c.in-Fault.handler = step-map_of o c.args.kind c.way.cap c.way.at ∙ sym c.in-Fault.ensures.value in
     let ends = on_way-fault (map_of o) (meaning o c.args.space) c.args.address c.args.kind (bare c.way.cap) c.way.at c.way.trail.items c.args.fetches.now c.way.fetches
-    (32 - c.way.met) (31 - c.way.met) c.in-Fault.code c.in-Fault.handler fewer e c.way.invariant.way in
+    c.way.left (c.way.left - 1) c.in-Fault.code c.in-Fault.handler fewer e c.way.invariant.way in
     let err : WalkFault → Result Place WalkFault = λ f. Err f in
-    record { value = ap err c.told.ensures.value ∙ sym ends.faulted; place = tt; offset = tt; handler = c.told.ensures.handler; noted = tt; emptied = c.clear-in-Fault.ensures; counted = c.told.ensures.counted ∙ ends.counted; bound = omega (arith, c.told.ensures.counted, ends.counted, slots-at_most (map_of o) (meaning o c.args.space) c.args.address c.args.kind) }
+    ap err c.told.ensures.value ∙ sym ends.faulted
 
 pub returns : goal.returns
 returns g c =
     let o = c.args.objects.now.items in
-    let none : 32 - c.way.met ≡ zero = omega arith in
+    let none : c.way.left ≡ zero = omega arith in
     let ends = on_way-end (map_of o) (meaning o c.args.space) c.args.address c.args.kind (bare c.way.cap) c.way.at c.way.trail.items c.args.fetches.now c.way.fetches
-    (32 - c.way.met) none c.way.invariant.way in
+    c.way.left none c.way.invariant.way in
     let err : WalkFault → Result Place WalkFault = λ f. Err f in
-    record { value = ap err c.told-2.ensures.value ∙ sym ends.faulted; place = tt; offset = tt; handler = c.told-2.ensures.handler; noted = tt; emptied = c.clear-2.ensures; counted = c.told-2.ensures.counted ∙ ends.counted; bound = omega (arith, c.told-2.ensures.counted, ends.counted, slots-at_most (map_of o) (meaning o c.args.space) c.args.address c.args.kind) }
+    record { value = ap err c.told-2.ensures.value ∙ sym ends.faulted; place = tt; offset = tt; handler = c.told-2.ensures.handler; noted = tt; emptied = c.clear-2.ensures; counted = c.told-2.ensures.counted ∙ ends.counted; bound = omega (arith, c.told-2.ensures.most, c.way.invariant.most) }
 
 pub way-preserved : goal.way-preserved
 way-preserved g c =
     let o = c.args.objects.now.items in
-    let fewer : 32 - c.way.met ≡ suc (31 - c.way.met) = omega arith in
-    let less : 32 - (c.way.met + 1) ≡ 31 - c.way.met = omega arith in
+    let left = c.way.left - 1 in
+    let fewer : c.way.left ≡ suc left = omega arith in
     let e : step (map_of o) c.args.kind (bare c.way.cap) c.way.at ≡ Go c.in-Go.next c.in-Go.gpt c.in-Go.slot = step-map_of o c.args.kind c.way.cap c.way.at ∙ sym c.in-Go.ensures.value in
     let next : Capability = slot_at (map_of o) c.in-Go.gpt c.in-Go.slot in
     let reads : List Noted = (c.way.trail.items ++ header_noted (bare c.way.cap) c.args.address c.way.at.l2) ++ noted (Slot c.in-Go.gpt c.in-Go.slot) c.args.address c.in-Go.next.l2 ∷ [] in
     let way = on_way-go (map_of o) (meaning o c.args.space) c.args.address c.args.kind (bare c.way.cap) c.way.at c.way.trail.items c.args.fetches.now c.way.fetches
-    (32 - c.way.met) (31 - c.way.met) c.in-Go.next c.in-Go.gpt c.in-Go.slot fewer e c.way.invariant.way in
-    let read : IsOnWay (map_of o) (meaning o c.args.space) c.args.address c.args.kind (31 - c.way.met) (bare c.read_next-cap.result) c.in-Go.next reads c.args.fetches.now (c.way.fetches + read_cost (31 - c.way.met)) =
-    elim (cases_lt 0 (31 - c.way.met)) [
+    c.way.left left c.in-Go.next c.in-Go.gpt c.in-Go.slot fewer e c.way.invariant.way in
+    let read : IsOnWay (map_of o) (meaning o c.args.space) c.args.address c.args.kind left (bare c.read_next-cap.result) c.in-Go.next reads c.args.fetches.now (c.way.fetches + read_cost left) =
+    elim (cases_lt 0 left) [
       | inl some ↦ rw (c.read_next-cap.ensures.value some) way
-      | inr none ↦ on_way-unread (map_of o) (meaning o c.args.space) c.args.address c.args.kind (31 - c.way.met) next (bare c.read_next-cap.result) c.in-Go.next reads c.args.fetches.now (c.way.fetches + read_cost (31 - c.way.met)) (omega arith) way
+      | inr none ↦ on_way-unread (map_of o) (meaning o c.args.space) c.args.address c.args.kind left next (bare c.read_next-cap.result) c.in-Go.next reads c.args.fetches.now (c.way.fetches + read_cost left) (omega arith) way
     ] in
     record {
-      way = rw (less, c.push.ensures.items, c.note_header.ensures.value, c.noted.ensures, c.read_next-cap.ensures.counted) read;
+      way = rw (c.push.ensures.items, c.note_header.ensures.value, c.noted.ensures, c.read_next-cap.ensures.counted) read;
       live = c.read_next-cap.ensures.is_live;
       at = c.in-Go.ensures.below.0;
       room = omega (arith, c.push.ensures.len, c.note_header.ensures.room, c.way.invariant.room);
+      most = omega (arith, c.read_next-cap.ensures.most, c.way.invariant.most);
     }

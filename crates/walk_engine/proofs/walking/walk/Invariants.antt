@@ -1,4 +1,4 @@
-use Rattle.std.proofs.Common.{◌≡◌, ◌≤◌, ◌*◌, ◌-◌, true}
+use Rattle.std.proofs.Common.{◌≡◌, ◌≤◌, ◌+◌, ◌*◌, true}
 use Rattle.arrayvec.specs.ArrayVec.{array_vec_len}
 use Rattle.cap_format.specs.Capability.{bare}
 use Rattle.cap_format.specs.declared.kind.CapKind.TheVariants.{Gpt}
@@ -10,8 +10,12 @@ use Rattle.walk_engine.proofs.walking.walk.Given as goal
 
 abbrev pub invariant-way : goal.invariant-way
 invariant-way g l = record {
-  way : IsOnWay (map_of l.objects.items) (meaning l.objects.items l.fn.space) l.address l.kind (32 - l.met) (bare l.cap) l.at l.trail.items l.fn.fetches l.fetches;
+  way : IsOnWay (map_of l.objects.items) (meaning l.objects.items l.fn.space) l.address l.kind l.left (bare l.cap) l.at l.trail.items l.fn.fetches l.fetches;
   live : is_live l.objects.items l.cap ≡ true;
   at : IsAt (size_of l.objects.items Gpt) l.at;
-  room : array_vec_len l.trail ≤ 2 * l.met;
+  room : array_vec_len l.trail + 2 * l.left ≤ 64;
+  most : l.fetches + l.left ≤ l.fn.fetches + 32;
 }
+
+abbrev pub decreases-way : goal.decreases-way
+decreases-way g l = l.left
