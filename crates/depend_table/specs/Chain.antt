@@ -11,6 +11,10 @@ use Rattle.depend_table.specs.Place.{place_of}
 abbrev pub record_of : Node → Depend
 record_of n = depend n.item n.root n.block
 
+-- the node of a record, with those of its item that are there
+abbrev pub node_of : Depend → Chain → Node
+node_of d rest = record { item = d.item; root = d.root; block = d.block; rest = rest }
+
 -- the records of the nodes that are there
 abbrev pub records_of : List (Option Node) → List Depend
 records_of [] = []
@@ -30,6 +34,7 @@ abbrev pub Leads : (ℕ → Option Node) → ℕ → ℕ → Option ℕ → Type
 Leads node place length None = length ≡ 0
 Leads node place length (Some key) = (n : Node) × ((node key ≡ Some n) × ((place_of n.item ≡ place) × (length ≡ n.rest.length + 1)))
 
+-- a chain counts the records to which its first key leads, and all are of the item at a place
 abbrev pub IsChain : (ℕ → Option Node) → ℕ → Chain → Type 0
 IsChain node place chain = Leads node place chain.length chain.first
 

@@ -14,9 +14,11 @@ both : (a b : Bool) → (a && b) ≡ true → (a ≡ true) × (b ≡ true)
 both true b holds = (refl, holds)
 both false b holds = absurd (cc)
 
+-- numbers that pass the test are one
 same_numbers : (m n : ℕ) → (m == n) ≡ true → m ≡ n
 same_numbers m n holds = grind (arith, nat_tests, holds)
 
+-- items that pass the test are one
 pub same_item_tells : (a b : Item) → same_item a b ≡ true → a ≡ b
 same_item_tells (Header j n) (Header k m) holds =
     let parts = both (number_of j == number_of k) (n == m) holds in
@@ -27,6 +29,7 @@ same_item_tells (Slot g s) (Slot h t) holds =
     let parts = both (g == h) (s == t) holds in
     ap (λ (x : ℕ). Slot x s) (same_numbers g h parts.0) ∙ ap (λ (x : ℕ). Slot h x) (same_numbers s t parts.1)
 
+-- blocks that pass the test are one
 pub same_block_tells : (b c : BlockValue) → same_block b c ≡ true → b ≡ c
 same_block_tells b c holds =
     let parts = both (b.base == c.base) (b.l2 == c.l2) holds in
@@ -41,6 +44,7 @@ same_tells d e holds =
     ∙ ap (λ (x : ℕ). depend e.item x d.block) (same_numbers d.root e.root others.0)
     ∙ ap (λ (x : BlockValue). depend e.item e.root x) (same_block_tells d.block e.block others.1)
 
+-- an item passes the test with itself
 same_item_itself : (a : Item) → same_item a a ≡ true
 same_item_itself (Header k n) = grind (arith, nat_tests)
 same_item_itself (Slot g s) = grind (arith, nat_tests)

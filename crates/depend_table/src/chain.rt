@@ -1,7 +1,8 @@
 //! The records of one item, linked.
 
 ghost use Rattle.std.specs.Prelude.{◌≡◌, ◌<◌, length, replicate, slice_set, IfOk};
-ghost use Rattle.depend_table.specs.Chain.{chain_at, no_chain};
+ghost use Rattle.depend_table.specs.Depend.{depend};
+ghost use Rattle.depend_table.specs.Chain.{chain_at, no_chain, node_of};
 
 use cap_format::Item;
 use guard_math::Block;
@@ -22,6 +23,18 @@ pub struct Node {
     pub root: u16,
     pub block: Block,
     pub rest: Chain,
+}
+
+/// The node of a record, in front of those of its item that are there.
+pub fn node_of(item: Item, root: u16, block: Block, rest: Chain) -> Node
+    ensures { result ≡ node_of (depend item root block) rest }
+{
+    Node {
+        item,
+        root,
+        block,
+        rest,
+    }
 }
 
 const NO_CHAIN: Chain = Chain {

@@ -5,7 +5,7 @@ ghost use Rattle.cap_format.specs.Item.{IsItem};
 ghost use Rattle.guard_math.specs.Block.{BlockValue};
 ghost use Rattle.depend_table.specs.Depend.{Adds, Takes, depend, has};
 
-use crate::chain::{Chain, Node, chain_at, clear_chains, empty_chains, set_chain};
+use crate::chain::{Chain, Node, chain_at, clear_chains, empty_chains, node_of, set_chain};
 use crate::place::{PLACES, is_item, place_of};
 use cap_format::{Item, OutOfMemory};
 use guard_math::Block;
@@ -60,7 +60,8 @@ impl Depends {
         ensures ok { OnOk result (Adds self.old self.new (depend item root block)) }
 
         // Full is for a record that is not there.
-        ensures full { IsErr result ↔ ((has self.old (depend item root block) ≡ false) × (length self.old ≡ RECORDS)) }
+        ensures full { IsErr result
+            ↔ ((has self.old (depend item root block) ≡ false) × (length self.old ≡ RECORDS)) }
         ensures err { OnErr result (self.new ≡ self.old) }
     {
         if self.contains(item, root, block) {
@@ -75,8 +76,10 @@ impl Depends {
 
     /// Takes a record of the item out. It reads no other record.
     pub fn take_one(&mut self, item: Item) -> Option<(u16, Block)>
-        ensures taken { IfSome result (λ taken. Takes self.old self.new (depend item taken.0 taken.1)) }
-        ensures none { IsNone result ↔ ((root : ℕ) (block : BlockValue) → has self.old (depend item root block) ≡ false) }
+        ensures taken { IfSome result
+            (λ taken. Takes self.old self.new (depend item taken.0 taken.1)) }
+        ensures none { IsNone result
+            ↔ ((root : ℕ) (block : BlockValue) → has self.old (depend item root block) ≡ false) }
         ensures same { IsNone result → self.new ≡ self.old }
     {
         let chains = &self.chains;
@@ -117,7 +120,15 @@ impl Depends {
         ensures value { IsTrue result ↔ (length self.now ≡ RECORDS) }
         ensures most { length self.now ≤ RECORDS }
     {
-        self.nodes.len() == RECORDS
+        self.len() == RECORDS
+    }
+
+    /// How many records there are.
+    fn len(&self) -> usize
+        ensures value { result ≡ length self.now }
+        ensures most { result ≤ RECORDS }
+    {
+        self.nodes.len()
     }
 
     // Notes a record that is not there.
@@ -129,12 +140,7 @@ impl Depends {
     {
         let place = place_of(item);
         let rest = chain_at(&self.chains, place);
-        let key = self.nodes.insert_reserved(Node {
-            item,
-            root,
-            block,
-            rest,
-        });
+        let key = self.nodes.insert_reserved(node_of(item, root, block, rest));
         let chain = Chain {
             first: Some(key),
             length: rest.length + 1,
