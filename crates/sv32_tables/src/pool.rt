@@ -124,10 +124,12 @@ impl TablePool {
         ensures full { IsErr result ↔ LacksFrame self.old root region }
         ensures err { OnErr result (self.new ≡ self.old) }
 
-        ensures leaves { OnOk result ((r p : ℕ) → IsPlace self.old r p → leaf_at self.new r p ≡ leaf_at self.old r p) }
+        ensures leaves { OnOk result
+            ((r p : ℕ) → IsPlace self.old r p → leaf_at self.new r p ≡ leaf_at self.old r p) }
         ensures uses { OnOk result (self.new.uses ≡ with_region self.old root region) }
         ensures roots { SameRoots self.old self.new }
-        ensures table { IfOk result (λ table. slice_get self.new.uses table ≡ Some (FrameUse.Region root region)) }
+        ensures table { IfOk result
+            (λ table. slice_get self.new.uses table ≡ Some (FrameUse.Region root region)) }
     {
         let first = get(&self.words, root, region);
         if let Some(table) = table_of(first) {

@@ -37,7 +37,8 @@ pub fn wipe(words: &mut Vec<u32>, start: usize, end: usize)
     requires order { start ≤ end }
     requires inside { end ≤ length words.old.items }
     ensures length { length words.new.items ≡ length words.old.items }
-    ensures words { (k : ℕ) → slice_index words.new.items k ≡ (if nat_le start k && nat_lt k end then 0 else slice_index words.old.items k) }
+    ensures words { (k : ℕ) → slice_index words.new.items k
+        ≡ (if nat_le start k && nat_lt k end then 0 else slice_index words.old.items k) }
 {
     'each: for at in start..end {
         words[at] = 0;
