@@ -12,6 +12,7 @@ pub record FindsFilled (entries : List Entry) (root page : ℕ) (leaf : Leaf) : 
   -- what else is found was found before
   pub old : (r p : ℕ) (found : Leaf) → look (filled entries root page leaf) r p ≡ Some found → ((r ≡ root) × (p ≡ page) × (found ≡ leaf)) ⊎ (look entries r p ≡ Some found)
 
+-- whatever a cache holds, after a fill the new leaf is found, and else only what was found before
 abbrev pub FillLaw : Type 0
 FillLaw = (entries : List Entry) (root page : ℕ) (leaf : Leaf) → IsTlb entries → FindsFilled entries root page leaf
 

@@ -10,6 +10,7 @@ use Rattle.tlb_model.specs.Tlb.{IsSingle, look}
 pub of_tells : (root page : ℕ) (e : Entry) → is_of root page e ≡ true → (e.root ≡ root) × (e.page ≡ page)
 of_tells root page e is = (grind (arith, nat_tests, is), grind (arith, nat_tests, is))
 
+-- an entry is of its own root and page
 pub is_of_itself : (e : Entry) → is_of e.root e.page e ≡ true
 is_of_itself e = grind (arith, nat_tests)
 
