@@ -21,7 +21,8 @@ use crate::{Illegal, Insn};
 /// `Illegal` where the word is of no row of the instruction table.
 #[tactic(auto, using(crate::proofs::OneRow::one_row))]
 pub fn decode(word: u32) -> Result<Insn, Illegal>
-    ensures row { (row : Row) → Contains rows row → bit_and word row.mask ≡ row.match → result ≡ Ok (made row.form word) }
+    ensures row { (row : Row) → Contains rows row
+        → bit_and word row.mask ≡ row.match → result ≡ Ok (made row.form word) }
     ensures ok { IfOk result (λ insn. insn_at word ≡ Some insn) }
     ensures illegal { IsErr result ↔ (insn_at word ≡ None) }
     ensures in_range { IfOk result InRange }

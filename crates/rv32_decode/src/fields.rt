@@ -57,7 +57,8 @@ pub(crate) fn immediate_s(word: u32) -> i32
 /// The immediate of format B.
 pub(crate) fn immediate_b(word: u32) -> i32
     ensures value { result ≡ b_immediate word }
-    ensures back { unsigned (2 ^ 12) result ≡ bits word 31 31 * 2 ^ 12 + bits word 7 7 * 2 ^ 11 + bits word 30 25 * 2 ^ 5 + bits word 11 8 * 2 }
+    ensures back { unsigned (2 ^ 12) result
+        ≡ bits word 31 31 * 2 ^ 12 + bits word 7 7 * 2 ^ 11 + bits word 30 25 * 2 ^ 5 + bits word 11 8 * 2 }
 {
     let high = (field(word, 31, 31) << 12) + (field(word, 7, 7) << 11);
     let low = (field(word, 30, 25) << 5) + (field(word, 11, 8) << 1);
@@ -67,7 +68,8 @@ pub(crate) fn immediate_b(word: u32) -> i32
 /// The immediate of format J.
 pub(crate) fn immediate_j(word: u32) -> i32
     ensures value { result ≡ j_immediate word }
-    ensures back { unsigned (2 ^ 20) result ≡ bits word 31 31 * 2 ^ 20 + bits word 19 12 * 2 ^ 12 + bits word 20 20 * 2 ^ 11 + bits word 30 21 * 2 }
+    ensures back { unsigned (2 ^ 20) result
+        ≡ bits word 31 31 * 2 ^ 20 + bits word 19 12 * 2 ^ 12 + bits word 20 20 * 2 ^ 11 + bits word 30 21 * 2 }
 {
     let high = (field(word, 31, 31) << 20) + (field(word, 19, 12) << 12);
     let low = (field(word, 20, 20) << 11) + (field(word, 30, 21) << 1);
