@@ -11,8 +11,8 @@ use crate::action::Action::{Link, Only, Write};
 use crate::effect::Effect;
 use crate::effect::Effect::{Misaligned, Next};
 use crate::word::{
-    difference, is_aligned, low_bytes, next, plus, register as x, shifted_left, shifted_right,
-    shifted_right_signed, signed, sum, unsigned,
+    difference, even, is_aligned, low_bytes, next, plus, register as x, shifted_left,
+    shifted_right, shifted_right_signed, signed, sum, unsigned, upper,
 };
 use rv32_decode::Insn;
 
@@ -63,7 +63,7 @@ pub fn prepare(regs: &[u32; 32], pc: u32, insn: Insn) -> Action
         Insn::Lw { rd, rs1, imm } => load(plus(x(regs, rs1), imm), 4, true, rd),
         Insn::Lbu { rd, rs1, imm } => load(plus(x(regs, rs1), imm), 1, false, rd),
         Insn::Lhu { rd, rs1, imm } => load(plus(x(regs, rs1), imm), 2, false, rd),
-        Insn::Jalr { rd, rs1, imm } => Link(rd, plus(x(regs, rs1), imm) & !1),
+        Insn::Jalr { rd, rs1, imm } => Link(rd, even(plus(x(regs, rs1), imm))),
         Insn::Sb { rs1, rs2, imm } => store(plus(x(regs, rs1), imm), 1, x(regs, rs2)),
         Insn::Sh { rs1, rs2, imm } => store(plus(x(regs, rs1), imm), 2, x(regs, rs2)),
         Insn::Sw { rs1, rs2, imm } => store(plus(x(regs, rs1), imm), 4, x(regs, rs2)),
@@ -78,8 +78,8 @@ pub fn prepare(regs: &[u32; 32], pc: u32, insn: Insn) -> Action
         Insn::Bltu { rs1, rs2, off } => branch(pc, off, x(regs, rs1) < x(regs, rs2)),
         Insn::Bgeu { rs1, rs2, off } => branch(pc, off, x(regs, rs1) >= x(regs, rs2)),
         Insn::Jal { rd, off } => Link(rd, plus(pc, off)),
-        Insn::Lui { rd, imm } => Write(rd, imm << 12),
-        Insn::Auipc { rd, imm } => Write(rd, sum(pc, imm << 12)),
+        Insn::Lui { rd, imm } => Write(rd, upper(0, imm)),
+        Insn::Auipc { rd, imm } => Write(rd, upper(pc, imm)),
         Insn::Fence => Only(Next(next(pc))),
         Insn::Ecall => Only(Effect::Syscall),
         Insn::Ebreak => Only(Effect::Break),

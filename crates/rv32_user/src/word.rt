@@ -1,5 +1,5 @@
 //! Registers, and the arithmetic of their words.
-ghost use Rattle.std.specs.Prelude.{◌≡◌, ◌*◌, ◌^◌, ◌<◌};
+ghost use Rattle.std.specs.Prelude.{◌≡◌, ◌*◌, ◌/◌, ◌^◌, ◌<◌};
 ghost use Rattle.rv32_user.specs.Size.{IsSize};
 ghost use Rattle.rv32_user.specs.Word.{word_of, signed_word, plus, sum_of, difference_of, shifted_left, shifted_right, shifted_right_signed, low_bytes, extended, is_aligned, next_of};
 ghost use Rattle.rv32_user.specs.Registers.{register, with_register};
@@ -54,6 +54,21 @@ pub fn difference(a: u32, b: u32) -> u32
     ensures { result ≡ difference_of a b }
 {
     a.wrapping_sub(b)
+}
+
+/// A word and an upper immediate, which counts from bit 12 on.
+pub fn upper(value: u32, imm: u32) -> u32
+    requires { imm < 2 ^ 20 }
+    ensures { result ≡ sum_of value (imm * 2 ^ 12) }
+{
+    sum(value, imm << 12)
+}
+
+/// The word without its lowest bit.
+pub fn even(value: u32) -> u32
+    ensures { result ≡ value / 2 * 2 }
+{
+    value & !1
 }
 
 pub fn shifted_left(value: u32, by: u32) -> u32
