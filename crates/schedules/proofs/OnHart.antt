@@ -1,9 +1,8 @@
 -- A process on a hart stands there alone.
-use Rattle.std.proofs.Common.{◌≡◌, ◌≢◌, ◌⊎◌, inl, inr, ℕ, ◌+◌, ◌<◌, ◌≤◌, ◌==◌, eqb, leb, zero, suc, Bool, true, false, ◌||◌, cond, List, [], ◌∷◌, set, get_or, slice_index_or, length, refl, sym, ap, ◌∙◌, arith, Option, Some, None, IfSome}
+use Rattle.std.proofs.Common.{◌≡◌, ◌≢◌, ◌⊎◌, inl, inr, ℕ, ◌+◌, ◌<◌, ◌≤◌, ◌==◌, eqb, leb, zero, suc, Bool, true, false, ◌||◌, cond, List, [], ◌∷◌, set, slice_index_or, length, refl, sym, ◌∙◌, arith, Option, Some, None, IfSome}
 use Rattle.std.specs.List.{sum_by}
 use Rattle.std.proofs.lemmas.List.{get_or-set_other, get_or_past}
 use Rattle.std.proofs.lemmas.List.Sums.{get_or-le-sum_by, sum_by-set}
-use Rattle.std.proofs.Math.ListN.{length-set}
 use Rattle.std.proofs.lemmas.Bool.Decides.{eqb_tells, leb_tells}
 use Rattle.schedules.specs.Queues.{QueuesValue, hart_of, ready_queue, sleepers_of, stands_in}
 use Rattle.schedules.specs.Standing.{standing, times_in, times_on, IsQueues}

@@ -17,6 +17,7 @@ pub record Runs : Type 0 where
   pub processes : List ProcessValue
   pub queues : QueuesValue
 
+-- these processes with these queues
 abbrev pub runs : List ProcessValue → QueuesValue → Runs
 runs processes queues = record { processes = processes; queues = queues }
 

@@ -3,6 +3,8 @@
 //! A process that runs stands in exactly one place. Nothing here knows what a process does, or why it sleeps.
 #![tactic(auto)]
 
+mod harts;
+mod lists;
 mod process_list;
 mod queues;
 mod spot;

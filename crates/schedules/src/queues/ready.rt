@@ -27,14 +27,20 @@ impl Queues {
         requires sizes { length self.old.sleepers ≡ size_of objects.old.items CapKind.Process }
         requires there { p < length self.old.sleepers }
         requires nowhere { standing self.old p ≡ 0 }
-        ensures objects { objects.new ≡ with_processes objects.old (readied (schedule_of objects.old p) p (runs_of objects.old self.old)).processes }
-        ensures queues { self.new ≡ (readied (schedule_of objects.old p) p (runs_of objects.old self.old)).queues }
+        ensures objects { let before = runs_of objects.old self.old in
+            let after = readied (schedule_of objects.old p) p before in
+            objects.new ≡ with_processes objects.old after.processes }
+        ensures queues { let before = runs_of objects.old self.old in
+            let after = readied (schedule_of objects.old p) p before in
+            self.new ≡ after.queues }
         ensures items { objects.new.items ≡ objects.old.items }
         ensures object_harts { objects.new.harts ≡ objects.old.harts }
         ensures processes { length self.new.sleepers ≡ length self.old.sleepers }
         ensures harts { length self.new.harts ≡ length self.old.harts }
-        ensures places { (x : ℕ) → standing self.new x ≡ standing self.old x + cond (p == x) (places_due (process_at objects.new p).state) 0 }
-        ensures agrees { AgreesBut p (runs_of objects.old self.old) → Agrees (runs_of objects.new self.new) }
+        ensures places { let due = places_due (process_at objects.new p).state in
+            (x : ℕ) → standing self.new x ≡ standing self.old x + cond (p == x) due 0 }
+        ensures agrees { AgreesBut p (runs_of objects.old self.old) →
+            Agrees (runs_of objects.new self.new) }
     {
         objects.in_ranges();
         let process = objects.process(p);
@@ -56,9 +62,14 @@ impl Queues {
     pub fn wake(&mut self, objects: &mut Objects, on: u16)
         requires sizes { length self.old.sleepers ≡ size_of objects.old.items CapKind.Process }
         requires there { on < length self.old.sleepers }
-        ensures objects { objects.new ≡ with_processes objects.old (woken (schedule_of objects.old) on (runs_of objects.old self.old)).processes }
-        ensures queues { self.new ≡ (woken (schedule_of objects.old) on (runs_of objects.old self.old)).queues }
-        ensures agrees { Agrees (runs_of objects.old self.old) → Agrees (runs_of objects.new self.new) }
+        ensures objects { let before = runs_of objects.old self.old in
+            let after = woken (schedule_of objects.old) on before in
+            objects.new ≡ with_processes objects.old after.processes }
+        ensures queues { let before = runs_of objects.old self.old in
+            let after = woken (schedule_of objects.old) on before in
+            self.new ≡ after.queues }
+        ensures agrees { Agrees (runs_of objects.old self.old) →
+            Agrees (runs_of objects.new self.new) }
     {
         let sleepers = self.take_sleepers(on);
         'waking: for i in 0..sleepers.len() {

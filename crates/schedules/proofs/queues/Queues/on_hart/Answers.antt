@@ -1,5 +1,4 @@
-use Rattle.std.proofs.Common.{rules, ℕ, length, subst, IfSome, ◌<◌}
-use Rattle.schedules.specs.Queues.{QueuesValue, hart_of}
+use Rattle.schedules.specs.Queues.{QueuesValue}
 use Rattle.schedules.proofs.OnHart.{hart_there}
 use Rattle.schedules.proofs.queues.Queues.on_hart.Goals as goal
 

@@ -1,4 +1,4 @@
-use Rattle.std.proofs.Common.{rules, ◌≡◌, ℕ, ap, sym, subst, Some}
+use Rattle.std.proofs.Common.{◌≡◌, ap, sym, subst, Some}
 use Rattle.schedules.specs.Queues.{QueuesValue, hart_of}
 use Rattle.schedules.specs.declared.spot.Spot.TheVariants.{Hart}
 use Rattle.schedules.proofs.OnHart.{same_hart}

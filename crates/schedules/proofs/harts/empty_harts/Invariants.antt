@@ -1,5 +1,5 @@
 use Rattle.std.proofs.Common.{◌≡◌, replicate, None}
-use Rattle.schedules.proofs.queues.empty_harts.Given as goal
+use Rattle.schedules.proofs.harts.empty_harts.Given as goal
 
 abbrev pub invariant-loop : goal.invariant-loop
 invariant-loop l = l.harts.items ≡ replicate l.counter None

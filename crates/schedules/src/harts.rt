@@ -1,0 +1,80 @@
+//! Harts, each with its process or none: changes of one hart or of all, and looking through them.
+ghost use Rattle.std.specs.Prelude.{◌≡◌, ◌<◌, length, map, replicate, false, slice_index_or, slice_set, Some, None, IfSome, IfOk, IsNone, IsTrue};
+ghost use Rattle.std.specs.List.{sum_by};
+ghost use Rattle.schedules.specs.Queues.{hart_without};
+ghost use Rattle.schedules.specs.Standing.{times_on};
+
+use std::alloc::{AllocError, Global};
+
+/// This many harts with no process.
+pub(crate) fn empty_harts(alloc: Global, count: u8) -> Result<Vec<Option<u16>>, AllocError>
+    ensures { IfOk result (λ harts. harts.items ≡ replicate count None) }
+{
+    let mut harts = Vec::new(alloc);
+    for _ in 0..count {
+        harts.push(None)?;
+    }
+    Ok(harts)
+}
+
+/// The process on this hart.
+pub(crate) fn process_on(harts: &Vec<Option<u16>>, i: usize) -> Option<u16>
+    requires { i < length harts.now.items }
+    ensures { result ≡ slice_index_or harts.now.items i None }
+{
+    harts[i]
+}
+
+/// Takes the process off this hart, where it is there.
+fn clear_at(harts: &mut Vec<Option<u16>>, i: usize, p: u16)
+    requires { i < length harts.old.items }
+    ensures { let hart = slice_index_or harts.old.items i None in
+        harts.new.items ≡ slice_set harts.old.items i (hart_without p hart) }
+{
+    let hart = harts[i];
+    harts[i] = without_process(hart, p);
+}
+
+/// What is on a hart once the process is taken off.
+fn without_process(hart: Option<u16>, p: u16) -> Option<u16>
+    ensures { result ≡ hart_without p hart }
+{
+    match hart {
+        Some(other) => { if other == p { None } else { Some(other) } }
+        None => None,
+    }
+}
+
+/// Takes the process off all harts.
+pub(crate) fn take_off(harts: &mut Vec<Option<u16>>, p: u16)
+    ensures { harts.new.items ≡ map (hart_without p) harts.old.items }
+{
+    for i in 0..harts.len() {
+        clear_at(harts, i, p);
+    }
+}
+
+/// The hart that has this process.
+pub(crate) fn hart_with(harts: &[Option<u16>], p: u16) -> Option<usize>
+    ensures there { IfSome result (λ i. i < length harts.now) }
+    ensures stands { IfSome result (λ i. slice_index_or harts.now i None ≡ Some p) }
+    ensures none { IsNone result → sum_by (times_on p) harts.now ≡ 0 }
+{
+    for i in 0..harts.len() {
+        if has_process(harts[i], p) {
+            return Some(i);
+        }
+    }
+    None
+}
+
+/// Whether this is what a hart with the process has.
+fn has_process(hart: Option<u16>, p: u16) -> bool
+    ensures is_there { IsTrue result → hart ≡ Some p }
+    ensures absent { result ≡ false → times_on p hart ≡ 0 }
+{
+    match hart {
+        Some(other) => other == p,
+        None => false,
+    }
+}
