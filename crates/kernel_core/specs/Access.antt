@@ -31,6 +31,7 @@ bytes_of (suc count) value = value % 256 ∷ bytes_of count (value / 256)
 abbrev pub data_access : State → ℕ → ℕ → Kind → Result Hit WalkFault
 data_access s p address kind = hit_of (access s.store.items (space_of s p) address kind)
 
+-- the touch that such an access is: over the items of this moment, through the process's space
 abbrev pub data_touch : State → ℕ → ℕ → Kind → Touch
 data_touch s p address kind = DataAccess s.store.items (space_of s p) address kind
 

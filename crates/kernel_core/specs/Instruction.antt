@@ -5,7 +5,7 @@ use Rattle.rv32_decode.specs.declared.insn.Insn.{Insn}
 use Rattle.rv32_user.specs.declared.effect.Effect.{Effect}
 use Rattle.rv32_user.specs.declared.effect.Effect.TheVariants.{Next, Load, Store, Syscall, Break, Misaligned}
 use Rattle.rv32_user.specs.Step.{effect_of, registers_after}
-use Rattle.kernel_core.specs.State.{State, process, pc_of, register_of}
+use Rattle.kernel_core.specs.State.{State, process, pc_of}
 use Rattle.kernel_core.specs.Setters.{set_pc, set_registers}
 use Rattle.kernel_core.specs.Outcome.{Outcome, done}
 use Rattle.kernel_core.specs.Fault.{fault, misaligned}
@@ -17,7 +17,7 @@ abbrev pub performed : State → ℕ → Insn → Effect → Outcome
 performed s p insn (Next pc) = done (set_pc (set_registers s p (registers_after (process s p).regs (pc_of s p) insn)) p pc)
 performed s p insn (Load at size signed rd) = load s p at size signed rd
 performed s p insn (Store at size value) = store s p at size value
-performed s p insn Syscall = system_call s p (register_of s p 17)
+performed s p insn Syscall = system_call s p
 performed s p insn Break = fault s p Breakpoint (pc_of s p) None
 performed s p insn (Misaligned target) = misaligned s p target
 

@@ -34,25 +34,28 @@ recorded r o = record { state = o.state; records = r ∷ o.records; touches = o.
 abbrev pub touched : Touch → Outcome → Outcome
 touched t o = record { state = o.state; records = o.records; touches = t ∷ o.touches }
 
--- how many slots touches fetch, and what a translator keeps after them, by what the translator says of one access and
--- of one change; a capability access walks always
+-- what touches cost and leave, by what a translator says of one access and of one change
 module _ {K : Type 0} (cost : K → Items → Capability → ℕ → Kind → ℕ) (after : K → Items → Capability → ℕ → Kind → K) (without : K → Item → K) where
+  -- how many slots a touch fetches; a capability access walks always
   abbrev pub spent_at : K → Touch → ℕ
   spent_at k (DataAccess o space address kind) = cost k o space address kind
   spent_at k (CapAccess o space address kind) = slots o space address kind
   spent_at k SlotRead = 1
   spent_at k (Changed item) = 0
 
+  -- what the translator keeps after a touch
   abbrev pub kept_at : K → Touch → K
   kept_at k (DataAccess o space address kind) = after k o space address kind
   kept_at k (CapAccess o space address kind) = k
   kept_at k SlotRead = k
   kept_at k (Changed item) = without k item
 
+  -- how many slots these touches fetch, one after the other
   abbrev pub spent : K → List Touch → ℕ
   spent k [] = 0
   spent k (t ∷ ts) = spent_at k t + spent (kept_at k t) ts
 
+  -- what the translator keeps after all of these touches
   abbrev pub kept_after : K → List Touch → K
   kept_after k [] = k
   kept_after k (t ∷ ts) = kept_after (kept_at k t) ts

@@ -11,38 +11,43 @@ use Rattle.kernel_core.specs.Outcome.{Touch, kept_at, spent, kept_after}
 use Rattle.kernel_core.specs.Event.{event_of}
 use Rattle.kernel_core.specs.Run.{run_state, run_records, run_touches}
 
--- no event
+-- where there is no event the state stays
 pub run_state-nil : (s : State) → run_state s [] ≡ s
 unfolding run_state
 run_state-nil s = refl
 
+-- where there is no event nothing is told
 pub run_records-nil : (s : State) → run_records s [] ≡ []
 unfolding run_records
 run_records-nil s = refl
 
+-- where there is no event no translator is asked
 pub run_touches-nil : (s : State) → run_touches s [] ≡ []
 unfolding run_touches
 run_touches-nil s = refl
 
--- an event, and those behind it
+-- the events behind the first begin in the state that it leaves
 pub run_state-cons : (s : State) (e : Event) (es : List Event) → run_state s (e ∷ es) ≡ run_state (event_of s e).state es
 unfolding run_state
 run_state-cons s e es = refl
 
+-- the first event's records come before those of the events behind it
 pub run_records-cons : (s : State) (e : Event) (es : List Event) → run_records s (e ∷ es) ≡ (event_of s e).records ++ run_records (event_of s e).state es
 unfolding run_records
 run_records-cons s e es = refl
 
+-- the first event's touches come before those of the events behind it
 pub run_touches-cons : (s : State) (e : Event) (es : List Event) → run_touches s (e ∷ es) ≡ (event_of s e).touches ++ run_touches (event_of s e).state es
 unfolding run_touches
 run_touches-cons s e es = refl
 
--- a run, and one behind it
+-- a run of two lists is the run of the second from where the first ends
 pub run_state-append : (s : State) (es fs : List Event) → run_state s (es ++ fs) ≡ run_state (run_state s es) fs
 unfolding run_state
 run_state-append s [] fs = refl
 run_state-append s (e ∷ es) fs = run_state-append (event_of s e).state es fs
 
+-- the records of a run of two lists are those of the first, then those of the second from where the first ends
 pub run_records-append : (s : State) (es fs : List Event) → run_records s (es ++ fs) ≡ run_records s es ++ run_records (run_state s es) fs
 unfolding run_state run_records
 run_records-append s [] fs = refl
@@ -50,6 +55,7 @@ run_records-append s (e ∷ es) fs =
     ap (λ rs. (event_of s e).records ++ rs) (run_records-append (event_of s e).state es fs)
     ∙ sym (append_assoc (event_of s e).records (run_records (event_of s e).state es) (run_records (run_state (event_of s e).state es) fs))
 
+-- the touches of a run of two lists are those of the first, then those of the second from where the first ends
 pub run_touches-append : (s : State) (es fs : List Event) → run_touches s (es ++ fs) ≡ run_touches s es ++ run_touches (run_state s es) fs
 unfolding run_state run_touches
 run_touches-append s [] fs = refl
@@ -57,12 +63,14 @@ run_touches-append s (e ∷ es) fs =
     ap (λ ts. (event_of s e).touches ++ ts) (run_touches-append (event_of s e).state es fs)
     ∙ sym (append_assoc (event_of s e).touches (run_touches (event_of s e).state es) (run_touches (run_state (event_of s e).state es) fs))
 
--- the slots fetched for touches, and for those behind them, and what is kept then
+-- touches, and those behind them, by what a translator says of one access and of one change
 module _ {K : Type 0} (cost : K → Items → Capability → ℕ → Kind → ℕ) (after : K → Items → Capability → ℕ → Kind → K) (without : K → Item → K) where
+  -- what is kept after two lists of touches is what is kept after the second, from what the first leaves
   pub kept_after-append : (k : K) (ts us : List Touch) → kept_after cost after without k (ts ++ us) ≡ kept_after cost after without (kept_after cost after without k ts) us
   kept_after-append k [] us = refl
   kept_after-append k (t ∷ ts) us = kept_after-append (kept_at cost after without k t) ts us
 
+  -- two lists of touches fetch what the first fetches, and what the second fetches from what is kept then
   pub spent-append : (k : K) (ts us : List Touch) → spent cost after without k (ts ++ us) ≡ spent cost after without k ts + spent cost after without (kept_after cost after without k ts) us
   spent-append k [] us = omega arith
   spent-append k (t ∷ ts) us =

@@ -9,30 +9,35 @@ use Rattle.schedules.specs.Queues.{QueuesValue, left}
 use Rattle.schedules.specs.Ready.{Runs, runs_of, with_processes, readied}
 use Rattle.kernel_core.specs.State.{State, process, pc_of, schedule_slot}
 
--- other objects, other queues
+-- these objects in the place of the state's
 abbrev pub set_store : State → Store → State
 set_store s store = record { store = store; queues = s.queues; halted = s.halted }
 
+-- these queues and harts in the place of the state's
 abbrev pub set_queues : State → QueuesValue → State
 set_queues s queues = record { store = s.store; queues = queues; halted = s.halted }
 
--- another process in the place of process `p`, and other bytes of page `n`
+-- another process in the place of process `p`
 abbrev pub set_process : State → ℕ → ProcessValue → State
 set_process s p value = set_store s (with_process s.store p value)
 
+-- other bytes of page `n`
 abbrev pub set_page : State → ℕ → List ℕ → State
 set_page s n page = set_store s (with_page s.store n page)
 
--- another pc, other registers, another capability register, another state of a process
+-- another pc of process `p`
 abbrev pub set_pc : State → ℕ → ℕ → State
 set_pc s p pc = set_process s p (with_pc (process s p) pc)
 
+-- other registers x0 to x31 of process `p`; what goes to x0 is lost
 abbrev pub set_registers : State → ℕ → List ℕ → State
 set_registers s p registers = set_process s p (with_regs (process s p) registers)
 
+-- another capability in the register c`i` of process `p`; what goes to c0 is lost
 abbrev pub set_capreg : State → ℕ → ℕ → Capability → State
 set_capreg s p i cap = set_process s p (with_capreg (process s p) i cap)
 
+-- another state of process `p`, which stands where it stood
 abbrev pub set_run_state : State → ℕ → RunState → State
 set_run_state s p state = set_process s p (with_state (process s p) state)
 

@@ -17,19 +17,23 @@ pub record State : Type 0 where
 abbrev pub state_of : {T : Type 0} → MachineValue T → State
 state_of m = record { store = state_map m.objects; queues = m.queues; halted = m.halted }
 
--- process `p`, its pc, its registers, and the capabilities in its slots for the space and the schedule
+-- process `p`, the empty one where there is none
 abbrev pub process : State → ℕ → ProcessValue
 process s p = process_at s.store p
 
+-- the address of the instruction that process `p` performs next
 abbrev pub pc_of : State → ℕ → ℕ
 pc_of s p = (process s p).pc
 
+-- the register x`i` of process `p`
 abbrev pub register_of : State → ℕ → ℕ → ℕ
 register_of s p i = reg_of (process s p) i
 
+-- the capability in the slot for the space of process `p`, in which its accesses are walked (Coyotos)
 abbrev pub space_of : State → ℕ → Capability
 space_of s p = slot_of (process s p) 0
 
+-- the capability in the slot for the schedule of process `p`, which says in what queue it is made ready (Coyotos)
 abbrev pub schedule_slot : State → ℕ → Capability
 schedule_slot s p = slot_of (process s p) 1
 

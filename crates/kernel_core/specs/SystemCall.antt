@@ -23,13 +23,15 @@ move_cap s p =
     if register_of s p 17 == 3 then copy_cap s p (register_of s p 10) (register_of s p 11)
     else malformed s p
 
--- call 0: a message's send phase, its receive phase, and an operation of the kernel; none is built
+-- call 0: a message's send phase, which is not built (fewer cases than Coyotos)
 abbrev pub send : State → ℕ → Outcome
 send s p = malformed s p
 
+-- a message's receive phase, which is not built (fewer cases than Coyotos)
 abbrev pub receive : State → ℕ → Outcome
 receive s p = malformed s p
 
+-- an operation of the kernel on the capability that is invoked, which is not built (fewer cases than Coyotos)
 abbrev pub kernel_op : State → ℕ → Capability → Outcome
 kernel_op s p cap = malformed s p
 
@@ -37,8 +39,8 @@ kernel_op s p cap = malformed s p
 abbrev pub yielded : State → ℕ → State
 yielded s p = ready (leave (advance s p) p) p
 
--- the system call with this number
-abbrev pub system_call : State → ℕ → ℕ → Outcome
-system_call s p number =
-    if number == 4 then done (yielded s p)
-    else (if nat_le 1 number && nat_le number 3 then move_cap s p else malformed s p)
+-- the system call whose number is in x17
+abbrev pub system_call : State → ℕ → Outcome
+system_call s p =
+    if register_of s p 17 == 4 then done (yielded s p)
+    else (if nat_le 1 (register_of s p 17) && nat_le (register_of s p 17) 3 then move_cap s p else malformed s p)

@@ -7,8 +7,8 @@ ghost use Rattle.schedules.specs.Ready.{places_due};
 ghost use Rattle.kernel_core.specs.State.{state_of, process, pc_of};
 ghost use Rattle.kernel_core.specs.Setters.{set_pc, set_registers, advance, leave, ready};
 ghost use Rattle.kernel_core.specs.Fault.{faulted};
-ghost use Rattle.kernel_core.specs.SystemCall.{copied};
-ghost use Rattle.kernel_core.specs.Event.{dispatch};
+ghost use Rattle.kernel_core.specs.SystemCall.{copied, yielded};
+ghost use Rattle.kernel_core.specs.Event.{dispatch, ticked};
 
 use crate::machine::Machine;
 use cap_format::FaultCode;
@@ -20,7 +20,8 @@ impl<T: Translator> Machine<T> {
     pub(crate) fn requeue(&mut self, p: u16)
         requires there { p < size_of self.old.objects.items Process }
         ensures state { state_of self.new ≡ ready (leave (state_of self.old) p) p }
-        ensures stopped { places_due (process_at self.old.objects p).state ≡ 0 → state_of self.new ≡ ready (state_of self.old) p }
+        ensures stopped { places_due (process_at self.old.objects p).state ≡ 0 →
+            state_of self.new ≡ ready (state_of self.old) p }
         ensures items { self.new.objects.items ≡ self.old.objects.items }
         ensures harts { self.new.objects.harts ≡ self.old.objects.harts }
         ensures translator { self.new.translator ≡ self.old.translator }
@@ -50,6 +51,32 @@ impl<T: Translator> Machine<T> {
         ensures there { IfSome result (λ p. p < size_of self.now.objects.items Process) }
     {
         self.queues.on_hart(hart)
+    }
+
+    /// The process of the hart, if any, goes to the end of its queue.
+    pub(crate) fn tick(&mut self, hart: u8)
+        requires { hart < self.old.objects.harts }
+        ensures state { let s = state_of self.old in
+            state_of self.new ≡ ticked s (hart_of s.queues hart) }
+        ensures items { self.new.objects.items ≡ self.old.objects.items }
+        ensures harts { self.new.objects.harts ≡ self.old.objects.harts }
+        ensures translator { self.new.translator ≡ self.old.translator }
+    {
+        if let Some(p) = self.on_hart(hart) {
+            self.requeue(p);
+        }
+    }
+
+    /// The process goes on behind its instruction, and to the end of its queue.
+    pub(crate) fn give_way(&mut self, p: u16)
+        requires { p < size_of self.old.objects.items Process }
+        ensures state { state_of self.new ≡ yielded (state_of self.old) p }
+        ensures items { self.new.objects.items ≡ self.old.objects.items }
+        ensures harts { self.new.objects.harts ≡ self.old.objects.harts }
+        ensures translator { self.new.translator ≡ self.old.translator }
+    {
+        self.advance(p);
+        self.requeue(p);
     }
 
     /// The process is faulted, and stands nowhere.

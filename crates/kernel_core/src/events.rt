@@ -6,7 +6,7 @@ ghost use Rattle.rv32_decode.specs.Table.{insn_at};
 ghost use Rattle.kernel_core.specs.Machine.{hart_in};
 ghost use Rattle.kernel_core.specs.State.{state_of, IsOnHart};
 ghost use Rattle.kernel_core.specs.Outcome.{spent, kept_after};
-ghost use Rattle.kernel_core.specs.Event.{decoded_to, instruction, event_of};
+ghost use Rattle.kernel_core.specs.Event.{decoded_to, instruction, event_by, event_of};
 
 use crate::event::Event;
 use crate::faults::fault;
@@ -27,8 +27,12 @@ impl<T: Translator> Machine<T> {
         requires { hart_in e < self.old.objects.harts }
         ensures state { state_of self.new ≡ (event_of (state_of self.old) e).state }
         ensures records { result ≡ (event_of (state_of self.old) e).records }
-        ensures counted { fetches.new ≡ fetches.old + spent T.cost T.after T.without (T.kept self.old.translator) (event_of (state_of self.old) e).touches }
-        ensures kept { T.kept self.new.translator ≡ kept_after T.cost T.after T.without (T.kept self.old.translator) (event_of (state_of self.old) e).touches }
+        ensures counted { let outcome = event_of (state_of self.old) e in
+            let kept = T.kept self.old.translator in
+            fetches.new ≡ fetches.old + spent T.cost T.after T.without kept outcome.touches }
+        ensures kept { let outcome = event_of (state_of self.old) e in
+            let kept = T.kept self.old.translator in
+            T.kept self.new.translator ≡ kept_after T.cost T.after T.without kept outcome.touches }
         ensures items { self.new.objects.items ≡ self.old.objects.items }
         ensures harts { self.new.objects.harts ≡ self.old.objects.harts }
     {
@@ -42,26 +46,43 @@ impl<T: Translator> Machine<T> {
         requires { hart_in e < self.old.objects.harts }
         ensures state { state_of self.new ≡ (event_of (state_of self.old) e).state }
         ensures records { records.new ≡ (event_of (state_of self.old) e).records }
-        ensures counted { fetches.new ≡ fetches.old + spent T.cost T.after T.without (T.kept self.old.translator) (event_of (state_of self.old) e).touches }
-        ensures kept { T.kept self.new.translator ≡ kept_after T.cost T.after T.without (T.kept self.old.translator) (event_of (state_of self.old) e).touches }
+        ensures counted { let outcome = event_of (state_of self.old) e in
+            let kept = T.kept self.old.translator in
+            fetches.new ≡ fetches.old + spent T.cost T.after T.without kept outcome.touches }
+        ensures kept { let outcome = event_of (state_of self.old) e in
+            let kept = T.kept self.old.translator in
+            T.kept self.new.translator ≡ kept_after T.cost T.after T.without kept outcome.touches }
         ensures items { self.new.objects.items ≡ self.old.objects.items }
         ensures harts { self.new.objects.harts ≡ self.old.objects.harts }
     {
         records.clear();
-        if self.halted() {
-            return;
+        if !self.halted() {
+            self.event_by(e, records, fetches);
         }
+    }
+
+    /// An event of a machine that is not halted.
+    fn event_by<L: Ledger>(&mut self, e: Event, records: &mut Records, fetches: &mut Steps<L>)
+        requires hart { hart_in e < self.old.objects.harts }
+        requires room { length records.old ≤ 20 }
+        ensures state { state_of self.new ≡ (event_by (state_of self.old) e).state }
+        ensures records { records.new ≡ records.old ++ (event_by (state_of self.old) e).records }
+        ensures counted { let outcome = event_by (state_of self.old) e in
+            let kept = T.kept self.old.translator in
+            fetches.new ≡ fetches.old + spent T.cost T.after T.without kept outcome.touches }
+        ensures kept { let outcome = event_by (state_of self.old) e in
+            let kept = T.kept self.old.translator in
+            T.kept self.new.translator ≡ kept_after T.cost T.after T.without kept outcome.touches }
+        ensures items { self.new.objects.items ≡ self.old.objects.items }
+        ensures harts { self.new.objects.harts ≡ self.old.objects.harts }
+    {
         match e {
             Event::Step(hart) => {
                 if let Some(p) = self.dispatch(hart) {
                     instruction(self, p, records, fetches);
                 }
             }
-            Event::Tick(hart) => {
-                if let Some(p) = self.on_hart(hart) {
-                    self.requeue(p);
-                }
-            }
+            Event::Tick(hart) => self.tick(hart),
         }
     }
 }
@@ -78,8 +99,12 @@ fn instruction<T: Translator, L: Ledger>(
     requires room { length records.old ≤ 20 }
     ensures state { state_of machine.new ≡ (instruction (state_of machine.old) p).state }
     ensures records { records.new ≡ records.old ++ (instruction (state_of machine.old) p).records }
-    ensures counted { fetches.new ≡ fetches.old + spent T.cost T.after T.without (T.kept machine.old.translator) (instruction (state_of machine.old) p).touches }
-    ensures kept { T.kept machine.new.translator ≡ kept_after T.cost T.after T.without (T.kept machine.old.translator) (instruction (state_of machine.old) p).touches }
+    ensures counted { let outcome = instruction (state_of machine.old) p in
+        let kept = T.kept machine.old.translator in
+        fetches.new ≡ fetches.old + spent T.cost T.after T.without kept outcome.touches }
+    ensures kept { let outcome = instruction (state_of machine.old) p in
+        let kept = T.kept machine.old.translator in
+        T.kept machine.new.translator ≡ kept_after T.cost T.after T.without kept outcome.touches }
     ensures room { length records.new ≤ length records.old + 3 }
     ensures items { machine.new.objects.items ≡ machine.old.objects.items }
     ensures harts { machine.new.objects.harts ≡ machine.old.objects.harts }
@@ -111,10 +136,16 @@ fn decoded<T: Translator, L: Ledger>(
     requires there { p < size_of machine.old.objects.items Process }
     requires on_hart { IsOnHart machine.old.queues p }
     requires room { length records.old ≤ 22 }
-    ensures state { state_of machine.new ≡ (decoded_to (state_of machine.old) p (insn_at word)).state }
-    ensures records { records.new ≡ records.old ++ (decoded_to (state_of machine.old) p (insn_at word)).records }
-    ensures counted { fetches.new ≡ fetches.old + spent T.cost T.after T.without (T.kept machine.old.translator) (decoded_to (state_of machine.old) p (insn_at word)).touches }
-    ensures kept { T.kept machine.new.translator ≡ kept_after T.cost T.after T.without (T.kept machine.old.translator) (decoded_to (state_of machine.old) p (insn_at word)).touches }
+    ensures state { let outcome = decoded_to (state_of machine.old) p (insn_at word) in
+        state_of machine.new ≡ outcome.state }
+    ensures records { let outcome = decoded_to (state_of machine.old) p (insn_at word) in
+        records.new ≡ records.old ++ outcome.records }
+    ensures counted { let outcome = decoded_to (state_of machine.old) p (insn_at word) in
+        let kept = T.kept machine.old.translator in
+        fetches.new ≡ fetches.old + spent T.cost T.after T.without kept outcome.touches }
+    ensures kept { let outcome = decoded_to (state_of machine.old) p (insn_at word) in
+        let kept = T.kept machine.old.translator in
+        T.kept machine.new.translator ≡ kept_after T.cost T.after T.without kept outcome.touches }
     ensures room { length records.new ≤ length records.old + 2 }
     ensures items { machine.new.objects.items ≡ machine.old.objects.items }
     ensures harts { machine.new.objects.harts ≡ machine.old.objects.harts }

@@ -7,7 +7,7 @@ ghost use Rattle.kernel_core.specs.State.{state_of, IsOnHart};
 ghost use Rattle.kernel_core.specs.Outcome.{spent, kept_after};
 ghost use Rattle.kernel_core.specs.Instruction.{perform};
 
-use crate::faults::fault;
+use crate::faults::{fault, misaligned};
 use crate::loads::{Wanted, load};
 use crate::machine::Machine;
 use crate::records::Records;
@@ -34,8 +34,12 @@ pub fn perform<T: Translator, L: Ledger>(
     requires room { length records.old ≤ 24 }
     ensures state { state_of machine.new ≡ (perform (state_of machine.old) p insn).state }
     ensures records { records.new ≡ records.old ++ (perform (state_of machine.old) p insn).records }
-    ensures counted { fetches.new ≡ fetches.old + spent T.cost T.after T.without (T.kept machine.old.translator) (perform (state_of machine.old) p insn).touches }
-    ensures kept { T.kept machine.new.translator ≡ kept_after T.cost T.after T.without (T.kept machine.old.translator) (perform (state_of machine.old) p insn).touches }
+    ensures counted { let outcome = perform (state_of machine.old) p insn in
+        let kept = T.kept machine.old.translator in
+        fetches.new ≡ fetches.old + spent T.cost T.after T.without kept outcome.touches }
+    ensures kept { let outcome = perform (state_of machine.old) p insn in
+        let kept = T.kept machine.old.translator in
+        T.kept machine.new.translator ≡ kept_after T.cost T.after T.without kept outcome.touches }
     ensures room { length records.new ≤ length records.old + 1 }
     ensures items { machine.new.objects.items ≡ machine.old.objects.items }
     ensures harts { machine.new.objects.harts ≡ machine.old.objects.harts }
@@ -76,16 +80,6 @@ pub fn perform<T: Translator, L: Ledger>(
                 fetches,
             )
         }
-        Effect::Misaligned(target) => {
-            fault(
-                machine,
-                p,
-                records,
-                FaultCode::BadAlign,
-                target,
-                None,
-                fetches,
-            )
-        }
+        Effect::Misaligned(target) => misaligned(machine, p, records, target, fetches),
     }
 }

@@ -1,21 +1,21 @@
 //! Loads.
-ghost use Rattle.std.specs.Prelude.{◌≡◌, ◌<◌, ◌≤◌, ◌+◌, ◌%◌, ◌==◌, ◌++◌, length};
+ghost use Rattle.std.specs.Prelude.{◌≡◌, ◌<◌, ◌≤◌, ◌+◌, ◌%◌, ◌==◌, ◌++◌, length, Ok};
 ghost use Rattle.cap_format.specs.declared.kind.CapKind.TheVariants.{Process};
 ghost use Rattle.object_store.specs.Store.{size_of};
 ghost use Rattle.rv32_user.specs.Size.{IsSize};
 ghost use Rattle.kernel_core.specs.State.{state_of, IsOnHart};
 ghost use Rattle.kernel_core.specs.Outcome.{spent, kept_after};
-ghost use Rattle.kernel_core.specs.Access.{load};
+ghost use Rattle.kernel_core.specs.Access.{load, loaded_from};
 
-use crate::faults::fault;
+use crate::faults::{fault, misaligned};
 use crate::machine::Machine;
 use crate::record::Record;
 use crate::records::Records;
-use cap_format::FaultCode;
+use cap_format::CapKind;
 use rv32_user::finish_load;
 use std::sync::ledger::Ledger;
 use steps::Steps;
-use walk_engine::Translator;
+use walk_engine::{Hit, Translator};
 use walk_meaning::Kind;
 
 /// A load as an instruction asks for it.
@@ -43,34 +43,70 @@ pub(crate) fn load<T: Translator, L: Ledger>(
     requires size { IsSize wanted.size }
     requires register { wanted.rd < 32 }
     requires room { length records.old ≤ 62 }
-    ensures state { state_of machine.new ≡ (load (state_of machine.old) p wanted.at wanted.size wanted.signed wanted.rd).state }
-    ensures records { records.new ≡ records.old ++ (load (state_of machine.old) p wanted.at wanted.size wanted.signed wanted.rd).records }
-    ensures counted { fetches.new ≡ fetches.old + spent T.cost T.after T.without (T.kept machine.old.translator) (load (state_of machine.old) p wanted.at wanted.size wanted.signed wanted.rd).touches }
-    ensures kept { T.kept machine.new.translator ≡ kept_after T.cost T.after T.without (T.kept machine.old.translator) (load (state_of machine.old) p wanted.at wanted.size wanted.signed wanted.rd).touches }
+    ensures state { let s = state_of machine.old in
+        let outcome = load s p wanted.at wanted.size wanted.signed wanted.rd in
+        state_of machine.new ≡ outcome.state }
+    ensures records { let s = state_of machine.old in
+        let outcome = load s p wanted.at wanted.size wanted.signed wanted.rd in
+        records.new ≡ records.old ++ outcome.records }
+    ensures counted { let s = state_of machine.old in
+        let outcome = load s p wanted.at wanted.size wanted.signed wanted.rd in
+        let kept = T.kept machine.old.translator in
+        fetches.new ≡ fetches.old + spent T.cost T.after T.without kept outcome.touches }
+    ensures kept { let s = state_of machine.old in
+        let outcome = load s p wanted.at wanted.size wanted.signed wanted.rd in
+        let kept = T.kept machine.old.translator in
+        T.kept machine.new.translator ≡ kept_after T.cost T.after T.without kept outcome.touches }
     ensures room { length records.new ≤ length records.old + 1 }
     ensures items { machine.new.objects.items ≡ machine.old.objects.items }
     ensures harts { machine.new.objects.harts ≡ machine.old.objects.harts }
 {
     let at = wanted.at;
     if !is_aligned(at, wanted.size) {
-        return fault(machine, p, records, FaultCode::BadAlign, at, None, fetches);
+        return misaligned(machine, p, records, at, fetches);
     }
     match machine.access(p, at, Kind::Load, fetches) {
-        Ok(hit) => {
-            records.push(Record::Access {
-                process: p,
-                kind: Kind::Load,
-                address: at,
-                number: hit.page,
-            });
-            let value = machine.number_at(hit, wanted.size);
-            let mut registers = machine.registers(p);
-            finish_load(&mut registers, wanted.rd, wanted.size, wanted.signed, value);
-            machine.set_registers(p, &registers);
-            machine.advance(p);
-        }
+        Ok(hit) => loaded_from(machine, p, records, wanted, hit),
         Err(why) => fault(machine, p, records, why.code, at, why.handler, fetches),
     }
+}
+
+/// The end of a load whose walk reached a page.
+fn loaded_from<T: Translator>(
+    machine: &mut Machine<T>,
+    p: u16,
+    records: &mut Records,
+    wanted: Wanted,
+    hit: Hit,
+)
+    requires there { p < size_of machine.old.objects.items Process }
+    requires page { hit.page < size_of machine.old.objects.items CapKind.Page }
+    requires size { IsSize wanted.size }
+    requires within { hit.offset + wanted.size ≤ 4096 }
+    requires register { wanted.rd < 32 }
+    requires room { length records.old ≤ 62 }
+    ensures state { let s = state_of machine.old in
+        let outcome = loaded_from s p wanted.at wanted.size wanted.signed wanted.rd (Ok hit) in
+        state_of machine.new ≡ outcome.state }
+    ensures records { let s = state_of machine.old in
+        let outcome = loaded_from s p wanted.at wanted.size wanted.signed wanted.rd (Ok hit) in
+        records.new ≡ records.old ++ outcome.records }
+    ensures translator { machine.new.translator ≡ machine.old.translator }
+    ensures room { length records.new ≤ length records.old + 1 }
+    ensures items { machine.new.objects.items ≡ machine.old.objects.items }
+    ensures harts { machine.new.objects.harts ≡ machine.old.objects.harts }
+{
+    records.push(Record::Access {
+        process: p,
+        kind: Kind::Load,
+        address: wanted.at,
+        number: hit.page,
+    });
+    let value = machine.number_at(hit, wanted.size);
+    let mut registers = machine.registers(p);
+    finish_load(&mut registers, wanted.rd, wanted.size, wanted.signed, value);
+    machine.set_registers(p, &registers);
+    machine.advance(p);
 }
 
 /// Whether an address is a multiple of the size, 1, 2 or 4, of what is accessed there.

@@ -47,7 +47,8 @@ impl<T: Translator> Machine<T> {
         requires stopped { NoneRuns objects }
         requires behind { NoneAhead objects }
         ensures objects { IfOk result (λ machine. machine.objects ≡ objects) }
-        ensures queues { IfOk result (λ machine. machine.queues ≡ empty_queues (size_of objects.items Process) objects.harts) }
+        ensures queues { let processes = size_of objects.items Process in
+            IfOk result (λ machine. machine.queues ≡ empty_queues processes objects.harts) }
         ensures halted { IfOk result (λ machine. machine.halted ≡ false) }
         ensures translator { IfOk result (λ machine. machine.translator ≡ translator) }
     {
@@ -69,7 +70,8 @@ impl<T: Translator> Machine<T> {
 
     pub fn queues(&self) -> &Queues
         ensures value { result.now ≡ self.now.queues }
-        ensures processes { length self.now.queues.sleepers ≡ size_of self.now.objects.items Process }
+        ensures processes { let processes = size_of self.now.objects.items Process in
+            length self.now.queues.sleepers ≡ processes }
         ensures harts { length self.now.queues.harts ≡ self.now.objects.harts }
     {
         &self.queues
@@ -102,7 +104,8 @@ impl<T: Translator> Machine<T> {
     pub fn start(&mut self, p: u16)
         requires { p < size_of self.old.objects.items Process }
         ensures state { state_of self.new ≡ ready (leave (state_of self.old) p) p }
-        ensures stopped { places_due (process_at self.old.objects p).state ≡ 0 → state_of self.new ≡ ready (state_of self.old) p }
+        ensures stopped { places_due (process_at self.old.objects p).state ≡ 0 →
+            state_of self.new ≡ ready (state_of self.old) p }
         ensures items { self.new.objects.items ≡ self.old.objects.items }
         ensures harts { self.new.objects.harts ≡ self.old.objects.harts }
         ensures translator { self.new.translator ≡ self.old.translator }

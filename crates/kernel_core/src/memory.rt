@@ -57,11 +57,18 @@ impl<T: Translator> Machine<T> {
         ensures state { state_of self.new ≡ state_of self.old }
         ensures objects { self.new.objects ≡ self.old.objects }
         ensures queues { self.new.queues ≡ self.old.queues }
-        ensures counted { fetches.new ≡ fetches.old + T.cost (T.kept self.old.translator) (state_of self.old).store.items (space_of (state_of self.old) p) address kind }
-        ensures kept { T.kept self.new.translator ≡ T.after (T.kept self.old.translator) (state_of self.old).store.items (space_of (state_of self.old) p) address kind }
+        ensures counted { let s = state_of self.old in
+            let cost = T.cost (T.kept self.old.translator) s.store.items (space_of s p) address kind in
+            fetches.new ≡ fetches.old + cost }
+        ensures kept { let s = state_of self.old in
+            let kept = T.kept self.old.translator in
+            T.kept self.new.translator ≡ T.after kept s.store.items (space_of s p) address kind }
 
         // The caches of the harts on which the process is not are as an access elsewhere leaves them.
-        ensures others { (k : ℕ) → hart_of self.old.queues k ≢ Some p → T.cache self.new.translator k ≡ T.spared (T.kept self.old.translator) (state_of self.old).store.items (space_of (state_of self.old) p) address kind (T.cache self.old.translator k) }
+        ensures others { let s = state_of self.old in
+            let spared = T.spared (T.kept self.old.translator) s.store.items (space_of s p) address kind in
+            (k : ℕ) → hart_of self.old.queues k ≢ Some p →
+            T.cache self.new.translator k ≡ spared (T.cache self.old.translator k) }
     {
         let hart = self.hart(p);
         let space = self.space(p);

@@ -34,9 +34,14 @@ pub fn run<T: Translator, W: Listener, L: Ledger>(
 )
     requires harts { All (λ e. hart_in e < machine.old.objects.harts) events.now }
     ensures state { state_of machine.new ≡ run_state (state_of machine.old) events.now }
-    ensures records { W.told listener.new ≡ W.told listener.old ++ run_records (state_of machine.old) events.now }
-    ensures counted { fetches.new ≡ fetches.old + spent T.cost T.after T.without (T.kept machine.old.translator) (run_touches (state_of machine.old) events.now) }
-    ensures kept { T.kept machine.new.translator ≡ kept_after T.cost T.after T.without (T.kept machine.old.translator) (run_touches (state_of machine.old) events.now) }
+    ensures records { let records = run_records (state_of machine.old) events.now in
+        W.told listener.new ≡ W.told listener.old ++ records }
+    ensures counted { let touches = run_touches (state_of machine.old) events.now in
+        let kept = T.kept machine.old.translator in
+        fetches.new ≡ fetches.old + spent T.cost T.after T.without kept touches }
+    ensures kept { let touches = run_touches (state_of machine.old) events.now in
+        let kept = T.kept machine.old.translator in
+        T.kept machine.new.translator ≡ kept_after T.cost T.after T.without kept touches }
     ensures harts { machine.new.objects.harts ≡ machine.old.objects.harts }
 {
     let mut records = Records::new();

@@ -1,21 +1,21 @@
 //! Stores.
-ghost use Rattle.std.specs.Prelude.{◌≡◌, ◌<◌, ◌≤◌, ◌+◌, ◌*◌, ◌^◌, ◌++◌, length};
+ghost use Rattle.std.specs.Prelude.{◌≡◌, ◌<◌, ◌≤◌, ◌+◌, ◌*◌, ◌^◌, ◌++◌, length, Ok};
 ghost use Rattle.cap_format.specs.declared.kind.CapKind.TheVariants.{Process};
 ghost use Rattle.object_store.specs.Store.{size_of};
 ghost use Rattle.rv32_user.specs.Size.{IsSize};
 ghost use Rattle.kernel_core.specs.State.{state_of, IsOnHart};
 ghost use Rattle.kernel_core.specs.Outcome.{spent, kept_after};
-ghost use Rattle.kernel_core.specs.Access.{store};
+ghost use Rattle.kernel_core.specs.Access.{store, stored_to};
 
-use crate::faults::fault;
+use crate::faults::{fault, misaligned};
 use crate::loads::is_aligned;
 use crate::machine::Machine;
 use crate::record::Record;
 use crate::records::Records;
-use cap_format::FaultCode;
+use cap_format::CapKind;
 use std::sync::ledger::Ledger;
 use steps::Steps;
-use walk_engine::Translator;
+use walk_engine::{Hit, Translator};
 use walk_meaning::Kind;
 
 /// A store of the lowest bytes of a number. Nothing is written before the walk has reached a page.
@@ -34,27 +34,58 @@ pub(crate) fn store<T: Translator, L: Ledger>(
     requires fits { value < 2 ^ (8 * size) }
     requires room { length records.old ≤ 62 }
     ensures state { state_of machine.new ≡ (store (state_of machine.old) p at size value).state }
-    ensures records { records.new ≡ records.old ++ (store (state_of machine.old) p at size value).records }
-    ensures counted { fetches.new ≡ fetches.old + spent T.cost T.after T.without (T.kept machine.old.translator) (store (state_of machine.old) p at size value).touches }
-    ensures kept { T.kept machine.new.translator ≡ kept_after T.cost T.after T.without (T.kept machine.old.translator) (store (state_of machine.old) p at size value).touches }
+    ensures records { let outcome = store (state_of machine.old) p at size value in
+        records.new ≡ records.old ++ outcome.records }
+    ensures counted { let outcome = store (state_of machine.old) p at size value in
+        let kept = T.kept machine.old.translator in
+        fetches.new ≡ fetches.old + spent T.cost T.after T.without kept outcome.touches }
+    ensures kept { let outcome = store (state_of machine.old) p at size value in
+        let kept = T.kept machine.old.translator in
+        T.kept machine.new.translator ≡ kept_after T.cost T.after T.without kept outcome.touches }
     ensures room { length records.new ≤ length records.old + 1 }
     ensures items { machine.new.objects.items ≡ machine.old.objects.items }
     ensures harts { machine.new.objects.harts ≡ machine.old.objects.harts }
 {
     if !is_aligned(at, size) {
-        return fault(machine, p, records, FaultCode::BadAlign, at, None, fetches);
+        return misaligned(machine, p, records, at, fetches);
     }
     match machine.access(p, at, Kind::Store, fetches) {
-        Ok(hit) => {
-            records.push(Record::Access {
-                process: p,
-                kind: Kind::Store,
-                address: at,
-                number: hit.page,
-            });
-            machine.write_number(hit, size, value);
-            machine.advance(p);
-        }
+        Ok(hit) => stored_to(machine, p, records, at, size, value, hit),
         Err(why) => fault(machine, p, records, why.code, at, why.handler, fetches),
     }
+}
+
+/// The end of a store whose walk reached a page.
+fn stored_to<T: Translator>(
+    machine: &mut Machine<T>,
+    p: u16,
+    records: &mut Records,
+    at: u32,
+    size: u8,
+    value: u32,
+    hit: Hit,
+)
+    requires there { p < size_of machine.old.objects.items Process }
+    requires page { hit.page < size_of machine.old.objects.items CapKind.Page }
+    requires size { IsSize size }
+    requires within { hit.offset + size ≤ 4096 }
+    requires fits { value < 2 ^ (8 * size) }
+    requires room { length records.old ≤ 62 }
+    ensures state { let outcome = stored_to (state_of machine.old) p at size value (Ok hit) in
+        state_of machine.new ≡ outcome.state }
+    ensures records { let outcome = stored_to (state_of machine.old) p at size value (Ok hit) in
+        records.new ≡ records.old ++ outcome.records }
+    ensures translator { machine.new.translator ≡ machine.old.translator }
+    ensures room { length records.new ≤ length records.old + 1 }
+    ensures items { machine.new.objects.items ≡ machine.old.objects.items }
+    ensures harts { machine.new.objects.harts ≡ machine.old.objects.harts }
+{
+    records.push(Record::Access {
+        process: p,
+        kind: Kind::Store,
+        address: at,
+        number: hit.page,
+    });
+    machine.write_number(hit, size, value);
+    machine.advance(p);
 }

@@ -2,7 +2,7 @@
 ghost use Rattle.std.specs.Prelude.{◌≡◌, ◌<◌, ◌≤◌, ◌+◌, ◌++◌, false, length};
 ghost use Rattle.cap_format.specs.declared.kind.CapKind.TheVariants.{Process};
 ghost use Rattle.object_store.specs.Store.{size_of};
-ghost use Rattle.kernel_core.specs.State.{state_of, register_of};
+ghost use Rattle.kernel_core.specs.State.{state_of};
 ghost use Rattle.kernel_core.specs.Outcome.{spent, kept_after};
 ghost use Rattle.kernel_core.specs.SystemCall.{copy_cap, move_cap, send, receive, kernel_op, system_call};
 
@@ -23,18 +23,23 @@ pub(crate) fn system_call<T: Translator, L: Ledger>(
 )
     requires there { p < size_of machine.old.objects.items Process }
     requires room { length records.old ≤ 24 }
-    ensures state { state_of machine.new ≡ (system_call (state_of machine.old) p (register_of (state_of machine.old) p 17)).state }
-    ensures records { records.new ≡ records.old ++ (system_call (state_of machine.old) p (register_of (state_of machine.old) p 17)).records }
-    ensures counted { fetches.new ≡ fetches.old + spent T.cost T.after T.without (T.kept machine.old.translator) (system_call (state_of machine.old) p (register_of (state_of machine.old) p 17)).touches }
-    ensures kept { T.kept machine.new.translator ≡ kept_after T.cost T.after T.without (T.kept machine.old.translator) (system_call (state_of machine.old) p (register_of (state_of machine.old) p 17)).touches }
+    ensures state { let outcome = system_call (state_of machine.old) p in
+        state_of machine.new ≡ outcome.state }
+    ensures records { let outcome = system_call (state_of machine.old) p in
+        records.new ≡ records.old ++ outcome.records }
+    ensures counted { let outcome = system_call (state_of machine.old) p in
+        let kept = T.kept machine.old.translator in
+        fetches.new ≡ fetches.old + spent T.cost T.after T.without kept outcome.touches }
+    ensures kept { let outcome = system_call (state_of machine.old) p in
+        let kept = T.kept machine.old.translator in
+        T.kept machine.new.translator ≡ kept_after T.cost T.after T.without kept outcome.touches }
     ensures room { length records.new ≤ length records.old + 1 }
     ensures items { machine.new.objects.items ≡ machine.old.objects.items }
     ensures harts { machine.new.objects.harts ≡ machine.old.objects.harts }
 {
     let number = machine.registers(p)[17];
     if number == 4 {
-        machine.advance(p);
-        machine.requeue(p);
+        machine.give_way(p);
     } else if 1 <= number && number <= 3 {
         move_cap(machine, p, records, fetches);
     } else {
@@ -53,8 +58,12 @@ pub fn move_cap<T: Translator, L: Ledger>(
     requires room { length records.old ≤ 24 }
     ensures state { state_of machine.new ≡ (move_cap (state_of machine.old) p).state }
     ensures records { records.new ≡ records.old ++ (move_cap (state_of machine.old) p).records }
-    ensures counted { fetches.new ≡ fetches.old + spent T.cost T.after T.without (T.kept machine.old.translator) (move_cap (state_of machine.old) p).touches }
-    ensures kept { T.kept machine.new.translator ≡ kept_after T.cost T.after T.without (T.kept machine.old.translator) (move_cap (state_of machine.old) p).touches }
+    ensures counted { let outcome = move_cap (state_of machine.old) p in
+        let kept = T.kept machine.old.translator in
+        fetches.new ≡ fetches.old + spent T.cost T.after T.without kept outcome.touches }
+    ensures kept { let outcome = move_cap (state_of machine.old) p in
+        let kept = T.kept machine.old.translator in
+        T.kept machine.new.translator ≡ kept_after T.cost T.after T.without kept outcome.touches }
     ensures room { length records.new ≤ length records.old + 1 }
     ensures items { machine.new.objects.items ≡ machine.old.objects.items }
     ensures harts { machine.new.objects.harts ≡ machine.old.objects.harts }
@@ -79,9 +88,14 @@ fn copy_cap<T: Translator, L: Ledger>(
     requires there { p < size_of machine.old.objects.items Process }
     requires room { length records.old ≤ 24 }
     ensures state { state_of machine.new ≡ (copy_cap (state_of machine.old) p from to).state }
-    ensures records { records.new ≡ records.old ++ (copy_cap (state_of machine.old) p from to).records }
-    ensures counted { fetches.new ≡ fetches.old + spent T.cost T.after T.without (T.kept machine.old.translator) (copy_cap (state_of machine.old) p from to).touches }
-    ensures kept { T.kept machine.new.translator ≡ kept_after T.cost T.after T.without (T.kept machine.old.translator) (copy_cap (state_of machine.old) p from to).touches }
+    ensures records { let outcome = copy_cap (state_of machine.old) p from to in
+        records.new ≡ records.old ++ outcome.records }
+    ensures counted { let outcome = copy_cap (state_of machine.old) p from to in
+        let kept = T.kept machine.old.translator in
+        fetches.new ≡ fetches.old + spent T.cost T.after T.without kept outcome.touches }
+    ensures kept { let outcome = copy_cap (state_of machine.old) p from to in
+        let kept = T.kept machine.old.translator in
+        T.kept machine.new.translator ≡ kept_after T.cost T.after T.without kept outcome.touches }
     ensures room { length records.new ≤ length records.old + 1 }
     ensures items { machine.new.objects.items ≡ machine.old.objects.items }
     ensures harts { machine.new.objects.harts ≡ machine.old.objects.harts }
@@ -106,8 +120,12 @@ pub fn send<T: Translator, L: Ledger>(
     ensures delivered { result ≡ false }
     ensures state { state_of machine.new ≡ (send (state_of machine.old) p).state }
     ensures records { records.new ≡ records.old ++ (send (state_of machine.old) p).records }
-    ensures counted { fetches.new ≡ fetches.old + spent T.cost T.after T.without (T.kept machine.old.translator) (send (state_of machine.old) p).touches }
-    ensures kept { T.kept machine.new.translator ≡ kept_after T.cost T.after T.without (T.kept machine.old.translator) (send (state_of machine.old) p).touches }
+    ensures counted { let outcome = send (state_of machine.old) p in
+        let kept = T.kept machine.old.translator in
+        fetches.new ≡ fetches.old + spent T.cost T.after T.without kept outcome.touches }
+    ensures kept { let outcome = send (state_of machine.old) p in
+        let kept = T.kept machine.old.translator in
+        T.kept machine.new.translator ≡ kept_after T.cost T.after T.without kept outcome.touches }
     ensures room { length records.new ≤ length records.old + 1 }
     ensures items { machine.new.objects.items ≡ machine.old.objects.items }
     ensures harts { machine.new.objects.harts ≡ machine.old.objects.harts }
@@ -127,8 +145,12 @@ pub fn receive<T: Translator, L: Ledger>(
     requires room { length records.old ≤ 24 }
     ensures state { state_of machine.new ≡ (receive (state_of machine.old) p).state }
     ensures records { records.new ≡ records.old ++ (receive (state_of machine.old) p).records }
-    ensures counted { fetches.new ≡ fetches.old + spent T.cost T.after T.without (T.kept machine.old.translator) (receive (state_of machine.old) p).touches }
-    ensures kept { T.kept machine.new.translator ≡ kept_after T.cost T.after T.without (T.kept machine.old.translator) (receive (state_of machine.old) p).touches }
+    ensures counted { let outcome = receive (state_of machine.old) p in
+        let kept = T.kept machine.old.translator in
+        fetches.new ≡ fetches.old + spent T.cost T.after T.without kept outcome.touches }
+    ensures kept { let outcome = receive (state_of machine.old) p in
+        let kept = T.kept machine.old.translator in
+        T.kept machine.new.translator ≡ kept_after T.cost T.after T.without kept outcome.touches }
     ensures room { length records.new ≤ length records.old + 1 }
     ensures items { machine.new.objects.items ≡ machine.old.objects.items }
     ensures harts { machine.new.objects.harts ≡ machine.old.objects.harts }
@@ -147,9 +169,14 @@ pub fn kernel_op<T: Translator, L: Ledger>(
     requires there { p < size_of machine.old.objects.items Process }
     requires room { length records.old ≤ 24 }
     ensures state { state_of machine.new ≡ (kernel_op (state_of machine.old) p cap).state }
-    ensures records { records.new ≡ records.old ++ (kernel_op (state_of machine.old) p cap).records }
-    ensures counted { fetches.new ≡ fetches.old + spent T.cost T.after T.without (T.kept machine.old.translator) (kernel_op (state_of machine.old) p cap).touches }
-    ensures kept { T.kept machine.new.translator ≡ kept_after T.cost T.after T.without (T.kept machine.old.translator) (kernel_op (state_of machine.old) p cap).touches }
+    ensures records { let outcome = kernel_op (state_of machine.old) p cap in
+        records.new ≡ records.old ++ outcome.records }
+    ensures counted { let outcome = kernel_op (state_of machine.old) p cap in
+        let kept = T.kept machine.old.translator in
+        fetches.new ≡ fetches.old + spent T.cost T.after T.without kept outcome.touches }
+    ensures kept { let outcome = kernel_op (state_of machine.old) p cap in
+        let kept = T.kept machine.old.translator in
+        T.kept machine.new.translator ≡ kept_after T.cost T.after T.without kept outcome.touches }
     ensures room { length records.new ≤ length records.old + 1 }
     ensures items { machine.new.objects.items ≡ machine.old.objects.items }
     ensures harts { machine.new.objects.harts ≡ machine.old.objects.harts }
