@@ -49,7 +49,8 @@ pub(crate) fn size_of(sizes: Sizes, kind: CapKind) -> u16
 fn guarded(spelled: Spelled) -> Result<Cap, Fault>
     requires range { IsSpelled spelled }
     requires object { spelled.object < object_limit spelled.kind }
-    ensures { result ≡ if has_guard spelled && is_aligned spelled then Ok (meant spelled) else Err BadGuard }
+    ensures { result ≡
+        if has_guard spelled && is_aligned spelled then Ok (meant spelled) else Err BadGuard }
 {
     match guard(spelled) {
         Some(guard) => through(spelled, guard),
@@ -60,7 +61,8 @@ fn guarded(spelled: Spelled) -> Result<Cap, Fault>
 /// The guard that is spelled, where it is in range.
 #[tactic(auto, using(crate::proofs::CapWords::guard_tested))]
 fn guard(spelled: Spelled) -> Option<Guard>
-    ensures { result ≡ if has_guard spelled then Some (guard_of spelled.l2g spelled.matches) else None }
+    ensures { result ≡
+        if has_guard spelled then Some (guard_of spelled.l2g spelled.matches) else None }
 {
     if spelled.l2g > 32 {
         return None;

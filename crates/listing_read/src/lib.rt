@@ -7,6 +7,7 @@
 mod capability;
 mod fault;
 mod fields;
+mod flags;
 mod hex_bytes;
 mod line;
 mod listing;

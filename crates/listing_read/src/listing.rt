@@ -78,8 +78,10 @@ pub fn read_listing<S: Source>(
     ensures told { TellsEnd lines.old (S.held source.old) → TellsEnd lines.new (S.held source.new) }
     ensures end { OnOk result (is_end (words_of lines.new.line) ≡ true) }
     ensures reader { OnOk result (lines.new.failed ≡ false) }
-    ensures read { result ≡ Err ListingFault.ReadFault → Rose (S.faults source.old) (S.faults source.new) }
-    ensures quiet { result ≢ Err ListingFault.ReadFault → S.faults source.new ≡ S.faults source.old }
+    ensures read { result ≡ Err ListingFault.ReadFault →
+        Rose (S.faults source.old) (S.faults source.new) }
+    ensures quiet { result ≢ Err ListingFault.ReadFault →
+        S.faults source.new ≡ S.faults source.old }
 {
     let mut place = Place::Header;
     let mut statements = Vec::new(alloc);
@@ -103,7 +105,8 @@ fn next_line<S: Source>(
     source: &mut S,
 ) -> Result<u32, ListingFault>
     requires { lines.old.failed ≡ false }
-    ensures reads { OnOk result (ReadsLine lines.old lines.new (S.held source.old) (S.held source.new)) }
+    ensures reads { let old = S.held source.old in let new = S.held source.new in
+        OnOk result (ReadsLine lines.old lines.new old new) }
     ensures stopped { result ≡ Err ListingFault.ReadFault →
         IsStopped lines.old lines.new (S.held source.old) (S.held source.new) }
     ensures fault { let old = ahead lines.old (S.held source.old) in
@@ -113,8 +116,10 @@ fn next_line<S: Source>(
     ensures bound { IfOk result (λ number. number < 2 ^ 32) }
     ensures shorter { OnOk result (lines.new.room < lines.old.room) }
     ensures reader { OnOk result (lines.new.failed ≡ false) }
-    ensures read { result ≡ Err ListingFault.ReadFault → Rose (S.faults source.old) (S.faults source.new) }
-    ensures quiet { result ≢ Err ListingFault.ReadFault → S.faults source.new ≡ S.faults source.old }
+    ensures read { result ≡ Err ListingFault.ReadFault →
+        Rose (S.faults source.old) (S.faults source.new) }
+    ensures quiet { result ≢ Err ListingFault.ReadFault →
+        S.faults source.new ≡ S.faults source.old }
 {
     let number = lines.number() + 1;
     match lines.next(source) {

@@ -4,11 +4,12 @@ ghost use Rattle.coy_text.specs.Words.{words_of};
 ghost use Rattle.cap_format.specs.Kind.{is_object};
 ghost use Rattle.object_store.specs.Ranges.{IsWithinLimits};
 ghost use Rattle.listing_read.specs.Statement.{IsStatement};
-ghost use Rattle.listing_read.specs.StatementLines.{page_line, code_line, cap_line, flags_of, one_flag, both_flags, gpt_line, slot_line, endpoint_line, process_line, reg_line, capreg_line, kind_of, count_line, statement_of};
+ghost use Rattle.listing_read.specs.StatementLines.{page_line, code_line, cap_line, gpt_line, slot_line, endpoint_line, process_line, reg_line, capreg_line, kind_of, count_line, statement_of};
 
 use crate::capability::{capability, size_of};
 use crate::fault::Fault;
 use crate::fields::{aligned, between, either, has_words, hexadecimal, hexadecimal_to, object};
+use crate::flags::flags;
 use crate::hex_bytes::hex_bytes;
 use crate::statement::Statement;
 use cap_format::CapKind;
@@ -130,39 +131,6 @@ fn gpt(sizes: Sizes, line: &[u8]) -> Result<Statement, Fault>
         number,
         header: GptHeader::new(l2v as u8, ha, bg),
     })
-}
-
-/// The flags of a GPT, behind its number and its size.
-#[tactic(auto, unfolding(crate::specs::StatementLines::flags_of))]
-fn flags(line: &[u8]) -> Result<(bool, bool), Fault>
-    ensures { result ≡ flags_of (words_of line.now) }
-{
-    match word_count(line) {
-        3 => Ok((false, false)),
-        4 => one_flag(word(line, 3)),
-        _ => both_flags(word(line, 3), word(line, 4)),
-    }
-}
-
-fn one_flag(flag: &[u8]) -> Result<(bool, bool), Fault>
-    ensures { result ≡ one_flag flag.now }
-{
-    if flag == b"ha".as_slice() {
-        return Ok((true, false));
-    }
-    if flag == b"bg".as_slice() {
-        return Ok((false, true));
-    }
-    Err(Fault::BadValue)
-}
-
-fn both_flags(first: &[u8], second: &[u8]) -> Result<(bool, bool), Fault>
-    ensures { result ≡ both_flags first.now second.now }
-{
-    if first == b"ha".as_slice() && second == b"bg".as_slice() {
-        return Ok((true, true));
-    }
-    Err(Fault::BadValue)
 }
 
 #[tactic(auto, unfolding(crate::specs::StatementLines::slot_line))]
