@@ -1,5 +1,5 @@
 -- The pieces of the generated text, one behind the other.
-use Rattle.std.proofs.Common.{ℕ, zero, suc, ◌≡◌, ◌+◌, ◌-◌, ◌<◌, ◌≤◌, List, [], ◌∷◌, ◌++◌, length, get_or, take, drop, map, min, refl, sym, ap, ◌∙◌, arith, append_assoc, length-append, take-append-drop}
+use Rattle.std.proofs.Common.{ℕ, zero, suc, ◌≡◌, ◌+◌, ◌-◌, ◌<◌, ◌≤◌, List, [], ◌∷◌, ◌++◌, length, get_or, take, drop, map, refl, sym, ap, ◌∙◌, arith, append_assoc, length-append, take-append-drop}
 use Rattle.std.specs.List.{range_with_len, concat}
 use Rattle.std.proofs.Math.ListN.{drop_of_length-le}
 use Rattle.std.proofs.lemmas.List.{drop-drop, drop_more, get_or_append_left, get_or-append_right}
@@ -59,22 +59,9 @@ used_up n done at old past given =
     rw (drop_of_length-le old given, drop_of_length-le (pieces_of n) over) refl
 
 -- the bytes given, and then those that are left
-given_front : (piece behind given : List ℕ) (at n : ℕ) → given ≡ take n (drop at piece) → drop at piece ++ behind ≡ given ++ (drop (at + n) piece ++ behind)
+pub given_front : (piece behind given : List ℕ) (at n : ℕ) → given ≡ take n (drop at piece) → drop at piece ++ behind ≡ given ++ (drop (at + n) piece ++ behind)
 given_front piece behind given at n is =
     ap (λ text. text ++ behind) (sym (take-append-drop n (drop at piece)))
     ∙ append_assoc (take n (drop at piece)) (drop n (drop at piece)) behind
     ∙ ap (λ text. take n (drop at piece) ++ (text ++ behind)) (drop-drop n at piece)
     ∙ ap (λ text. text ++ (drop (at + n) piece ++ behind)) (sym is)
-
--- what a call gives of what is held, and that it gives nothing only at the end
-pub taken : (held piece bytes behind given : List ℕ) (at n room : ℕ) → drop at piece ++ behind ≡ held → bytes ≡ piece
-    → given ≡ take n (drop at bytes) → n ≡ min (length bytes - at) room → (length piece ≤ at → drop at piece ++ behind ≡ [])
-    → (held ≡ given ++ (drop (at + n) piece ++ behind)) × (n ≡ 0 → 0 < room → drop (at + n) piece ++ behind ≡ [])
-taken held piece bytes behind given at n room all same moved count end = (
-  sym all ∙ given_front piece behind given at n (moved ∙ ap (λ b. take n (drop at b)) same),
-  λ none some.
-      let long : length bytes ≡ length piece = ap length same in
-      let past : length piece ≤ at = omega arith in
-      let here : at + n ≡ at = omega arith in
-      ap (λ k. drop k piece ++ behind) here ∙ end past,
-)

@@ -44,11 +44,12 @@ abbrev pub cap_given : ℕ → ℕ → Statement → Option Capability
 cap_given n i (CapSlot number slot cap) = if number == n && slot == i then Some cap else None
 cap_given n i statement = None
 
--- the header and slot `i` of GPT `g`
+-- the header of GPT `g`
 abbrev pub header_given : ℕ → Statement → Option HeaderValue
 header_given g (Gpt number header) = if number == g then Some header else None
 header_given g statement = None
 
+-- slot `i` of GPT `g`
 abbrev pub slot_given : ℕ → ℕ → Statement → Option Capability
 slot_given g i (GptSlot number slot cap) = if number == g && slot == i then Some cap else None
 slot_given g i statement = None
@@ -59,29 +60,33 @@ endpoint_given n (Endpoint number recipient id payload matching) =
     if number == n then Some (record { recipient = recipient; id = id; payload = payload; matching = matching }) else None
 endpoint_given n statement = None
 
--- of process `p` the pc, whether it runs, and slot `i`: 0 is the space, 1 the schedule, 2 the fault handler
+-- the pc of process `p`
 abbrev pub pc_given : ℕ → Statement → Option ℕ
 pc_given p (Process number pc space schedule handler runs) = if number == p then Some pc else None
 pc_given p statement = None
 
+-- whether process `p` runs
 abbrev pub run_given : ℕ → Statement → Option Bool
 run_given p (Process number pc space schedule handler runs) = if number == p then Some runs else None
 run_given p statement = None
 
+-- what stands in slot `i` of a process with these capabilities: 0 is the space, 1 the schedule, 2 the fault handler
 abbrev pub slot_among : ℕ → Capability → Capability → Capability → Capability
 slot_among zero space schedule handler = space
 slot_among (suc zero) space schedule handler = schedule
 slot_among (suc (suc i)) space schedule handler = handler
 
+-- slot `i` of process `p`
 abbrev pub place_given : ℕ → ℕ → Statement → Option Capability
 place_given p i (Process number pc space schedule handler runs) = if number == p then Some (slot_among i space schedule handler) else None
 place_given p i statement = None
 
--- register `i` and capability register `i` of process `p`
+-- register `i` of process `p`
 abbrev pub reg_given : ℕ → ℕ → Statement → Option ℕ
 reg_given p i (Reg number index value) = if number == p && index == i then Some value else None
 reg_given p i statement = None
 
+-- capability register `i` of process `p`
 abbrev pub capreg_given : ℕ → ℕ → Statement → Option Capability
 capreg_given p i (CapReg number index cap) = if number == p && index == i then Some cap else None
 capreg_given p i statement = None
@@ -112,28 +117,33 @@ counted counts c = if is_counted c.kind then with_count c (slice_index (counts_o
 
 -- the objects by their numbers, where these are their counts
 module _ (counts : CountsValue) (xs : List Statement) where
-  -- a capability that is given
+  -- the capability that is given last, with the count of its object
   abbrev pub final_cap : (Statement → Option Capability) → Capability
   final_cap given = counted counts (last_given given null xs)
 
+  -- the bytes of page `n`
   abbrev pub final_page : ℕ → List ℕ
   final_page n = listed 4096 (λ i. last_given (byte_given n i) 0 xs)
 
+  -- the slots of capability page `n`
   abbrev pub final_cappage : ℕ → List Capability
   final_cappage n = listed 256 (λ i. final_cap (cap_given n i))
 
+  -- GPT `g`
   abbrev pub final_gpt : ℕ → GptValue
   final_gpt g = record { header = last_given (header_given g) empty_header xs; slots = listed 16 (λ i. final_cap (slot_given g i)) }
 
+  -- endpoint `n`
   abbrev pub final_endpoint : ℕ → EndpointValue
   final_endpoint n = let given = last_given (endpoint_given n) empty_endpoint xs in record given { recipient = counted counts given.recipient }
 
-  -- all are stopped
+  -- process `p`, which is stopped
   abbrev pub final_process : ℕ → ProcessValue
   final_process p =
       process_of (last_given (pc_given p) 0 xs) (listed 32 (λ i. last_given (reg_given p i) 0 xs))
       (listed 32 (λ i. final_cap (capreg_given p i))) (listed 3 (λ i. final_cap (place_given p i))) stopped
 
+  -- all objects of a machine of these sizes
   abbrev pub final_objects : Sizes → Store
   final_objects sizes =
       store_of sizes.harts counts (listed sizes.gpts (λ g. final_gpt g)) (listed sizes.pages (λ n. final_page n))

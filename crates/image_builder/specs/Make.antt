@@ -4,16 +4,19 @@ use Rattle.std.specs.Prelude.{ℕ, ◌+◌, ◌*◌, ◌/◌, ◌%◌, List, [],
 use Rattle.std.specs.List.{range_with_len, concat}
 use Rattle.coy_text.specs.Numeral.{hex_text}
 
--- how many pairs there are, how often each client calls, how many harts there are, and how many rounds are run
+-- how many pairs the text of a number has, 1 to 63
 abbrev pub pairs_of : ℕ → ℕ
 pairs_of n = 1 + n % 63
 
+-- how often each client calls, 1 to 1000 times
 abbrev pub calls_of : ℕ → ℕ
 calls_of n = 1 + n / 64 % 1000
 
+-- how many harts the machine has, 1 to 8
 abbrev pub harts_of : ℕ → ℕ
 harts_of n = 1 + n % 8
 
+-- how many rounds are run: 13 for each call of each client and 20 more for each pair
 abbrev pub rounds_of : ℕ → ℕ
 rounds_of n = pairs_of n * (13 * calls_of n + 20)
 

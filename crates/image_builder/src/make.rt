@@ -1,5 +1,5 @@
 //! The generated text as a source: it is made pair by pair, and never held whole.
-ghost use Rattle.std.specs.Prelude.{◌≡◌, ◌≤◌, ◌+◌, ◌-◌, ◌++◌, Some, [], length, min, take, drop, slice_index_or, decimal, IsOk, IfOk};
+ghost use Rattle.std.specs.Prelude.{◌≡◌, ◌≤◌, ◌<◌, ◌+◌, ◌-◌, ◌++◌, Some, [], length, min, take, drop, slice_index_or, decimal, IsOk, IfOk};
 ghost use Rattle.std.specs.Io.KnownBytes.{ReadConsumes};
 ghost use Rattle.coy_io.specs.Causes.{HasCause};
 ghost use Rattle.image_builder.specs.Make.{pairs_of, calls_of, head_text, tail_text, make_text, pieces_of, ahead_of};
@@ -51,6 +51,21 @@ impl MakeSource {
         self.done += 1;
         self.at = 0;
     }
+
+    /// Gives bytes of the piece, as many as are left of it and fit.
+    #[tactic(auto, using(crate::proofs::Pieces::given_front))]
+    fn give(&mut self, buf: &mut [u8]) -> usize
+        ensures bound { result ≤ length buf.new }
+        ensures bytes { let s = self.old in let t = self.new in
+            let left = ahead_of t.n t.done t.piece t.at in
+            ahead_of s.n s.done s.piece s.at ≡ take result buf.new ++ left }
+        ensures none { result ≡ 0 → 0 < length buf.new →
+            length self.old.piece ≤ self.old.at }
+    {
+        let count = fill_front(buf, self.piece.as_bytes(), self.at);
+        self.at += count;
+        count
+    }
 }
 
 impl Source for MakeSource {
@@ -68,9 +83,7 @@ impl Source for MakeSource {
         ensures cause { HasCause 0 0 result }
     {
         self.refill();
-        let count = fill_front(buf, self.piece.as_bytes(), self.at);
-        self.at += count;
-        Ok(count)
+        Ok(self.give(buf))
     }
 }
 

@@ -84,22 +84,23 @@ fn start_all<T: Translator>(machine: &mut Machine<T>, running: &[bool])
 {
     let processes = machine.objects().sizes().processes;
     'each: for p in 0..processes {
-        start_if(machine, p, running[p as usize]);
+        start_if(machine, running, p);
     }
 }
 
 /// Starts a process where it runs.
 #[tactic(auto, using(crate::proofs::Ready::stopped_after))]
-fn start_if<T: Translator>(machine: &mut Machine<T>, p: u16, runs: bool)
+fn start_if<T: Translator>(machine: &mut Machine<T>, running: &[bool], p: u16)
+    requires running { length running.now ≡ size_of machine.old.objects.items Process }
     requires there { p < size_of machine.old.objects.items Process }
     requires stopped { StoppedFrom p machine.old.objects }
     ensures state { let s = state_of machine.old in
-        state_of machine.new ≡ (if runs then ready s p else s) }
+        state_of machine.new ≡ (if slice_index_or running.now p false then ready s p else s) }
     ensures translator { machine.new.translator ≡ machine.old.translator }
     ensures stopped { StoppedFrom (p + 1) machine.new.objects }
     ensures sizes { sizes_of machine.new.objects ≡ sizes_of machine.old.objects }
 {
-    if runs {
+    if running[p as usize] {
         machine.start(p);
     }
 }
