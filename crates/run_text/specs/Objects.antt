@@ -25,14 +25,16 @@ use Rattle.run_text.specs.Names.{fault_name, object_name}
 use Rattle.run_text.specs.Capability.{cap_text}
 use Rattle.run_text.specs.Record.{bytes_text}
 
--- a number that is 0, and a capability to nothing
+-- a number that is 0
 abbrev pub is_zero : ℕ → Bool
 is_zero n = (n == 0)
 
+-- the kind of the capabilities that name nothing and allow nothing
 abbrev pub is_null_kind : CapKind → Bool
 is_null_kind Null = true
 is_null_kind _ = false
 
+-- a capability of that kind
 abbrev pub is_null : Capability → Bool
 is_null c = is_null_kind c.kind
 
@@ -54,41 +56,46 @@ slot_text word n i cap =
     if is_null cap then []
     else word ++ codes " " ++ decimal n ++ codes " " ++ decimal i ++ codes " " ++ cap_text cap ++ line_feed
 
--- the header of GPT `n`
+-- the header of an empty GPT: 2^12 bytes a slot, with no handler and no background
 abbrev pub is_empty_header : HeaderValue → Bool
 is_empty_header header = (header.l2v == 12) && not header.ha && not header.bg
 
+-- the header of GPT `n`
 unfoldable pub header_text : ℕ → HeaderValue → List ℕ
 header_text n header =
     if is_empty_header header then []
     else codes "gpt " ++ decimal n ++ codes " " ++ decimal header.l2v ++
     (if header.ha then codes " ha" else []) ++ (if header.bg then codes " bg" else []) ++ line_feed
 
--- endpoint `n`
+-- an endpoint as a new one: without a recipient, with zeros, and open to every payload
 abbrev pub is_empty_endpoint : EndpointValue → Bool
 is_empty_endpoint e = is_null e.recipient && is_zero e.id && is_zero e.payload && not e.matching
 
+-- endpoint `n`
 unfoldable pub endpoint_text : ℕ → EndpointValue → List ℕ
 endpoint_text n e =
     if is_empty_endpoint e then []
     else codes "endpoint " ++ decimal n ++ codes " " ++ cap_text e.recipient ++ codes " " ++ hex_text 8 e.id ++
     codes " " ++ hex_text 8 e.payload ++ (if e.matching then codes " match" else codes " plain") ++ line_feed
 
--- the state of a process: for whom it waits, with how many capabilities, in which registers, and with which string
+-- from whom a receiver takes a message: from anyone, or through an endpoint with this id alone
 abbrev pub wait_text : Wait → List ℕ
 wait_text Open = codes "open"
 wait_text (Closed id) = hex_text 8 id
 
+-- the four registers to which its capabilities go, 0 where one is unused
 abbrev pub registers_text : List ℕ → List ℕ
 registers_text regs =
     decimal (slice_index regs 0) ++ codes " " ++ decimal (slice_index regs 1) ++ codes " " ++
     decimal (slice_index regs 2) ++ codes " " ++ decimal (slice_index regs 3)
 
+-- what a receiver takes: from whom, how many capabilities, to which registers, and at what address how long a string
 abbrev pub accept_text : AcceptValue → List ℕ
 accept_text accept =
     wait_text accept.wait ++ codes " " ++ decimal accept.caps ++ codes " " ++ registers_text accept.regs ++ codes " " ++
     hex_text 8 accept.at ++ codes " " ++ decimal accept.bound
 
+-- what a process does: it runs, it waits for a message, it was stopped, or it is at a fault
 unfoldable pub state_word : State → List ℕ
 state_word Running = codes "run"
 state_word (Receiving accept) = codes "waiting " ++ accept_text accept
@@ -96,17 +103,20 @@ state_word (Faulted code address) =
     if is_zero (fault_number code) then codes "stop"
     else codes "faulted " ++ fault_name code ++ codes " " ++ hex_text 8 address
 
--- process `n`
+-- the state of a new process: stopped, and at address 0
 abbrev pub is_stopped : State → Bool
 is_stopped (Faulted code address) = is_zero (fault_number code) && is_zero address
 is_stopped _ = false
 
+-- a process as a new one in all but its capabilities: pc and registers are 0, and its state is that of a new one
 unfoldable pub is_still : ProcessValue → Bool
 is_still p = is_zero p.pc && is_stopped p.state && list_all (λ value. value == 0) p.regs
 
+-- a process as a new one: that, and each of its capabilities is Null
 unfoldable pub is_empty_process : ProcessValue → Bool
 is_empty_process p = is_still p && list_all is_null p.capregs && list_all is_null p.slots
 
+-- process `n`: its pc, its space, its schedule, its handler, and what it does
 unfoldable pub process_text : ℕ → ProcessValue → List ℕ
 process_text n p =
     if is_empty_process p then []

@@ -10,6 +10,7 @@ abbrev pub occupant_text : Option ℕ → List ℕ
 occupant_text (Some p) = codes " " ++ decimal p
 occupant_text None = codes " idle"
 
+-- the line of a hart
 unfoldable pub hart_text : ℕ → Option ℕ → List ℕ
 hart_text hart occupant = codes "hart " ++ decimal hart ++ occupant_text occupant ++ line_feed
 
@@ -17,11 +18,12 @@ hart_text hart occupant = codes "hart " ++ decimal hart ++ occupant_text occupan
 abbrev pub member_text : ℕ → List ℕ
 member_text p = codes " " ++ decimal p
 
--- what a list of processes is called, and the processes in it
+-- what a list of processes is called
 abbrev pub queue_name : Queue → List ℕ
 queue_name (Ready priority) = codes "ready " ++ decimal priority
 queue_name (Sleepers on) = codes "sleepers " ++ decimal on
 
+-- the processes that are in it, in their order
 abbrev pub members : QueuesValue → Queue → List ℕ
 members q (Ready priority) = ready_queue q priority
 members q (Sleepers on) = sleepers_of q on

@@ -4,6 +4,7 @@ use Rattle.std.specs.Io.KnownBytes.{Appends}
 use Rattle.coy_io.specs.Causes.{HasCause}
 use Rattle.coy_io.specs.Pieces.{AppendsSome}
 
+-- the bytes that the sink took before and after a call differ by the whole text, or by a part of its front after a fault
 abbrev pub Writes : {T E : Type 0} → Option (List ℕ) → Option (List ℕ) → Result T E → List ℕ → Type 0
 Writes old new (Ok x) text = Appends old new text
 Writes old new (Err e) text = AppendsSome old new text

@@ -20,7 +20,8 @@ pub(crate) fn push_capability(line: &mut LineBuf, cap: Cap)
 #[tactic(auto, unfolding(crate::specs::Capability::cap_word))]
 fn push_spelling(line: &mut LineBuf, kind: CapKind, cap: Cap)
     requires { length line.old ≤ 900 }
-    ensures text { line.new ≡ line.old ++ cap_word kind cap.object cap.payload cap.slot cap.guard cap.restr }
+    ensures text { line.new ≡ line.old ++
+        cap_word kind cap.object cap.payload cap.slot cap.guard cap.restr }
     ensures len { length line.new ≤ length line.old + 80 }
 {
     match kind {

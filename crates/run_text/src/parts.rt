@@ -116,7 +116,8 @@ fn make_part<L: Ledger>(
 fn push_row_of(line: &mut LineBuf, objects: &Objects, n: u16, i: u8)
     requires room { length line.old ≤ 100 }
     requires there { n < size_of objects.now.items Page }
-    ensures { line.new ≡ line.old ++ row_text n (16 * i) (bytes_at (page_at objects.now n) (16 * i) 16) }
+    ensures { line.new ≡ line.old ++
+        row_text n (16 * i) (bytes_at (page_at objects.now n) (16 * i) 16) }
 {
     let at = 16 * i as u16;
     let mut bytes = [0; 16];

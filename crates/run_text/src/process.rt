@@ -17,7 +17,8 @@ use process_objects::{Accept, Process, State, Wait};
 #[tactic(auto, unfolding(crate::specs::Objects::process_text))]
 pub(crate) fn push_process(line: &mut LineBuf, objects: &Objects, n: u16, process: &Process)
     requires { length line.old ≤ 100 }
-    ensures text { line.new ≡ line.old ++ process_text n (process_map (meaning objects.now.items) process.now) }
+    ensures text { line.new ≡ line.old ++
+        process_text n (process_map (meaning objects.now.items) process.now) }
     ensures len { length line.new ≤ length line.old + 500 }
 {
     if is_empty(objects, process) {
@@ -103,7 +104,8 @@ fn has_null_slots(objects: &Objects, process: &Process) -> bool
 fn push_held(line: &mut LineBuf, objects: &Objects, process: &Process, i: u8)
     requires room { length line.old ≤ 800 }
     requires slot { i ≤ 2 }
-    ensures text { line.new ≡ line.old ++ codes " " ++ cap_text (slot_of (process_map (meaning objects.now.items) process.now) i) }
+    ensures text { line.new ≡ line.old ++ codes " " ++
+        cap_text (slot_of (process_map (meaning objects.now.items) process.now) i) }
     ensures len { length line.new ≤ length line.old + 81 }
 {
     line.push_word(" ");
