@@ -1,2 +1,3 @@
 pub mod Texts
+pub mod ByKind
 pub mod Meanings

@@ -15,9 +15,7 @@ mod statements;
 mod walk;
 mod writing;
 
+pub use objects::put_objects;
 pub use record::record_line;
-pub use state::dump;
+pub use state::{dump, put_front};
 pub use walk::walk_line;
-
-#[cfg(test)]
-mod tests;

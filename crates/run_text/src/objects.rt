@@ -4,7 +4,7 @@ ghost use Rattle.cap_format.specs.declared.kind.CapKind.TheVariants.{Gpt, Endpoi
 ghost use Rattle.object_store.specs.Store.{size_of, endpoint_at, process_at};
 ghost use Rattle.object_store.specs.Meaning.{state_map};
 ghost use Rattle.run_text.specs.Objects.{endpoint_text, process_text, object_text, heading_text, statement_text, contents_text, reads_of};
-ghost use Rattle.run_text.specs.State.{kind_text, objects_text};
+ghost use Rattle.run_text.specs.State.{kind_at, kind_text, objects_text};
 ghost use Rattle.run_text.specs.Written.{WroteTo};
 
 use crate::parts::{Part, put_parts};
@@ -19,9 +19,8 @@ use object_store::Objects;
 use std::sync::ledger::Ledger;
 use steps::Steps;
 
-/// Writes the lines of all objects. Each slot of a GPT is read once.
-#[tactic(auto, unfolding(crate::specs::State::objects_text))]
-pub(crate) fn put_objects<K: Sink, L: Ledger>(
+/// Writes the lines of all objects, each of which is made in `line` first. Each slot of a GPT is read once.
+pub fn put_objects<K: Sink, L: Ledger>(
     objects: &Objects,
     line: &mut LineBuf,
     output: &mut K,
@@ -32,11 +31,24 @@ pub(crate) fn put_objects<K: Sink, L: Ledger>(
     ensures counted { OnOk result (fetches.new ≡ fetches.old + 16 * size_of objects.now.items Gpt) }
     ensures most { fetches.new ≤ fetches.old + 16 * size_of objects.now.items Gpt }
 {
-    put_kind(objects, CapKind::Page, line, output, fetches)?;
-    put_kind(objects, CapKind::CapPage, line, output, fetches)?;
-    put_kind(objects, CapKind::Gpt, line, output, fetches)?;
-    put_kind(objects, CapKind::Endpoint, line, output, fetches)?;
-    put_kind(objects, CapKind::Process, line, output, fetches)
+    'each: for place in 0..5u8 {
+        put_kind(objects, kind_at(place), line, output, fetches)?;
+    }
+    Ok(())
+}
+
+/// The kind of objects that has this place among the kinds that are written, counted from 0.
+fn kind_at(place: u8) -> CapKind
+    requires { place < 5 }
+    ensures { result ≡ kind_at place }
+{
+    match place {
+        0 => CapKind::Page,
+        1 => CapKind::CapPage,
+        2 => CapKind::Gpt,
+        3 => CapKind::Endpoint,
+        _ => CapKind::Process,
+    }
 }
 
 /// Writes the lines of each object of a kind.
@@ -49,7 +61,8 @@ fn put_kind<K: Sink, L: Ledger>(
 ) -> Result<(), WriteFault>
     ensures wrote { WroteTo K.taken K.faults output.old output.new result
         (kind_text (state_map objects.now) kind) }
-    ensures counted { OnOk result (fetches.new ≡ fetches.old + reads_of kind * size_of objects.now.items kind) }
+    ensures counted { OnOk result
+        (fetches.new ≡ fetches.old + reads_of kind * size_of objects.now.items kind) }
     ensures most { fetches.new ≤ fetches.old + reads_of kind * size_of objects.now.items kind }
 {
     'each: for n in 0..size(objects, kind) {

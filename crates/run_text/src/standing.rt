@@ -1,6 +1,7 @@
 //! Where processes stand.
-ghost use Rattle.std.specs.Prelude.{◌≡◌, ◌≤◌, ◌<◌, ◌+◌, ◌++◌, length, is_none, slice_get, flat_map};
+ghost use Rattle.std.specs.Prelude.{◌≡◌, ◌≤◌, ◌<◌, ◌+◌, ◌-◌, ◌++◌, length, is_none, slice_get, flat_map};
 ghost use Rattle.schedules.specs.Queues.{hart_of};
+ghost use Rattle.run_text.specs.declared.standing.Queue.TheVariants.{Ready};
 ghost use Rattle.run_text.specs.Standing.{occupant_text, hart_text, member_text, queue_name, members, queue_text, IsQueue};
 ghost use Rattle.run_text.specs.State.{queue_line, harts_text, ready_text, sleepers_text};
 ghost use Rattle.run_text.specs.Written.{WroteTo};
@@ -82,9 +83,17 @@ pub(crate) fn put_ready<K: Sink>(
     ensures { WroteTo K.taken K.faults output.old output.new result (ready_text queues.now) }
 {
     'each: for below in 0..8u8 {
-        put_queue(queues, Queue::Ready(7 - below), line, output)?;
+        put_queue(queues, ready_queue(below), line, output)?;
     }
     Ok(())
+}
+
+/// The ready queue with so many before it.
+fn ready_queue(below: u8) -> Queue
+    requires { below < 8 }
+    ensures { result ≡ Ready (7 - below) }
+{
+    Queue::Ready(7 - below)
 }
 
 /// Writes the line of the sleepers of each process on which others sleep.

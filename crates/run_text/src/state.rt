@@ -27,9 +27,11 @@ pub fn dump<T: Translator, K: Sink, L: Ledger>(
     output: &mut K,
     fetches: &mut Steps<L>,
 ) -> Result<(), WriteFault>
-    ensures text { Writes (K.taken output.old) (K.taken output.new) result (state_text (state_of machine.now)) }
+    ensures text { Writes (K.taken output.old) (K.taken output.new) result
+        (state_text (state_of machine.now)) }
     ensures cause { HasCause (K.faults output.old) (K.faults output.new) result }
-    ensures counted { OnOk result (fetches.new ≡ fetches.old + 16 * size_of machine.now.objects.items Gpt) }
+    ensures counted { OnOk result
+        (fetches.new ≡ fetches.old + 16 * size_of machine.now.objects.items Gpt) }
     ensures most { fetches.new ≤ fetches.old + 16 * size_of machine.now.objects.items Gpt }
 {
     let mut line = LineBuf::new();
@@ -45,15 +47,16 @@ fn put_front_of<T: Translator, K: Sink>(
     output: &mut K,
 ) -> Result<(), WriteFault>
     ensures { WroteTo K.taken K.faults output.old output.new result
-        (front_text machine.now.objects.harts (size_of machine.now.objects.items Process) machine.now.queues machine.now.halted) }
+        (let m = machine.now in
+        front_text m.objects.harts (size_of m.objects.items Process) m.queues m.halted) }
 {
     let sizes = machine.objects().sizes();
     put_front(machine.queues(), sizes, machine.halted(), line, output)
 }
 
-/// Writes what stands before the objects, of queues of these sizes.
+/// Writes what stands before the objects, of queues of these sizes. Each of its lines is made in `line` first.
 #[tactic(auto, unfolding(crate::specs::State::front_text))]
-pub(crate) fn put_front<K: Sink>(
+pub fn put_front<K: Sink>(
     queues: &Queues,
     sizes: Sizes,
     halted: bool,

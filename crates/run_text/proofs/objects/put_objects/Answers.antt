@@ -1,37 +1,38 @@
-use Rattle.run_text.proofs.Texts.{go_on, stop}
-use Rattle.run_text.specs.State.{objects_text}
+use Rattle.std.proofs.Common.{ap, arith}
+use Rattle.object_store.specs.Meaning.{state_map}
+use Rattle.run_text.specs.State.{kind_text}
+use Rattle.run_text.proofs.ByKind.{kinds_all, reads_none, reads_more, reads_most, reads_done}
+use Rattle.run_text.proofs.Texts.{none_yet, one_more, one_stops, all_done, same}
 use Rattle.run_text.proofs.objects.put_objects.Goals as goal
 
+pub each-init : goal.each-init
+each-init g c = record { written = none_yet _ _ _; fetches = reads_none _ _ }
+
+pub each-preserved : goal.each-preserved
+each-preserved g c = record {
+  written = one_more _ _ _ _ _ _ _ _ _ c.each.invariant.written (same _ _ _ _ _ _ _ (ap (kind_text (state_map c.args.objects.now)) c.kind_at.ensures) c.in_ok-put_kind.ensures.wrote);
+  fetches = reads_more _ _ _ c.kind_at.ensures _ _ c.each.invariant.fetches _ c.in_ok-put_kind.ensures.counted;
+}
+
 pub returns-in_err-put_kind-clause-wrote : goal.returns-in_err-put_kind-clause-wrote
-unfolding objects_text
 returns-in_err-put_kind-clause-wrote g c =
-    stop _ _ _ _ _ _ _ _ c.from_residual.ensures.0 c.in_err-put_kind.ensures.wrote
+    same _ _ _ _ _ _ _ (kinds_all (state_map c.args.objects.now))
+    (one_stops _ _ _ _ _ _ _ _ _ _ _ c.each-test.true c.from_residual.ensures.0 c.each.invariant.written
+    (same _ _ _ _ _ _ _ (ap (kind_text (state_map c.args.objects.now)) c.kind_at.ensures) c.in_err-put_kind.ensures.wrote))
 
-pub returns-in_err-put_kind-2-clause-wrote : goal.returns-in_err-put_kind-2-clause-wrote
-unfolding objects_text
-returns-in_err-put_kind-2-clause-wrote g c =
-    go_on _ _ _ _ _ _ _ _ _ _ c.in_ok-put_kind.ensures.wrote
-    (stop _ _ _ _ _ _ _ _ c.from_residual-in_err-put_kind-2.ensures.0 c.in_err-put_kind-2.ensures.wrote)
-
-pub returns-in_err-put_kind-3-clause-wrote : goal.returns-in_err-put_kind-3-clause-wrote
-unfolding objects_text
-returns-in_err-put_kind-3-clause-wrote g c =
-    go_on _ _ _ _ _ _ _ _ _ _ c.in_ok-put_kind.ensures.wrote
-    (go_on _ _ _ _ _ _ _ _ _ _ c.in_ok-put_kind-2.ensures.wrote
-    (stop _ _ _ _ _ _ _ _ c.from_residual-in_err-put_kind-3.ensures.0 c.in_err-put_kind-3.ensures.wrote))
-
-pub returns-in_err-put_kind-4-clause-wrote : goal.returns-in_err-put_kind-4-clause-wrote
-unfolding objects_text
-returns-in_err-put_kind-4-clause-wrote g c =
-    go_on _ _ _ _ _ _ _ _ _ _ c.in_ok-put_kind.ensures.wrote
-    (go_on _ _ _ _ _ _ _ _ _ _ c.in_ok-put_kind-2.ensures.wrote
-    (go_on _ _ _ _ _ _ _ _ _ _ c.in_ok-put_kind-3.ensures.wrote
-    (stop _ _ _ _ _ _ _ _ c.from_residual-in_err-put_kind-4.ensures.0 c.in_err-put_kind-4.ensures.wrote)))
+pub returns-in_err-put_kind-clause-most : goal.returns-in_err-put_kind-clause-most
+returns-in_err-put_kind-clause-most g c =
+    reads_most _ _ _ c.kind_at.ensures _ _ c.each.invariant.fetches _ c.each-test.true c.in_err-put_kind.ensures.most
 
 pub returns-clause-wrote : goal.returns-clause-wrote
-unfolding objects_text
 returns-clause-wrote g c =
-    go_on _ _ _ _ _ _ _ _ _ _ c.in_ok-put_kind.ensures.wrote
-    (go_on _ _ _ _ _ _ _ _ _ _ c.in_ok-put_kind-2.ensures.wrote
-    (go_on _ _ _ _ _ _ _ _ _ _ c.in_ok-put_kind-3.ensures.wrote
-    (go_on _ _ _ _ _ _ _ _ _ _ c.in_ok-put_kind-4.ensures.wrote c.put_kind-5.ensures.wrote)))
+    same _ _ _ _ _ _ _ (kinds_all (state_map c.args.objects.now))
+    (all_done _ _ _ _ _ _ _ _ c.each-test.false c.each.auto.place-end c.each.invariant.written)
+
+pub returns-clause-counted : goal.returns-clause-counted
+returns-clause-counted g c = reads_done _ _ _ _ c.each-test.false c.each.auto.place-end c.each.invariant.fetches
+
+pub returns-clause-most : goal.returns-clause-most
+returns-clause-most g c =
+    let all = reads_done _ _ _ _ c.each-test.false c.each.auto.place-end c.each.invariant.fetches in
+    omega arith
