@@ -21,4 +21,6 @@ mod objects;
 #[cfg(test)]
 mod rows;
 #[cfg(test)]
+mod texts;
+#[cfg(test)]
 mod walks;
