@@ -40,10 +40,11 @@ row_said n at bytes = unless_empty (list_all (λ byte. byte == 0) bytes) (says.P
 abbrev pub cap_said : ℕ → ℕ → Capability → List Statement
 cap_said n i c = unless_empty (is_null c) (says.CapSlot n i (bare c))
 
--- the header of GPT `n`, and its slot `i`
+-- the header of GPT `n`
 abbrev pub header_said : ℕ → HeaderValue → List Statement
 header_said n header = unless_empty (is_empty_header header) (says.Gpt n header)
 
+-- slot `i` of GPT `n`
 abbrev pub slot_said : ℕ → ℕ → Capability → List Statement
 slot_said n i c = unless_empty (is_null c) (says.GptSlot n i (bare c))
 
@@ -51,38 +52,44 @@ slot_said n i c = unless_empty (is_null c) (says.GptSlot n i (bare c))
 abbrev pub endpoint_said : ℕ → EndpointValue → List Statement
 endpoint_said n e = unless_empty (is_empty_endpoint e) (says.Endpoint n (bare e.recipient) e.id e.payload e.matching)
 
--- process `n`, of which it is known whether it runs; no statement says that it waits or is at a fault
+-- process `n`, which runs or was stopped; none where that isn't known
 abbrev pub running_said : ℕ → ProcessValue → Option Bool → List Statement
 running_said n p None = []
 running_said n p (Some runs) =
     unless_empty (is_empty_process p)
     (says.Process n p.pc (bare (process_slot p 0)) (bare (process_slot p 1)) (bare (process_slot p 2)) runs)
 
+-- the same by the state of process `n`: no statement says that it waits or is at a fault
 abbrev pub process_said : ℕ → ProcessValue → List Statement
 process_said n p = running_said n p (runs_of p.state)
 
--- register `i` of process `n`, and its capability register `i`
+-- register `i` of process `n`
 abbrev pub register_said : ℕ → ℕ → ℕ → List Statement
 register_said n i value = unless_empty (is_zero value) (says.Reg n i value)
 
+-- capability register `i` of process `n`
 abbrev pub capreg_said : ℕ → ℕ → Capability → List Statement
 capreg_said n i c = unless_empty (is_null c) (says.CapReg n i (bare c))
 
 -- ---- all that is said of object `n` of a kind, in the order of its lines
 
--- the rows of a page, the slots of a capability page and of a GPT, the registers and the capability registers of a process
+-- the 256 rows of page `n`
 abbrev pub rows_said : Store → ℕ → List Statement
 rows_said s n = statements_below (λ i. row_said n (16 * i) (bytes_at (page_at s n) (16 * i) 16)) 256
 
+-- the slots of capability page `n`
 abbrev pub caps_said : Store → ℕ → List Statement
 caps_said s n = statements_below (λ i. cap_said n i (cap_at (cappage_at s n) i)) 256
 
+-- the slots of GPT `n`
 abbrev pub slots_said : Store → ℕ → List Statement
 slots_said s n = statements_below (λ i. slot_said n i (slot_of (gpt_at s.items n) i)) 16
 
+-- the registers of process `n`
 abbrev pub registers_said : Store → ℕ → List Statement
 registers_said s n = statements_below (λ i. register_said n i (reg_of (process_at s n) i)) 32
 
+-- its capability registers
 abbrev pub capregs_said : Store → ℕ → List Statement
 capregs_said s n = statements_below (λ i. capreg_said n i (capreg_of (process_at s n) i)) 32
 
