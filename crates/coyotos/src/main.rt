@@ -7,7 +7,7 @@ ghost use Rattle.coy_io.specs.Causes.{Rose};
 ghost use Rattle.coyotos_cli.specs.Command.{command_of};
 ghost use Rattle.coyotos_cli.specs.declared.command.Command.TheVariants.{Help};
 ghost use Rattle.coyotos_cli.specs.Ending.{IsGiven, Outputs};
-ghost use Rattle.coyotos_cli.specs.Session.{out, sure, WritesSure};
+ghost use Rattle.coyotos_cli.specs.Program.{out, sure, WritesSure};
 ghost use Rattle.coyotos.specs.Flush.{exit_after};
 
 use coy_io::{ReadSource, Sink, Source, WriteFault, WriteSink};
@@ -116,8 +116,8 @@ fn counted<S: Source, K: Sink, L: Ledger>(
         result ≡ Exit.Done → asked ≢ Some Help → IsAtEnd (S.held input.new) }
 
     // Where reading failed, the records of the whole lines that were read were written.
-    ensures sure { let text = sure (map string_bytes words.now) in result ≡ Exit.ReadFault →
-        WritesSure (S.held input.old) (S.held input.new) (K.taken output.old) (K.taken output.new) text }
+    ensures sure { let course = sure (map string_bytes words.now) in result ≡ Exit.ReadFault →
+        WritesSure (S.held input.old) (S.held input.new) (K.taken output.old) (K.taken output.new) course }
 
     // Words that are of no form, and `--help`, take nothing from the source.
     ensures no_input { command_of (map string_bytes words.now) ≡ None → input.new ≡ input.old }

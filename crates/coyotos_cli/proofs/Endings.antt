@@ -6,7 +6,7 @@ use Rattle.std.proofs.KnownBytes.{Appends-trans}
 use Rattle.coy_io.specs.Pieces.{AppendsSome}
 use Rattle.run_text.proofs.Texts.{cut_before, cut_behind}
 use Rattle.coyotos_cli.specs.declared.exit.Exit.{Exit}
-use Rattle.coyotos_cli.specs.declared.exit.Exit.TheVariants.{OutOfMemory, WriteFault}
+use Rattle.coyotos_cli.specs.declared.exit.Exit.TheVariants.{OutOfMemory, ReadFault, WriteFault}
 use Rattle.coyotos_cli.specs.Exit.{status_of}
 use Rattle.coyotos_cli.specs.Ending.{Output, Outputs, Ends, before}
 
@@ -24,12 +24,27 @@ outputs_behind old now new exit front last memory written o = record {
   nothing = λ none. absurd (memory none);
 }
 
+-- no fault is a want of memory
+pub read-memory : ReadFault ≢ OutOfMemory
+read-memory same = let four : 4 ≡ 6 = ap status_of same in absurd (omega (arith, four))
+
+pub write-memory : WriteFault ≢ OutOfMemory
+write-memory same = let five : 5 ≡ 6 = ap status_of same in absurd (omega (arith, five))
+
 -- writing failed in the next piece
 pub outputs_cut : (now new : Option (List ℕ)) (piece : List ℕ) (rest : Output) → AppendsSome now new piece → Outputs now new WriteFault (before piece rest)
 outputs_cut now new piece rest some = record {
   whole = λ given. absurd (given.write refl);
   part = λ cut. cut_before now new piece rest.text some;
-  nothing = λ none. let five : 5 ≡ 6 = ap status_of none in absurd (omega (arith, five));
+  nothing = λ none. absurd (write-memory none);
+}
+
+-- reading failed
+pub outputs_none : (now new : Option (List ℕ)) (o : Output) → Outputs now new ReadFault o
+outputs_none now new o = record {
+  whole = λ given. absurd (given.read refl);
+  part = λ cut. let four : 4 ≡ 5 = ap status_of cut in absurd (omega (arith, four));
+  nothing = λ none. absurd (read-memory none);
 }
 
 -- the last text by another name

@@ -1,5 +1,5 @@
 -- Line by line, what the lines behind a listing come to.
-use Rattle.std.proofs.Common.{◌≡◌, ◌≢◌, ◌+◌, ◌∙◌, ◌∷◌, ◌++◌, [], ℕ, List, Bool, true, false, Option, Some, None, Result, Ok, Err, length, refl, sym, ap, subst, append_assoc, append-nil, arith}
+use Rattle.std.proofs.Common.{◌≡◌, ◌≢◌, ◌≤◌, ◌+◌, ◌∙◌, ◌∷◌, ◌++◌, [], ℕ, List, Bool, true, false, Option, Some, None, Result, Ok, Err, length, refl, sym, ap, subst, append_assoc, append-nil, arith}
 use Rattle.std.specs.Io.KnownBytes.{Appends, Keeps}
 use Rattle.std.proofs.KnownBytes.{Appends-nil, Appends-trans}
 use Rattle.coy_io.specs.Pieces.{AppendsSome}
@@ -13,27 +13,27 @@ use Rattle.listing_read.specs.declared.fault.ScheduleFault.{ScheduleFault}
 use Rattle.listing_read.specs.declared.fault.ScheduleFault.TheVariants.{LineTooLong}
 use Rattle.listing_read.specs.declared.schedule.Timed.{Timed}
 use Rattle.coyotos_cli.specs.Exit.{status_of}
-use Rattle.coyotos_cli.specs.Ending.{Outputs, Ends, refused_schedule, too_long}
+use Rattle.coyotos_cli.specs.Ending.{Output, Outputs, Fetches, Ends, refused_schedule, too_long}
 use Rattle.coyotos_cli.specs.Events.{events_of}
-use Rattle.coyotos_cli.specs.Schedule.{finished, AtEnd, AtFault, AtLimit, Course, preceded, stops, line_course, course_of, stop_output, course_output, course_fetches, last_fetches, OnParts, FailsBehind}
+use Rattle.coyotos_cli.specs.Schedule.{finished, Course, preceded, ends_in, ends_at, line_course, course_of, course_output, last_fetches, ComesTo, OnParts, FailsBehind}
 use Rattle.coyotos_cli.specs.Told.{performed, told, spent_on}
 use Rattle.coyotos_cli.specs.declared.command.Command.{Command}
 use Rattle.coyotos_cli.specs.declared.exit.Exit.{Exit}
-use Rattle.coyotos_cli.specs.declared.exit.Exit.TheVariants.{OutOfMemory, WriteFault}
-use Rattle.coyotos_cli.proofs.Endings.{outputs_text, outputs_behind, outputs_cut, ends-memory}
+use Rattle.coyotos_cli.specs.declared.exit.Exit.TheVariants.{OutOfMemory, ReadFault, WriteFault}
+use Rattle.coyotos_cli.proofs.Endings.{outputs_text, outputs_behind, outputs_cut, outputs_none, read-memory, write-memory, ends-memory}
 
 -- ---- courses
 
 preceded-nil : (course : Course) → preceded [] 0 course ≡ course
 preceded-nil course =
     let same : 0 + course.fetches ≡ course.fetches = omega arith in
-    ap (λ k. record { records = course.records; fetches = k; stop = course.stop }) same
+    ap (λ k. record course { fetches = k }) same
 
 preceded-append : (first second : List ℕ) (m n : ℕ) (course : Course) → preceded first m (preceded second n course) ≡ preceded (first ++ second) (m + n) course
 preceded-append first second m n course =
     let same : m + (n + course.fetches) ≡ m + n + course.fetches = omega arith in
-    ap (λ r. record { records = r; fetches = m + (n + course.fetches); stop = course.stop }) (sym (append_assoc first second course.records))
-    ∙ ap (λ k. record { records = (first ++ second) ++ course.records; fetches = k; stop = course.stop }) same
+    ap (λ r. record course { records = r; fetches = m + (n + course.fetches) }) (sym (append_assoc first second course.records))
+    ∙ ap (λ k. record course { records = (first ++ second) ++ course.records; fetches = k }) same
 
 module _ (command : Command) (harts n : ℕ) (s : State) (events : ℕ) where
   -- the lines from one on, where that line asks for this
@@ -44,15 +44,15 @@ module _ (command : Command) (harts n : ℕ) (s : State) (events : ℕ) where
   unfolding course_of from_line
   course_of-line line parts = refl
 
-  course_of-end : course_of command harts n s events [] ≡ stops (AtEnd s events)
+  course_of-end : course_of command harts n s events [] ≡ ends_at command s events
   unfolding course_of
   course_of-end = refl
 
-  course_of-long : (parts : List Part) → course_of command harts n s events (LongLine ∷ parts) ≡ stops (AtFault (n + 1) LineTooLong)
+  course_of-long : (parts : List Part) → course_of command harts n s events (LongLine ∷ parts) ≡ ends_in (refused_schedule (n + 1) LineTooLong)
   unfolding course_of
   course_of-long parts = refl
 
-  course_of-past : (parts : List Part) → course_of command harts n s events (PastLimit ∷ parts) ≡ stops AtLimit
+  course_of-past : (parts : List Part) → course_of command harts n s events (PastLimit ∷ parts) ≡ ends_in too_long
   unfolding course_of
   course_of-past parts = refl
 
@@ -78,7 +78,7 @@ module _ (command : Command) (harts n : ℕ) (s : State) (events : ℕ) where
         ≡ preceded (told command s (events_of harts timed)) (spent_on command s (events_of harts timed)) (course_of command harts n1 s1 events1 rest)
     course-performed timed n1 s1 events1 asks number state count = rw (number, state, count) (course-asked timed asks)
 
-    course-refused : (fault : ScheduleFault) → event_of harts line ≡ Err fault → course_of command harts n s events (Line line ∷ rest) ≡ stops (AtFault (n + 1) fault)
+    course-refused : (fault : ScheduleFault) → event_of harts line ≡ Err fault → course_of command harts n s events (Line line ∷ rest) ≡ ends_in (refused_schedule (n + 1) fault)
     unfolding from_line
     course-refused fault bad = asked_course (Err fault) bad
 
@@ -221,96 +221,121 @@ module _ (command : Command) (harts : ℕ) (start now : Moment) where
       comes-line new line _ _ c next more fetched
       (λ rest. course-performed command harts now.number now.state now.events line rest timed new.number new.state new.events asks number state count)
 
-  module _ (taken : Option (List ℕ)) (exit : Exit) where
-    -- what was written behind the lines given ends the output
-    abbrev Rest_ends : List Part → Type 0
-    Rest_ends rest = Outputs now.taken taken exit (course_output command (course_at command harts now rest))
+  module _ (taken : Option (List ℕ)) (fetches : ℕ) (exit : Exit) where
+    -- what was done behind the lines given is what these come to
+    abbrev Rest_comes : Course → Type 0
+    Rest_comes course = ComesTo now.taken taken now.fetches fetches exit course
 
-    outputs-preceded : (records : List ℕ) (spent : ℕ) (course : Course) → exit ≢ OutOfMemory → Appends start.taken now.taken records
-        → Outputs now.taken taken exit (course_output command course) → Outputs start.taken taken exit (course_output command (preceded records spent course))
-    outputs-preceded records spent course memory written o =
-        let last = stop_output command course.stop in
-        outputs_text start.taken taken exit last.exit _ _ (sym (append_assoc records course.records last.text))
-        (outputs_behind start.taken now.taken taken exit records (course_output command course) memory written o)
+    abbrev All_come : List Part → Type 0
+    All_come parts = ComesTo start.taken taken start.fetches fetches exit (course_at command harts start parts)
 
-    comes-ends : exit ≢ OutOfMemory → Comes command harts start now → ((rest : List Part) → now.left ≡ Some rest → Rest_ends rest)
-        → OnParts start.left (λ parts. Outputs start.taken taken exit (course_output command (course_at command harts start parts)))
+    preceded-comes : (records : List ℕ) (spent : ℕ) (course : Course) → exit ≢ OutOfMemory → Appends start.taken now.taken records
+        → now.fetches ≡ start.fetches + spent → Rest_comes course → ComesTo start.taken taken start.fetches fetches exit (preceded records spent course)
+    preceded-comes records spent course memory written counted f =
+        let most = f.fetched.most in
+        record {
+          output = outputs_text start.taken taken exit course.last.exit _ _ (sym (append_assoc records course.records course.last.text))
+              (outputs_behind start.taken now.taken taken exit records (course_output course) memory written f.output);
+          fetched = record {
+            whole = λ given. let whole = f.fetched.whole given in omega (arith, counted, whole);
+            most = omega (arith, counted, most);
+          };
+        }
+
+    comes-ends : exit ≢ OutOfMemory → Comes command harts start now → ((rest : List Part) → now.left ≡ Some rest → Rest_comes (course_at command harts now rest))
+        → OnParts start.left All_come
     comes-ends memory c ends =
-        let P : List Part → Type 0 = λ parts. Outputs start.taken taken exit (course_output command (course_at command harts start parts)) in
-        on_given start.left now.left c.given P c.lines
-        (λ rest same. subst (λ course. Outputs start.taken taken exit (course_output command course)) (sym (c.course rest))
-        (outputs-preceded c.records c.spent (course_at command harts now rest) memory c.written (ends rest same)))
-
-    -- the same, by what is left
-    abbrev Course_ends : Course → Type 0
-    Course_ends course = Outputs now.taken taken exit (course_output command course)
+        on_given start.left now.left c.given All_come c.lines
+        (λ rest same. subst (λ course. ComesTo start.taken taken start.fetches fetches exit course) (sym (c.course rest))
+        (preceded-comes c.records c.spent (course_at command harts now rest) memory c.written c.counted (ends rest same)))
 
     pub comes-done : (faults faults' : ℕ) → Comes command harts start now → IsDone now.left → Ends now.taken taken faults faults' exit (finished command now.state now.events)
-        → OnParts start.left (λ parts. Outputs start.taken taken exit (course_output command (course_at command harts start parts)))
-    comes-done faults faults' c none e =
+        → Fetches now.fetches fetches exit (last_fetches command now.state) → OnParts start.left All_come
+    comes-done faults faults' c none e f =
         let memory = ends-memory now.taken taken faults faults' exit _ e (λ s. let six : 0 ≡ 6 = s in absurd (omega (arith, six))) in
-        comes-ends memory c (on_none now.left Rest_ends none (subst Course_ends (sym (course_of-end command harts now.number now.state now.events)) e.output))
+        let most = f.most in
+        let last : Rest_comes (ends_at command now.state now.events) = record {
+          output = e.output;
+          fetched = record {
+            whole = λ given. let whole = f.whole given in omega (arith, whole);
+            most = omega (arith, most);
+          };
+        } in
+        comes-ends memory c (on_none now.left (λ rest. Rest_comes (course_at command harts now rest)) none
+        (subst Rest_comes (sym (course_of-end command harts now.number now.state now.events)) last))
 
-    -- the next line is refused
+    -- nothing is fetched behind the lines given
+    at_last : (last : Output) → Outputs now.taken taken exit last → fetches ≡ now.fetches → Rest_comes (ends_in last)
+    at_last last o same = record { output = o; fetched = record { whole = λ given. omega (arith, same); most = omega (arith, same) } }
+
+    -- the next line ends the run
+    stopped : (faults faults' : ℕ) (part : Part) (last : Output) → Comes command harts start now → Begins now.left part
+        → ((rest : List Part) → course_at command harts now (part ∷ rest) ≡ ends_in last) → (status_of last.exit ≡ 6 → ⊥)
+        → Ends now.taken taken faults faults' exit last → fetches ≡ now.fetches → OnParts start.left All_come
+    stopped faults faults' part last c begins stop other e same =
+        let memory = ends-memory now.taken taken faults faults' exit last e other in
+        comes-ends memory c (on_begun now.left part (λ rest. Rest_comes (course_at command harts now rest)) begins
+        (λ rest. subst Rest_comes (sym (stop rest)) (at_last last e.output same)))
+
+    -- it is refused
     refused : (faults faults' : ℕ) (part : Part) (fault : ScheduleFault) (number : ℕ) → Comes command harts start now → Begins now.left part
-        → ((rest : List Part) → course_at command harts now (part ∷ rest) ≡ stops (AtFault (now.number + 1) fault)) → number ≡ now.number
-        → Ends now.taken taken faults faults' exit (refused_schedule (number + 1) fault)
-        → OnParts start.left (λ parts. Outputs start.taken taken exit (course_output command (course_at command harts start parts)))
-    refused faults faults' part fault number c begins stop same e =
-        let e = subst (λ n. Ends now.taken taken faults faults' exit (refused_schedule (n + 1) fault)) same e in
-        let memory = ends-memory now.taken taken faults faults' exit _ e (λ s. let six : 3 ≡ 6 = s in absurd (omega (arith, six))) in
-        comes-ends memory c (on_begun now.left part Rest_ends begins (λ rest. subst Course_ends (sym (stop rest)) e.output))
+        → ((rest : List Part) → course_at command harts now (part ∷ rest) ≡ ends_in (refused_schedule (now.number + 1) fault)) → number ≡ now.number
+        → Ends now.taken taken faults faults' exit (refused_schedule (number + 1) fault) → fetches ≡ now.fetches → OnParts start.left All_come
+    refused faults faults' part fault number c begins stop number_is e same =
+        stopped faults faults' part (refused_schedule (now.number + 1) fault) c begins stop (λ s. let six : 3 ≡ 6 = s in absurd (omega (arith, six)))
+        (subst (λ n. Ends now.taken taken faults faults' exit (refused_schedule (n + 1) fault)) number_is e) same
 
     pub comes-long : (faults faults' : ℕ) → Comes command harts start now → Begins now.left LongLine → (number : ℕ) → number ≡ now.number
-        → Ends now.taken taken faults faults' exit (refused_schedule (number + 1) LineTooLong)
-        → OnParts start.left (λ parts. Outputs start.taken taken exit (course_output command (course_at command harts start parts)))
-    comes-long faults faults' c long number same e =
-        refused faults faults' LongLine LineTooLong number c long (course_of-long command harts now.number now.state now.events) same e
+        → Ends now.taken taken faults faults' exit (refused_schedule (number + 1) LineTooLong) → fetches ≡ now.fetches → OnParts start.left All_come
+    comes-long faults faults' c long number number_is e same =
+        refused faults faults' LongLine LineTooLong number c long (course_of-long command harts now.number now.state now.events) number_is e same
 
     pub comes-past : (faults faults' : ℕ) → Comes command harts start now → Begins now.left PastLimit → Ends now.taken taken faults faults' exit too_long
-        → OnParts start.left (λ parts. Outputs start.taken taken exit (course_output command (course_at command harts start parts)))
-    comes-past faults faults' c past e =
-        let memory = ends-memory now.taken taken faults faults' exit _ e (λ s. let six : 7 ≡ 6 = s in absurd (omega (arith, six))) in
-        comes-ends memory c (on_begun now.left PastLimit Rest_ends past (λ rest. subst Course_ends (sym (course_of-past command harts now.number now.state now.events rest)) e.output))
+        → fetches ≡ now.fetches → OnParts start.left All_come
+    comes-past faults faults' c past e same =
+        stopped faults faults' PastLimit too_long c past (course_of-past command harts now.number now.state now.events)
+        (λ s. let six : 7 ≡ 6 = s in absurd (omega (arith, six))) e same
 
     pub comes-refused : (faults faults' : ℕ) (left : Option (List Part)) (line : List ℕ) (fault : ScheduleFault) → Comes command harts start now
         → Advances now.left left (Line line ∷ []) → event_of harts line ≡ Err fault → (number : ℕ) → number ≡ now.number
-        → Ends now.taken taken faults faults' exit (refused_schedule (number + 1) fault)
-        → OnParts start.left (λ parts. Outputs start.taken taken exit (course_output command (course_at command harts start parts)))
-    comes-refused faults faults' left line fault c next bad number same e =
+        → Ends now.taken taken faults faults' exit (refused_schedule (number + 1) fault) → fetches ≡ now.fetches → OnParts start.left All_come
+    comes-refused faults faults' left line fault c next bad number number_is e same =
         refused faults faults' (Line line) fault number c (begins-line now.left left (Line line) next)
-        (λ rest. course-refused command harts now.number now.state now.events line rest fault bad) same e
+        (λ rest. course-refused command harts now.number now.state now.events line rest fault bad) number_is e same
+
+  -- reading failed
+  pub comes-read : Comes command harts start now → OnParts start.left (All_come now.taken now.fetches ReadFault)
+  comes-read c =
+      comes-ends now.taken now.fetches ReadFault read-memory c
+      (λ rest known. record {
+        output = outputs_none now.taken now.taken (course_output (course_at command harts now rest));
+        fetched = record { whole = λ given. absurd (given.read refl); most = omega arith };
+      })
 
   -- writing failed in the records of a line
-  pub comes-cut : (taken : Option (List ℕ)) (left : Option (List Part)) (line : List ℕ) (timed : Timed) → Comes command harts start now
+  pub comes-cut : (taken : Option (List ℕ)) (fetches : ℕ) (left : Option (List Part)) (line : List ℕ) (timed : Timed) → Comes command harts start now
       → Advances now.left left (Line line ∷ []) → event_of harts line ≡ Ok (Some timed)
       → AppendsSome now.taken taken (told command now.state (events_of harts timed))
-      → OnParts start.left (λ parts. Outputs start.taken taken WriteFault (course_output command (course_at command harts start parts)))
-  comes-cut taken left line timed c next asks some =
-      let memory : WriteFault ≢ OutOfMemory = λ e. let five : 5 ≡ 6 = ap status_of e in absurd (omega (arith, five)) in
+      → fetches ≤ now.fetches + spent_on command now.state (events_of harts timed)
+      → OnParts start.left (All_come taken fetches WriteFault)
+  comes-cut taken fetches left line timed c next asks some most =
       let records = told command now.state (events_of harts timed) in
       let behind : List Part → Course = course_of command harts (now.number + 1) (performed command now.state (events_of harts timed)) (now.events + length (events_of harts timed)) in
-      let cut : (rest : List Part) → Course_ends taken WriteFault (course_at command harts now (Line line ∷ rest)) =
+      let cut : (rest : List Part) → Rest_comes taken fetches WriteFault (course_at command harts now (Line line ∷ rest)) =
       λ rest.
-      let o = course_output command (behind rest) in
-      subst (Course_ends taken WriteFault) (sym (course-performed command harts now.number now.state now.events line rest timed _ _ _ asks refl refl refl))
-      (outputs_text now.taken taken WriteFault o.exit _ _ (sym (append_assoc records (behind rest).records (stop_output command (behind rest).stop).text))
-      (outputs_cut now.taken taken records o some)) in
-      comes-ends taken WriteFault memory c (on_begun now.left (Line line) (Rest_ends taken WriteFault) (begins-line now.left left (Line line) next) cut)
+      let course = behind rest in
+      subst (Rest_comes taken fetches WriteFault) (sym (course-performed command harts now.number now.state now.events line rest timed _ _ _ asks refl refl refl))
+      (record {
+        output = outputs_text now.taken taken WriteFault course.last.exit _ _ (sym (append_assoc records course.records course.last.text))
+            (outputs_cut now.taken taken records (course_output course) some);
+        fetched = record { whole = λ given. absurd (given.write refl); most = omega (arith, most) };
+      }) in
+      comes-ends taken fetches WriteFault write-memory c
+      (on_begun now.left (Line line) (λ rest. Rest_comes taken fetches WriteFault (course_at command harts now rest)) (begins-line now.left left (Line line) next) cut)
 
   -- what the lines given come to
-  course-given : (c : Comes command harts start now) → course_at command harts start (c.given ++ []) ≡ preceded c.records c.spent (stops (AtEnd now.state now.events))
+  course-given : (c : Comes command harts start now) → course_at command harts start (c.given ++ []) ≡ preceded c.records c.spent (ends_at command now.state now.events)
   course-given c = c.course [] ∙ ap (preceded c.records c.spent) (course_of-end command harts now.number now.state now.events)
-
-  -- all lines were given, and the last slots were fetched
-  pub comes-counted : (fetches : ℕ) → Comes command harts start now → IsDone now.left → fetches ≡ now.fetches + last_fetches command now.state
-      → OnParts start.left (λ parts. fetches ≡ start.fetches + course_fetches command (course_at command harts start parts))
-  comes-counted fetches c none last =
-      let P : List Part → Type 0 = λ parts. fetches ≡ start.fetches + course_fetches command (course_at command harts start parts) in
-      let counted = c.counted in
-      let all : fetches ≡ start.fetches + course_fetches command (preceded c.records c.spent (stops (AtEnd now.state now.events))) = omega (arith, counted, last) in
-      let all_given : P (c.given ++ []) = subst (λ course. fetches ≡ start.fetches + course_fetches command course) (sym (course-given c)) all in
-      on_given start.left now.left c.given P c.lines (on_none now.left (λ rest. P (c.given ++ rest)) none all_given)
 
 -- at the start
 pub comes-start : (command : Command) (harts : ℕ) (m : Moment) → Comes command harts m m
@@ -330,17 +355,19 @@ comes-start command harts m = record {
 pub comes-fails : (command : Command) (harts : ℕ) (first reader last : Reader) (held0 held held' taken0 taken : Option (List ℕ)) (s0 s : State) (events0 events fetches0 fetches : ℕ)
     → Comes command harts (moment first held0 s0 events0 taken0 fetches0) (moment reader held s events taken fetches) → reader.ended ≡ false
     → last.ended ≡ false → IsUnfinished last.rest → Keeps (bytes_ahead reader held) (bytes_ahead last held')
-    → FailsBehind first last held0 held' taken0 taken (λ given. (course_of command harts first.number s0 events0 given).records)
+    → FailsBehind first last held0 held' taken0 taken fetches0 fetches (course_of command harts first.number s0 events0)
 comes-fails command harts first reader last held0 held held' taken0 taken s0 s events0 events fetches0 fetches c ended going rest kept =
-    let all = course-given command harts _ _ c in
-    let same : c.records ≡ (course_of command harts first.number s0 events0 c.given).records =
-    sym (append-nil c.records) ∙ sym (ap (λ course. course.records) all)
-    ∙ ap (λ parts. (course_of command harts first.number s0 events0 parts).records) (append-nil c.given) in
+    let all = ap (course_of command harts first.number s0 events0) (sym (append-nil c.given)) ∙ course-given command harts _ _ c in
+    let written : c.records ≡ (course_of command harts first.number s0 events0 c.given).records =
+    sym (append-nil c.records) ∙ sym (ap (λ course. course.records) all) in
+    let spent : (course_of command harts first.number s0 events0 c.given).fetches ≡ c.spent + 0 = ap (λ course. course.fetches) all in
+    let counted = c.counted in
     record {
       before = c.before ended;
       going = going;
       unfinished = rest;
       given = c.given;
       gives = GivesLines-kept (bytes_ahead first held0) (bytes_ahead reader held) (bytes_ahead last held') c.given (c.bytes ended) kept;
-      written = subst (Appends taken0 taken) same c.written;
+      written = subst (Appends taken0 taken) written c.written;
+      fetched = omega (arith, spent, counted);
     }

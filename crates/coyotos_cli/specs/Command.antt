@@ -21,6 +21,7 @@ named_command word =
 abbrev pub in_byte : ℕ → Option ℕ
 in_byte n = if nat_le n 255 then Some n else None
 
+-- the number of a process that a word gives
 abbrev pub process_named : List ℕ → Option ℕ
 process_named word = option_and_then in_byte (dec_of word)
 

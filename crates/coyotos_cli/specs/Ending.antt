@@ -1,5 +1,5 @@
 -- A text and an exit, and the last lines of the program.
-use Rattle.std.specs.Prelude.{◌≡◌, ◌≢◌, ◌⊎◌, ℕ, List, ◌++◌, codes, decimal, Option}
+use Rattle.std.specs.Prelude.{◌≡◌, ◌≢◌, ◌≤◌, ◌+◌, ◌⊎◌, ℕ, List, ◌++◌, codes, decimal, Option}
 use Rattle.std.specs.Io.KnownBytes.{Keeps, Appends}
 use Rattle.coy_io.specs.Causes.{Rose}
 use Rattle.coy_io.specs.Pieces.{AppendsSome}
@@ -26,11 +26,14 @@ usage_text = codes "usage: coyotos check | run | trace | tables | walk P KIND AD
 abbrev pub refusal_text : ℕ → List ℕ → List ℕ
 refusal_text line name = codes "refused " ++ decimal line ++ codes " " ++ name ++ codes "\n"
 
+-- a listing is refused at this line
 abbrev pub refused_listing : ℕ → Fault → Output
 refused_listing line fault = record { text = refusal_text line (fault_name fault); exit = ListingRefused line fault }
 
+-- a line of the schedule is refused
 abbrev pub refused_schedule : ℕ → ScheduleFault → Output
-refused_schedule line fault = record { text = refusal_text line (schedule_fault_name fault); exit = ScheduleRefused line fault }
+refused_schedule line fault =
+    record { text = refusal_text line (schedule_fault_name fault); exit = ScheduleRefused line fault }
 
 -- the input goes on behind the last byte that is read
 abbrev pub too_long : Output
@@ -49,6 +52,12 @@ pub record Outputs (old new : Option (List ℕ)) (exit : Exit) (o : Output) : Ty
   pub part : exit ≡ WriteFault → AppendsSome old new o.text
   pub nothing : exit ≡ OutOfMemory → Keeps old new
 
+-- how many slots a call fetched: all of these where no fault of reading or writing and no want of memory ended it, and
+-- never more
+pub record Fetches (old new : ℕ) (exit : Exit) (all : ℕ) : Type 0 where
+  pub whole : IsGiven exit → new ≡ old + all
+  pub most : new ≤ old + all
+
 -- an output's exit was given and its whole text was written, or memory was wanting and nothing was written
 abbrev pub Completes : Option (List ℕ) → Option (List ℕ) → Exit → Output → Type 0
 Completes old new exit o = ((exit ≡ o.exit) × Appends old new o.text) ⊎ ((exit ≡ OutOfMemory) × Keeps old new)
@@ -59,3 +68,7 @@ pub record Ends (old new : Option (List ℕ)) (faults faults' : ℕ) (exit : Exi
   pub given : exit ≢ WriteFault → exit ≡ o.exit
   pub write : exit ≡ WriteFault → Rose faults faults'
   pub write_quiet : exit ≢ WriteFault → faults' ≡ faults
+
+-- the same of a sink, by what it tells of itself
+abbrev pub EndsIn : {K : Type 0} → (K → Option (List ℕ)) → (K → ℕ) → K → K → Exit → Output → Type 0
+EndsIn taken faults old new exit o = Ends (taken old) (taken new) (faults old) (faults new) exit o

@@ -6,4 +6,4 @@ pub mod Names
 pub mod Ending
 pub mod Told
 pub mod Schedule
-pub mod Session
+pub mod Program

@@ -16,10 +16,11 @@ use Rattle.listing_read.specs.declared.schedule.Timed.{Timed}
 use Rattle.run_text.specs.State.{state_text}
 use Rattle.run_text.specs.Walk.{walk_text, no_process_text}
 use Rattle.coyotos_cli.specs.Events.{events_of}
-use Rattle.coyotos_cli.specs.Ending.{Output, before, refused_schedule, too_long}
+use Rattle.coyotos_cli.specs.Ending.{Output, Outputs, Fetches, before, refused_schedule, too_long}
 use Rattle.coyotos_cli.specs.Told.{performed, told, spent_on}
 use Rattle.coyotos_cli.specs.declared.command.Command.{Command}
 use Rattle.coyotos_cli.specs.declared.command.Command.TheVariants.{Check, Walk}
+use Rattle.coyotos_cli.specs.declared.exit.Exit.{Exit}
 use Rattle.coyotos_cli.specs.declared.exit.Exit.TheVariants.{Done}
 
 -- what `walk` writes of a state: where an access of a process's space ends, by a walk at this moment
@@ -50,31 +51,31 @@ last_fetches (Walk process kind address) s =
     else 0
 last_fetches _ s = 16 * size_of s.store.items Gpt
 
+-- all lines were read: what is written last
 abbrev pub finished : Command → State → ℕ → Output
 finished command s events = record { text = last_text command s events; exit = Done }
 
 -- ---- the lines behind a listing
 
--- how the lines behind a listing end: with the last of them, in this state after so many events; at this line, which is
--- refused; or where the input goes on behind the last byte that is read
-pub data Stop : Type 0 where
-  AtEnd : (s : State) → (events : ℕ) → Stop
-  AtFault : (line : ℕ) → (fault : ScheduleFault) → Stop
-  AtLimit : Stop
-
--- what lines come to: the records that are written, how many slots are fetched for them, and how the lines end
+-- what lines come to: the records that are written and the slots that are fetched for them; then what is written last,
+-- how the program ends, and the slots that are fetched for that
 pub record Course : Type 0 where
   pub records : List ℕ
   pub fetches : ℕ
-  pub stop : Stop
+  pub last : Output
+  pub last_fetches : ℕ
 
 -- these records and so many fetches come first
 abbrev pub preceded : List ℕ → ℕ → Course → Course
-preceded records fetches course = record { records = records ++ course.records; fetches = fetches + course.fetches; stop = course.stop }
+preceded records fetches course = record course { records = records ++ course.records; fetches = fetches + course.fetches }
 
--- nothing more comes
-abbrev pub stops : Stop → Course
-stops stop = record { records = []; fetches = 0; stop = stop }
+-- nothing comes but this
+abbrev pub ends_in : Output → Course
+ends_in last = record { records = []; fetches = 0; last = last; last_fetches = 0 }
+
+-- the last line is over, in this state after so many events
+abbrev pub ends_at : Command → State → ℕ → Course
+ends_at command s events = record (ends_in (finished command s events)) { last_fetches = last_fetches command s }
 
 -- what a line asks for, line `n`, with what the lines behind it come to from a state and a number of events on
 abbrev pub line_course : Command → ℕ → ℕ → State → ℕ → Result (Option Timed) ScheduleFault → (State → ℕ → Course) → Course
@@ -82,35 +83,28 @@ line_course command harts n s events (Ok None) behind = behind s events
 line_course command harts n s events (Ok (Some timed)) behind =
     preceded (told command s (events_of harts timed)) (spent_on command s (events_of harts timed))
     (behind (performed command s (events_of harts timed)) (events + length (events_of harts timed)))
-line_course command harts n s events (Err fault) behind = stops (AtFault n fault)
+line_course command harts n s events (Err fault) behind = ends_in (refused_schedule n fault)
 
 -- what the lines behind line `n` come to, on a machine with so many harts in this state, after so many events
 unfoldable pub course_of : Command → ℕ → ℕ → State → ℕ → List Part → Course
-course_of command harts n s events [] = stops (AtEnd s events)
-course_of command harts n s events (LongLine ∷ parts) = stops (AtFault (n + 1) LineTooLong)
-course_of command harts n s events (PastLimit ∷ parts) = stops AtLimit
+course_of command harts n s events [] = ends_at command s events
+course_of command harts n s events (LongLine ∷ parts) = ends_in (refused_schedule (n + 1) LineTooLong)
+course_of command harts n s events (PastLimit ∷ parts) = ends_in too_long
 course_of command harts n s events (Line line ∷ parts) =
     line_course command harts (n + 1) s events (event_of harts line) (λ s events. course_of command harts (n + 1) s events parts)
 
--- what comes behind the records
-abbrev pub stop_output : Command → Stop → Output
-stop_output command (AtEnd s events) = finished command s events
-stop_output command (AtFault line fault) = refused_schedule line fault
-stop_output command AtLimit = too_long
-
--- the records, and what comes behind them
-abbrev pub course_output : Command → Course → Output
-course_output command course = before course.records (stop_output command course.stop)
-
--- the slots that are fetched for what comes behind the records
-abbrev pub stop_fetches : Command → Stop → ℕ
-stop_fetches command (AtEnd s events) = last_fetches command s
-stop_fetches command (AtFault line fault) = 0
-stop_fetches command AtLimit = 0
+-- the records, what is written last, and how the program ends
+abbrev pub course_output : Course → Output
+course_output course = before course.records course.last
 
 -- all slots that are fetched
-abbrev pub course_fetches : Command → Course → ℕ
-course_fetches command course = course.fetches + stop_fetches command course.stop
+abbrev pub course_fetches : Course → ℕ
+course_fetches course = course.fetches + course.last_fetches
+
+-- what a call wrote, how many slots it fetched and how it ended is what lines come to
+pub record ComesTo (taken taken' : Option (List ℕ)) (fetches fetches' : ℕ) (exit : Exit) (course : Course) : Type 0 where
+  pub output : Outputs taken taken' exit (course_output course)
+  pub fetched : Fetches fetches fetches' exit (course_fetches course)
 
 -- ---- lines that are known in part
 
@@ -120,10 +114,11 @@ OnParts None P = ⊤
 OnParts (Some parts) P = P parts
 
 -- reading failed behind these lines, whose records were written; the reader holds no whole line
-pub record FailsBehind (old new : Reader) (held held' taken taken' : Option (List ℕ)) (records : List Part → List ℕ) : Type 0 where
+pub record FailsBehind (old new : Reader) (held held' taken taken' : Option (List ℕ)) (fetches fetches' : ℕ) (course : List Part → Course) : Type 0 where
   pub before : old.ended ≡ false
   pub going : new.ended ≡ false
   pub unfinished : IsUnfinished new.rest
   pub given : List Part
   pub gives : GivesLines (bytes_ahead old held) (bytes_ahead new held') given
-  pub written : Appends taken taken' (records given)
+  pub written : Appends taken taken' (course given).records
+  pub fetched : fetches' ≡ fetches + (course given).fetches

@@ -37,16 +37,19 @@ abbrev pub runs : Command → Bool
 runs Check = false
 runs _ = true
 
--- the state after events, and the lines of their records
+-- the state after events
 abbrev pub performed : Command → State → List Event → State
 performed command s events = if runs command then run_state s events else s
 
+-- the lines that are written of their records
 abbrev pub told : Command → State → List Event → List ℕ
 told command s events = if runs command then lines_of command (run_records s events) else []
 
 -- how many slots touches fetch where each access of data is a walk
 abbrev pub walked : List Touch → ℕ
-walked touches = spent {K = Unit {0}} (λ kept o space address kind. slots o space address kind) (λ kept o space address kind. kept) (λ kept item. kept) tt touches
+walked touches =
+    spent {K = Unit {0}} (λ kept o space address kind. slots o space address kind)
+    (λ kept o space address kind. kept) (λ kept item. kept) tt touches
 
 -- how many slots are fetched for events
 abbrev pub spent_on : Command → State → List Event → ℕ

@@ -1,7 +1,7 @@
 //! The last lines of the program.
 ghost use Rattle.std.specs.Prelude.{◌≡◌, ◌≤◌, length};
 ghost use Rattle.coyotos_cli.specs.Names.{fault_name, schedule_fault_name};
-ghost use Rattle.coyotos_cli.specs.Ending.{IsGiven, Ends, refusal_text, refused_listing, refused_schedule, too_long};
+ghost use Rattle.coyotos_cli.specs.Ending.{IsGiven, EndsIn, refusal_text, refused_listing, refused_schedule, too_long};
 
 use crate::exit::Exit;
 use coy_io::{Sink, put_all};
@@ -11,8 +11,8 @@ use listing_read::{Fault, ScheduleFault};
 /// Writes the last bytes of the program.
 pub(crate) fn end_with<K: Sink>(bytes: &[u8], exit: Exit, output: &mut K) -> Exit
     requires { IsGiven exit }
-    ensures { Ends (K.taken output.old) (K.taken output.new) (K.faults output.old) (K.faults output.new)
-        result (record { text = bytes.now; exit = exit }) }
+    ensures { EndsIn K.taken K.faults output.old output.new result
+        (record { text = bytes.now; exit = exit }) }
 {
     match put_all(output, bytes) {
         Ok(()) => exit,
@@ -22,8 +22,8 @@ pub(crate) fn end_with<K: Sink>(bytes: &[u8], exit: Exit, output: &mut K) -> Exi
 
 /// Tells the fault of a listing and its line.
 pub(crate) fn refuse_listing<K: Sink>(line: u32, fault: Fault, output: &mut K) -> Exit
-    ensures { Ends (K.taken output.old) (K.taken output.new) (K.faults output.old) (K.faults output.new)
-        result (refused_listing line fault) }
+    ensures { EndsIn K.taken K.faults output.old output.new result
+        (refused_listing line fault) }
 {
     let exit = Exit::ListingRefused { line, fault };
     refuse(line, fault_name(fault), exit, output)
@@ -31,8 +31,8 @@ pub(crate) fn refuse_listing<K: Sink>(line: u32, fault: Fault, output: &mut K) -
 
 /// Tells the fault of a line of the schedule.
 pub(crate) fn refuse_schedule<K: Sink>(line: u32, fault: ScheduleFault, output: &mut K) -> Exit
-    ensures { Ends (K.taken output.old) (K.taken output.new) (K.faults output.old) (K.faults output.new)
-        result (refused_schedule line fault) }
+    ensures { EndsIn K.taken K.faults output.old output.new result
+        (refused_schedule line fault) }
 {
     let exit = Exit::ScheduleRefused { line, fault };
     refuse(line, schedule_fault_name(fault), exit, output)
@@ -40,8 +40,8 @@ pub(crate) fn refuse_schedule<K: Sink>(line: u32, fault: ScheduleFault, output: 
 
 /// Tells that the input goes on behind the last byte that is read.
 pub(crate) fn end_past_limit<K: Sink>(output: &mut K) -> Exit
-    ensures { Ends (K.taken output.old) (K.taken output.new) (K.faults output.old) (K.faults output.new)
-        result too_long }
+    ensures { EndsIn K.taken K.faults output.old output.new result
+        too_long }
 {
     end_with(b"too long\n".as_slice(), Exit::TooLong, output)
 }
@@ -50,8 +50,8 @@ pub(crate) fn end_past_limit<K: Sink>(output: &mut K) -> Exit
 fn refuse<K: Sink>(number: u32, name: &str, exit: Exit, output: &mut K) -> Exit
     requires name { length name.now ≤ 20 }
     requires exit { IsGiven exit }
-    ensures { Ends (K.taken output.old) (K.taken output.new) (K.faults output.old) (K.faults output.new)
-        result (record { text = refusal_text number name.now; exit = exit }) }
+    ensures { EndsIn K.taken K.faults output.old output.new result
+        (record { text = refusal_text number name.now; exit = exit }) }
 {
     let mut line = LineBuf::new();
     line.push_word("refused ");

@@ -1,7 +1,7 @@
 //! What comes behind the records.
 ghost use Rattle.std.specs.Prelude.{◌≡◌, ◌<◌, ◌+◌, ◌*◌, false};
 ghost use Rattle.kernel_core.specs.State.{state_of, space_of};
-ghost use Rattle.coyotos_cli.specs.Ending.{Ends};
+ghost use Rattle.coyotos_cli.specs.Ending.{EndsIn, Fetches};
 ghost use Rattle.coyotos_cli.specs.Schedule.{finished, count_text, access_text, last_state_text, last_fetches};
 ghost use Rattle.coyotos_cli.specs.Told.{runs};
 ghost use Rattle.walk_meaning.specs.Trail.{slots};
@@ -32,10 +32,10 @@ pub(crate) fn finish<K: Sink, L: Ledger>(
     output: &mut K,
     fetches: &mut Steps<L>,
 ) -> Exit
-    ensures ends { Ends (K.taken output.old) (K.taken output.new) (K.faults output.old) (K.faults output.new)
-        result (finished command (state_of machine.now) events) }
-    ensures counted { result ≡ Exit.Done →
-        fetches.new ≡ fetches.old + last_fetches command (state_of machine.now) }
+    ensures ends { EndsIn K.taken K.faults output.old output.new result
+        (finished command (state_of machine.now) events) }
+    ensures fetched { let all = last_fetches command (state_of machine.now) in
+        Fetches fetches.old fetches.new result all }
     ensures stays { runs command ≡ false → fetches.new ≡ fetches.old }
 {
     match command {
@@ -52,8 +52,8 @@ pub(crate) fn finish<K: Sink, L: Ledger>(
 /// Writes the number of events.
 #[tactic(auto, using(coy_text::specs::NumeralLaws::length_decimal))]
 fn count<K: Sink>(events: u64, output: &mut K) -> Exit
-    ensures { Ends (K.taken output.old) (K.taken output.new) (K.faults output.old) (K.faults output.new)
-        result (record { text = count_text events; exit = Exit.Done }) }
+    ensures { EndsIn K.taken K.faults output.old output.new result
+        (record { text = count_text events; exit = Exit.Done }) }
 {
     let mut line = LineBuf::new();
     line.push_word("ok events=");
@@ -71,8 +71,8 @@ fn access<K: Sink, L: Ledger>(
     output: &mut K,
     fetches: &mut Steps<L>,
 ) -> Exit
-    ensures ends { Ends (K.taken output.old) (K.taken output.new) (K.faults output.old) (K.faults output.new)
-        result (record { text = access_text (state_of machine.now) process kind address; exit = Exit.Done }) }
+    ensures ends { EndsIn K.taken K.faults output.old output.new result
+        (record { text = access_text (state_of machine.now) process kind address; exit = Exit.Done }) }
     ensures counted { let command = Command.Walk process kind address in
         fetches.new ≡ fetches.old + last_fetches command (state_of machine.now) }
 {
@@ -120,10 +120,10 @@ fn last_state<K: Sink, L: Ledger>(
     output: &mut K,
     fetches: &mut Steps<L>,
 ) -> Exit
-    ensures ends { Ends (K.taken output.old) (K.taken output.new) (K.faults output.old) (K.faults output.new)
-        result (record { text = last_state_text (state_of machine.now); exit = Exit.Done }) }
-    ensures counted { result ≡ Exit.Done →
-        fetches.new ≡ fetches.old + 16 * size_of (state_of machine.now).store.items Gpt }
+    ensures ends { EndsIn K.taken K.faults output.old output.new result
+        (record { text = last_state_text (state_of machine.now); exit = Exit.Done }) }
+    ensures fetched { let all = 16 * size_of (state_of machine.now).store.items Gpt in
+        Fetches fetches.old fetches.new result all }
 {
     match dump(machine, output, fetches) {
         Ok(()) => Exit::Done,

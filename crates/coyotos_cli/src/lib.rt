@@ -8,12 +8,10 @@ mod ending;
 mod events;
 mod exit;
 mod finishing;
+mod input;
 mod performing;
 mod program;
 mod schedule;
-mod session;
-#[cfg(test)]
-mod tests;
 
 pub use exit::Exit;
 pub use program::coyotos;

@@ -42,6 +42,8 @@ pub(crate) fn perform<K: Sink, L: Ledger>(
     // How many slots are fetched.
     ensures counted { let spent = spent_on command (state_of machine.old) (events_of harts timed) in
         OnOk result (fetches.new ≡ fetches.old + spent) }
+    ensures most { let spent = spent_on command (state_of machine.old) (events_of harts timed) in
+        fetches.new ≤ fetches.old + spent }
     ensures stays { runs command ≡ false → fetches.new ≡ fetches.old }
 {
     if !runs(command) {
@@ -68,7 +70,8 @@ fn put_records<K: Sink>(
     records: &Records,
     output: &mut K,
 ) -> Result<(), WriteFault>
-    ensures text { Writes (K.taken output.old) (K.taken output.new) result (lines_of command records.now) }
+    ensures text { let text = lines_of command records.now in
+        Writes (K.taken output.old) (K.taken output.new) result text }
     ensures cause { HasCause (K.faults output.old) (K.faults output.new) result }
 {
     let all = records.as_slice();
@@ -81,7 +84,8 @@ fn put_records<K: Sink>(
 /// Writes the line of a record, where the command writes it.
 fn put_record<K: Sink>(command: Command, entry: &Record, output: &mut K) -> Result<(), WriteFault>
     requires { IsRecord entry.now }
-    ensures text { Writes (K.taken output.old) (K.taken output.new) result (line_of command entry.now) }
+    ensures text { let text = line_of command entry.now in
+        Writes (K.taken output.old) (K.taken output.new) result text }
     ensures cause { HasCause (K.faults output.old) (K.faults output.new) result }
 {
     if !is_written(command, entry) {

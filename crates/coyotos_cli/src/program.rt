@@ -1,16 +1,16 @@
 //! The top call.
-ghost use Rattle.std.specs.Prelude.{◌≡◌, ◌≢◌, ◌⊎◌, ◌+◌, false, map, string_bytes, IfSome, Some, None};
+ghost use Rattle.std.specs.Prelude.{◌≡◌, ◌≢◌, ◌⊎◌, false, map, string_bytes, IfSome, Some, None};
 ghost use Rattle.std.specs.Io.KnownBytes.{IsAtEnd};
 ghost use Rattle.coy_io.specs.Causes.{Rose};
 ghost use Rattle.coyotos_cli.specs.Command.{command_of};
-ghost use Rattle.coyotos_cli.specs.Ending.{IsGiven, Completes, Ends, Outputs, usage_text};
-ghost use Rattle.coyotos_cli.specs.Session.{asks_input, asks_run, out, sure, fetched, WritesSure};
+ghost use Rattle.coyotos_cli.specs.Ending.{IsGiven, Completes, EndsIn, Outputs, Fetches, usage_text};
+ghost use Rattle.coyotos_cli.specs.Program.{asks_input, asks_run, out, fetched, sure, StandsSure};
 ghost use Rattle.coyotos_cli.specs.declared.command.Command.TheVariants.{Help};
 
 use crate::command::{Command, read_command};
 use crate::ending::end_with;
 use crate::exit::Exit;
-use crate::session::session;
+use crate::input::answer_input;
 use coy_io::{Sink, Source};
 use std::alloc::Global;
 use std::sync::ledger::Ledger;
@@ -37,9 +37,10 @@ pub fn coyotos<S: Source, K: Sink, L: Ledger>(
     ensures end { let asked = command_of (map string_bytes words.now) in
         result ≡ Exit.Done → asked ≢ Some Help → IsAtEnd (S.held input.new) }
 
-    // Where reading failed, the records of the whole lines that were read were written.
-    ensures sure { let text = sure (map string_bytes words.now) in result ≡ Exit.ReadFault →
-        WritesSure (S.held input.old) (S.held input.new) (K.taken output.old) (K.taken output.new) text }
+    // Where reading failed, what was written and fetched is what the whole lines that were read come to.
+    ensures sure { let course = sure (map string_bytes words.now) in result ≡ Exit.ReadFault →
+        StandsSure (S.held input.old) (S.held input.new) (K.taken output.old) (K.taken output.new)
+        fetches.old fetches.new course }
 
     // Words that are of no form, and `--help`, take nothing from the source.
     ensures no_input { command_of (map string_bytes words.now) ≡ None → input.new ≡ input.old }
@@ -57,11 +58,12 @@ pub fn coyotos<S: Source, K: Sink, L: Ledger>(
 
     ensures unwritten { result ≡ Exit.OutOfMemory → K.taken output.new ≡ K.taken output.old }
 
-    // How many slots are fetched.
-    ensures counted { result ≡ Exit.Done → IfSome (S.held input.old) (λ bytes.
-        fetches.new ≡ fetches.old + fetched (map string_bytes words.now) bytes) }
+    // How many slots are fetched: those of the whole run, and never more, whatever the exit.
+    ensures counted { IfSome (S.held input.old) (λ bytes.
+        Fetches fetches.old fetches.new result (fetched (map string_bytes words.now) bytes)) }
     ensures unfetched { asks_run (command_of (map string_bytes words.now)) ≡ false →
         fetches.new ≡ fetches.old }
+    ensures unspent { result ≡ Exit.OutOfMemory → fetches.new ≡ fetches.old }
 {
     let Some(command) = read_command(words) else {
         return usage(output, Exit::Usage);
@@ -69,7 +71,7 @@ pub fn coyotos<S: Source, K: Sink, L: Ledger>(
     if !asks_input(command) {
         return usage(output, Exit::Done);
     }
-    session(alloc, command, input, output, fetches)
+    answer_input(alloc, command, input, output, fetches)
 }
 
 /// Whether the command reads the source.
@@ -82,8 +84,8 @@ fn asks_input(command: Command) -> bool
 /// Writes how the program is used.
 fn usage<K: Sink>(output: &mut K, exit: Exit) -> Exit
     requires { IsGiven exit }
-    ensures { Ends (K.taken output.old) (K.taken output.new) (K.faults output.old) (K.faults output.new)
-        result (record { text = usage_text; exit = exit }) }
+    ensures { EndsIn K.taken K.faults output.old output.new result
+        (record { text = usage_text; exit = exit }) }
 {
     let line =
         b"usage: coyotos check | run | trace | tables | walk P KIND ADDR | make N [summary]\n";

@@ -1,15 +1,13 @@
 //! The lines behind a listing, and what the machine does by them.
-ghost use Rattle.std.specs.Prelude.{◌≡◌, ◌≢◌, ◌≤◌, ◌+◌, List, false, length};
+ghost use Rattle.std.specs.Prelude.{◌≡◌, ◌≢◌, ◌≤◌, false, length};
 ghost use Rattle.std.specs.Io.KnownBytes.{IsAtEnd};
 ghost use Rattle.coy_io.specs.Causes.{Rose};
-ghost use Rattle.coy_io.specs.Lines.{Part};
 ghost use Rattle.coy_io.specs.Reader.{TellsEnd, ahead};
 ghost use Rattle.kernel_core.specs.State.{state_of};
 ghost use Rattle.listing_read.specs.Schedule.{IsTimed};
-ghost use Rattle.coyotos_cli.specs.Ending.{Outputs};
 ghost use Rattle.coyotos_cli.specs.Events.{events_of};
 ghost use Rattle.coyotos_cli.specs.Told.{runs};
-ghost use Rattle.coyotos_cli.specs.Schedule.{course_of, course_output, course_fetches, OnParts, FailsBehind};
+ghost use Rattle.coyotos_cli.specs.Schedule.{course_of, ComesTo, OnParts, FailsBehind};
 
 use crate::command::Command;
 use crate::ending::{end_past_limit, refuse_schedule};
@@ -39,14 +37,13 @@ pub(crate) fn schedule<S: Source, K: Sink, L: Ledger>(
     requires told { TellsEnd lines.old (S.held input.old) }
 
     // What the known lines come to, and where the source stands then.
-    ensures output { OnParts (ahead lines.old (S.held input.old)) (λ parts.
-        let course = course_of command harts lines.old.number (state_of machine.old) 0 parts in
-        Outputs (K.taken output.old) (K.taken output.new) result (course_output command course)) }
+    ensures comes { OnParts (ahead lines.old (S.held input.old)) (λ parts.
+        ComesTo (K.taken output.old) (K.taken output.new) fetches.old fetches.new result
+        (course_of command harts lines.old.number (state_of machine.old) 0 parts)) }
     ensures end { result ≡ Exit.Done → IsAtEnd (S.held input.new) }
-    ensures sure { let s = state_of machine.old in
-        let records = λ (given : List Part). (course_of command harts lines.old.number s 0 given).records in
+    ensures sure { let course = course_of command harts lines.old.number (state_of machine.old) 0 in
         result ≡ Exit.ReadFault → FailsBehind lines.old lines.new (S.held input.old) (S.held input.new)
-        (K.taken output.old) (K.taken output.new) records }
+        (K.taken output.old) (K.taken output.new) fetches.old fetches.new course }
 
     // Why it may end otherwise.
     ensures usage { result ≢ Exit.Usage }
@@ -56,10 +53,7 @@ pub(crate) fn schedule<S: Source, K: Sink, L: Ledger>(
     ensures write { result ≡ Exit.WriteFault → Rose (K.faults output.old) (K.faults output.new) }
     ensures write_quiet { result ≢ Exit.WriteFault → K.faults output.new ≡ K.faults output.old }
 
-    // How many slots are fetched.
-    ensures counted { result ≡ Exit.Done → OnParts (ahead lines.old (S.held input.old)) (λ parts.
-        let course = course_of command harts lines.old.number (state_of machine.old) 0 parts in
-        fetches.new ≡ fetches.old + course_fetches command course) }
+    // Where no slot is fetched.
     ensures stays { runs command ≡ false → fetches.new ≡ fetches.old }
 {
     let mut records = Records::new();

@@ -1,5 +1,5 @@
 use Rattle.std.proofs.Common.{map, string_bytes}
-use Rattle.coyotos_cli.specs.Session.{out}
+use Rattle.coyotos_cli.specs.Program.{out}
 use Rattle.coyotos.proofs.Flushed.{exit_after-told}
 use Rattle.coyotos.proofs.run_and_flush.Goals as goal
 

@@ -57,6 +57,13 @@ pub returns-in_err-put_records-clause-cause : goal.returns-in_err-put_records-cl
 returns-in_err-put_records-clause-cause g c =
     failed _ _ _ _ _ c.from_residual.ensures.0 refl c.each.invariant.quiet c.in_err-put_records.ensures.cause
 
+pub returns-in_err-put_records-clause-most : goal.returns-in_err-put_records-clause-most
+returns-in_err-put_records-clause-most g c =
+    let all = step_spent _ _ _ _ _ _ _ c.in-Some.ensures c.event_into.ensures.state c.event_into.ensures.counted in
+    let runs = spent_runs c.args.command (state_of c.args.machine.now) (events_of c.args.harts c.args.timed) (sym c.runs.ensures ∙ c.if-not-runs.false) in
+    let spent = c.each.invariant.spent in
+    omega (arith, all, runs, spent)
+
 pub returns-clause-text : goal.returns-clause-text
 returns-clause-text g c =
     let none = end_lines c.args.command (state_of c.each.machine) _ c.in_default.ensures.0 in
@@ -70,6 +77,13 @@ returns-clause-state g c =
 
 pub returns-clause-counted : goal.returns-clause-counted
 returns-clause-counted g c =
+    let none = end_spent (state_of c.each.machine) _ c.in_default.ensures.0 in
+    let runs = spent_runs c.args.command (state_of c.args.machine.now) (events_of c.args.harts c.args.timed) (sym c.runs.ensures ∙ c.if-not-runs.false) in
+    let spent = c.each.invariant.spent in
+    omega (arith, none, runs, spent)
+
+pub returns-clause-most : goal.returns-clause-most
+returns-clause-most g c =
     let none = end_spent (state_of c.each.machine) _ c.in_default.ensures.0 in
     let runs = spent_runs c.args.command (state_of c.args.machine.now) (events_of c.args.harts c.args.timed) (sym c.runs.ensures ∙ c.if-not-runs.false) in
     let spent = c.each.invariant.spent in

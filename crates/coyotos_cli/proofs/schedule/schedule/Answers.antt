@@ -1,7 +1,7 @@
 use Rattle.std.proofs.Common.{◌+◌, ◌∙◌, refl, sym, ap, arith}
 use Rattle.listing_read.specs.Schedule.{event_of}
 use Rattle.coyotos_cli.proofs.Endings.{no_fault}
-use Rattle.coyotos_cli.proofs.Lines.{reader-gives, not_ended, comes-start, comes-skipped, comes-performed, comes-cut, comes-refused, comes-long, comes-past, comes-done, comes-counted, comes-fails}
+use Rattle.coyotos_cli.proofs.Lines.{reader-gives, not_ended, comes-start, comes-skipped, comes-performed, comes-cut, comes-refused, comes-long, comes-past, comes-done, comes-read, comes-fails}
 use Rattle.coyotos_cli.proofs.schedule.schedule.Goals as goal
 
 pub lines-init : goal.lines-init
@@ -16,20 +16,18 @@ lines-init g c = record {
   stays = λ off. refl;
 }
 
-pub returns-in-Ok-None-clause-output : goal.returns-in-Ok-None-clause-output
-returns-in-Ok-None-clause-output g c =
+pub returns-in-Ok-None-clause-comes : goal.returns-in-Ok-None-clause-comes
+returns-in-Ok-None-clause-comes g c =
     let next = rw c.in-Ok-None.field-0-is at c.in-Ok-None.ensures.next in
-    comes-done _ _ _ _ _ _ _ _ c.lines.invariant.comes next.0 c.finish.ensures.ends
+    comes-done _ _ _ _ _ _ _ _ _ c.lines.invariant.comes next.0 c.finish.ensures.ends c.finish.ensures.fetched
 
 pub returns-in-Ok-None-clause-end : goal.returns-in-Ok-None-clause-end
 returns-in-Ok-None-clause-end g c =
     let left = rw c.in-Ok-None.field-0-is at c.in-Ok-None.ensures.left in
     λ done. c.in-Ok-None.ensures.told c.lines.invariant.told (ap (λ reader. reader.ended) left)
 
-pub returns-in-Ok-None-clause-counted : goal.returns-in-Ok-None-clause-counted
-returns-in-Ok-None-clause-counted g c =
-    let next = rw c.in-Ok-None.field-0-is at c.in-Ok-None.ensures.next in
-    λ done. comes-counted _ _ _ _ _ c.lines.invariant.comes next.0 (c.finish.ensures.counted done)
+pub returns-in-Err-ReadFault-clause-comes : goal.returns-in-Err-ReadFault-clause-comes
+returns-in-Err-ReadFault-clause-comes g c = comes-read _ _ _ _ c.lines.invariant.comes
 
 pub returns-in-Err-ReadFault-clause-sure : goal.returns-in-Err-ReadFault-clause-sure
 returns-in-Err-ReadFault-clause-sure g c =
@@ -37,15 +35,15 @@ returns-in-Err-ReadFault-clause-sure g c =
     let before = not_ended c.lines.lines.ended _ _ e.ended (λ same. cc) in
     λ fault. comes-fails _ _ c.args.lines.now c.lines.lines c.next.new.self _ _ _ _ _ _ _ _ _ _ _ c.lines.invariant.comes before (ap (λ reader. reader.ended) e.left ∙ before) (e.unfinished refl) e.bytes
 
-pub returns-in-Err-LineTooLong-clause-output : goal.returns-in-Err-LineTooLong-clause-output
-returns-in-Err-LineTooLong-clause-output g c =
+pub returns-in-Err-LineTooLong-clause-comes : goal.returns-in-Err-LineTooLong-clause-comes
+returns-in-Err-LineTooLong-clause-comes g c =
     let next = rw c.in-Err-LineTooLong.field-0-is at c.in-Err-LineTooLong.ensures.next in
-    comes-long _ _ _ _ _ _ _ _ c.lines.invariant.comes next _ c.number-number.ensures.value c.refuse_schedule.ensures
+    comes-long _ _ _ _ _ _ _ _ _ c.lines.invariant.comes next _ c.number-number.ensures.value c.refuse_schedule.ensures refl
 
-pub returns-in-Err-TooLong-clause-output : goal.returns-in-Err-TooLong-clause-output
-returns-in-Err-TooLong-clause-output g c =
+pub returns-in-Err-TooLong-clause-comes : goal.returns-in-Err-TooLong-clause-comes
+returns-in-Err-TooLong-clause-comes g c =
     let next = rw c.in-Err-TooLong.field-0-is at c.in-Err-TooLong.ensures.next in
-    comes-past _ _ _ _ _ _ _ _ c.lines.invariant.comes next c.end_past_limit.ensures
+    comes-past _ _ _ _ _ _ _ _ _ c.lines.invariant.comes next c.end_past_limit.ensures refl
 
 pub lines-preserved-in-Ok-None-read_event : goal.lines-preserved-in-Ok-None-read_event
 lines-preserved-in-Ok-None-read_event g c =
@@ -65,11 +63,11 @@ lines-preserved-in-Ok-None-read_event g c =
       stays = c.lines.invariant.stays;
     }
 
-pub returns-in-Err-perform-clause-output : goal.returns-in-Err-perform-clause-output
-returns-in-Err-perform-clause-output g c =
+pub returns-in-Err-perform-clause-comes : goal.returns-in-Err-perform-clause-comes
+returns-in-Err-perform-clause-comes g c =
     let e = rw c.in-Ok-Some.field-0-is at c.in-Ok-Some.ensures in
     let asks = ap (event_of c.args.harts) (sym c.line.ensures.value) ∙ sym (rw c.in-Ok-Some-read_event.field-0-is at c.in-Ok-Some-read_event.ensures.value) in
-    comes-cut _ _ _ _ _ _ _ _ c.lines.invariant.comes e.next asks c.in-Err-perform.ensures.text
+    comes-cut _ _ _ _ _ _ _ _ _ c.lines.invariant.comes e.next asks c.in-Err-perform.ensures.text c.in-Err-perform.ensures.most
 
 pub lines-preserved : goal.lines-preserved
 lines-preserved g c =
@@ -91,8 +89,8 @@ lines-preserved g c =
       stays = λ off. c.in-Ok.ensures.stays off ∙ c.lines.invariant.stays off;
     }
 
-pub returns-in-Err-clause-output : goal.returns-in-Err-clause-output
-returns-in-Err-clause-output g c =
+pub returns-in-Err-clause-comes : goal.returns-in-Err-clause-comes
+returns-in-Err-clause-comes g c =
     let e = rw c.in-Ok-Some.field-0-is at c.in-Ok-Some.ensures in
     let bad = ap (event_of c.args.harts) (sym c.line.ensures.value) ∙ sym c.in-Err.ensures.value in
-    comes-refused _ _ _ _ _ _ _ _ _ _ c.in-Err.fault c.lines.invariant.comes e.next bad _ c.number-number.ensures.value c.refuse_schedule-in-Err.ensures
+    comes-refused _ _ _ _ _ _ _ _ _ _ _ c.in-Err.fault c.lines.invariant.comes e.next bad _ c.number-number.ensures.value c.refuse_schedule-in-Err.ensures refl

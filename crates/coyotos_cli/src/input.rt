@@ -1,9 +1,10 @@
 //! A listing and its schedule, from the first line to the last.
-ghost use Rattle.std.specs.Prelude.{◌≡◌, ◌≢◌, ◌+◌, false, IfSome};
+ghost use Rattle.std.specs.Prelude.{◌≡◌, ◌≢◌, [], false, IfSome};
 ghost use Rattle.std.specs.Io.KnownBytes.{IsAtEnd};
 ghost use Rattle.coy_io.specs.Causes.{Rose};
-ghost use Rattle.coyotos_cli.specs.Ending.{Outputs};
-ghost use Rattle.coyotos_cli.specs.Session.{input_output, input_records, input_fetches, WritesSure};
+ghost use Rattle.coy_io.specs.Lines.{parts_of, whole_lines};
+ghost use Rattle.coyotos_cli.specs.Program.{lines_course, StandsSure};
+ghost use Rattle.coyotos_cli.specs.Schedule.{ComesTo};
 ghost use Rattle.coyotos_cli.specs.Told.{runs};
 
 use crate::command::Command;
@@ -19,7 +20,7 @@ use steps::Steps;
 use walk_engine::Plain;
 
 /// Reads a listing and its schedule, and does with them what the command says.
-pub(crate) fn session<S: Source, K: Sink, L: Ledger>(
+pub(crate) fn answer_input<S: Source, K: Sink, L: Ledger>(
     alloc: Global,
     command: Command,
     input: &mut S,
@@ -27,11 +28,13 @@ pub(crate) fn session<S: Source, K: Sink, L: Ledger>(
     fetches: &mut Steps<L>,
 ) -> Exit
     // What the known bytes come to, and where the source stands then.
-    ensures output { IfSome (S.held input.old) (λ bytes.
-        Outputs (K.taken output.old) (K.taken output.new) result (input_output command bytes)) }
+    ensures comes { IfSome (S.held input.old) (λ bytes.
+        ComesTo (K.taken output.old) (K.taken output.new) fetches.old fetches.new result
+        (lines_course command (parts_of bytes))) }
     ensures end { result ≡ Exit.Done → IsAtEnd (S.held input.new) }
-    ensures sure { let text = input_records command in result ≡ Exit.ReadFault →
-        WritesSure (S.held input.old) (S.held input.new) (K.taken output.old) (K.taken output.new) text }
+    ensures sure { result ≡ Exit.ReadFault →
+        StandsSure (S.held input.old) (S.held input.new) (K.taken output.old) (K.taken output.new)
+        fetches.old fetches.new (λ bytes. lines_course command (whole_lines [] bytes)) }
 
     // Why it may end otherwise.
     ensures usage { result ≢ Exit.Usage }
@@ -41,10 +44,9 @@ pub(crate) fn session<S: Source, K: Sink, L: Ledger>(
     ensures write_quiet { result ≢ Exit.WriteFault → K.faults output.new ≡ K.faults output.old }
     ensures unwritten { result ≡ Exit.OutOfMemory → K.taken output.new ≡ K.taken output.old }
 
-    // How many slots are fetched.
-    ensures counted { result ≡ Exit.Done → IfSome (S.held input.old) (λ bytes.
-        fetches.new ≡ fetches.old + input_fetches command bytes) }
+    // Where no slot is fetched.
     ensures stays { runs command ≡ false → fetches.new ≡ fetches.old }
+    ensures unspent { result ≡ Exit.OutOfMemory → fetches.new ≡ fetches.old }
 {
     let mut lines = LineReader::new();
     let listing = match read_listing(alloc, &mut lines, input) {
