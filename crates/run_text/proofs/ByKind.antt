@@ -1,11 +1,19 @@
 -- Facts about the kinds of objects, one behind the other.
-use Rattle.std.proofs.Common.{ℕ, zero, suc, ◌≡◌, ◌+◌, ◌*◌, ◌-◌, ◌<◌, ◌≤◌, List, ◌++◌, sym, ap, subst, ◌∙◌, arith, append_assoc, add-one, add-zero, add-suc}
+use Rattle.std.proofs.Common.{ℕ, zero, suc, ◌≡◌, ◌+◌, ◌*◌, ◌-◌, ◌<◌, ◌≤◌, List, ◌++◌, slice_index_or, sym, ap, subst, ◌∙◌, arith, append_assoc, add-one, add-zero, add-suc}
 use Rattle.cap_format.specs.declared.kind.CapKind.{CapKind}
-use Rattle.cap_format.specs.declared.kind.CapKind.TheVariants.{Page, CapPage, Gpt, Endpoint, Process}
+use Rattle.cap_format.specs.declared.kind.CapKind.TheVariants.{Null, Page, CapPage, Gpt, Endpoint, Process}
 use Rattle.object_store.specs.Store.{Items, Store, size_of}
 use Rattle.run_text.specs.Each.{each_below}
 use Rattle.run_text.specs.Objects.{reads_of}
-use Rattle.run_text.specs.State.{kind_at, kind_text, objects_text}
+use Rattle.run_text.specs.State.{kinds, kind_text, objects_text}
+
+-- the kind at a place
+abbrev pub kind_at : ℕ → CapKind
+kind_at place = slice_index_or kinds place Null
+
+-- the kind at a place of a list that is that of the kinds
+pub at_place : (all : List CapKind) (place : ℕ) → all ≡ kinds → slice_index_or all place Null ≡ kind_at place
+at_place all place same = ap (λ ks. slice_index_or ks place Null) same
 
 five : (a b c d e : List ℕ) → (((a ++ b) ++ c) ++ d) ++ e ≡ a ++ (b ++ (c ++ (d ++ e)))
 five a b c d e = append_assoc ((a ++ b) ++ c) d e ∙ append_assoc (a ++ b) c (d ++ e) ∙ append_assoc a b (c ++ (d ++ e))

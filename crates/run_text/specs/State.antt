@@ -1,5 +1,5 @@
 -- The state of a machine as text: who stands where, then every object that is not empty.
-use Rattle.std.specs.Prelude.{ℕ, ◌-◌, ◌==◌, Bool, if◌then◌else◌, List, [], ◌++◌, codes}
+use Rattle.std.specs.Prelude.{ℕ, ◌-◌, Bool, if◌then◌else◌, List, [], ◌∷◌, ◌++◌, codes}
 use Rattle.cap_format.specs.declared.kind.CapKind.{CapKind}
 use Rattle.cap_format.specs.declared.kind.CapKind.TheVariants.{Page, CapPage, Gpt, Endpoint, Process}
 use Rattle.object_store.specs.Store.{Store, size_of}
@@ -31,14 +31,9 @@ sleepers_text q processes = each_below (λ on. queue_line q (Sleepers on)) proce
 abbrev pub halted_text : Bool → List ℕ
 halted_text halted = if halted then codes "halted" ++ line_feed else []
 
--- the kind of objects that has this place among the kinds that are written, counted from 0
-abbrev pub kind_at : ℕ → CapKind
-kind_at place =
-    if place == 0 then Page
-    else if place == 1 then CapPage
-    else if place == 2 then Gpt
-    else if place == 3 then Endpoint
-    else Process
+-- the kinds of objects, in the order in which they are written
+abbrev pub kinds : List CapKind
+kinds = Page ∷ CapPage ∷ Gpt ∷ Endpoint ∷ Process ∷ []
 
 -- all objects of a kind, by their numbers
 abbrev pub kind_text : Store → CapKind → List ℕ

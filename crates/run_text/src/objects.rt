@@ -4,7 +4,7 @@ ghost use Rattle.cap_format.specs.declared.kind.CapKind.TheVariants.{Gpt, Endpoi
 ghost use Rattle.object_store.specs.Store.{size_of, endpoint_at, process_at};
 ghost use Rattle.object_store.specs.Meaning.{state_map};
 ghost use Rattle.run_text.specs.Objects.{endpoint_text, process_text, object_text, heading_text, statement_text, contents_text, reads_of};
-ghost use Rattle.run_text.specs.State.{kind_at, kind_text, objects_text};
+ghost use Rattle.run_text.specs.State.{kinds, kind_text, objects_text};
 ghost use Rattle.run_text.specs.Written.{WroteTo};
 
 use crate::parts::{Part, put_parts};
@@ -31,24 +31,24 @@ pub fn put_objects<K: Sink, L: Ledger>(
     ensures counted { OnOk result (fetches.new ≡ fetches.old + 16 * size_of objects.now.items Gpt) }
     ensures most { fetches.new ≤ fetches.old + 16 * size_of objects.now.items Gpt }
 {
-    'each: for place in 0..5u8 {
-        put_kind(objects, kind_at(place), line, output, fetches)?;
+    let kinds = kinds();
+    'each: for place in 0..kinds.len() {
+        put_kind(objects, kinds[place], line, output, fetches)?;
     }
     Ok(())
 }
 
-/// The kind of objects that has this place among the kinds that are written, counted from 0.
-fn kind_at(place: u8) -> CapKind
-    requires { place < 5 }
-    ensures { result ≡ kind_at place }
+/// The kinds of objects, in the order in which they are written.
+fn kinds() -> [CapKind; 5]
+    ensures { result ≡ kinds }
 {
-    match place {
-        0 => CapKind::Page,
-        1 => CapKind::CapPage,
-        2 => CapKind::Gpt,
-        3 => CapKind::Endpoint,
-        _ => CapKind::Process,
-    }
+    [
+        CapKind::Page,
+        CapKind::CapPage,
+        CapKind::Gpt,
+        CapKind::Endpoint,
+        CapKind::Process,
+    ]
 }
 
 /// Writes the lines of each object of a kind.
