@@ -9,58 +9,44 @@ use Rattle.object_store.specs.Ranged.{IsRanged-map_of}
 use Rattle.walk_meaning.specs.declared.noted.Noted.{Noted}
 use Rattle.walk_meaning.specs.declared.place.Place.{Place}
 use Rattle.walk_meaning.specs.declared.place.WalkFault.{WalkFault}
-use Rattle.walk_meaning.specs.declared.step.Step.TheVariants.{Reach, Fault, Go}
+use Rattle.walk_meaning.specs.declared.step.Step.TheVariants.{Fault, Go}
 use Rattle.walk_meaning.specs.Walk.{step}
 use Rattle.walk_meaning.specs.Trail.{noted, header_noted, read_cost}
 use Rattle.walk_meaning.specs.Ways.{step-map_of}
 use Rattle.walk_meaning.specs.Pages.{page_law}
 use Rattle.walk_meaning.specs.Places.{place_law}
-use Rattle.walk_engine.specs.OnWay.{IsOnWay, on_way-go, on_way-reach, on_way-fault, on_way-end, on_way-unread}
+use Rattle.walk_engine.specs.OnWay.{EndsAt, IsOnWay, on_way-go, on_way-reach, on_way-fault, on_way-end, on_way-unread}
+use Rattle.walk_engine.proofs.walking.walk.Given.{Over}
 use Rattle.walk_engine.proofs.walking.walk.Goals as goal
 
-pub returns-in-Reach-clause-value : goal.returns-in-Reach-clause-value
-returns-in-Reach-clause-value g c =
+-- a walk that reaches ends at its place
+ends : (g : Over) (c : goal.In-Reach g) → EndsAt (map_of c.args.objects.now.items) (meaning c.args.objects.now.items c.args.space) c.args.address c.args.kind c.in-Reach.place (c.way.trail.items ++ header_noted (bare c.way.cap) c.args.address c.way.at.l2) c.args.fetches.now c.way.fetches
+ends g c =
     let o = c.args.objects.now.items in
-    let fewer : c.way.left ≡ suc (c.way.left - 1) = omega arith in
-    let e : step (map_of o) c.args.kind (bare c.way.cap) c.way.at ≡ Reach c.in-Reach.place = step-map_of o c.args.kind c.way.cap c.way.at ∙ sym c.in-Reach.ensures.value in
-    let ends = on_way-reach (map_of o) (meaning o c.args.space) c.args.address c.args.kind (bare c.way.cap) c.way.at c.way.trail.items c.args.fetches.now c.way.fetches
-    c.way.left (c.way.left - 1) c.in-Reach.place fewer e c.way.invariant.way in
-    sym ends.reached
+    on_way-reach (map_of o) (meaning o c.args.space) c.args.address c.args.kind (bare c.way.cap) c.way.at c.way.trail.items c.args.fetches.now c.way.fetches
+    c.way.left (c.way.left - 1) c.in-Reach.place (omega arith) (step-map_of o c.args.kind c.way.cap c.way.at ∙ sym {b = step o c.args.kind c.way.cap c.way.at} c.in-Reach.ensures.value) c.way.invariant.way
+
+pub returns-in-Reach-clause-value : goal.returns-in-Reach-clause-value
+returns-in-Reach-clause-value g c = sym (ends g c).reached
 
 pub returns-in-Reach-clause-place : goal.returns-in-Reach-clause-place
-returns-in-Reach-clause-place g c =
-    let o = c.args.objects.now.items in
-    let fewer : c.way.left ≡ suc (c.way.left - 1) = omega arith in
-    let e : step (map_of o) c.args.kind (bare c.way.cap) c.way.at ≡ Reach c.in-Reach.place = step-map_of o c.args.kind c.way.cap c.way.at ∙ sym c.in-Reach.ensures.value in
-    let ends = on_way-reach (map_of o) (meaning o c.args.space) c.args.address c.args.kind (bare c.way.cap) c.way.at c.way.trail.items c.args.fetches.now c.way.fetches
-    c.way.left (c.way.left - 1) c.in-Reach.place fewer e c.way.invariant.way in
-    place_law o c.args.space c.args.address c.args.kind c.in-Reach.place ends.reached
+returns-in-Reach-clause-place g c = place_law c.args.objects.now.items c.args.space c.args.address c.args.kind c.in-Reach.place (ends g c).reached
 
 pub returns-in-Reach-clause-offset : goal.returns-in-Reach-clause-offset
 returns-in-Reach-clause-offset g c =
     let o = c.args.objects.now.items in
-    let fewer : c.way.left ≡ suc (c.way.left - 1) = omega arith in
-    let e : step (map_of o) c.args.kind (bare c.way.cap) c.way.at ≡ Reach c.in-Reach.place = step-map_of o c.args.kind c.way.cap c.way.at ∙ sym c.in-Reach.ensures.value in
-    let ends = on_way-reach (map_of o) (meaning o c.args.space) c.args.address c.args.kind (bare c.way.cap) c.way.at c.way.trail.items c.args.fetches.now c.way.fetches
-    c.way.left (c.way.left - 1) c.in-Reach.place fewer e c.way.invariant.way in
     let is = IsCapability-meaning o c.args.space c.kind-range.ensures.range in
-    let page = page_law (map_of o) (meaning o c.args.space) c.args.address c.args.address c.args.kind c.in-Reach.place (IsRanged-map_of o c.in_ranges.ensures.ranged) is refl ends.reached in
+    let page = page_law (map_of o) (meaning o c.args.space) c.args.address c.args.address c.args.kind c.in-Reach.place (IsRanged-map_of o c.in_ranges.ensures.ranged) is refl (ends g c).reached in
     page.offset
 
 pub returns-in-Reach-clause-noted : goal.returns-in-Reach-clause-noted
-returns-in-Reach-clause-noted g c =
-    let o = c.args.objects.now.items in
-    let fewer : c.way.left ≡ suc (c.way.left - 1) = omega arith in
-    let e : step (map_of o) c.args.kind (bare c.way.cap) c.way.at ≡ Reach c.in-Reach.place = step-map_of o c.args.kind c.way.cap c.way.at ∙ sym c.in-Reach.ensures.value in
-    let ends = on_way-reach (map_of o) (meaning o c.args.space) c.args.address c.args.kind (bare c.way.cap) c.way.at c.way.trail.items c.args.fetches.now c.way.fetches
-    c.way.left (c.way.left - 1) c.in-Reach.place fewer e c.way.invariant.way in
-    c.note_header.ensures.value ∙ ends.noted
+returns-in-Reach-clause-noted g c = c.note_header.ensures.value ∙ (ends g c).noted
 
 pub returns-in-Fault-clause-value : goal.returns-in-Fault-clause-value
 returns-in-Fault-clause-value g c =
     let o = c.args.objects.now.items in
     let fewer : c.way.left ≡ suc (c.way.left - 1) = omega arith in
-    let e : step (map_of o) c.args.kind (bare c.way.cap) c.way.at ≡ Fault c.in-Fault.code c.in-Fault.handler = step-map_of o c.args.kind c.way.cap c.way.at ∙ sym c.in-Fault.ensures.value in
+    let e : step (map_of o) c.args.kind (bare c.way.cap) c.way.at ≡ Fault c.in-Fault.code c.in-Fault.handler = step-map_of o c.args.kind c.way.cap c.way.at ∙ sym {b = step o c.args.kind c.way.cap c.way.at} c.in-Fault.ensures.value in
     let ends = on_way-fault (map_of o) (meaning o c.args.space) c.args.address c.args.kind (bare c.way.cap) c.way.at c.way.trail.items c.args.fetches.now c.way.fetches
     c.way.left (c.way.left - 1) c.in-Fault.code c.in-Fault.handler fewer e c.way.invariant.way in
     let err : WalkFault → Result Place WalkFault = λ f. Err f in
@@ -80,7 +66,7 @@ way-preserved g c =
     let o = c.args.objects.now.items in
     let left = c.way.left - 1 in
     let fewer : c.way.left ≡ suc left = omega arith in
-    let e : step (map_of o) c.args.kind (bare c.way.cap) c.way.at ≡ Go c.in-Go.next c.in-Go.gpt c.in-Go.slot = step-map_of o c.args.kind c.way.cap c.way.at ∙ sym c.in-Go.ensures.value in
+    let e : step (map_of o) c.args.kind (bare c.way.cap) c.way.at ≡ Go c.in-Go.next c.in-Go.gpt c.in-Go.slot = step-map_of o c.args.kind c.way.cap c.way.at ∙ sym {b = step o c.args.kind c.way.cap c.way.at} c.in-Go.ensures.value in
     let next : Capability = slot_at (map_of o) c.in-Go.gpt c.in-Go.slot in
     let reads : List Noted = (c.way.trail.items ++ header_noted (bare c.way.cap) c.args.address c.way.at.l2) ++ noted (Slot c.in-Go.gpt c.in-Go.slot) c.args.address c.in-Go.next.l2 ∷ [] in
     let way = on_way-go (map_of o) (meaning o c.args.space) c.args.address c.args.kind (bare c.way.cap) c.way.at c.way.trail.items c.args.fetches.now c.way.fetches
