@@ -67,7 +67,8 @@ pub trait Translator: Drop {
         requires data { is_data kind ≡ true }
         requires hart { hart < harts self.old }
         requires coherent { coherent self.old (map_of objects.now.items) }
-        ensures answer { let o = map_of objects.now.items in let c = meaning objects.now.items space in
+        ensures answer { let o = map_of objects.now.items in
+            let c = meaning objects.now.items space in
             hit_meaning result ≡ hit_of (access o c address kind) }
         ensures page { IfOk result (λ hit. hit.page < size_of objects.now.items CapKind.Page) }
         ensures offset { IfOk result (λ hit. hit.offset ≡ address % 4096) }
@@ -76,11 +77,14 @@ pub trait Translator: Drop {
         ensures coherent { coherent self.new (map_of objects.now.items) }
         ensures harts { harts self.new ≡ harts self.old }
 
-        ensures counted { let o = map_of objects.now.items in let c = meaning objects.now.items space in
+        ensures counted { let o = map_of objects.now.items in
+            let c = meaning objects.now.items space in
             fetches.new ≡ fetches.old + cost (kept self.old) o c address kind }
-        ensures after { let o = map_of objects.now.items in let c = meaning objects.now.items space in
+        ensures after { let o = map_of objects.now.items in
+            let c = meaning objects.now.items space in
             kept self.new ≡ after (kept self.old) o c address kind }
-        ensures others { let o = map_of objects.now.items in let c = meaning objects.now.items space in
+        ensures others { let o = map_of objects.now.items in
+            let c = meaning objects.now.items space in
             (k : ℕ) → k ≢ hart → cache self.new k ≡ spared (kept self.old) o c address kind (cache self.old k) };
 
     /// Tells that this item alone may have changed.

@@ -1,46 +1,46 @@
-use Rattle.std.proofs.Common.{◌≡◌, ◌+◌, ◌-◌, ◌++◌, [], ◌∷◌, zero, suc, List, inl, inr, Result, Err, refl, ◌∙◌, sym, ap, arith}
+use Rattle.std.proofs.Common.{◌≡◌, ◌+◌, ◌-◌, ◌++◌, [], ◌∷◌, zero, suc, List, inl, inr, Result, Err, refl, ◌∙◌, sym, ap, arith, ℕ, ◌<◌}
 use Rattle.std.proofs.lemmas.Bool.{cases_lt}
 use Rattle.cap_format.specs.Capability.{Capability, bare}
 use Rattle.cap_format.specs.declared.item.Item.TheVariants.{Slot}
-use Rattle.object_store.specs.Store.{slot_at}
+use Rattle.object_store.specs.Store.{Items, slot_at}
 use Rattle.object_store.specs.Meaning.{meaning, map_of}
 use Rattle.object_store.specs.Live.{IsCapability-meaning}
 use Rattle.object_store.specs.Ranged.{IsRanged-map_of}
+use Rattle.walk_meaning.specs.declared.at.At.{At}
+use Rattle.walk_meaning.specs.declared.kind.Kind.{Kind}
 use Rattle.walk_meaning.specs.declared.noted.Noted.{Noted}
 use Rattle.walk_meaning.specs.declared.place.Place.{Place}
 use Rattle.walk_meaning.specs.declared.place.WalkFault.{WalkFault}
-use Rattle.walk_meaning.specs.declared.step.Step.TheVariants.{Fault, Go}
+use Rattle.walk_meaning.specs.declared.step.Step.TheVariants.{Reach, Fault, Go}
 use Rattle.walk_meaning.specs.Walk.{step}
 use Rattle.walk_meaning.specs.Trail.{noted, header_noted, read_cost}
 use Rattle.walk_meaning.specs.Ways.{step-map_of}
 use Rattle.walk_meaning.specs.Pages.{page_law}
 use Rattle.walk_meaning.specs.Places.{place_law}
 use Rattle.walk_engine.specs.OnWay.{EndsAt, IsOnWay, on_way-go, on_way-reach, on_way-fault, on_way-end, on_way-unread}
-use Rattle.walk_engine.proofs.walking.walk.Given.{Over}
 use Rattle.walk_engine.proofs.walking.walk.Goals as goal
 
 -- a walk that reaches ends at its place
-ends : (g : Over) (c : goal.In-Reach g) → EndsAt (map_of c.args.objects.now.items) (meaning c.args.objects.now.items c.args.space) c.args.address c.args.kind c.in-Reach.place (c.way.trail.items ++ header_noted (bare c.way.cap) c.args.address c.way.at.l2) c.args.fetches.now c.way.fetches
-ends g c =
-    let o = c.args.objects.now.items in
-    on_way-reach (map_of o) (meaning o c.args.space) c.args.address c.args.kind (bare c.way.cap) c.way.at c.way.trail.items c.args.fetches.now c.way.fetches
-    c.way.left (c.way.left - 1) c.in-Reach.place (omega arith) (step-map_of o c.args.kind c.way.cap c.way.at ∙ sym {b = step o c.args.kind c.way.cap c.way.at} c.in-Reach.ensures.value) c.way.invariant.way
+ends : (o : Items) (space c : Capability) (address : ℕ) (kind : Kind) (n : ℕ) (w : At) (reads : List Noted) (start count : ℕ) (place : Place) → 0 < n → Reach place ≡ step o kind c w
+    → IsOnWay (map_of o) (meaning o space) address kind n (bare c) w reads start count → EndsAt (map_of o) (meaning o space) address kind place (reads ++ header_noted (bare c) address w.l2) start count
+ends o space c address kind n w reads start count place some e way =
+    on_way-reach (map_of o) (meaning o space) address kind (bare c) w reads start count n (n - 1) place (omega arith) (step-map_of o kind c w ∙ sym e) way
 
 pub returns-in-Reach-clause-value : goal.returns-in-Reach-clause-value
-returns-in-Reach-clause-value g c = sym (ends g c).reached
+returns-in-Reach-clause-value g c = sym (ends c.args.objects.now.items c.args.space c.way.cap c.args.address c.args.kind c.way.left c.way.at c.way.trail.items c.args.fetches.now c.way.fetches c.in-Reach.place (omega arith) c.in-Reach.ensures.value c.way.invariant.way).reached
 
 pub returns-in-Reach-clause-place : goal.returns-in-Reach-clause-place
-returns-in-Reach-clause-place g c = place_law c.args.objects.now.items c.args.space c.args.address c.args.kind c.in-Reach.place (ends g c).reached
+returns-in-Reach-clause-place g c = place_law c.args.objects.now.items c.args.space c.args.address c.args.kind c.in-Reach.place (ends c.args.objects.now.items c.args.space c.way.cap c.args.address c.args.kind c.way.left c.way.at c.way.trail.items c.args.fetches.now c.way.fetches c.in-Reach.place (omega arith) c.in-Reach.ensures.value c.way.invariant.way).reached
 
 pub returns-in-Reach-clause-offset : goal.returns-in-Reach-clause-offset
 returns-in-Reach-clause-offset g c =
     let o = c.args.objects.now.items in
     let is = IsCapability-meaning o c.args.space c.kind-range.ensures.range in
-    let page = page_law (map_of o) (meaning o c.args.space) c.args.address c.args.address c.args.kind c.in-Reach.place (IsRanged-map_of o c.in_ranges.ensures.ranged) is refl (ends g c).reached in
+    let page = page_law (map_of o) (meaning o c.args.space) c.args.address c.args.address c.args.kind c.in-Reach.place (IsRanged-map_of o c.in_ranges.ensures.ranged) is refl (ends c.args.objects.now.items c.args.space c.way.cap c.args.address c.args.kind c.way.left c.way.at c.way.trail.items c.args.fetches.now c.way.fetches c.in-Reach.place (omega arith) c.in-Reach.ensures.value c.way.invariant.way).reached in
     page.offset
 
 pub returns-in-Reach-clause-noted : goal.returns-in-Reach-clause-noted
-returns-in-Reach-clause-noted g c = c.note_header.ensures.value ∙ (ends g c).noted
+returns-in-Reach-clause-noted g c = c.note_header.ensures.value ∙ (ends c.args.objects.now.items c.args.space c.way.cap c.args.address c.args.kind c.way.left c.way.at c.way.trail.items c.args.fetches.now c.way.fetches c.in-Reach.place (omega arith) c.in-Reach.ensures.value c.way.invariant.way).noted
 
 pub returns-in-Fault-clause-value : goal.returns-in-Fault-clause-value
 returns-in-Fault-clause-value g c =
