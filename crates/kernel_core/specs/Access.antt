@@ -51,7 +51,7 @@ loaded_from s p at size signed rd (Ok hit) =
     (done (advance (set_registers s p (loaded (process s p).regs rd size signed (number_at s hit size))) p))
 
 -- a load of so many bytes to register `rd`: alignment first, then the walk (RV32I)
-abbrev pub load : State → ℕ → ℕ → ℕ → Bool → ℕ → Outcome
+unfoldable pub load : State → ℕ → ℕ → ℕ → Bool → ℕ → Outcome
 load s p at size signed rd =
     if at % size == 0 then touched (data_touch s p at Load) (loaded_from s p at size signed rd (data_access s p at Load))
     else misaligned s p at
@@ -66,7 +66,7 @@ stored_to s p at size value (Err f) = fault s p f.code at f.handler
 stored_to s p at size value (Ok hit) = recorded (reached p Put at hit) (done (advance (written s hit size value) p))
 
 -- a store of the lowest so many bytes of a value: alignment first, then the walk (RV32I)
-abbrev pub store : State → ℕ → ℕ → ℕ → ℕ → Outcome
+unfoldable pub store : State → ℕ → ℕ → ℕ → ℕ → Outcome
 store s p at size value =
     if at % size == 0 then touched (data_touch s p at Put) (stored_to s p at size value (data_access s p at Put))
     else misaligned s p at

@@ -28,7 +28,7 @@ fetched_from s p (Err f) = fault s p f.code (pc_of s p) f.handler
 fetched_from s p (Ok hit) = recorded (reached p Fetch (pc_of s p) hit) (decoded_to s p (insn_at (number_at s hit 4)))
 
 -- one instruction of a process: its fetch, then what the word says
-abbrev pub instruction : State → ℕ → Outcome
+unfoldable pub instruction : State → ℕ → Outcome
 instruction s p = touched (data_touch s p (pc_of s p) Fetch) (fetched_from s p (data_access s p (pc_of s p) Fetch))
 
 -- a hart without a process takes the first of the highest ready queue
@@ -46,7 +46,7 @@ ticked s None = s
 ticked s (Some p) = ready (leave s p) p
 
 -- an event of a machine that is not halted
-abbrev pub event_by : State → Event → Outcome
+unfoldable pub event_by : State → Event → Outcome
 event_by s (Step hart) = stepped (dispatch s hart) (hart_of (dispatch s hart).queues hart)
 event_by s (Tick hart) = done (ticked s (hart_of s.queues hart))
 

@@ -22,5 +22,5 @@ performed s p insn Break = fault s p Breakpoint (pc_of s p) None
 performed s p insn (Misaligned target) = misaligned s p target
 
 -- the instruction of a process
-abbrev pub perform : State → ℕ → Insn → Outcome
+unfoldable pub perform : State → ℕ → Insn → Outcome
 perform s p insn = performed s p insn (effect_of (process s p).regs (pc_of s p) insn)

@@ -12,7 +12,7 @@ abbrev pub copied : State → ℕ → ℕ → ℕ → State
 copied s p from to = set_capreg s p to (capreg_of (process s p) from)
 
 -- call 3: the capability of the register in x10 goes to the one in x11, where both are registers
-abbrev pub copy_cap : State → ℕ → ℕ → ℕ → Outcome
+unfoldable pub copy_cap : State → ℕ → ℕ → ℕ → Outcome
 copy_cap s p from to =
     if nat_le from 31 && nat_le to 31 then done (advance (copied s p from to) p)
     else malformed s p
@@ -40,7 +40,7 @@ abbrev pub yielded : State → ℕ → State
 yielded s p = ready (leave (advance s p) p) p
 
 -- the system call whose number is in x17
-abbrev pub system_call : State → ℕ → Outcome
+unfoldable pub system_call : State → ℕ → Outcome
 system_call s p =
     if register_of s p 17 == 4 then done (yielded s p)
     else (if nat_le 1 (register_of s p 17) && nat_le (register_of s p 17) 3 then move_cap s p else malformed s p)

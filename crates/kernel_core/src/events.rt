@@ -62,6 +62,7 @@ impl<T: Translator> Machine<T> {
     }
 
     /// An event of a machine that is not halted.
+    #[tactic(auto, unfolding(crate::specs::Event::event_by))]
     fn event_by<L: Ledger>(&mut self, e: Event, records: &mut Records, fetches: &mut Steps<L>)
         requires hart { hart_in e < self.old.objects.harts }
         requires room { length records.old ≤ 20 }
@@ -88,6 +89,7 @@ impl<T: Translator> Machine<T> {
 }
 
 /// One instruction of a process: a fetch at its pc, then what the word says.
+#[tactic(auto, unfolding(crate::specs::Event::instruction))]
 fn instruction<T: Translator, L: Ledger>(
     machine: &mut Machine<T>,
     p: u16,

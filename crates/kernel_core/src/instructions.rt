@@ -21,6 +21,7 @@ use steps::Steps;
 use walk_engine::Translator;
 
 /// This instruction, its fault included.
+#[tactic(auto, unfolding(crate::specs::Instruction::perform))]
 pub fn perform<T: Translator, L: Ledger>(
     machine: &mut Machine<T>,
     p: u16,

@@ -31,6 +31,7 @@ pub(crate) struct Wanted {
 }
 
 /// A load. An address that is no multiple of the size is not walked.
+#[tactic(auto, unfolding(crate::specs::Access::load))]
 pub(crate) fn load<T: Translator, L: Ledger>(
     machine: &mut Machine<T>,
     p: u16,

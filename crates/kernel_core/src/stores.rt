@@ -19,6 +19,7 @@ use walk_engine::{Hit, Translator};
 use walk_meaning::Kind;
 
 /// A store of the lowest bytes of a number. Nothing is written before the walk has reached a page.
+#[tactic(auto, unfolding(crate::specs::Access::store))]
 pub(crate) fn store<T: Translator, L: Ledger>(
     machine: &mut Machine<T>,
     p: u16,

@@ -15,6 +15,7 @@ use steps::Steps;
 use walk_engine::Translator;
 
 /// The system call whose number is in x17.
+#[tactic(auto, unfolding(crate::specs::SystemCall::system_call))]
 pub(crate) fn system_call<T: Translator, L: Ledger>(
     machine: &mut Machine<T>,
     p: u16,
@@ -77,6 +78,7 @@ pub fn move_cap<T: Translator, L: Ledger>(
 }
 
 /// The capability of one register goes to another, where both are registers.
+#[tactic(auto, unfolding(crate::specs::SystemCall::copy_cap))]
 fn copy_cap<T: Translator, L: Ledger>(
     machine: &mut Machine<T>,
     p: u16,
