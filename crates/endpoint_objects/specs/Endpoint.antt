@@ -1,5 +1,5 @@
 -- Endpoints: where entries lead.
-use Rattle.std.specs.Prelude.{ℕ, ◌+◌, ◌%◌, ◌^◌, false}
+use Rattle.std.specs.Prelude.{◌+◌, ◌%◌, ◌^◌, false}
 use Rattle.cap_format.specs.Capability.{null}
 use Rattle.endpoint_objects.specs.declared.endpoint.Endpoint.{Endpoint}
 
