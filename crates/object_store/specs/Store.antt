@@ -20,6 +20,11 @@ pub record CountsValue : Type 0 where
   pub processes : List ℕ
   pub endpoints : List ℕ
 
+-- the counts of all objects, by the lists of the five kinds
+abbrev pub counts_by_kind : List ℕ → List ℕ → List ℕ → List ℕ → List ℕ → CountsValue
+counts_by_kind pages cappages gpts processes endpoints =
+    record { pages = pages; cappages = cappages; gpts = gpts; processes = processes; endpoints = endpoints }
+
 -- what walks and mapping caches read: the counts of all objects, and the headers and slots of GPTs (this project's)
 pub record Items : Type 0 where
   pub counts : CountsValue

@@ -19,14 +19,16 @@ pub(crate) struct Counts {
 }
 
 impl Model for Counts {
-    ghost use Rattle.object_store.specs.Store.{CountsValue};
+    ghost use Rattle.object_store.specs.Store.{CountsValue, counts_by_kind};
     ghost use Rattle.object_store.specs.Ranges.{AreCounts};
 
     ghost Value = { CountsValue };
 
-    ghost view = { λ c. record { pages = c.pages.items; cappages = c.cappages.items; gpts = c.gpts.items; processes = c.processes.items; endpoints = c.endpoints.items } };
+    ghost view = { λ c. counts_by_kind c.pages.items c.cappages.items c.gpts.items
+        c.processes.items c.endpoints.items };
 
-    ghost invariant = { λ c. AreCounts (record { pages = c.pages.items; cappages = c.cappages.items; gpts = c.gpts.items; processes = c.processes.items; endpoints = c.endpoints.items }) };
+    ghost invariant = { λ c. AreCounts (counts_by_kind c.pages.items c.cappages.items c.gpts.items
+        c.processes.items c.endpoints.items) };
 }
 
 impl Counts {

@@ -44,9 +44,11 @@ impl Model for Objects {
 
     ghost Value = { Store };
 
-    ghost view = { λ o. store_of o.harts o.counts o.gpts.items o.pages.items o.cappages.items o.processes.items o.endpoints.items };
+    ghost view = { λ o. store_of o.harts o.counts o.gpts.items o.pages.items o.cappages.items
+        o.processes.items o.endpoints.items };
 
-    ghost invariant = { λ o. IsStore (store_of o.harts o.counts o.gpts.items o.pages.items o.cappages.items o.processes.items o.endpoints.items) };
+    ghost invariant = { λ o. IsStore (store_of o.harts o.counts o.gpts.items o.pages.items
+        o.cappages.items o.processes.items o.endpoints.items) };
 }
 
 impl Objects {
