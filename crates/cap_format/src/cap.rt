@@ -1,7 +1,6 @@
 //! Capabilities: what a holder may do, as a value.
 
 ghost use Rattle.std.specs.Prelude.{◌≡◌, ◌≤◌, ◌<◌, ◌^◌, ◌%◌, ◌↔◌, true, false, IsTrue, IsOk, IfOk, IsSome, IfSome};
-ghost use Rattle.std.specs.Int.RustNames.{bit_or};
 ghost use Rattle.cap_format.specs.Kind.{is_memory, is_window, is_counted, is_object, object_limit};
 ghost use Rattle.cap_format.specs.Capability.{Capability, IsCapability, capability, null, plain, is_plain, to_object, entry, schedule, window, local_window, with_count, with_guard};
 ghost use Rattle.cap_format.specs.Guard.{Divides, no_guard};
@@ -9,7 +8,7 @@ ghost use Rattle.cap_format.specs.Weakening.{reduced};
 
 use crate::guard::Guard;
 use crate::kind::CapKind;
-use crate::restr::Restr;
+use crate::restr::{Restr, joined};
 use bitflags::Flags;
 use std::marker::Model;
 
@@ -297,11 +296,4 @@ impl Cap {
     {
         self.slot
     }
-}
-
-/// The restrictions of both sets.
-fn joined(restr: Restr, more: Restr) -> Restr
-    ensures { result.0 ≡ bit_or restr.0 more.0 }
-{
-    restr.union(more)
 }

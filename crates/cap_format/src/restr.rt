@@ -1,6 +1,7 @@
 //! The restrictions of a memory capability.
 
-ghost use Rattle.std.specs.Prelude.{ℕ, ⊤, [], ◌∷◌, codes};
+ghost use Rattle.std.specs.Prelude.{◌≡◌, ℕ, ⊤, [], ◌∷◌, codes};
+ghost use Rattle.std.specs.Int.RustNames.{bit_or};
 
 use bitflags::{Flag, Flags, bitflag_items};
 
@@ -41,4 +42,11 @@ impl Flags for Restr {
     fn from_bits_retain(bits: u8) -> Restr {
         Restr(bits)
     }
+}
+
+/// The restrictions of both sets.
+pub(crate) fn joined(restr: Restr, more: Restr) -> Restr
+    ensures { result.0 ≡ bit_or restr.0 more.0 }
+{
+    restr.union(more)
 }
