@@ -1,4 +1,5 @@
 mod FirstLine
 mod Nexts
 mod Parts
+mod Puts
 mod Windows

@@ -33,7 +33,8 @@ impl<R: Read> Source for ReadSource<R> {
         ensures bytes { ReadConsumes None None result buf.new }
         ensures cause { HasCause self.old.faults self.new.faults result }
         ensures faults { self.new.faults ≡ faults_after self.old.faults result }
-        ensures reader { ReadConsumes (R.remaining self.old.reader) (R.remaining self.new.reader) result buf.new }
+        ensures reader { ReadConsumes (R.remaining self.old.reader) (R.remaining self.new.reader)
+            result buf.new }
     {
         match self.reader.read(buf) {
             Ok(count) => Ok(count),

@@ -97,7 +97,8 @@ fn take_behind<S: Source>(
     requires within { at + most ≤ length bytes.old }
     requires some { 1 ≤ most }
     ensures front { take at bytes.new ≡ take at bytes.old }
-    ensures bytes { ReadConsumes (S.held source.old) (S.held source.new) result (drop at bytes.new) }
+    ensures bytes { ReadConsumes (S.held source.old) (S.held source.new) result
+        (drop at bytes.new) }
     ensures most { moved result ≤ most }
     ensures cause { HasCause (S.faults source.old) (S.faults source.new) result }
     ensures given { S.given source.new ≤ S.given source.old + moved result }

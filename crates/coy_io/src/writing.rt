@@ -1,6 +1,6 @@
 //! Writing a piece of bytes whole.
-ghost use Rattle.std.specs.Prelude.{◌+◌, ◌≤◌, length, OnOk, OnErr};
-ghost use Rattle.std.specs.Io.KnownBytes.{Appends};
+ghost use Rattle.std.specs.Prelude.{◌+◌, ◌-◌, ◌<◌, ◌≤◌, length, take, drop, IfOk, OnOk, OnErr, MatchResult};
+ghost use Rattle.std.specs.Io.KnownBytes.{Appends, Keeps};
 ghost use Rattle.coy_io.specs.Causes.{HasCause};
 ghost use Rattle.coy_io.specs.Pieces.{AppendsSome};
 
@@ -14,6 +14,7 @@ pub struct WriteFault;
 
 /// Puts all of `bytes`, in as many calls as the sink needs. After a fault the sink has taken a
 /// front of them.
+#[tactic(auto, using(crate::proofs::Puts::taken_more))]
 pub fn put_all<K: Sink>(sink: &mut K, bytes: &[u8]) -> Result<(), WriteFault>
     ensures whole { OnOk result (Appends (K.taken sink.old) (K.taken sink.new) bytes.now) }
     ensures front { OnErr result (AppendsSome (K.taken sink.old) (K.taken sink.new) bytes.now) }
@@ -24,10 +25,25 @@ pub fn put_all<K: Sink>(sink: &mut K, bytes: &[u8]) -> Result<(), WriteFault>
 {
     let mut done = 0;
     while done < bytes.len() {
-        match sink.put(&bytes[done..]) {
-            Ok(count) => done += count,
+        match put_behind(sink, bytes, done) {
+            Ok(now) => done = now,
             Err(Failed) => return Err(WriteFault),
         }
     }
     Ok(())
+}
+
+/// Puts some of the bytes behind the first `done`, and answers how many are done then.
+fn put_behind<K: Sink>(sink: &mut K, bytes: &[u8], done: usize) -> Result<usize, Failed>
+    requires { done < length bytes.now }
+    ensures more { IfOk result (λ now. done < now) }
+    ensures within { IfOk result (λ now. now ≤ length bytes.now) }
+    ensures taken { let old = K.taken sink.old in let new = K.taken sink.new in
+        MatchResult result (λ now. Appends old new (take (now - done) (drop done bytes.now)))
+        (λ _. Keeps old new) }
+    ensures cause { HasCause (K.faults sink.old) (K.faults sink.new) result }
+    ensures calls { K.calls sink.new ≤ K.calls sink.old + 1 }
+{
+    let count = sink.put(&bytes[done..])?;
+    Ok(done + count)
 }
