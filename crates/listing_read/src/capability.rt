@@ -1,11 +1,12 @@
 //! The capability that a word gives.
-ghost use Rattle.std.specs.Prelude.{◌≡◌, ◌<◌, ◌&&◌, if◌then◌else◌, Some, None, Ok, Err, IfOk};
-ghost use Rattle.cap_format.specs.Kind.{object_limit};
+ghost use Rattle.std.specs.Prelude.{◌≡◌, ◌<◌, ◌&&◌, true, if◌then◌else◌, Some, None, Ok, Err, IfOk, OnOk};
+ghost use Rattle.cap_format.specs.Kind.{is_counted, object_kind, object_limit};
 ghost use Rattle.cap_format.specs.Guard.{guard_of};
-ghost use Rattle.listing_read.specs.declared.fault.Fault.TheVariants.{BadGuard};
+ghost use Rattle.listing_read.specs.declared.fault.Fault.TheVariants.{NoObject, BadGuard};
 ghost use Rattle.object_store.specs.Ranges.{IsWithinLimits};
 ghost use Rattle.listing_read.specs.Sizes.{size_in};
-ghost use Rattle.listing_read.specs.CapWord.{has_guard, is_aligned, meant, cap_of, IsSpelled, IsStated};
+ghost use Rattle.listing_read.specs.Faults.{ensured};
+ghost use Rattle.listing_read.specs.CapWord.{is_there, has_guard, is_aligned, meant, cap_of, IsSpelled, IsStated};
 
 use crate::fault::Fault;
 use crate::spelling::{Spelled, read_spelled};
@@ -23,12 +24,25 @@ pub(crate) fn capability(sizes: Sizes, word: &[u8]) -> Result<Cap, Fault>
     let Some(spelled) = read_spelled(word) else {
         return Err(Fault::BadCap);
     };
+    there(sizes, spelled)?;
+    guarded(spelled)
+}
+
+/// The machine has the object that is spelled, if one is.
+fn there(sizes: Sizes, spelled: Spelled) -> Result<(), Fault>
+    requires limits { IsWithinLimits sizes }
+    requires range { IsSpelled spelled }
+    ensures value { result ≡ ensured (is_there sizes spelled) NoObject }
+    ensures named { let size = size_in sizes (object_kind spelled.kind) in
+        OnOk result (is_counted spelled.kind ≡ true → spelled.object < size) }
+    ensures fits { OnOk result (spelled.object < object_limit spelled.kind) }
+{
     if spelled.kind.is_counted()
         && spelled.object >= u32::from(size_of(sizes, spelled.kind.object_kind()))
     {
         return Err(Fault::NoObject);
     }
-    guarded(spelled)
+    Ok(())
 }
 
 /// How many objects of a kind a machine of these sizes has.
@@ -49,8 +63,9 @@ pub(crate) fn size_of(sizes: Sizes, kind: CapKind) -> u16
 fn guarded(spelled: Spelled) -> Result<Cap, Fault>
     requires range { IsSpelled spelled }
     requires object { spelled.object < object_limit spelled.kind }
-    ensures { result ≡
+    ensures value { result ≡
         if has_guard spelled && is_aligned spelled then Ok (meant spelled) else Err BadGuard }
+    ensures meant { IfOk result (λ cap. cap ≡ meant spelled) }
 {
     match guard(spelled) {
         Some(guard) => through(spelled, guard),

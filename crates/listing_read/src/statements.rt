@@ -1,8 +1,10 @@
 //! The statements of a listing, one function each.
-ghost use Rattle.std.specs.Prelude.{◌≡◌, true, IfOk};
+ghost use Rattle.std.specs.Prelude.{◌≡◌, ◌≤◌, ◌+◌, nat_le, true, length, IfOk};
 ghost use Rattle.coy_text.specs.Words.{words_of};
 ghost use Rattle.cap_format.specs.Kind.{is_object};
 ghost use Rattle.object_store.specs.Ranges.{IsWithinLimits};
+ghost use Rattle.listing_read.specs.declared.fault.Fault.TheVariants.{BadValue};
+ghost use Rattle.listing_read.specs.Faults.{ensured};
 ghost use Rattle.listing_read.specs.Statement.{IsStatement};
 ghost use Rattle.listing_read.specs.StatementLines.{page_line, code_line, cap_line, gpt_line, slot_line, endpoint_line, process_line, reg_line, capreg_line, kind_of, count_line, statement_of};
 
@@ -68,14 +70,23 @@ fn page(sizes: Sizes, line: &[u8]) -> Result<Statement, Fault>
     let number = object(sizes.pages, word(line, 1))?;
     let at = hexadecimal_to(0xfff, word(line, 2))?;
     let bytes = hex_bytes(word(line, 3))?;
-    if at as usize + bytes.as_slice().len() > 4096 {
-        return Err(Fault::BadValue);
-    }
+    within_page(at, bytes.as_slice())?;
     Ok(Statement::Page {
         number,
         at: at as u16,
         bytes,
     })
+}
+
+/// A page has room for the bytes from offset `at` on.
+fn within_page(at: u32, bytes: &[u8]) -> Result<(), Fault>
+    requires { length bytes.now ≤ 64 }
+    ensures { result ≡ ensured (nat_le (at + length bytes.now) 4096) BadValue }
+{
+    if at as usize + bytes.len() > 4096 {
+        return Err(Fault::BadValue);
+    }
+    Ok(())
 }
 
 #[tactic(auto, unfolding(crate::specs::StatementLines::code_line))]
