@@ -37,3 +37,11 @@ IsFound (Ok None) window room held = HasFront window room × IsAtEnd held
 IsFound (Err ReadFault) window room held = HasFront window room
 IsFound (Err LineTooLong) window room held = HasLongLine window room
 IsFound (Err TooLong) window room held = IsPastLimit window room
+
+-- how many calls of a search may move nothing: the one that told the end or failed
+abbrev pub idle_in : Result (Option ℕ) LineFault → ℕ
+idle_in (Ok (Some n)) = 0
+idle_in (Ok None) = 1
+idle_in (Err ReadFault) = 1
+idle_in (Err LineTooLong) = 0
+idle_in (Err TooLong) = 0

@@ -51,6 +51,14 @@ finished reader = record (if length reader.rest == 0 then reader else giving (le
 abbrev pub taken_by : Reader → ℕ
 taken_by reader = (INPUT_LIMIT - reader.room) + length reader.rest
 
+-- how many calls told the reader its source's end
+abbrev pub ends_by : Reader → ℕ
+ends_by reader = if reader.ended then 1 else 0
+
+-- how many calls the reader has made at most, less those that failed: one for each byte, and one that told the end
+abbrev pub calls_by : Reader → ℕ
+calls_by reader = taken_by reader + ends_by reader
+
 -- the bytes to come, where they are known: those the reader holds, then those the source has left, of
 -- which there are none once it told its end
 abbrev pub bytes_ahead : Reader → Option (List ℕ) → Option (List ℕ)
@@ -111,6 +119,13 @@ abbrev pub IsLeft : Result (Option ℕ) LineFault → Reader → Reader → Type
 IsLeft (Ok (Some n)) old new = ⊤
 IsLeft (Ok None) old new = new ≡ record old { rest = []; ended = true }
 IsLeft (Err fault) old new = new ≡ record old { rest = new.rest; failed = true }
+
+-- how many calls failed in an answer
+abbrev pub read_faults_in : Result (Option ℕ) LineFault → ℕ
+read_faults_in (Ok given) = 0
+read_faults_in (Err ReadFault) = 1
+read_faults_in (Err LineTooLong) = 0
+read_faults_in (Err TooLong) = 0
 
 -- how many lines were given by an answer
 abbrev pub lines_in : Result (Option ℕ) LineFault → ℕ

@@ -37,12 +37,15 @@ impl Source for MemSource {
 
     ghost given = { λ s. s.at };
 
+    ghost calls = { λ s. s.calls };
+
     fn take(&mut self, buf: &mut [u8]) -> Result<usize, Failed>
         ensures bound { IfOk result (λ n. n ≤ length buf.new) }
         ensures bytes { ReadConsumes (Some (drop self.old.at self.old.bytes.items))
             (Some (drop self.new.at self.new.bytes.items)) result buf.new }
         ensures cause { HasCause self.old.faults self.new.faults result }
         ensures given { self.new.at ≤ self.old.at + moved result }
+        ensures counts { self.new.calls ≤ self.old.calls + 1 }
 
         // A call fails exactly where it is listed.
         ensures listed { IsErr result ↔ Contains self.old.failing.items (counted self.old.calls) }

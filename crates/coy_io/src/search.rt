@@ -3,7 +3,7 @@ ghost use Rattle.std.specs.Prelude.{◌≡◌, ◌≢◌, ◌+◌, ◌<◌, ◌�
 ghost use Rattle.std.specs.Io.KnownBytes.{Keeps, prepend_known};
 ghost use Rattle.coy_io.specs.Causes.{Rose};
 ghost use Rattle.coy_io.specs.Lines.{line_len};
-ghost use Rattle.coy_io.specs.Found.{IsFound};
+ghost use Rattle.coy_io.specs.Found.{IsFound, idle_in};
 
 use crate::scan::first_line_from;
 use crate::window::Window;
@@ -28,6 +28,9 @@ pub(crate) fn find_line<S: Source>(
     ensures quiet { result ≢ Err LineFault.ReadFault → S.faults source.new ≡ S.faults source.old }
     ensures given { S.given source.new + length window.old ≤
         S.given source.old + length window.new }
+    ensures calls { S.calls source.new + length window.old ≤
+        S.calls source.old + length window.new + idle_in result }
+    ensures idle { S.idle source.new ≤ S.idle source.old + idle_in result }
 {
     let mut read = 0;
     'reading: loop {

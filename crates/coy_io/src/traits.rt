@@ -2,7 +2,7 @@
 ghost use Rattle.std.specs.Prelude.{ℕ, List, Option, ◌+◌, ◌≤◌, ◌⊎◌, length, IfOk};
 ghost use Rattle.std.specs.Io.KnownBytes.{ReadConsumes, WriteAppends};
 ghost use Rattle.coy_io.specs.Causes.{HasCause};
-ghost use Rattle.coy_io.specs.Pieces.{moved};
+ghost use Rattle.coy_io.specs.Pieces.{moved, CountsIdle};
 
 use thiserror::Error;
 
@@ -22,6 +22,13 @@ pub trait Source {
     // How many bytes it has given, where it counts them.
     ghost given: { Self → ℕ } = { λ _. 0 };
 
+    // How many calls it has had, where it counts them.
+    ghost calls: { Self → ℕ } = { λ _. 0 };
+
+    // How many of its calls moved nothing, where it counts them: those that told the end, those
+    // that failed and those with no room.
+    ghost idle: { Self → ℕ } = { λ _. 0 };
+
     /// Moves some of the bytes that are left to the front of `buf`, and answers how many. Where
     /// `buf` is not empty, 0 means the end of the input. What stands in `buf` behind the bytes
     /// moved may change. A call that fails moves nothing.
@@ -29,7 +36,9 @@ pub trait Source {
         ensures bound { IfOk result (λ n. n ≤ length buf.new) }
         ensures bytes { ReadConsumes (held self.old) (held self.new) result buf.new }
         ensures cause { HasCause (faults self.old) (faults self.new) result }
-        ensures given { given self.new ≤ given self.old + moved result };
+        ensures given { given self.new ≤ given self.old + moved result }
+        ensures calls { calls self.new ≤ calls self.old + 1 }
+        ensures idle { CountsIdle (idle self.old) (idle self.new) (moved result) };
 }
 
 /// Where bytes go in pieces.

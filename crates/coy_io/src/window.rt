@@ -2,7 +2,7 @@
 ghost use Rattle.std.specs.Prelude.{◌≡◌, ℕ, ◌+◌, ◌-◌, ◌<◌, ◌≤◌, List, [], Ok, length, take, drop, IfOk};
 ghost use Rattle.std.specs.Io.KnownBytes.{Keeps, IsAtEnd, ReadConsumes, prepend_known};
 ghost use Rattle.coy_io.specs.Causes.{HasCause};
-ghost use Rattle.coy_io.specs.Pieces.{moved};
+ghost use Rattle.coy_io.specs.Pieces.{moved, CountsIdle};
 ghost use Rattle.coy_io.specs.declared.window.TheConstants.{WINDOW};
 
 use crate::{Failed, Source};
@@ -67,6 +67,8 @@ impl Window {
         ensures end { result ≡ Ok 0 → IsAtEnd (S.held source.new) }
         ensures cause { HasCause (S.faults source.old) (S.faults source.new) result }
         ensures given { S.given source.new ≤ S.given source.old + moved result }
+        ensures calls { S.calls source.new ≤ S.calls source.old + 1 }
+        ensures idle { CountsIdle (S.idle source.old) (S.idle source.new) (moved result) }
     {
         to_front(&mut self.bytes, self.from, self.end);
         self.end -= self.from;
@@ -102,6 +104,8 @@ fn take_behind<S: Source>(
     ensures most { moved result ≤ most }
     ensures cause { HasCause (S.faults source.old) (S.faults source.new) result }
     ensures given { S.given source.new ≤ S.given source.old + moved result }
+    ensures calls { S.calls source.new ≤ S.calls source.old + 1 }
+    ensures idle { CountsIdle (S.idle source.old) (S.idle source.new) (moved result) }
 {
     source.take(&mut bytes[at..at + most])
 }

@@ -12,6 +12,8 @@ reading-init g c = record {
   first = λ h. (refl, refl);
   faults = refl;
   given = omega arith;
+  calls = omega arith;
+  idle = omega arith;
 }
 
 pub reading-preserved : goal.reading-preserved
@@ -29,4 +31,6 @@ reading-preserved g c =
       first = λ h. let same = (before.first h).1 in absurd (omega (arith, end, len, ap line_len same, ap length same));
       faults = cc (e.cause.quiet);
       given = omega (arith, e.given, e.length);
+      calls = omega (arith, e.calls, e.length);
+      idle = omega (arith, e.idle.moving (omega arith));
     }

@@ -13,6 +13,8 @@ invariant-reading g l = record {
   first : line_len l.fn.window < length l.fn.window → (l.source ≡ l.fn.source) × (l.window ≡ l.fn.window);
   faults : g.S.Source.faults l.source ≡ g.S.Source.faults l.fn.source;
   given : g.S.Source.given l.source + length l.fn.window ≤ g.S.Source.given l.fn.source + length l.window;
+  calls : g.S.Source.calls l.source + length l.fn.window ≤ g.S.Source.calls l.fn.source + length l.window;
+  idle : g.S.Source.idle l.source ≤ g.S.Source.idle l.fn.source;
 }
 
 abbrev pub decreases-reading : goal.decreases-reading
