@@ -41,7 +41,7 @@ module _ (P : Capability → Type 0) (of_null : P null) where
   empty_slots-each = All-replicate P 16 null of_null
 
   -- the slots of an empty capability page
-  empty_cappage-each : All P empty_cappage
+  pub empty_cappage-each : All P empty_cappage
   unfolding empty_cappage
   empty_cappage-each = All-replicate P 256 null of_null
 

@@ -1,0 +1,3 @@
+pub mod Writes
+pub mod WritesBehind
+pub mod Made
