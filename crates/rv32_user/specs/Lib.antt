@@ -4,4 +4,3 @@ pub mod Registers
 pub mod Table
 pub mod Step
 pub mod Answers
-pub mod StepLemmas

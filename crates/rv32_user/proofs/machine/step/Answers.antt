@@ -2,7 +2,7 @@
 use Rattle.std.proofs.Common.{ap, subst, sym}
 use Rattle.rv32_user.specs.Step.{effect_in, effect_of}
 use Rattle.rv32_user.specs.Answers.{IsEffect, IsAlignedNext, ComesFrom}
-use Rattle.rv32_user.specs.StepLemmas.{IsEffect-effect_of, IsAlignedNext-effect_of, ComesFrom-effect_of}
+use Rattle.rv32_user.proofs.StepLemmas.{IsEffect-effect_of, IsAlignedNext-effect_of, ComesFrom-effect_of}
 use Rattle.rv32_user.proofs.machine.step.Goals as goal
 
 pub returns-in-Only-clause-parts : goal.returns-in-Only-clause-parts
