@@ -9,6 +9,7 @@ ghost use Rattle.coyotos_cli.specs.declared.command.Command.TheVariants.{Help};
 ghost use Rattle.coyotos_cli.specs.Ending.{IsGiven, Outputs};
 ghost use Rattle.coyotos_cli.specs.Program.{out, sure, WritesSure};
 ghost use Rattle.coyotos.specs.Flush.{exit_after};
+ghost use Rattle.steps.specs.Permit.{permit_for};
 
 use coy_io::{ReadSource, Sink, Source, WriteFault, WriteSink};
 use coyotos_cli::{Exit, coyotos};
@@ -16,9 +17,9 @@ use std::alloc::{AllocError, Global};
 use std::io::{BufWriter, ErrorKind, Write};
 use std::marker::Brand;
 use std::process::ExitCode;
-use std::sync::ledger::{Blank, Ledger};
+use std::sync::ledger::Ledger;
 use std::{env, io};
-use steps::Steps;
+use steps::{Permit, Steps};
 
 fn main(rt: HostRuntime) -> ExitCode {
     let words: Result<Vec<String>, AllocError> = match env::args(&rt) {
@@ -40,7 +41,7 @@ fn main(rt: HostRuntime) -> ExitCode {
         words.as_slice(),
         &mut input,
         &mut output,
-        Blank::new(1),
+        Permit::new(&rt),
     );
     ExitCode::from(exit.status())
 }
@@ -51,11 +52,9 @@ fn run_and_flush<S: Source, W: Write, L: Ledger>(
     words: &[String],
     input: &mut S,
     output: &mut WriteSink<W>,
-    blank: Blank,
+    permit: Permit,
 ) -> Exit
-    requires name { blank.name ≡ L.name }
-    requires parts { blank.parts ≡ L.parts }
-    requires one { blank.parts ≡ 1 }
+    requires ledger { permit ≡ permit_for L.name L.parts }
 
     // How it ends, where the bytes are told.
     ensures exit { IfSome (S.held input.old) (λ bytes.
@@ -79,7 +78,7 @@ fn run_and_flush<S: Source, W: Write, L: Ledger>(
     ensures write_quiet { result ≢ Exit.WriteFault → result ≢ Exit.ReadFault →
         output.new.faults ≡ output.old.faults }
 {
-    let exit = counted::<_, _, L>(alloc, words, input, output, blank);
+    let exit = counted::<_, _, L>(alloc, words, input, output, permit);
     let flushed = output.flush();
     exit_after(exit, flushed)
 }
@@ -101,11 +100,9 @@ fn counted<S: Source, K: Sink, L: Ledger>(
     words: &[String],
     input: &mut S,
     output: &mut K,
-    blank: Blank,
+    permit: Permit,
 ) -> Exit
-    requires name { blank.name ≡ L.name }
-    requires parts { blank.parts ≡ L.parts }
-    requires one { blank.parts ≡ 1 }
+    requires ledger { permit ≡ permit_for L.name L.parts }
 
     // What is written, and how it ends, where the bytes are told.
     ensures output { IfSome (S.held input.old) (λ bytes.
@@ -133,6 +130,6 @@ fn counted<S: Source, K: Sink, L: Ledger>(
     ensures write_quiet { result ≢ Exit.WriteFault → K.faults output.new ≡ K.faults output.old }
     ensures unwritten { result ≡ Exit.OutOfMemory → K.taken output.new ≡ K.taken output.old }
 {
-    let mut fetches = Steps::<L>::new(blank);
+    let mut fetches = Steps::<L>::new(permit);
     coyotos(alloc, words, input, output, &mut fetches)
 }

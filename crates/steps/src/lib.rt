@@ -1,44 +1,16 @@
 //! A counter of steps that has no bytes at run time: only contracts read it.
 //!
 //! What a step stands for is said by the crate that ticks. Nothing here knows of it.
+//!
+//! A counter is opened by a permit, and a permit is made with the runtime at hand, which a `main` and a test are given
+//! and nothing else can make. A function that is handed one counter and neither of the two counts in that counter or
+//! not at all: a reader that counts one of its three reads and the others in a counter of its own doesn't compile, nor
+//! does a translator that walks in one of its own. Left to inspection are the one function that reads what is counted,
+//! which has to tick once a read, and to whom `main` hands its runtime and its permit.
 #![tactic(auto)]
 
-ghost use Rattle.std.specs.Prelude.{ℕ, zero, ◌≡◌, ◌+◌, ◌<◌};
+mod counter;
+mod permit;
 
-use std::marker::Model;
-use std::sync::ledger::{Blank, Book, Ledger, Share};
-
-/// How many steps were taken. Only `tick` changes it.
-#[derive(Drop)]
-pub struct Steps<L: Ledger> {
-    book: Book<L>,
-    share: Share<L>,
-}
-
-impl<L: Ledger> Model for Steps<L> {
-    ghost Value = { ℕ };
-
-    ghost view = { λ s. s.book.total };
-
-    ghost invariant = { λ s. 0 < s.share.parts };
-}
-
-impl<L: Ledger> Steps<L> {
-    /// A counter over a fresh ledger. A caller that counts nothing hands on `Blank::new(1)`.
-    pub fn new(blank: Blank) -> Steps<L>
-        requires name { blank.name ≡ L.name }
-        requires parts { blank.parts ≡ L.parts }
-        requires some { 0 < blank.parts }
-        ensures { result ≡ 0 }
-    {
-        let (book, share) = blank.open::<L>();
-        Steps { book, share }
-    }
-
-    /// Counts one step.
-    pub fn tick(&mut self)
-        ensures { self.new ≡ self.old + 1 }
-    {
-        self.book.add(&mut self.share, 1);
-    }
-}
+pub use counter::Steps;
+pub use permit::Permit;

@@ -1,12 +1,13 @@
 ghost use Rattle.std.specs.Prelude.{◌≡◌, ◌<◌};
+ghost use Rattle.steps.specs.Permit.{permit_for};
 
 use coy_io::{MemSink, MemSource};
 use coyotos_cli::coyotos;
 use std::alloc::Global;
 use std::marker::Brand;
-use std::sync::ledger::{Blank, Ledger};
+use std::sync::ledger::Ledger;
 use std::test::Fail;
-use steps::Steps;
+use steps::{Permit, Steps};
 
 /// How a source and a sink in memory answer their calls.
 #[derive(Clone, Copy)]
@@ -33,11 +34,9 @@ fn ask<L: Ledger>(
     words: Vec<String>,
     bytes: Vec<u8>,
     calls: Calls,
-    blank: Blank,
+    permit: Permit,
 ) -> Result<Answer, Fail>
-    requires name { blank.name ≡ L.name }
-    requires parts { blank.parts ≡ L.parts }
-    requires some { 0 < blank.parts }
+    requires ledger { permit ≡ permit_for L.name L.parts }
 {
     let piece = calls.piece.max(1);
     let mut input = MemSource {
@@ -53,7 +52,7 @@ fn ask<L: Ledger>(
     let Ok(mut output) = MemSink::new(alloc, 65536, failing, piece) else {
         return Err(Fail::from("no memory for the sink"));
     };
-    let mut fetches = Steps::<L>::new(blank);
+    let mut fetches = Steps::<L>::new(permit);
     let exit = coyotos(
         alloc,
         words.as_slice(),
@@ -272,7 +271,7 @@ fn rows_give_what_is_written_down_for_them(rt: HostRuntime) -> Result<(), Fail> 
             };
             let asked = words_of(rt.alloc(), words)?;
             let bytes = input.as_bytes().to_vec(rt.alloc())?;
-            let answer = ask::<Brand>(rt.alloc(), asked, bytes, calls, Blank::new(1))?;
+            let answer = ask::<Brand>(rt.alloc(), asked, bytes, calls, Permit::new(&rt))?;
             assert!(rt;
                 answer.text.as_slice() == output.as_bytes() && answer.status == status,
                 "`{words}` in pieces of {piece}"
@@ -313,7 +312,7 @@ fn a_failing_call_leaves_a_front_of_the_text(rt: HostRuntime) -> Result<(), Fail
         };
         let asked = words_of(rt.alloc(), "trace")?;
         let bytes = input.as_bytes().to_vec(rt.alloc())?;
-        let answer = ask::<Brand>(rt.alloc(), asked, bytes, calls, Blank::new(1))?;
+        let answer = ask::<Brand>(rt.alloc(), asked, bytes, calls, Permit::new(&rt))?;
         assert!(rt;
             longest.as_bytes().starts_with(answer.text.as_slice()) && answer.status == status,
             "call {failing_take} of the source or {failing_put} of the sink"

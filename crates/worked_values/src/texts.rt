@@ -2,6 +2,7 @@
 ghost use Rattle.std.specs.Prelude.{◌≡◌, ◌<◌, length};
 ghost use Rattle.object_store.specs.Store.{size_of};
 ghost use Rattle.kernel_core.specs.Machine.{IsRecord};
+ghost use Rattle.steps.specs.Permit.{permit_for};
 
 use cap_format::{Cap, CapKind, FaultCode, decode};
 use coy_io::{MemSink, put_all};
@@ -17,9 +18,9 @@ use rv32_decode::Insn;
 use schedules::Queues;
 use std::alloc::Global;
 use std::marker::Brand;
-use std::sync::ledger::{Blank, Ledger};
+use std::sync::ledger::Ledger;
 use std::test::Fail;
-use steps::Steps;
+use steps::{Permit, Steps};
 use walk_meaning::Kind;
 
 /// A sink that takes all bytes of a call.
@@ -330,13 +331,11 @@ fn fill_process(process: &mut Process, state: State) {
 fn put_all_objects<L: Ledger>(
     objects: &Objects,
     output: &mut MemSink,
-    blank: Blank,
+    permit: Permit,
 ) -> Result<(), Fail>
-    requires name { blank.name ≡ L.name }
-    requires parts { blank.parts ≡ L.parts }
-    requires some { 0 < blank.parts }
+    requires ledger { permit ≡ permit_for L.name L.parts }
 {
-    let mut fetches = Steps::<L>::new(blank);
+    let mut fetches = Steps::<L>::new(permit);
     put_objects(objects, &mut LineBuf::new(), output, &mut fetches)?;
     Ok(())
 }
@@ -350,7 +349,7 @@ fn each_object_that_is_not_empty_has_its_lines(rt: HostRuntime) -> Result<(), Fa
     fill_states(&mut objects)?;
     fill_processes(&mut objects)?;
     let mut output = sink(rt.alloc())?;
-    put_all_objects::<Brand>(&objects, &mut output, Blank::new(1))?;
+    put_all_objects::<Brand>(&objects, &mut output, Permit::new(&rt))?;
     assert_eq!(rt; output.bytes.as_slice(), OBJECTS.as_bytes());
     Ok(())
 }

@@ -1,5 +1,6 @@
 //! Worked walks as one table: what the rules give for small machines, with the reads worked out by hand.
-ghost use Rattle.std.specs.Prelude.{◌≡◌, ◌<◌};
+ghost use Rattle.std.specs.Prelude.{◌≡◌};
+ghost use Rattle.steps.specs.Permit.{permit_for};
 
 use bitflags::Flags;
 use cap_format::{Cap, CapKind, FaultCode, Guard, Item, Restr};
@@ -7,9 +8,9 @@ use gpt_objects::GptHeader;
 use object_store::{Objects, Sizes};
 use std::alloc::Global;
 use std::marker::Brand;
-use std::sync::ledger::{Blank, Ledger};
+use std::sync::ledger::Ledger;
 use std::test::Fail;
-use steps::Steps;
+use steps::{Permit, Steps};
 use walk_engine::{Trail, walk};
 use walk_meaning::{Kind, Noted, Place, WalkFault};
 
@@ -123,13 +124,11 @@ fn walked<L: Ledger>(
     address: u32,
     kind: Kind,
     trail: &mut Trail,
-    blank: Blank,
+    permit: Permit,
 ) -> Result<Place, WalkFault>
-    requires name { blank.name ≡ L.name }
-    requires parts { blank.parts ≡ L.parts }
-    requires some { 0 < blank.parts }
+    requires ledger { permit ≡ permit_for L.name L.parts }
 {
-    let mut fetches = Steps::<L>::new(blank);
+    let mut fetches = Steps::<L>::new(permit);
     walk(objects, space, address, kind, trail, &mut fetches)
 }
 
@@ -346,7 +345,7 @@ fn worked_walks_give_their_place_or_fault_and_their_reads(rt: HostRuntime) -> Re
             row.address,
             row.kind,
             &mut trail,
-            Blank::new(1),
+            Permit::new(&rt),
         );
         assert_eq!(rt; answer, row.answer, "{}", row.name);
         assert!(rt;
