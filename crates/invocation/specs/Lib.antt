@@ -1,0 +1,4 @@
+pub mod Invocation
+pub mod Answerer
+pub mod Target
+pub mod Delivery

@@ -1,0 +1,5 @@
+//! That a system call is malformed.
+
+/// The registers are no invocation.
+#[derive(Clone, Copy, Debug, PartialEq, Eq)]
+pub struct MalformedSyscall;
