@@ -7,3 +7,4 @@ pub mod Kept
 pub mod Agreement
 pub mod Waking
 pub mod OnHart
+pub mod Meant

@@ -35,15 +35,15 @@ pub record IsWaking (s0 : Store) (q0 : QueuesValue) (target : Runs) (rest : List
   pub known : (x : ℕ) → length q.sleepers ≤ x → times_in x rest ≡ 0
   pub agrees : Agrees (runs_of s0 q0) → AgreesApart rest (runs_of s q)
 
-readied_all-cons : (schedule : ℕ → Capability) (p : ℕ) (ps : List ℕ) (r : Runs) → readied_all schedule (p ∷ ps) r ≡ readied_all schedule ps (readied (schedule p) p r)
+pub readied_all-cons : (schedule : ℕ → Capability) (p : ℕ) (ps : List ℕ) (r : Runs) → readied_all schedule (p ∷ ps) r ≡ readied_all schedule ps (readied (schedule p) p r)
 unfolding readied_all
 readied_all-cons schedule p ps r = refl
 
-readied_all-nil : (schedule : ℕ → Capability) (r : Runs) → readied_all schedule [] r ≡ r
+pub readied_all-nil : (schedule : ℕ → Capability) (r : Runs) → readied_all schedule [] r ≡ r
 unfolding readied_all
 readied_all-nil schedule r = refl
 
-sleepers-readied : (kind : CapKind) (k : ℕ) (q : QueuesValue) (p : ℕ) → (readied_queues kind k q p).sleepers ≡ q.sleepers
+pub sleepers-readied : (kind : CapKind) (k : ℕ) (q : QueuesValue) (p : ℕ) → (readied_queues kind k q p).sleepers ≡ q.sleepers
 sleepers-readied Schedule k q p = refl
 sleepers-readied _ k q p = refl
 

@@ -1,5 +1,5 @@
 -- Making processes ready: the states of processes and the queues together. (Coyotos; priorities are this project's.)
-use Rattle.std.specs.Prelude.{◌≡◌, ◌≢◌, ℕ, ◌<◌, List, [], ◌∷◌, length, slice_index_or, slice_set}
+use Rattle.std.specs.Prelude.{◌≡◌, ◌≢◌, ℕ, ◌<◌, Bool, false, List, [], ◌∷◌, length, slice_index_or, slice_set}
 use Rattle.cap_format.specs.declared.kind.CapKind.{CapKind}
 use Rattle.cap_format.specs.declared.kind.CapKind.TheVariants.{Schedule}
 use Rattle.cap_format.specs.declared.fault.FaultCode.TheVariants.{NoSchedule}
@@ -9,6 +9,7 @@ use Rattle.process_objects.specs.declared.state.State.TheVariants.{Running, Rece
 use Rattle.process_objects.specs.Process.{ProcessValue, process_of, slot_of, empty_process}
 use Rattle.object_store.specs.Store.{Store, with_contents, process_at}
 use Rattle.object_store.specs.Meaning.{meaning}
+use Rattle.object_store.specs.Ahead.{NoneAhead}
 use Rattle.schedules.specs.Queues.{QueuesValue, enqueued, sleepers_of}
 use Rattle.schedules.specs.Standing.{standing}
 
@@ -36,6 +37,11 @@ process_in r p = slice_index_or r.processes p empty_process
 -- what the schedule slot of process `p` means
 abbrev pub schedule_of : Store → ℕ → Capability
 schedule_of s p = meaning s.items (slot_of (process_at s p) 1)
+
+-- the capability in the schedule slot of process `p` of these objects, as it stands; in the model's map, where it has no
+-- count, that is what the slot means
+abbrev pub schedule_in : Store → ℕ → Capability
+schedule_in s p = slot_of (process_at s p) 1
 
 -- the state of a process that is made ready under a capability of this kind
 abbrev pub readied_state : CapKind → ℕ → State
@@ -87,3 +93,9 @@ pub record AgreesBut (p : ℕ) (r : Runs) : Type 0 where
   pub sizes : length r.processes ≡ length r.queues.sleepers
   pub nowhere : standing r.queues p ≡ 0
   pub each : (x : ℕ) → x < length r.processes → x ≢ p → standing r.queues x ≡ places_due (process_in r x).state
+
+-- of the objects `s` only some processes changed, no one else's record did, and no capability came ahead of its object
+pub record OnlyThese (who : ℕ → Bool) (s t : Store) : Type 0 where
+  pub rest : t ≡ with_processes s t.contents.processes
+  pub others : (x : ℕ) → who x ≡ false → process_at t x ≡ process_at s x
+  pub behind : NoneAhead s → NoneAhead t

@@ -118,6 +118,8 @@ impl Queues {
         requires on { on < length self.old.sleepers }
         requires nowhere { standing self.old p ≡ 0 }
         ensures after { self.new ≡ asleep self.old p on }
+        ensures processes { length self.new.sleepers ≡ length self.old.sleepers }
+        ensures harts { length self.new.harts ≡ length self.old.harts }
         ensures agrees { (processes : List ProcessValue) → AgreesBut p (runs processes self.old) →
             places_due (slice_index_or processes p empty_process).state ≡ 1 →
             Agrees (runs processes self.new) }

@@ -1,9 +1,11 @@
 //! Making processes ready, which changes their states as well.
 ghost use Rattle.std.specs.Prelude.{◌≡◌, ◌<◌, ◌+◌, ◌==◌, cond, ℕ, length, IfOk};
 ghost use Rattle.object_store.specs.Store.{size_of, process_at};
+ghost use Rattle.object_store.specs.Meaning.{state_map};
 ghost use Rattle.object_store.specs.Ranges.{IsWithinLimits};
 ghost use Rattle.schedules.specs.Standing.{standing, empty_queues};
-ghost use Rattle.schedules.specs.Ready.{Agrees, AgreesBut, runs_of, with_processes, schedule_of, readied, woken, places_due};
+ghost use Rattle.schedules.specs.Queues.{sleepers_of, stands_in};
+ghost use Rattle.schedules.specs.Ready.{Agrees, AgreesBut, OnlyThese, runs_of, with_processes, schedule_of, schedule_in, readied, woken, places_due};
 
 use super::Queues;
 use cap_format::{CapKind, FaultCode, OutOfMemory};
@@ -41,6 +43,14 @@ impl Queues {
             (x : ℕ) → standing self.new x ≡ standing self.old x + cond (p == x) due 0 }
         ensures agrees { AgreesBut p (runs_of objects.old self.old) →
             Agrees (runs_of objects.new self.new) }
+
+        // What it makes of the objects as they mean, and what of them stays.
+        ensures means { let before = runs_of (state_map objects.old) self.old in
+            let after = readied (schedule_in (state_map objects.old) p) p before in
+            state_map objects.new ≡ with_processes (state_map objects.old) after.processes }
+        ensures queues_mean { let before = runs_of (state_map objects.old) self.old in
+            self.new ≡ (readied (schedule_in (state_map objects.old) p) p before).queues }
+        ensures stays { OnlyThese (λ x. p == x) objects.old objects.new }
     {
         objects.in_ranges();
         let process = objects.process(p);
@@ -70,6 +80,18 @@ impl Queues {
             self.new ≡ after.queues }
         ensures agrees { Agrees (runs_of objects.old self.old) →
             Agrees (runs_of objects.new self.new) }
+
+        // What it makes of the objects as they mean, and what of them stays.
+        ensures means { let before = runs_of (state_map objects.old) self.old in
+            let after = woken (schedule_in (state_map objects.old)) on before in
+            state_map objects.new ≡ with_processes (state_map objects.old) after.processes }
+        ensures queues_mean { let before = runs_of (state_map objects.old) self.old in
+            self.new ≡ (woken (schedule_in (state_map objects.old)) on before).queues }
+        ensures items { objects.new.items ≡ objects.old.items }
+        ensures object_harts { objects.new.harts ≡ objects.old.harts }
+        ensures processes { length self.new.sleepers ≡ length self.old.sleepers }
+        ensures harts { length self.new.harts ≡ length self.old.harts }
+        ensures stays { OnlyThese (stands_in (sleepers_of self.old on)) objects.old objects.new }
     {
         let sleepers = self.take_sleepers(on);
         'waking: for i in 0..sleepers.len() {

@@ -1,8 +1,9 @@
-use Rattle.std.proofs.Common.{refl, arith, ◌<◌, length}
+use Rattle.std.proofs.Common.{rules, refl, arith, ◌<◌, length}
 use Rattle.std.proofs.lemmas.List.{get_or-set_same}
 use Rattle.process_objects.specs.Process.{empty_process}
 use Rattle.schedules.specs.Ready.{runs_of}
 use Rattle.schedules.proofs.Agreement.{agrees-placed}
+use Rattle.schedules.proofs.Meant.{ready_meant, ready_queues_meant, ready_only}
 use Rattle.schedules.proofs.queues.Queues.make_ready.Goals as goal
 
 pub returns-then-eq-clause-places : goal.returns-then-eq-clause-places
@@ -15,3 +16,21 @@ pub returns-then-eq-clause-agrees : goal.returns-then-eq-clause-agrees
 returns-then-eq-clause-agrees c = λ but.
     rw (c.set_state.ensures.state, c.process_mut.ensures.value)
     (agrees-placed (runs_of c.args.objects.now c.args.self.now) c.args.p _ c.enqueue.new.self c.requires.there but (rw c.enqueue.ensures.queues refl) c.enqueue.ensures.standing)
+
+pub returns-then-eq-clause-means : goal.returns-then-eq-clause-means
+returns-then-eq-clause-means c = ready_meant c.args.objects.now _ c.args.p c.args.self.now (search rules)
+
+pub returns-then-eq-clause-queues_mean : goal.returns-then-eq-clause-queues_mean
+returns-then-eq-clause-queues_mean c = ready_queues_meant c.args.objects.now _ c.args.p c.args.self.now (search rules)
+
+pub returns-then-eq-clause-stays : goal.returns-then-eq-clause-stays
+returns-then-eq-clause-stays c = ready_only c.args.objects.now _ c.args.p c.args.self.now (search rules)
+
+pub returns-else-eq-clause-means : goal.returns-else-eq-clause-means
+returns-else-eq-clause-means c = ready_meant c.args.objects.now _ c.args.p c.args.self.now (search rules)
+
+pub returns-else-eq-clause-queues_mean : goal.returns-else-eq-clause-queues_mean
+returns-else-eq-clause-queues_mean c = ready_queues_meant c.args.objects.now _ c.args.p c.args.self.now (search rules)
+
+pub returns-else-eq-clause-stays : goal.returns-else-eq-clause-stays
+returns-else-eq-clause-stays c = ready_only c.args.objects.now _ c.args.p c.args.self.now (search rules)

@@ -1,6 +1,10 @@
-use Rattle.std.proofs.Common.{rules, ◌≡◌, ◌<◌, length, [], ◌∷◌, ◌+◌, drop, arith}
+use Rattle.std.proofs.Common.{rules, ◌≡◌, ◌<◌, ◌∙◌, ap, sym, subst, length, [], ◌∷◌, ◌+◌, drop, arith}
 use Rattle.std.proofs.lemmas.List.{drop_more, drop_all}
 use Rattle.schedules.proofs.Waking.{waking-there, waking-step, waking-end, agrees-end}
+use Rattle.object_store.specs.Meaning.{state_map}
+use Rattle.schedules.specs.Queues.{QueuesValue, sleepers_of, stands_in}
+use Rattle.schedules.specs.Ready.{schedule_of, OnlyThese}
+use Rattle.schedules.proofs.Meant.{woken-means, woken_queues-mean, woken-only, woken-harts}
 use Rattle.schedules.proofs.queues.Queues.wake.Goals as goal
 
 pub make_ready-requires-clause-there : goal.make_ready-requires-clause-there
@@ -37,3 +41,25 @@ pub returns-clause-agrees : goal.returns-clause-agrees
 returns-clause-agrees c =
     let over : drop c.waking.i c.take_sleepers-sleepers.result ≡ [] = drop_all c.waking.i c.take_sleepers-sleepers.result (omega (arith, c.waking-test.false, c.len-i-end.ensures)) in
     λ start. agrees-end _ (rw over at c.waking.invariant.agrees start)
+
+pub returns-clause-means : goal.returns-clause-means
+returns-clause-means c =
+    let over : drop c.waking.i c.take_sleepers-sleepers.result ≡ [] = drop_all c.waking.i c.take_sleepers-sleepers.result (omega (arith, c.waking-test.false, c.len-i-end.ensures)) in
+    ap state_map (waking-end _ _ _ _ _ (rw over at c.waking.invariant)).0 ∙ woken-means c.args.objects.now c.args.on c.args.self.now
+
+pub returns-clause-queues_mean : goal.returns-clause-queues_mean
+returns-clause-queues_mean c =
+    let over : drop c.waking.i c.take_sleepers-sleepers.result ≡ [] = drop_all c.waking.i c.take_sleepers-sleepers.result (omega (arith, c.waking-test.false, c.len-i-end.ensures)) in
+    (waking-end _ _ _ _ _ (rw over at c.waking.invariant)).1 ∙ woken_queues-mean c.args.objects.now c.args.on c.args.self.now
+
+pub returns-clause-harts : goal.returns-clause-harts
+returns-clause-harts c =
+    let over : drop c.waking.i c.take_sleepers-sleepers.result ≡ [] = drop_all c.waking.i c.take_sleepers-sleepers.result (omega (arith, c.waking-test.false, c.len-i-end.ensures)) in
+    ap (λ (q : QueuesValue). length q.harts) (waking-end _ _ _ _ _ (rw over at c.waking.invariant)).1
+    ∙ ap length (woken-harts (schedule_of c.args.objects.now) c.args.objects.now c.args.on c.args.self.now)
+
+pub returns-clause-stays : goal.returns-clause-stays
+returns-clause-stays c =
+    let over : drop c.waking.i c.take_sleepers-sleepers.result ≡ [] = drop_all c.waking.i c.take_sleepers-sleepers.result (omega (arith, c.waking-test.false, c.len-i-end.ensures)) in
+    let end = (waking-end _ _ _ _ _ (rw over at c.waking.invariant)).0 in
+    subst (OnlyThese (stands_in (sleepers_of c.args.self.now c.args.on)) c.args.objects.now) (sym end) (woken-only c.args.objects.now c.args.on c.args.self.now)
