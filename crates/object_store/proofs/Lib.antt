@@ -1,3 +1,5 @@
 pub mod Writes
 pub mod WritesBehind
 pub mod Made
+pub mod Stays
+pub mod Same

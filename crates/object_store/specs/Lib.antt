@@ -4,6 +4,7 @@ pub mod Ranges
 pub mod Differ
 pub mod Ahead
 pub mod Destruction
+pub mod Object
 pub mod Laws
 pub mod Lending
 pub mod Lists
