@@ -1,19 +1,18 @@
 -- Making processes ready means the same of the objects as they mean, and changes nothing else.
-use Rattle.std.proofs.Common.{◌≡◌, ◌≢◌, ◌⊎◌, inl, inr, ℕ, ◌==◌, ◌||◌, eqb, true≢false, true, false, List, [], ◌∷◌, length, refl, sym, ap, ◌∙◌, subst}
+use Rattle.std.proofs.Common.{◌≡◌, ℕ, List, [], ◌∷◌, length, refl, sym, ap, ◌∙◌, subst}
 use Rattle.std.proofs.Math.ListN.{length-set}
-use Rattle.std.proofs.lemmas.List.{get_or-set_other}
-use Rattle.std.proofs.lemmas.Bool.Decides.{eqb_tells}
 use Rattle.cap_format.specs.declared.kind.CapKind.{CapKind}
-use Rattle.cap_format.specs.declared.kind.CapKind.TheVariants.{Schedule}
+use Rattle.cap_format.specs.declared.kind.CapKind.TheVariants.{Schedule, Process}
 use Rattle.cap_format.specs.Capability.{Capability}
-use Rattle.process_objects.specs.Process.{empty_process}
 use Rattle.object_store.specs.Store.{Store, with_process, process_at}
 use Rattle.object_store.specs.Meaning.{state_map}
 use Rattle.object_store.specs.Ahead.{NoneAhead}
+use Rattle.object_store.specs.Object.{Stays, object_name}
+use Rattle.object_store.proofs.Stays.{stays_same, stays_then, stays_more, stays_process}
 use Rattle.object_store.proofs.Writes.{slot_means, put_process}
 use Rattle.object_store.proofs.WritesBehind.{put_process_behind}
-use Rattle.schedules.specs.Queues.{QueuesValue, sleepers_of, stands_in}
-use Rattle.schedules.specs.Ready.{Runs, runs_of, with_processes, schedule_of, schedule_in, process_in, readied_process, readied_queues, readied, readied_all, unslept, woken, OnlyThese}
+use Rattle.schedules.specs.Queues.{QueuesValue, sleepers_of}
+use Rattle.schedules.specs.Ready.{Runs, runs_of, with_processes, schedule_of, schedule_in, readied_process, readied_queues, readied, readied_all, unslept, woken, process_names}
 use Rattle.schedules.proofs.Waking.{readied_all-cons, readied_all-nil, sleepers-readied}
 
 -- the schedule slot of the model's map is what the slot means
@@ -45,22 +44,6 @@ readied-means s p q = made-means (schedule_of s p).kind p s ∙ ap (λ (c : Capa
 pub readied_queues-mean : (s : Store) (p : ℕ) (q : QueuesValue)
     → (readied (schedule_of s p) p (runs_of s q)).queues ≡ (readied (schedule_in (state_map s) p) p (runs_of (state_map s) q)).queues
 readied_queues-mean s p q = ap (λ (c : Capability). readied_queues c.kind c.object q p) (schedule_means s p)
-
--- a process that is in no place of a list is not its first, and in no place of the rest
-out-first : (p : ℕ) (ps : List ℕ) (x : ℕ) → stands_in (p ∷ ps) x ≡ false → (p ≢ x) × (stands_in ps x ≡ false)
-out-first p ps x out = on (eqb_tells p x) out
-  where
-    on : ((eqb p x ≡ true) × (p ≡ x)) ⊎ ((eqb p x ≡ false) × (p ≢ x)) → ((p == x) || stands_in ps x) ≡ false → (p ≢ x) × (stands_in ps x ≡ false)
-    on (inl (t, e)) h = absurd (true≢false (rw t at h))
-    on (inr (t, other)) h = (other, rw t at h)
-
--- a process that is told apart is another
-differs : (p x : ℕ) → (p == x) ≡ false → p ≢ x
-differs p x out = on (eqb_tells p x)
-  where
-    on : ((eqb p x ≡ true) × (p ≡ x)) ⊎ ((eqb p x ≡ false) × (p ≢ x)) → p ≢ x
-    on (inl (t, e)) = absurd (true≢false (rw t at out))
-    on (inr (t, other)) = other
 
 -- making ready leaves the processes on harts
 harts-readied : (kind : CapKind) (k : ℕ) (q : QueuesValue) (p : ℕ) → (readied_queues kind k q p).harts ≡ q.harts
@@ -110,13 +93,14 @@ module _ (f : ℕ → Capability) where
   all-harts (p ∷ ps) r =
       rw (readied_all-cons f p ps r) (all-harts ps (readied (f p) p r) ∙ harts-readied (f p).kind (f p).object r.queues p)
 
-  -- a process that is not among them stays
-  all-others : (ps : List ℕ) (r : Runs) (x : ℕ) → stands_in ps x ≡ false → process_in (readied_all f ps r) x ≡ process_in r x
-  all-others [] r x out = rw (readied_all-nil f r) refl
-  all-others (p ∷ ps) r x out =
-      rw (readied_all-cons f p ps r)
-      (all-others ps (readied (f p) p r) x (out-first p ps x out).1
-      ∙ get_or-set_other r.processes p x _ empty_process (λ e. (out-first p ps x out).0 (sym e)))
+  -- only they change
+  all-stays : (ps : List ℕ) (s : Store) (q : QueuesValue) → Stays (process_names ps) s (with_processes s (readied_all f ps (runs_of s q)).processes)
+  all-stays [] s q = rw (readied_all-nil f (runs_of s q)) (stays_same [] s)
+  all-stays (p ∷ ps) s q =
+      let t = made (f p).kind p s in
+      let n = readied_queues (f p).kind (f p).object q p in
+      rw (readied_all-cons f p ps (runs_of s q))
+      (stays_then (process_names (p ∷ ps)) s t _ (stays_process (process_names ps) s p _) (stays_more (object_name Process p) (process_names ps) t _ (all-stays ps t n)))
 
 -- all sleepers made ready, as the objects mean
 pub woken-means : (s : Store) (on : ℕ) (q : QueuesValue)
@@ -132,21 +116,13 @@ woken_queues-mean s on q =
     all-queues_mean (schedule_of s) (sleepers_of q on) s (unslept q on)
     ∙ ap (λ f. (readied_all f (sleepers_of q on) (runs_of (state_map s) (unslept q on))).queues) (schedules_mean s)
 
--- only the process that is made ready changes
-pub readied-only : (s : Store) (p : ℕ) (q : QueuesValue) → OnlyThese (λ x. p == x) s (with_processes s (readied (schedule_of s p) p (runs_of s q)).processes)
-readied-only s p q = record {
-  rest = refl;
-  others = λ x out. get_or-set_other s.contents.processes p x _ empty_process (λ e. differs p x out (sym e));
-  behind = made-behind (schedule_of s p).kind p s;
-}
-
 -- only the sleepers change
-pub woken-only : (s : Store) (on : ℕ) (q : QueuesValue) → OnlyThese (stands_in (sleepers_of q on)) s (with_processes s (woken (schedule_of s) on (runs_of s q)).processes)
-woken-only s on q = record {
-  rest = refl;
-  others = all-others (schedule_of s) (sleepers_of q on) (runs_of s (unslept q on));
-  behind = all-behind (schedule_of s) (sleepers_of q on) s (unslept q on);
-}
+pub woken-stays : (s : Store) (on : ℕ) (q : QueuesValue) → Stays (process_names (sleepers_of q on)) s (with_processes s (woken (schedule_of s) on (runs_of s q)).processes)
+woken-stays s on q = all-stays (schedule_of s) (sleepers_of q on) s (unslept q on)
+
+-- and none comes ahead
+pub woken-behind : (s : Store) (on : ℕ) (q : QueuesValue) → NoneAhead s → NoneAhead (with_processes s (woken (schedule_of s) on (runs_of s q)).processes)
+woken-behind s on q = all-behind (schedule_of s) (sleepers_of q on) s (unslept q on)
 
 -- the lists of sleepers and the harts keep their number
 pub woken-sleepers : (f : ℕ → Capability) (s : Store) (on : ℕ) (q : QueuesValue) → length (woken f on (runs_of s q)).queues.sleepers ≡ length q.sleepers
@@ -155,6 +131,10 @@ woken-sleepers f s on q = all-sleepers f (sleepers_of q on) (runs_of s (unslept 
 pub woken-harts : (f : ℕ → Capability) (s : Store) (on : ℕ) (q : QueuesValue) → (woken f on (runs_of s q)).queues.harts ≡ q.harts
 woken-harts f s on q = all-harts f (sleepers_of q on) (runs_of s (unslept q on))
 
--- the same of any objects that are these
-pub ready_only : (s t : Store) (p : ℕ) (q : QueuesValue) → t ≡ with_processes s (readied (schedule_of s p) p (runs_of s q)).processes → OnlyThese (λ x. p == x) s t
-ready_only s t p q e = subst (OnlyThese (λ x. p == x) s) (sym e) (readied-only s p q)
+-- only the process that is made ready changes
+pub ready_stays : (s t : Store) (p : ℕ) (q : QueuesValue) → t ≡ with_processes s (readied (schedule_of s p) p (runs_of s q)).processes → Stays (process_names (p ∷ [])) s t
+ready_stays s t p q e = subst (Stays (process_names (p ∷ [])) s) (sym e) (stays_process [] s p _)
+
+-- and none comes ahead
+pub ready_behind : (s t : Store) (p : ℕ) (q : QueuesValue) → t ≡ with_processes s (readied (schedule_of s p) p (runs_of s q)).processes → NoneAhead s → NoneAhead t
+ready_behind s t p q e none = subst NoneAhead (sym e) (made-behind (schedule_of s p).kind p s none)

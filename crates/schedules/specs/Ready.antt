@@ -1,7 +1,7 @@
 -- Making processes ready: the states of processes and the queues together. (Coyotos; priorities are this project's.)
-use Rattle.std.specs.Prelude.{◌≡◌, ◌≢◌, ℕ, ◌<◌, Bool, false, List, [], ◌∷◌, length, slice_index_or, slice_set}
+use Rattle.std.specs.Prelude.{◌≡◌, ◌≢◌, ℕ, ◌<◌, List, [], ◌∷◌, length, slice_index_or, slice_set}
 use Rattle.cap_format.specs.declared.kind.CapKind.{CapKind}
-use Rattle.cap_format.specs.declared.kind.CapKind.TheVariants.{Schedule}
+use Rattle.cap_format.specs.declared.kind.CapKind.TheVariants.{Schedule, Process}
 use Rattle.cap_format.specs.declared.fault.FaultCode.TheVariants.{NoSchedule}
 use Rattle.cap_format.specs.Capability.{Capability}
 use Rattle.process_objects.specs.declared.state.State.{State}
@@ -9,7 +9,7 @@ use Rattle.process_objects.specs.declared.state.State.TheVariants.{Running, Rece
 use Rattle.process_objects.specs.Process.{ProcessValue, process_of, slot_of, empty_process}
 use Rattle.object_store.specs.Store.{Store, with_contents, process_at}
 use Rattle.object_store.specs.Meaning.{meaning}
-use Rattle.object_store.specs.Ahead.{NoneAhead}
+use Rattle.object_store.specs.Object.{ObjectName, object_name}
 use Rattle.schedules.specs.Queues.{QueuesValue, enqueued, sleepers_of}
 use Rattle.schedules.specs.Standing.{standing}
 
@@ -94,8 +94,7 @@ pub record AgreesBut (p : ℕ) (r : Runs) : Type 0 where
   pub nowhere : standing r.queues p ≡ 0
   pub each : (x : ℕ) → x < length r.processes → x ≢ p → standing r.queues x ≡ places_due (process_in r x).state
 
--- of the objects `s` only some processes changed, no one else's record did, and no capability came ahead of its object
-pub record OnlyThese (who : ℕ → Bool) (s t : Store) : Type 0 where
-  pub rest : t ≡ with_processes s t.contents.processes
-  pub others : (x : ℕ) → who x ≡ false → process_at t x ≡ process_at s x
-  pub behind : NoneAhead s → NoneAhead t
+-- the names of these processes
+abbrev pub process_names : List ℕ → List ObjectName
+process_names [] = []
+process_names (p ∷ ps) = object_name Process p ∷ process_names ps

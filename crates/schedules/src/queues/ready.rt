@@ -1,11 +1,13 @@
 //! Making processes ready, which changes their states as well.
-ghost use Rattle.std.specs.Prelude.{◌≡◌, ◌<◌, ◌+◌, ◌==◌, cond, ℕ, length, IfOk};
+ghost use Rattle.std.specs.Prelude.{◌≡◌, ◌<◌, ◌+◌, ◌==◌, cond, ℕ, [], ◌∷◌, length, IfOk};
 ghost use Rattle.object_store.specs.Store.{size_of, process_at};
 ghost use Rattle.object_store.specs.Meaning.{state_map};
+ghost use Rattle.object_store.specs.Ahead.{NoneAhead};
+ghost use Rattle.object_store.specs.Object.{Stays};
 ghost use Rattle.object_store.specs.Ranges.{IsWithinLimits};
 ghost use Rattle.schedules.specs.Standing.{standing, empty_queues};
-ghost use Rattle.schedules.specs.Queues.{sleepers_of, stands_in};
-ghost use Rattle.schedules.specs.Ready.{Agrees, AgreesBut, OnlyThese, runs_of, with_processes, schedule_of, schedule_in, readied, woken, places_due};
+ghost use Rattle.schedules.specs.Queues.{sleepers_of};
+ghost use Rattle.schedules.specs.Ready.{Agrees, AgreesBut, process_names, runs_of, with_processes, schedule_of, schedule_in, readied, woken, places_due};
 
 use super::Queues;
 use cap_format::{CapKind, FaultCode, OutOfMemory};
@@ -50,7 +52,8 @@ impl Queues {
             state_map objects.new ≡ with_processes (state_map objects.old) after.processes }
         ensures queues_mean { let before = runs_of (state_map objects.old) self.old in
             self.new ≡ (readied (schedule_in (state_map objects.old) p) p before).queues }
-        ensures stays { OnlyThese (λ x. p == x) objects.old objects.new }
+        ensures stays { Stays (process_names (p ∷ [])) objects.old objects.new }
+        ensures behind { NoneAhead objects.old → NoneAhead objects.new }
     {
         objects.in_ranges();
         let process = objects.process(p);
@@ -91,7 +94,9 @@ impl Queues {
         ensures object_harts { objects.new.harts ≡ objects.old.harts }
         ensures processes { length self.new.sleepers ≡ length self.old.sleepers }
         ensures harts { length self.new.harts ≡ length self.old.harts }
-        ensures stays { OnlyThese (stands_in (sleepers_of self.old on)) objects.old objects.new }
+        ensures stays { let names = process_names (sleepers_of self.old on) in
+            Stays names objects.old objects.new }
+        ensures behind { NoneAhead objects.old → NoneAhead objects.new }
     {
         let sleepers = self.take_sleepers(on);
         'waking: for i in 0..sleepers.len() {

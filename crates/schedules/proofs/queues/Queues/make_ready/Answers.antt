@@ -3,7 +3,7 @@ use Rattle.std.proofs.lemmas.List.{get_or-set_same}
 use Rattle.process_objects.specs.Process.{empty_process}
 use Rattle.schedules.specs.Ready.{runs_of}
 use Rattle.schedules.proofs.Agreement.{agrees-placed}
-use Rattle.schedules.proofs.Meant.{ready_meant, ready_queues_meant, ready_only}
+use Rattle.schedules.proofs.Meant.{ready_meant, ready_queues_meant, ready_stays, ready_behind}
 use Rattle.schedules.proofs.queues.Queues.make_ready.Goals as goal
 
 pub returns-then-eq-clause-places : goal.returns-then-eq-clause-places
@@ -24,7 +24,10 @@ pub returns-then-eq-clause-queues_mean : goal.returns-then-eq-clause-queues_mean
 returns-then-eq-clause-queues_mean c = ready_queues_meant c.args.objects.now _ c.args.p c.args.self.now (search rules)
 
 pub returns-then-eq-clause-stays : goal.returns-then-eq-clause-stays
-returns-then-eq-clause-stays c = ready_only c.args.objects.now _ c.args.p c.args.self.now (search rules)
+returns-then-eq-clause-stays c = ready_stays c.args.objects.now _ c.args.p c.args.self.now (search rules)
+
+pub returns-then-eq-clause-behind : goal.returns-then-eq-clause-behind
+returns-then-eq-clause-behind c = ready_behind c.args.objects.now _ c.args.p c.args.self.now (search rules)
 
 pub returns-else-eq-clause-means : goal.returns-else-eq-clause-means
 returns-else-eq-clause-means c = ready_meant c.args.objects.now _ c.args.p c.args.self.now (search rules)
@@ -33,4 +36,7 @@ pub returns-else-eq-clause-queues_mean : goal.returns-else-eq-clause-queues_mean
 returns-else-eq-clause-queues_mean c = ready_queues_meant c.args.objects.now _ c.args.p c.args.self.now (search rules)
 
 pub returns-else-eq-clause-stays : goal.returns-else-eq-clause-stays
-returns-else-eq-clause-stays c = ready_only c.args.objects.now _ c.args.p c.args.self.now (search rules)
+returns-else-eq-clause-stays c = ready_stays c.args.objects.now _ c.args.p c.args.self.now (search rules)
+
+pub returns-else-eq-clause-behind : goal.returns-else-eq-clause-behind
+returns-else-eq-clause-behind c = ready_behind c.args.objects.now _ c.args.p c.args.self.now (search rules)

@@ -2,9 +2,11 @@ use Rattle.std.proofs.Common.{rules, ◌≡◌, ◌<◌, ◌∙◌, ap, sym, sub
 use Rattle.std.proofs.lemmas.List.{drop_more, drop_all}
 use Rattle.schedules.proofs.Waking.{waking-there, waking-step, waking-end, agrees-end}
 use Rattle.object_store.specs.Meaning.{state_map}
-use Rattle.schedules.specs.Queues.{QueuesValue, sleepers_of, stands_in}
-use Rattle.schedules.specs.Ready.{schedule_of, OnlyThese}
-use Rattle.schedules.proofs.Meant.{woken-means, woken_queues-mean, woken-only, woken-harts}
+use Rattle.object_store.specs.Ahead.{NoneAhead}
+use Rattle.object_store.specs.Object.{Stays}
+use Rattle.schedules.specs.Queues.{QueuesValue, sleepers_of}
+use Rattle.schedules.specs.Ready.{schedule_of, process_names}
+use Rattle.schedules.proofs.Meant.{woken-means, woken_queues-mean, woken-stays, woken-behind, woken-harts}
 use Rattle.schedules.proofs.queues.Queues.wake.Goals as goal
 
 pub make_ready-requires-clause-there : goal.make_ready-requires-clause-there
@@ -62,4 +64,10 @@ pub returns-clause-stays : goal.returns-clause-stays
 returns-clause-stays c =
     let over : drop c.waking.i c.take_sleepers-sleepers.result ≡ [] = drop_all c.waking.i c.take_sleepers-sleepers.result (omega (arith, c.waking-test.false, c.len-i-end.ensures)) in
     let end = (waking-end _ _ _ _ _ (rw over at c.waking.invariant)).0 in
-    subst (OnlyThese (stands_in (sleepers_of c.args.self.now c.args.on)) c.args.objects.now) (sym end) (woken-only c.args.objects.now c.args.on c.args.self.now)
+    subst (Stays (process_names (sleepers_of c.args.self.now c.args.on)) c.args.objects.now) (sym end) (woken-stays c.args.objects.now c.args.on c.args.self.now)
+
+pub returns-clause-behind : goal.returns-clause-behind
+returns-clause-behind c = λ none.
+    let over : drop c.waking.i c.take_sleepers-sleepers.result ≡ [] = drop_all c.waking.i c.take_sleepers-sleepers.result (omega (arith, c.waking-test.false, c.len-i-end.ensures)) in
+    let end = (waking-end _ _ _ _ _ (rw over at c.waking.invariant)).0 in
+    subst NoneAhead (sym end) (woken-behind c.args.objects.now c.args.on c.args.self.now none)
