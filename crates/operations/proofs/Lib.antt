@@ -1,0 +1,5 @@
+pub mod Tests
+pub mod Settled
+pub mod Applied
+pub mod Fits
+pub mod Memory

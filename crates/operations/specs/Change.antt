@@ -11,7 +11,7 @@ use Rattle.endpoint_objects.specs.declared.endpoint.Endpoint.{Endpoint as Endpoi
 use Rattle.object_store.specs.Store.{set_slot, set_header, with_items, with_page, with_cappage, with_process, with_endpoint}
 use Rattle.schedules.specs.Queues.{left}
 use Rattle.schedules.specs.Ready.{readied, woken, runs_of}
-use Rattle.operations.specs.System.{System, Reading, with_store, with_runs, system, schedule_in, destroyed_in}
+use Rattle.operations.specs.System.{System, Reading, with_store, with_runs, system, schedule_by, destroyed_in}
 
 -- One change: other contents of one object, a slot or the header of a GPT; a process that leaves its place, that is
 -- made ready, or whose sleepers are; an object that is destroyed.
@@ -36,8 +36,8 @@ applied reading w (HeaderIs g header) = with_store w (with_items w.store (set_he
 applied reading w (EndpointIs e endpoint) = with_store w (with_endpoint w.store e endpoint)
 applied reading w (ProcessIs p process) = with_store w (with_process w.store p process)
 applied reading w (Left p) = system w.store (left w.queues p)
-applied reading w (Readied p) = with_runs w (readied (schedule_in reading w.store p) p (runs_of w.store w.queues))
-applied reading w (Woken p) = with_runs w (woken (schedule_in reading w.store) p (runs_of w.store w.queues))
+applied reading w (Readied p) = with_runs w (readied (schedule_by reading w.store p) p (runs_of w.store w.queues))
+applied reading w (Woken p) = with_runs w (woken (schedule_by reading w.store) p (runs_of w.store w.queues))
 applied reading w (Destroyed kind n) = with_store w (destroyed_in reading kind n w.store)
 
 -- the system after these changes, one after the other

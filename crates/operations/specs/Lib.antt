@@ -5,3 +5,5 @@ pub mod Row
 pub mod Request
 pub mod Memory
 pub mod Control
+pub mod Meaning
+pub mod Changed

@@ -195,10 +195,17 @@ memory_table s c r kind number =
     else (if number == 4 then Some (getrestr_row c)
     else own_table s c r kind number))))
 
+abbrev pub is_gpt : CapKind → Bool
+is_gpt Gpt = true
+is_gpt _ = false
+
+abbrev pub is_granted : Code → Bool
+is_granted OkCode = true
+is_granted _ = false
+
 -- how many slots of GPTs a request reads that ends with this code: one for a `getslot` that replies Ok
 abbrev pub reads : CapKind → ℕ → Code → ℕ
-reads Gpt number OkCode = bit (number == 8)
-reads _ number _ = 0
+reads kind number code = if is_gpt kind && number == 8 && is_granted code then 1 else 0
 
 -- a request to a capability of a memory kind
 unfoldable pub memory_operation : Store → Capability → Request → Settled

@@ -2,12 +2,11 @@
 use Rattle.std.specs.Prelude.{ℕ}
 use Rattle.cap_format.specs.declared.kind.CapKind.{CapKind}
 use Rattle.cap_format.specs.Capability.{Capability}
-use Rattle.process_objects.specs.Process.{slot_of}
-use Rattle.object_store.specs.Store.{Items, Store, count_of, process_at, emptied}
+use Rattle.object_store.specs.Store.{Items, Store, count_of, emptied}
 use Rattle.object_store.specs.Meaning.{state_map}
 use Rattle.object_store.specs.Destruction.{destruction}
 use Rattle.schedules.specs.Queues.{QueuesValue}
-use Rattle.schedules.specs.Ready.{Runs, schedule_of, with_processes}
+use Rattle.schedules.specs.Ready.{Runs, schedule_of, schedule_in, with_processes}
 
 -- the objects, and who stands where
 pub record System : Type 0 where
@@ -37,9 +36,9 @@ pub data Reading : Type 0 where
   Meant : Reading
 
 -- what the schedule slot of a process means
-abbrev pub schedule_in : Reading → Store → ℕ → Capability
-schedule_in Stored s p = schedule_of s p
-schedule_in Meant s p = slot_of (process_at s p) 1
+abbrev pub schedule_by : Reading → Store → ℕ → Capability
+schedule_by Stored s p = schedule_of s p
+schedule_by Meant s p = schedule_in s p
 
 -- the count with which a capability to an object is made
 abbrev pub count_in : Reading → Items → CapKind → ℕ → ℕ
