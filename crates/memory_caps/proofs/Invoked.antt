@@ -138,9 +138,10 @@ module _ (s t : Store) (c : Capability) (r : Request) (live : is_live s.items c 
   pub behind : (reply : Reply) → reply ≡ reply_of done → NoneAhead s → NoneAhead t × IfSome reply.cap (IsBehind s.items)
   unfolding leads
   behind reply is none =
-      let fits = memory_fits s c r live sent in
-      (all_behind s t c done.answer.changes fits.own (fits.writes none) after none,
-      subst (λ (z : Reply). IfSome z.cap (IsBehind s.items)) (sym is) (fits.gives_behind none))
+      let fits = memory_fits s c r live sent in (
+        all_behind s t c done.answer.changes fits.own (fits.writes none) after none,
+        subst (λ (z : Reply). IfSome z.cap (IsBehind s.items)) (sym is) (fits.gives_behind none),
+      )
 
   pub refused : (reply : Reply) → reply ≡ reply_of done → reply.code ≢ OkCode → t ≡ s
   refused reply is not =

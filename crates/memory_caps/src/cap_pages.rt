@@ -80,6 +80,8 @@ fn set(objects: &mut Objects, cap: Cap, request: Request) -> Reply
     if 255 < slot {
         return refuse(Code::RequestError);
     }
-    objects.cappage_mut(cap.object() as u16).set(slot as u8, request.sent);
+    objects
+        .cappage_mut(cap.object() as u16)
+        .set(slot as u8, request.sent);
     done()
 }
