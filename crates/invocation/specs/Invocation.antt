@@ -98,17 +98,21 @@ invocation_of regs = record {
   length = if sends regs then slice_index regs 16 else 0;
 }
 
--- what each invocation keeps: its registers are registers, at most four of them, and its strings are no longer than
--- the longest and end below the last address or at it
+-- a string that is no longer than the longest, and ends below the last address or at it
+pub record IsString (at size : ℕ) : Type 0 where
+  pub longest : size ≤ longest_string
+  pub ends : at + size ≤ 2 ^ 32
+
+-- what each invocation keeps: its registers are registers, at most four of them are sent and as many accept, and its
+-- strings are strings
 pub record IsInvocation (invocation : InvocationValue) : Type 0 where
   pub capreg : invocation.capreg ≤ 31
   pub four : length invocation.sent ≤ 4
   pub registers : All (λ register. register ≤ 31) invocation.sent
   pub accept : IsAccept invocation.accept
-  pub bound : invocation.accept.bound ≤ longest_string
+  pub buffer : IsString invocation.accept.at invocation.accept.bound
   pub words : length invocation.words ≡ 4
-  pub string : invocation.at + invocation.length ≤ 2 ^ 32
-  pub longest : invocation.length ≤ longest_string
+  pub string : IsString invocation.at invocation.length
 
 -- ---- where the call is malformed
 
@@ -143,7 +147,7 @@ accepts_no_string regs = receives regs && is_no_string (slice_index regs 20) (sl
 -- whether one of the six points holds
 unfoldable pub is_malformed : List ℕ → Bool
 is_malformed regs =
-    sets_reserved_bits regs || (has_no_phase regs || (has_too_many regs || (names_no_register regs || (sends_no_string regs || accepts_no_string regs))))
+    sets_reserved_bits regs || has_no_phase regs || has_too_many regs || names_no_register regs || sends_no_string regs || accepts_no_string regs
 
 -- the invocation of these registers, or that they are malformed
 unfoldable pub parsed : List ℕ → Result InvocationValue MalformedSyscall

@@ -1,0 +1,5 @@
+mod WellFormed
+mod Entered
+mod Called
+mod Given
+mod Delivered
