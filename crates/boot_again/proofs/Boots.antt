@@ -12,7 +12,7 @@ use Rattle.cap_format.specs.Kind.{is_object}
 use Rattle.cap_format.specs.Capability.{Capability, null}
 use Rattle.gpt_objects.specs.Header.{HeaderValue}
 use Rattle.gpt_objects.specs.Gpt.{GptValue, IsGpt, slot_of, empty_gpt}
-use Rattle.gpt_objects.specs.Ranges.{IsCapability-slot_of}
+use Rattle.gpt_objects.proofs.Ranges.{IsCapability-slot_of}
 use Rattle.page_store.specs.Page.{empty_page}
 use Rattle.page_store.specs.CapPage.{IsCapPage, cap_at, empty_cappage}
 use Rattle.page_store.specs.Ranges.{IsCapability-cap_at}

@@ -6,7 +6,7 @@ use Rattle.cap_format.specs.Capability.{IsCapability, null}
 use Rattle.cap_format.specs.Ranges.{IsCapability-null}
 use Rattle.gpt_objects.specs.Header.{IsHeader}
 use Rattle.gpt_objects.specs.Gpt.{GptValue, IsGpt, empty_gpt}
-use Rattle.gpt_objects.specs.Ranges.{IsGpt-empty_gpt}
+use Rattle.gpt_objects.proofs.Ranges.{IsGpt-empty_gpt}
 use Rattle.object_store.specs.declared.sizes.Sizes.{Sizes}
 use Rattle.object_store.specs.Store.{Items, gpt_at, header_at, slot_at, set_gpt, empty_store}
 use Rattle.object_store.specs.Meaning.{meaning, gpt_map, map_of}

@@ -1,4 +1,4 @@
-use Rattle.gpt_objects.specs.Ranges.{IsGpt-empty_gpt}
+use Rattle.gpt_objects.proofs.Ranges.{IsGpt-empty_gpt}
 use Rattle.gpt_objects.proofs.gpt.Gpt.new.Goals as goal
 
 pub invariant_of-result : goal.invariant_of-result

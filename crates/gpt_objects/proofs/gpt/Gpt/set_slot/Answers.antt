@@ -1,4 +1,4 @@
-use Rattle.gpt_objects.specs.Ranges.{IsGpt-with_slot}
+use Rattle.gpt_objects.proofs.Ranges.{IsGpt-with_slot}
 use Rattle.gpt_objects.proofs.gpt.Gpt.set_slot.Goals as goal
 
 pub returns-clause-range : goal.returns-clause-range
