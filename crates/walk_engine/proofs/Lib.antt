@@ -1,1 +1,2 @@
 mod WindowCases
+pub mod Onward

@@ -6,9 +6,9 @@ ghost use Rattle.guard_math.specs.Pass.{passes};
 ghost use Rattle.cap_format.specs.Kind.{is_counted, is_memory, is_window};
 ghost use Rattle.object_store.specs.Store.{size_of, header_at};
 ghost use Rattle.object_store.specs.Meaning.{is_live, map_of};
-ghost use Rattle.walk_meaning.specs.Walk.{invalid, denied, past, place_of, at_page, at_cappage, at_gpt, at_kind, handler_from, background_from, step};
+ghost use Rattle.walk_meaning.specs.Walk.{invalid, denied, past, place_of, at_page, at_cappage, at_gpt, at_kind, handler_from, background_from, is_reserved, step};
 ghost use Rattle.walk_meaning.specs.Trail.{slots_from};
-ghost use Rattle.walk_meaning.specs.Walked.{slots_after};
+ghost use Rattle.walk_meaning.specs.After.{slots_after};
 ghost use Rattle.walk_meaning.specs.Bounds.{Below, IsAt, GoesBelow};
 ghost use Rattle.windows.specs.Resolve.{resolution};
 ghost use Rattle.walk_engine.specs.Windows.{held, context_of, step_through};
@@ -19,7 +19,7 @@ use gpt_objects::GptHeader;
 use guard_math::pass;
 use object_store::Objects;
 use walk_meaning::{At, Kind, Place, Step};
-use windows::{Context, is_reserved, resolve};
+use windows::{Context, resolve};
 
 /// What a live capability makes of a walk.
 pub fn step(objects: &Objects, kind: Kind, cap: Cap, at: At) -> Step
@@ -132,6 +132,13 @@ fn at_gpt(header: GptHeader, gpt: u16, kind: Kind, at: At) -> Step
         ..at
     };
     Step::Go(into, gpt, slot as u8)
+}
+
+/// Whether a slot, 0 to 15, is no way on, since it is the GPT's handler or its background.
+fn is_reserved(header: GptHeader, slot: u8) -> bool
+    ensures { result ≡ is_reserved header slot }
+{
+    (slot == 15 && header.ha()) || (slot == 14 && header.bg())
 }
 
 /// The two rules of windows.

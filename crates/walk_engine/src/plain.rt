@@ -3,8 +3,9 @@
 ghost use Rattle.std.specs.Prelude.{◌≡◌, ⊤};
 
 use crate::hit::Hit;
+use crate::on_way::Trail;
 use crate::translator::Translator;
-use crate::walking::{Trail, walk};
+use crate::walking::walk;
 use cap_format::{Cap, Item};
 use object_store::Objects;
 use std::marker::Model;

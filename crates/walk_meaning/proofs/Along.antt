@@ -16,9 +16,9 @@ use Rattle.walk_meaning.specs.declared.kind.Kind.{Kind}
 use Rattle.walk_meaning.specs.declared.step.Step.TheVariants.{Go}
 use Rattle.walk_meaning.specs.Walk.{is_reserved, into_slot, through_window, past, step}
 use Rattle.walk_meaning.specs.Trail.{noted, noted_in, header_noted}
-use Rattle.walk_meaning.specs.Ways.{Way, gone, step-slot, step-window, step-local}
-use Rattle.walk_meaning.specs.Ways.Way.{BySlot, ByWindow, ByLocal}
-use Rattle.walk_meaning.specs.Alike.{Alike, alike-above, alike-mod, alike-add, around-alike, low-mod, low-add}
+use Rattle.walk_meaning.proofs.Ways.{Way, gone, step-slot, step-window, step-local}
+use Rattle.walk_meaning.proofs.Ways.Way.{BySlot, ByWindow, ByLocal}
+use Rattle.walk_meaning.proofs.Alike.{Alike, alike-above, alike-mod, alike-add, around-alike, low-mod, low-add}
 
 -- the walk with another address
 abbrev pub at : At → ℕ → At

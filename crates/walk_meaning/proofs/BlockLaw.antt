@@ -19,10 +19,11 @@ use Rattle.walk_meaning.specs.declared.step.Step.{Step}
 use Rattle.walk_meaning.specs.declared.step.Step.TheVariants.{Reach, Fault, Go}
 use Rattle.walk_meaning.specs.Walk.{step, start_at}
 use Rattle.walk_meaning.specs.Trail.{noted, header_noted, trail_from, trail}
-use Rattle.walk_meaning.specs.Walked.{trail_after, trail_from-zero, trail_from-suc}
-use Rattle.walk_meaning.specs.Alike.{Alike}
-use Rattle.walk_meaning.specs.Along.{at, goes_along, goes_shrinks, header-alike, slot-alike}
-use Rattle.walk_meaning.specs.Reads.{NotedAt, noted_at, each-middle}
+use Rattle.walk_meaning.specs.After.{trail_after}
+use Rattle.walk_meaning.proofs.Walked.{trail_from-zero, trail_from-suc}
+use Rattle.walk_meaning.proofs.Alike.{Alike}
+use Rattle.walk_meaning.proofs.Along.{at, goes_along, goes_shrinks, header-alike, slot-alike}
+use Rattle.walk_meaning.proofs.ReadsLaw.{NotedAt, noted_at, each-middle}
 use Rattle.walk_meaning.specs.Laws.{BlockLaw}
 
 -- ---- the second list begins as the first, as long as that has blocks of a size not below 2^l

@@ -15,7 +15,7 @@ use Rattle.walk_meaning.specs.declared.place.Place.{Place}
 use Rattle.walk_meaning.specs.declared.step.Step.{Step}
 use Rattle.walk_meaning.specs.declared.step.Step.TheVariants.{Reach, Fault, Go}
 use Rattle.walk_meaning.specs.Walk.{is_data, invalid, denied, place_of, at_page, at_cappage, at_window, at_local, at_kind, is_reserved, handler_from, into_slot, through_window, past, step}
-use Rattle.walk_meaning.specs.Ways.{step-passed}
+use Rattle.walk_meaning.proofs.Ways.{step-passed}
 
 -- a fact of both branches of a test, and of all four branches of the rules of pages
 if_all : (P : Step → Type 0) (b : Bool) (s t : Step) → P s → P t → P (if b then s else t)

@@ -21,9 +21,10 @@ use Rattle.walk_meaning.specs.declared.step.Step.{Step}
 use Rattle.walk_meaning.specs.declared.step.Step.TheVariants.{Reach, Fault, Go}
 use Rattle.walk_meaning.specs.Walk.{past, invalid, step, walk, access, fault, start_at}
 use Rattle.walk_meaning.specs.Trail.{noted, header_noted, trail_from, trail, slots_from, read_cost}
-use Rattle.walk_meaning.specs.Ways.{Way, gone, step-headers}
-use Rattle.walk_meaning.specs.Ways.Way.{BySlot, ByWindow, ByLocal}
-use Rattle.walk_meaning.specs.Walked.{walk_after, trail_after, slots_after, walk-zero, walk-suc, trail_from-suc, slots_from-suc}
+use Rattle.walk_meaning.proofs.Ways.{Way, gone, step-headers}
+use Rattle.walk_meaning.proofs.Ways.Way.{BySlot, ByWindow, ByLocal}
+use Rattle.walk_meaning.specs.After.{walk_after, trail_after, slots_after}
+use Rattle.walk_meaning.proofs.Walked.{walk-zero, walk-suc, trail_from-suc, slots_from-suc}
 use Rattle.walk_meaning.specs.Laws.{Unread, ReachAlike, FrameLaw, SpaceFrameLaw}
 
 -- the capability names the object whose header the item is

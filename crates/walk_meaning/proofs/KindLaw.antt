@@ -13,9 +13,10 @@ use Rattle.walk_meaning.specs.declared.step.Step.{Step}
 use Rattle.walk_meaning.specs.declared.step.Step.TheVariants.{Reach, Fault, Go}
 use Rattle.walk_meaning.specs.Walk.{is_data, denied, past, step, walk, fault, start_at}
 use Rattle.walk_meaning.specs.Trail.{noted, header_noted, trail_from}
-use Rattle.walk_meaning.specs.Walked.{walk_after, trail_after, walk-zero, walk-suc, trail_from-suc}
-use Rattle.walk_meaning.specs.Ways.{gone, gone-step}
-use Rattle.walk_meaning.specs.Ends.{Serves, reached, step-reaches, step-denied}
+use Rattle.walk_meaning.specs.After.{walk_after, trail_after}
+use Rattle.walk_meaning.proofs.Walked.{walk-zero, walk-suc, trail_from-suc}
+use Rattle.walk_meaning.proofs.Ways.{gone, gone-step}
+use Rattle.walk_meaning.proofs.Ends.{Serves, reached, step-reaches, step-denied}
 use Rattle.walk_meaning.specs.Laws.{KindLaw}
 
 module _ (o : Items) (a : ℕ) (j k : Kind) (alike : is_data j ≡ is_data k) (place : Place) where

@@ -18,10 +18,11 @@ use Rattle.walk_meaning.specs.declared.step.Step.{Step}
 use Rattle.walk_meaning.specs.declared.step.Step.TheVariants.{Reach, Fault, Go}
 use Rattle.walk_meaning.specs.Walk.{past, place_of, step, walk, fault, start_at}
 use Rattle.walk_meaning.specs.Trail.{noted, header_noted, trail_from, read_cost, slots_from}
-use Rattle.walk_meaning.specs.Walked.{walk_after, trail_after, slots_after, walk-zero, walk-suc, trail_from-suc, slots_from-suc}
-use Rattle.walk_meaning.specs.Ends.{reached, step-reaches}
-use Rattle.walk_meaning.specs.Alike.{Alike, alike-mod, low-mod}
-use Rattle.walk_meaning.specs.Along.{at, passes_along, goes_along, goes_low, header-alike, slot-alike}
+use Rattle.walk_meaning.specs.After.{walk_after, trail_after, slots_after}
+use Rattle.walk_meaning.proofs.Walked.{walk-zero, walk-suc, trail_from-suc, slots_from-suc}
+use Rattle.walk_meaning.proofs.Ends.{reached, step-reaches}
+use Rattle.walk_meaning.proofs.Alike.{Alike, alike-mod, low-mod}
+use Rattle.walk_meaning.proofs.Along.{at, passes_along, goes_along, goes_low, header-alike, slot-alike}
 use Rattle.walk_meaning.specs.Laws.{PageLaw}
 
 -- a place at another offset

@@ -16,9 +16,10 @@ use Rattle.walk_meaning.specs.declared.place.WalkFault.{WalkFault}
 use Rattle.walk_meaning.specs.declared.step.Step.{Step}
 use Rattle.walk_meaning.specs.declared.step.Step.TheVariants.{Reach, Fault, Go}
 use Rattle.walk_meaning.specs.Walk.{past, step, walk, fault, start_at}
-use Rattle.walk_meaning.specs.Walked.{walk_after, walk-zero, walk-suc}
-use Rattle.walk_meaning.specs.Ends.{Serves, reached}
-use Rattle.walk_meaning.specs.Frame.{null_stops}
+use Rattle.walk_meaning.specs.After.{walk_after}
+use Rattle.walk_meaning.proofs.Walked.{walk-zero, walk-suc}
+use Rattle.walk_meaning.proofs.Ends.{Serves, reached}
+use Rattle.walk_meaning.proofs.FrameLaw.{null_stops}
 use Rattle.walk_meaning.specs.Laws.{serving, IsPlace, PlaceLaw}
 
 -- a live page or capability page, which serves the kind, is there

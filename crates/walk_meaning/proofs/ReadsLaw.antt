@@ -19,8 +19,10 @@ use Rattle.walk_meaning.specs.declared.step.Step.{Step}
 use Rattle.walk_meaning.specs.declared.step.Step.TheVariants.{Reach, Fault, Go}
 use Rattle.walk_meaning.specs.Walk.{step, start_at}
 use Rattle.walk_meaning.specs.Trail.{noted, header_noted, trail_from, trail}
-use Rattle.walk_meaning.specs.Walked.{trail_after, trail_from-zero, trail_from-suc}
-use Rattle.walk_meaning.specs.Bounds.{IsAt, GoesBelow, goes_below}
+use Rattle.walk_meaning.specs.After.{trail_after}
+use Rattle.walk_meaning.proofs.Walked.{trail_from-zero, trail_from-suc}
+use Rattle.walk_meaning.specs.Bounds.{IsAt, GoesBelow}
+use Rattle.walk_meaning.proofs.StepBounds.{goes_below}
 use Rattle.walk_meaning.specs.Laws.{IsRead, ReadsLaw}
 
 -- a read of an item that there may be, in the block of its size round the address

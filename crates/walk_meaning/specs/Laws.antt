@@ -1,5 +1,5 @@
 -- The laws of walks on which everything about mapping caches rests (this project's own).
-use Rattle.std.specs.Prelude.{◌≡◌, ◌≢◌, ℕ, ◌/◌, ◌%◌, ◌^◌, ◌<◌, true, false, if◌then◌else◌, List, ◌∷◌, ◌++◌, Option, Ok, Err}
+use Rattle.std.specs.Prelude.{◌≡◌, ◌≢◌, ℕ, ◌/◌, ◌%◌, ◌^◌, ◌<◌, ◌≤◌, true, false, if◌then◌else◌, List, ◌∷◌, ◌++◌, Option, Ok, Err}
 use Rattle.std.specs.List.{AllByRecursion as Each}
 use Rattle.cap_format.specs.Capability.{Capability, IsCapability}
 use Rattle.cap_format.specs.Item.{IsItem}
@@ -84,6 +84,11 @@ pub record IsRead (address : ℕ) (n : Noted) : Type 0 where
 abbrev pub ReadsLaw : Type 0
 ReadsLaw = (o : Items) (c : Capability) (address : ℕ) (kind : Kind)
     → IsRanged o → IsCapability c → address < 2 ^ 32 → Each (IsRead address) (trail o c address kind)
+
+-- An access reads at most 32 slots of GPTs: one for each capability that it meets after the first, and one for a
+-- handler.
+abbrev pub SlotsLaw : Type 0
+SlotsLaw = (o : Items) (c : Capability) (address : ℕ) (kind : Kind) → slots o c address kind ≤ 32
 
 -- the object's kind serves the access: a page the data kinds, a capability page the capability kinds
 abbrev pub serving : Kind → CapKind

@@ -1,15 +1,5 @@
 pub mod Walk
 pub mod Trail
-pub mod Laws
-pub mod Walked
-pub mod Ways
-pub mod Ends
+pub mod After
 pub mod Bounds
-pub mod Frame
-pub mod Alike
-pub mod Along
-pub mod Pages
-pub mod Reads
-pub mod Blocks
-pub mod Kinds
-pub mod Places
+pub mod Laws

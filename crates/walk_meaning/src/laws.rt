@@ -1,7 +1,7 @@
 //! The laws of walks, on which mapping caches rest. The calls do nothing: what each says is a law
 //! for every map of objects.
 
-ghost use Rattle.walk_meaning.specs.Laws.{FrameLaw, SpaceFrameLaw, BlockLaw, PageLaw, KindLaw, ReadsLaw, PlaceLaw};
+ghost use Rattle.walk_meaning.specs.Laws.{FrameLaw, SpaceFrameLaw, BlockLaw, PageLaw, KindLaw, ReadsLaw, SlotsLaw, PlaceLaw};
 
 /// An access that reaches, and reads no item in which two maps differ, is the same in both.
 pub fn frame_law()
@@ -31,6 +31,11 @@ pub fn kind_law()
 /// Each read of a trail is of an item that there may be, in a block that has the address's page.
 pub fn reads_law()
     ensures { ReadsLaw }
+{}
+
+/// An access reads at most 32 slots of GPTs.
+pub fn slots_law()
+    ensures { SlotsLaw }
 {}
 
 /// A load that reaches, reaches a page, and one that is there. So it is with every kind of access.

@@ -6,8 +6,8 @@
 #![tactic(auto)]
 
 mod at;
+mod data_kinds;
 mod kind;
-mod kinds;
 mod laws;
 mod noted;
 mod place;
@@ -15,7 +15,9 @@ mod step;
 
 pub use at::At;
 pub use kind::Kind;
-pub use laws::{block_law, frame_law, kind_law, page_law, place_law, reads_law, space_frame_law};
+pub use laws::{
+    block_law, frame_law, kind_law, page_law, place_law, reads_law, slots_law, space_frame_law,
+};
 pub use noted::Noted;
 pub use place::{Place, WalkFault};
 pub use step::Step;

@@ -8,4 +8,4 @@ mod context;
 mod resolving;
 
 pub use context::{Context, Next};
-pub use resolving::{Malformed, is_reserved, resolve};
+pub use resolving::{Malformed, resolve};

@@ -2,8 +2,7 @@
 
 ghost use Rattle.std.specs.Prelude.{◌≡◌, ◌<◌, ◌+◌, ◌^◌, true};
 ghost use Rattle.cap_format.specs.Kind.{is_window};
-ghost use Rattle.walk_meaning.specs.Walk.{is_reserved};
-ghost use Rattle.windows.specs.Resolve.{resolution, next_of};
+ghost use Rattle.windows.specs.Resolve.{resolution, next_of, looks_through};
 
 use crate::context::{Context, Next};
 use cap_format::{Cap, CapKind};
@@ -33,7 +32,7 @@ pub fn resolve(window: Cap, r: u32, context: Context) -> Result<Next, Malformed>
     let Some((gpt, header)) = context.holding else {
         return Err(Malformed);
     };
-    if is_reserved(header, window.slot()) {
+    if !looks_through(header, window.slot()) {
         return Err(Malformed);
     }
     Ok(Next {
@@ -43,11 +42,15 @@ pub fn resolve(window: Cap, r: u32, context: Context) -> Result<Next, Malformed>
     })
 }
 
-/// Whether a slot, 0 to 15, is no way on, since it is the GPT's handler or its background.
-pub fn is_reserved(header: GptHeader, slot: u8) -> bool
-    ensures { result ≡ is_reserved header slot }
+/// Whether a local window looks through a slot of the GPT that holds it.
+fn looks_through(header: GptHeader, slot: u8) -> bool
+    ensures { result ≡ looks_through header slot }
 {
-    (slot == 15 && header.ha()) || (slot == 14 && header.bg())
+    match slot {
+        15 => !header.ha(),
+        14 => !header.bg(),
+        _ => true,
+    }
 }
 
 /// The window's offset and what is left of the address. It is below `2^32`, since the offset is a

@@ -11,9 +11,10 @@ use Rattle.walk_meaning.specs.declared.step.Step.{Step}
 use Rattle.walk_meaning.specs.declared.step.Step.TheVariants.{Fault}
 use Rattle.walk_meaning.specs.Walk.{at_kind, invalid, past, step}
 use Rattle.walk_meaning.specs.Trail.{slots_from}
-use Rattle.walk_meaning.specs.Walked.{slots_after, slots_from-suc}
-use Rattle.walk_meaning.specs.Ways.{step-map_of, step-passed}
-use Rattle.walk_meaning.specs.Bounds.{goes_below}
+use Rattle.walk_meaning.specs.After.{slots_after}
+use Rattle.walk_meaning.proofs.Walked.{slots_from-suc}
+use Rattle.walk_meaning.proofs.Ways.{step-map_of, step-passed}
+use Rattle.walk_meaning.proofs.StepBounds.{goes_below}
 use Rattle.walk_engine.proofs.met.step.Goals as goal
 
 pub returns-clause-below : goal.returns-clause-below

@@ -1,7 +1,7 @@
 use Rattle.std.proofs.Common.{◌∙◌, sym, ap}
 use Rattle.object_store.specs.Meaning.{meaning}
 use Rattle.object_store.specs.Means.{slot_at-map_of}
-use Rattle.walk_engine.proofs.walking.read_next.Goals as goal
+use Rattle.walk_engine.proofs.on_way.read_next.Goals as goal
 
 pub returns-clause-value : goal.returns-clause-value
 returns-clause-value g c =

@@ -4,7 +4,7 @@ use Rattle.object_store.specs.Meaning.{meaning, map_of}
 use Rattle.object_store.specs.Means.{slot_at-map_of}
 use Rattle.walk_meaning.specs.declared.place.WalkFault.{WalkFault}
 use Rattle.walk_meaning.specs.Walk.{fault}
-use Rattle.walk_engine.proofs.walking.told.Goals as goal
+use Rattle.walk_engine.proofs.on_way.told.Goals as goal
 
 pub returns-clause-value : goal.returns-clause-value
 returns-clause-value g c =

@@ -1,6 +1,7 @@
-use Rattle.std.proofs.Common.{◌≡◌, ◌+◌, ◌-◌, ◌++◌, [], ◌∷◌, zero, suc, List, inl, inr, Result, Err, refl, ◌∙◌, sym, ap, arith, ℕ, ◌<◌}
+use Rattle.std.proofs.Common.{◌≡◌, ◌+◌, ◌-◌, ◌++◌, [], ◌∷◌, zero, suc, List, Option, inl, inr, Result, Err, refl, ◌∙◌, sym, ap, arith, ℕ, ◌<◌, ◌≤◌}
 use Rattle.std.proofs.lemmas.Bool.{cases_lt}
 use Rattle.cap_format.specs.Capability.{Capability, bare}
+use Rattle.cap_format.specs.declared.fault.FaultCode.{FaultCode}
 use Rattle.cap_format.specs.declared.item.Item.TheVariants.{Slot}
 use Rattle.object_store.specs.Store.{Items, slot_at}
 use Rattle.object_store.specs.Meaning.{meaning, map_of}
@@ -13,11 +14,13 @@ use Rattle.walk_meaning.specs.declared.place.Place.{Place}
 use Rattle.walk_meaning.specs.declared.place.WalkFault.{WalkFault}
 use Rattle.walk_meaning.specs.declared.step.Step.TheVariants.{Reach, Fault, Go}
 use Rattle.walk_meaning.specs.Walk.{step}
-use Rattle.walk_meaning.specs.Trail.{noted, header_noted, read_cost}
-use Rattle.walk_meaning.specs.Ways.{step-map_of}
-use Rattle.walk_meaning.specs.Pages.{page_law}
-use Rattle.walk_meaning.specs.Places.{place_law}
-use Rattle.walk_engine.specs.OnWay.{EndsAt, IsOnWay, on_way-go, on_way-reach, on_way-fault, on_way-end, on_way-unread}
+use Rattle.walk_meaning.specs.Trail.{noted, header_noted, read_cost, slots}
+use Rattle.walk_meaning.proofs.Ways.{step-map_of}
+use Rattle.walk_meaning.proofs.PageLaw.{page_law}
+use Rattle.walk_meaning.proofs.PlaceLaw.{place_law}
+use Rattle.walk_meaning.proofs.SlotsLaw.{slots_law}
+use Rattle.walk_engine.specs.OnWay.{EndsAt, EndsIn, IsOnWay}
+use Rattle.walk_engine.proofs.Onward.{on_way-go, on_way-reach, on_way-fault, on_way-end, on_way-unread}
 use Rattle.walk_engine.proofs.walking.walk.Goals as goal
 
 -- a walk that reaches ends at its place
@@ -25,6 +28,16 @@ ends : (o : Items) (space c : Capability) (address : ℕ) (kind : Kind) (n : ℕ
     → IsOnWay (map_of o) (meaning o space) address kind n (bare c) w reads start count → EndsAt (map_of o) (meaning o space) address kind place (reads ++ header_noted (bare c) address w.l2) start count
 ends o space c address kind n w reads start count place some e way =
     on_way-reach (map_of o) (meaning o space) address kind (bare c) w reads start count n (n - 1) place (omega arith) (step-map_of o kind c w ∙ sym e) way
+
+-- one that faults ends in its fault
+ends_in : (o : Items) (space c : Capability) (address : ℕ) (kind : Kind) (n : ℕ) (w : At) (reads : List Noted) (start count : ℕ) (code : FaultCode) (handler : Option ℕ) → 0 < n → Fault code handler ≡ step o kind c w
+    → IsOnWay (map_of o) (meaning o space) address kind n (bare c) w reads start count → EndsIn (map_of o) (meaning o space) address kind code handler start count
+ends_in o space c address kind n w reads start count code handler some e way =
+    on_way-fault (map_of o) (meaning o space) address kind (bare c) w reads start count n (n - 1) code handler (omega arith) (step-map_of o kind c w ∙ sym e) way
+
+-- what an access reads is at most 32 slots
+at_most : (o : Items) (space : Capability) (address : ℕ) (kind : Kind) (start count : ℕ) → count ≡ start + slots (map_of o) (meaning o space) address kind → count ≤ start + 32
+at_most o space address kind start count counted = omega (arith, counted, slots_law (map_of o) (meaning o space) address kind)
 
 pub returns-in-Reach-clause-value : goal.returns-in-Reach-clause-value
 returns-in-Reach-clause-value g c = sym (ends c.args.objects.now.items c.args.space c.way.cap c.args.address c.args.kind c.way.left c.way.at c.way.trail.items c.args.fetches.now c.way.fetches c.in-Reach.place (omega arith) c.in-Reach.ensures.value c.way.invariant.way).reached
@@ -42,15 +55,17 @@ returns-in-Reach-clause-offset g c =
 pub returns-in-Reach-clause-noted : goal.returns-in-Reach-clause-noted
 returns-in-Reach-clause-noted g c = c.note_header.ensures.value ∙ (ends c.args.objects.now.items c.args.space c.way.cap c.args.address c.args.kind c.way.left c.way.at c.way.trail.items c.args.fetches.now c.way.fetches c.in-Reach.place (omega arith) c.in-Reach.ensures.value c.way.invariant.way).noted
 
+pub returns-in-Reach-clause-bound : goal.returns-in-Reach-clause-bound
+returns-in-Reach-clause-bound g c = at_most c.args.objects.now.items c.args.space c.args.address c.args.kind _ _ (ends c.args.objects.now.items c.args.space c.way.cap c.args.address c.args.kind c.way.left c.way.at c.way.trail.items c.args.fetches.now c.way.fetches c.in-Reach.place (omega arith) c.in-Reach.ensures.value c.way.invariant.way).counted
+
 pub returns-in-Fault-clause-value : goal.returns-in-Fault-clause-value
 returns-in-Fault-clause-value g c =
-    let o = c.args.objects.now.items in
-    let fewer : c.way.left ≡ suc (c.way.left - 1) = omega arith in
-    let e : step (map_of o) c.args.kind (bare c.way.cap) c.way.at ≡ Fault c.in-Fault.code c.in-Fault.handler = step-map_of o c.args.kind c.way.cap c.way.at ∙ sym {b = step o c.args.kind c.way.cap c.way.at} c.in-Fault.ensures.value in
-    let ends = on_way-fault (map_of o) (meaning o c.args.space) c.args.address c.args.kind (bare c.way.cap) c.way.at c.way.trail.items c.args.fetches.now c.way.fetches
-    c.way.left (c.way.left - 1) c.in-Fault.code c.in-Fault.handler fewer e c.way.invariant.way in
     let err : WalkFault → Result Place WalkFault = λ f. Err f in
-    ap err c.told.ensures.value ∙ sym ends.faulted
+    ap err c.told.ensures.value ∙ sym (ends_in c.args.objects.now.items c.args.space c.way.cap c.args.address c.args.kind c.way.left c.way.at c.way.trail.items c.args.fetches.now c.way.fetches c.in-Fault.code c.in-Fault.handler (omega arith) c.in-Fault.ensures.value c.way.invariant.way).faulted
+
+pub returns-in-Fault-clause-bound : goal.returns-in-Fault-clause-bound
+returns-in-Fault-clause-bound g c =
+    at_most c.args.objects.now.items c.args.space c.args.address c.args.kind _ _ (c.told.ensures.counted ∙ (ends_in c.args.objects.now.items c.args.space c.way.cap c.args.address c.args.kind c.way.left c.way.at c.way.trail.items c.args.fetches.now c.way.fetches c.in-Fault.code c.in-Fault.handler (omega arith) c.in-Fault.ensures.value c.way.invariant.way).counted)
 
 pub returns : goal.returns
 returns g c =
@@ -59,7 +74,7 @@ returns g c =
     let ends = on_way-end (map_of o) (meaning o c.args.space) c.args.address c.args.kind (bare c.way.cap) c.way.at c.way.trail.items c.args.fetches.now c.way.fetches
     c.way.left none c.way.invariant.way in
     let err : WalkFault → Result Place WalkFault = λ f. Err f in
-    record { value = ap err c.told-2.ensures.value ∙ sym ends.faulted; place = tt; offset = tt; handler = c.told-2.ensures.handler; noted = tt; emptied = c.clear-2.ensures; counted = c.told-2.ensures.counted ∙ ends.counted; bound = omega (arith, c.told-2.ensures.most, c.way.invariant.most) }
+    record { value = ap err c.told-2.ensures.value ∙ sym ends.faulted; place = tt; offset = tt; handler = c.told-2.ensures.handler; noted = tt; emptied = c.clear-2.ensures; counted = c.told-2.ensures.counted ∙ ends.counted; bound = at_most o c.args.space c.args.address c.args.kind _ _ (c.told-2.ensures.counted ∙ ends.counted) }
 
 pub way-preserved : goal.way-preserved
 way-preserved g c =
@@ -77,9 +92,8 @@ way-preserved g c =
       | inr none ↦ on_way-unread (map_of o) (meaning o c.args.space) c.args.address c.args.kind left next (bare c.read_next-cap.result) c.in-Go.next reads c.args.fetches.now (c.way.fetches + read_cost left) (omega arith) way
     ] in
     record {
-      way = rw (c.push.ensures.items, c.note_header.ensures.value, c.noted.ensures, c.read_next-cap.ensures.counted) read;
+      way = rw (c.note_slot.ensures.value, c.note_header.ensures.value, c.read_next-cap.ensures.counted) read;
       live = c.read_next-cap.ensures.is_live;
       at = c.in-Go.ensures.below.0;
-      room = omega (arith, c.push.ensures.len, c.note_header.ensures.room, c.way.invariant.room);
-      most = omega (arith, c.read_next-cap.ensures.most, c.way.invariant.most);
+      room = omega (arith, c.note_slot.ensures.room, c.note_header.ensures.room, c.way.invariant.room);
     }

@@ -14,7 +14,6 @@ invariant-way g l = record {
   live : is_live l.objects.items l.cap ≡ true;
   at : IsAt (size_of l.objects.items Gpt) l.at;
   room : array_vec_len l.trail + 2 * l.left ≤ 64;
-  most : l.fetches + l.left ≤ l.fn.fetches + 32;
 }
 
 abbrev pub decreases-way : goal.decreases-way

@@ -1,4 +1,4 @@
-use Rattle.walk_meaning.specs.Blocks.{block_law}
+use Rattle.walk_meaning.proofs.BlockLaw.{block_law}
 use Rattle.walk_meaning.proofs.laws.block_law.Goals as goal
 
 pub returns : goal.returns

@@ -1,4 +1,4 @@
-use Rattle.walk_meaning.specs.Frame.{frame_law}
+use Rattle.walk_meaning.proofs.FrameLaw.{frame_law}
 use Rattle.walk_meaning.proofs.laws.frame_law.Goals as goal
 
 pub returns : goal.returns

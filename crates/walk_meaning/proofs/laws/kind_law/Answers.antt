@@ -1,4 +1,4 @@
-use Rattle.walk_meaning.specs.Kinds.{kind_law}
+use Rattle.walk_meaning.proofs.KindLaw.{kind_law}
 use Rattle.walk_meaning.proofs.laws.kind_law.Goals as goal
 
 pub returns : goal.returns

@@ -1,4 +1,4 @@
-use Rattle.walk_meaning.specs.Pages.{page_law}
+use Rattle.walk_meaning.proofs.PageLaw.{page_law}
 use Rattle.walk_meaning.proofs.laws.page_law.Goals as goal
 
 pub returns : goal.returns

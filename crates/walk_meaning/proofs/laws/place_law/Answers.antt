@@ -1,4 +1,4 @@
-use Rattle.walk_meaning.specs.Places.{place_law}
+use Rattle.walk_meaning.proofs.PlaceLaw.{place_law}
 use Rattle.walk_meaning.proofs.laws.place_law.Goals as goal
 
 pub returns : goal.returns

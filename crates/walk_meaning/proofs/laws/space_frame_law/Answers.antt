@@ -1,4 +1,4 @@
-use Rattle.walk_meaning.specs.Frame.{space_frame_law}
+use Rattle.walk_meaning.proofs.FrameLaw.{space_frame_law}
 use Rattle.walk_meaning.proofs.laws.space_frame_law.Goals as goal
 
 pub returns : goal.returns

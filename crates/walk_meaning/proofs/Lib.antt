@@ -1,0 +1,13 @@
+pub mod Walked
+pub mod Ways
+pub mod Ends
+pub mod StepBounds
+pub mod Alike
+pub mod Along
+pub mod FrameLaw
+pub mod PageLaw
+pub mod BlockLaw
+pub mod KindLaw
+pub mod ReadsLaw
+pub mod PlaceLaw
+pub mod SlotsLaw
