@@ -57,6 +57,10 @@ abbrev pub store_map : (Capability → Capability) → Store → Store
 store_map f s = record { harts = s.harts; items = items_map f s.items; contents = contents_map f s.contents }
 
 -- ---- the model's map
+--
+-- The capabilities of the map have count 0, while its objects keep their counts. So a capability of the map is read as it
+-- stands: asked again for its meaning or whether it is live, one to an object whose count has risen would seem dead. Ask
+-- `is_live`, `live` and `meaning` of stored capabilities alone.
 
 -- the items, slot by slot as they mean; the counts of the objects stay, as their ages
 abbrev pub map_of : Items → Items
@@ -66,6 +70,7 @@ map_of o = items_map (meaning o) o
 abbrev pub contents_of : Items → Contents → Contents
 contents_of o c = contents_map (meaning o) c
 
--- all objects as they mean: the map of the model's state
+-- All objects as they mean: the map of the model's state. Its capabilities have no counts, so `meaning` and `live` are not
+-- asked of it (see above).
 abbrev pub state_map : Store → Store
 state_map s = store_map (meaning s.items) s

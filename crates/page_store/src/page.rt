@@ -29,6 +29,13 @@ impl Page {
         Page { bytes: zeros() }
     }
 
+    /// Does nothing: its contract tells callers what every page keeps.
+    pub fn tell_range(&self)
+        ensures { IsPage self.now }
+    {
+        let _bytes = &self.bytes;
+    }
+
     /// Fills `into` with the bytes from offset `at` on.
     pub fn read(&self, at: u16, into: &mut [u8])
         requires { at + length into.old ≤ 4096 }

@@ -46,6 +46,13 @@ impl Process {
         }
     }
 
+    /// Does nothing: its contract tells callers what every process keeps.
+    pub fn tell_range(&self)
+        ensures { IsProcess self.now }
+    {
+        let _pc = self.pc;
+    }
+
     /// The address of the next instruction, a multiple of 4.
     pub fn pc(&self) -> u32
         ensures value { result ≡ self.now.pc }
