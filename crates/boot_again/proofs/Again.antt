@@ -12,7 +12,7 @@ use Rattle.process_objects.specs.State.{IsState}
 use Rattle.process_objects.specs.Process.{ProcessValue, IsProcess, with_state, stopped, empty_process}
 use Rattle.object_store.specs.Store.{Store, sizes_of, size_of, process_at, with_contents}
 use Rattle.object_store.specs.Meaning.{meaning, process_map, state_map}
-use Rattle.object_store.specs.Lists.{map-map}
+use Rattle.object_store.proofs.Lists.{map-map}
 use Rattle.schedules.specs.Standing.{empty_queues}
 use Rattle.kernel_core.specs.State.{State}
 use Rattle.listing_read.specs.CapWord.{IsStated}

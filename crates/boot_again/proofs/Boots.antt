@@ -15,14 +15,14 @@ use Rattle.gpt_objects.specs.Gpt.{GptValue, IsGpt, slot_of, empty_gpt}
 use Rattle.gpt_objects.proofs.Ranges.{IsCapability-slot_of}
 use Rattle.page_store.specs.Page.{empty_page}
 use Rattle.page_store.specs.CapPage.{IsCapPage, cap_at, empty_cappage}
-use Rattle.page_store.specs.Ranges.{IsCapability-cap_at}
+use Rattle.page_store.proofs.Ranges.{IsCapability-cap_at}
 use Rattle.process_objects.specs.Process.{ProcessValue, IsProcess, process_of, with_state, stopped, capreg_of, slot_of as process_slot, empty_process}
-use Rattle.process_objects.specs.Ranges.{IsCapability-capreg_of, IsCapability-slot_of as IsCapability-process_slot}
+use Rattle.process_objects.proofs.Ranges.{IsCapability-capreg_of, IsCapability-slot_of as IsCapability-process_slot}
 use Rattle.endpoint_objects.specs.declared.endpoint.Endpoint.{Endpoint}
 use Rattle.endpoint_objects.specs.Endpoint.{empty_endpoint}
 use Rattle.object_store.specs.Store.{CountsValue, Store, sizes_of, size_of, counts_of, gpt_at, page_at, cappage_at, process_at, endpoint_at, store_of}
 use Rattle.object_store.specs.Meaning.{meaning, gpt_map, process_map, endpoint_map, state_map}
-use Rattle.object_store.specs.Lists.{map-map}
+use Rattle.object_store.proofs.Lists.{map-map}
 use Rattle.listing_read.specs.CapWord.{IsStated}
 use Rattle.listing_read.specs.declared.statement.Statement.{Statement}
 use Rattle.image_builder.specs.Given.{last_given, listed, counted, count_given, byte_given, reg_given, cap_given, slot_given, capreg_given, place_given, final_counts, final_cap, final_page, final_cappage, final_gpt, final_endpoint, final_process, final_objects}

@@ -9,7 +9,7 @@ use Rattle.std.proofs.lemmas.Option.{slice_get-get_or, slice_get_past}
 use Rattle.cap_format.specs.declared.kind.CapKind.{CapKind}
 use Rattle.cap_format.specs.Kind.{number_of}
 use Rattle.cap_format.specs.Capability.{Capability, IsCapability, null}
-use Rattle.cap_format.specs.Ranges.{IsCapability-null}
+use Rattle.cap_format.proofs.Ranges.{IsCapability-null}
 use Rattle.gpt_objects.specs.Header.{IsHeader}
 use Rattle.endpoint_objects.specs.declared.endpoint.Endpoint.{Endpoint}
 use Rattle.object_store.specs.declared.sizes.Sizes.{Sizes}

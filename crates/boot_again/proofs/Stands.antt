@@ -25,8 +25,8 @@ use Rattle.endpoint_objects.specs.declared.endpoint.Endpoint.{Endpoint}
 use Rattle.endpoint_objects.specs.Endpoint.{empty_endpoint}
 use Rattle.object_store.specs.Store.{Store, sizes_of, size_of, count_of, counts_of, gpt_at, page_at, cappage_at, process_at, endpoint_at}
 use Rattle.object_store.specs.Meaning.{is_live, meaning}
-use Rattle.object_store.specs.Live.{meaning_live}
-use Rattle.listing_read.specs.Sizes.{size_in}
+use Rattle.object_store.proofs.Live.{meaning_live}
+use Rattle.object_store.specs.Sizes.{size_in}
 use Rattle.listing_read.specs.CapWord.{IsStated}
 use Rattle.listing_read.specs.declared.statement.Statement.{Statement}
 use Rattle.listing_read.specs.declared.statement.Statement.TheVariants as says

@@ -1,1 +1,3 @@
 mod Words
+pub mod KindNumbers
+pub mod Ranges

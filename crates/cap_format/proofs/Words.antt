@@ -6,8 +6,8 @@ use Rattle.cap_format.specs.declared.kind.CapKind.{CapKind}
 use Rattle.cap_format.specs.Kind.{number_of, is_memory, payload_limit}
 use Rattle.cap_format.specs.Guard.{GuardValue, IsGuard, guard_of}
 use Rattle.cap_format.specs.Capability.{Capability, IsCapability, capability}
-use Rattle.cap_format.specs.Kinds.{kind_of_number, number_small}
-use Rattle.cap_format.specs.Ranges.{limits, matches_small}
+use Rattle.cap_format.proofs.KindNumbers.{kind_of_number, number_small}
+use Rattle.cap_format.proofs.Ranges.{limits, matches_small}
 use Rattle.cap_format.specs.Spelling.{head_of, second_of, guard_number, spelling, type_of, HasNumbers, Spells}
 
 -- the fields in the numbers 0 and 1

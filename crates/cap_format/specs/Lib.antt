@@ -4,7 +4,5 @@ pub mod Guard
 pub mod Capability
 pub mod Weakening
 pub mod Spelling
-pub mod Kinds
-pub mod Ranges
 pub mod Codes
 pub mod Item

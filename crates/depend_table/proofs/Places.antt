@@ -6,7 +6,7 @@ use Rattle.cap_format.specs.declared.kind.CapKind.TheVariants.{Null, Page, CapPa
 use Rattle.cap_format.specs.declared.item.Item.{Item}
 use Rattle.cap_format.specs.declared.item.Item.TheVariants.{Header, Slot}
 use Rattle.cap_format.specs.Kind.{is_object, number_of, object_limit}
-use Rattle.cap_format.specs.Kinds.{kind_of_number, number_small}
+use Rattle.cap_format.proofs.KindNumbers.{kind_of_number, number_small}
 use Rattle.cap_format.specs.Item.{IsItem}
 use Rattle.depend_table.specs.Place.{first_place, place_of}
 

@@ -4,7 +4,7 @@ use Rattle.std.proofs.lemmas.Bool.{cases_lt}
 use Rattle.std.proofs.lemmas.List.{get_or_past, get_or-replicate, length-set, length-replicate}
 use Rattle.std.proofs.lemmas.List.Elements.{All-set, All-replicate}
 use Rattle.cap_format.specs.Capability.{Capability, IsCapability, null}
-use Rattle.cap_format.specs.Ranges.{IsCapability-null, IsCapability-at}
+use Rattle.cap_format.proofs.Ranges.{IsCapability-null, IsCapability-at}
 use Rattle.gpt_objects.specs.Header.{HeaderValue, IsHeader, empty_header}
 use Rattle.gpt_objects.specs.Gpt.{GptValue, IsGpt, slot_of, with_header, with_slot, empty_slots, empty_gpt}
 

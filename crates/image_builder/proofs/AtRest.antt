@@ -9,7 +9,7 @@ use Rattle.process_objects.specs.Process.{ProcessValue, empty_process}
 use Rattle.endpoint_objects.specs.declared.endpoint.Endpoint.{Endpoint as EndpointValue}
 use Rattle.object_store.specs.Store.{CountsValue, Items, Store, size_of, count_of, counts_of, sizes_of}
 use Rattle.object_store.specs.Ahead.{IsBehind, NoneAhead}
-use Rattle.object_store.specs.Lists.{All-at}
+use Rattle.object_store.proofs.Lists.{All-at}
 use Rattle.std.specs.List.{All}
 use Rattle.schedules.specs.Ready.{places_due}
 use Rattle.listing_read.specs.Statement.{ListingValue}

@@ -8,7 +8,7 @@ use Rattle.std.proofs.lemmas.List.Sums.{fold-append}
 use Rattle.process_objects.specs.Process.{ProcessValue, empty_process}
 use Rattle.object_store.specs.Store.{Store, process_at}
 use Rattle.object_store.specs.Meaning.{state_map}
-use Rattle.object_store.specs.Means.{process_at-state_map}
+use Rattle.object_store.proofs.Means.{process_at-state_map}
 use Rattle.schedules.specs.Ready.{places_due}
 use Rattle.kernel_core.specs.Machine.{MachineValue}
 use Rattle.kernel_core.specs.State.{State, state_of, process}

@@ -5,7 +5,7 @@ use Rattle.cap_format.specs.declared.kind.CapKind.TheVariants.{Entry}
 use Rattle.cap_format.specs.Capability.{Capability, bare}
 use Rattle.object_store.specs.Store.{Items, Store}
 use Rattle.object_store.specs.Meaning.{live, meaning}
-use Rattle.object_store.specs.Live.{bare-live}
+use Rattle.object_store.proofs.Live.{bare-live}
 use Rattle.invocation.specs.declared.callee.Callee.{Callee}
 use Rattle.invocation.specs.declared.callee.Callee.TheVariants.{Kernel}
 use Rattle.invocation.specs.Answerer.{Answer, answered, answerer, entered}

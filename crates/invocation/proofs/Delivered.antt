@@ -10,10 +10,10 @@ use Rattle.endpoint_objects.specs.declared.endpoint.Endpoint.{Endpoint as Endpoi
 use Rattle.endpoint_objects.specs.Endpoint.{raised}
 use Rattle.object_store.specs.Store.{Store, process_at, endpoint_at, with_process}
 use Rattle.object_store.specs.Meaning.{meaning, process_map, endpoint_map, state_map}
-use Rattle.object_store.specs.Means.{process_at-state_map, state_map-with_process}
+use Rattle.object_store.proofs.Means.{process_at-state_map, state_map-with_process}
 use Rattle.object_store.specs.Ahead.{IsBehind, NoneAhead}
-use Rattle.object_store.specs.Each.{capregs-each, process_slots-each}
-use Rattle.object_store.specs.Behind.{NoneAhead-with_process}
+use Rattle.object_store.proofs.Each.{capregs-each, process_slots-each}
+use Rattle.object_store.proofs.Behind.{NoneAhead-with_process}
 use Rattle.object_store.proofs.Writes.{id_means, put_endpoint}
 use Rattle.object_store.proofs.WritesBehind.{null_behind, recipient_behind, put_endpoint_behind}
 use Rattle.invocation.specs.declared.message.Message.{Message}

@@ -6,8 +6,8 @@ use Rattle.cap_format.specs.Capability.{Capability}
 use Rattle.endpoint_objects.specs.declared.endpoint.Endpoint.{Endpoint as EndpointValue}
 use Rattle.object_store.specs.Store.{Store, process_at, endpoint_at}
 use Rattle.object_store.specs.Meaning.{live, state_map}
-use Rattle.object_store.specs.Means.{endpoint_at-state_map}
-use Rattle.object_store.specs.Live.{bare-live}
+use Rattle.object_store.proofs.Means.{endpoint_at-state_map}
+use Rattle.object_store.proofs.Live.{bare-live}
 use Rattle.object_store.proofs.Writes.{state_means, id_means}
 use Rattle.invocation.specs.Answerer.{answered_by, asked, refuses, entered}
 use Rattle.invocation.specs.Answerer.Answer.{Dead}

@@ -6,8 +6,8 @@ use Rattle.std.proofs.lemmas.List.{drop_more, drop_all}
 use Rattle.std.proofs.lemmas.List.Elements.{All-tail}
 use Rattle.cap_format.specs.Capability.{Capability, null}
 use Rattle.object_store.specs.Meaning.{process_map}
-use Rattle.object_store.specs.Means.{process_map-with_capreg}
-use Rattle.object_store.specs.Each.{capreg_set-each}
+use Rattle.object_store.proofs.Means.{process_map-with_capreg}
+use Rattle.object_store.proofs.Each.{capreg_set-each}
 use Rattle.process_objects.specs.Process.{ProcessValue, with_capreg}
 use Rattle.invocation.specs.Delivery.{given}
 

@@ -6,7 +6,7 @@ use Rattle.process_objects.specs.Process.{ProcessValue, slot_of, capreg_of, with
 use Rattle.process_objects.specs.declared.state.State.{State as RunState}
 use Rattle.object_store.specs.Store.{Store, with_process, process_at}
 use Rattle.object_store.specs.Meaning.{meaning, process_map, state_map}
-use Rattle.object_store.specs.Means.{process_at-state_map, process_slot-process_map, capreg_of-process_map, process_map-with_capreg, state_map-with_process}
+use Rattle.object_store.proofs.Means.{process_at-state_map, process_slot-process_map, capreg_of-process_map, process_map-with_capreg, state_map-with_process}
 use Rattle.schedules.specs.Queues.{QueuesValue}
 use Rattle.schedules.specs.Ready.{runs_of, with_processes, schedule_of, readied, readied_process}
 use Rattle.kernel_core.specs.State.{State}

@@ -8,10 +8,10 @@ use Rattle.cap_format.specs.declared.kind.CapKind.TheVariants.{Process}
 use Rattle.process_objects.specs.Process.{ProcessValue, with_capreg, capreg_of, empty_process}
 use Rattle.object_store.specs.Store.{Store, with_process, with_page, process_at, size_of}
 use Rattle.object_store.specs.Ahead.{IsBehind, NoneAhead}
-use Rattle.object_store.specs.Live.{IsBehind-null}
-use Rattle.object_store.specs.Lists.{get_or-set}
-use Rattle.object_store.specs.Each.{capregs-each, process_slots-each, capreg_of-each, capreg_set-each}
-use Rattle.object_store.specs.Behind.{NoneAhead-with_process, NoneAhead-with_page}
+use Rattle.object_store.proofs.Live.{IsBehind-null}
+use Rattle.object_store.proofs.Lists.{get_or-set}
+use Rattle.object_store.proofs.Each.{capregs-each, process_slots-each, capreg_of-each, capreg_set-each}
+use Rattle.object_store.proofs.Behind.{NoneAhead-with_process, NoneAhead-with_page}
 use Rattle.schedules.specs.Queues.{QueuesValue}
 use Rattle.schedules.specs.Standing.{standing, times_in, times_on, empty_queues}
 use Rattle.schedules.specs.Ready.{runs, runs_of, places_due, Agrees, AgreesBut}

@@ -1,7 +1,7 @@
 -- That what a capability word gives is what its tests say.
 use Rattle.std.proofs.Common.{◌≡◌, ◌<◌, ◌-◌, ◌^◌, ◌%◌, ◌==◌, not, ◌||◌, true, false, refl, sym, Bool}
 use Rattle.std.proofs.lemmas.Bool.{le-leb, lt-ltb, eqb-true, true≢false}
-use Rattle.cap_format.specs.Ranges.{limits}
+use Rattle.cap_format.proofs.Ranges.{limits}
 use Rattle.cap_format.specs.Kind.{is_window, object_limit}
 use Rattle.cap_format.specs.Guard.{IsGuard, guard_of}
 use Rattle.cap_format.specs.Capability.{IsCapability}

@@ -5,7 +5,7 @@ use Rattle.cap_format.specs.Kind.{is_counted, is_memory, is_window, object_kind,
 use Rattle.cap_format.specs.Guard.{guard_of, no_guard}
 use Rattle.cap_format.specs.Capability.{Capability, capability}
 use Rattle.object_store.specs.declared.sizes.Sizes.{Sizes}
-use Rattle.listing_read.specs.Sizes.{size_in}
+use Rattle.object_store.specs.Sizes.{size_in}
 use Rattle.listing_read.specs.Faults.{◌>>=◌, ensured}
 use Rattle.listing_read.specs.Spelling.{spelled_of}
 use Rattle.listing_read.specs.declared.fault.Fault.{Fault}

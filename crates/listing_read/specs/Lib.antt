@@ -1,4 +1,3 @@
-pub mod Sizes
 pub mod Faults
 pub mod Fields
 pub mod Line

@@ -7,7 +7,7 @@ use Rattle.cap_format.specs.declared.kind.CapKind.TheVariants as kinds
 use Rattle.object_store.specs.Ranges.{IsWithinLimits}
 use Rattle.object_store.specs.declared.sizes.Sizes.{Sizes}
 use Rattle.rv32_decode.specs.InRange.{InRange}
-use Rattle.listing_read.specs.Sizes.{size_in}
+use Rattle.object_store.specs.Sizes.{size_in}
 use Rattle.listing_read.specs.CapWord.{IsStated}
 use Rattle.listing_read.specs.declared.statement.Statement.{Statement}
 use Rattle.listing_read.specs.declared.statement.Statement.TheVariants.{Page, Code, CapSlot, Gpt, GptSlot, Endpoint, Process, Reg, CapReg, Count}

@@ -8,7 +8,7 @@ use Rattle.object_store.specs.declared.sizes.Sizes.{Sizes}
 use Rattle.rv32_decode.specs.declared.insn.Insn.{Insn}
 use Rattle.rv32_asm.specs.Assembly.{insn_of}
 use Rattle.rv32_asm.specs.declared.assembly.AsmFault.{AsmFault}
-use Rattle.listing_read.specs.Sizes.{size_in}
+use Rattle.object_store.specs.Sizes.{size_in}
 use Rattle.listing_read.specs.Faults.{◌>>=◌, ensured}
 use Rattle.listing_read.specs.Fields.{field, hex_number_of, object_of, between_of, hex_to, aligned_to, either_of}
 use Rattle.listing_read.specs.Bytes.{bytes_of}

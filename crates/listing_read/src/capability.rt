@@ -4,7 +4,7 @@ ghost use Rattle.cap_format.specs.Kind.{is_counted, object_kind, object_limit};
 ghost use Rattle.cap_format.specs.Guard.{guard_of};
 ghost use Rattle.listing_read.specs.declared.fault.Fault.TheVariants.{NoObject, BadGuard};
 ghost use Rattle.object_store.specs.Ranges.{IsWithinLimits};
-ghost use Rattle.listing_read.specs.Sizes.{size_in};
+ghost use Rattle.object_store.specs.Sizes.{size_in};
 ghost use Rattle.listing_read.specs.Faults.{ensured};
 ghost use Rattle.listing_read.specs.CapWord.{is_there, has_guard, is_aligned, meant, cap_of, IsSpelled, IsStated};
 

@@ -33,7 +33,7 @@ pub(crate) fn cap_page(objects: &mut Objects, cap: Cap, request: Request) -> Rep
 }
 
 /// All slots become Null.
-#[tactic(auto, using(object_store::specs::Live::live_cappage), unfolding(operations::specs::Memory::clear_cappage_row))]
+#[tactic(auto, using(object_store::proofs::Live::live_cappage), unfolding(operations::specs::Memory::clear_cappage_row))]
 fn clear(objects: &mut Objects, cap: Cap) -> Reply
     requires kind { cap.kind ≡ CapPage }
     requires live { is_live objects.old.items cap ≡ true }
@@ -49,7 +49,7 @@ fn clear(objects: &mut Objects, cap: Cap) -> Reply
 }
 
 /// The capability of a slot, weakened where it is read through WK.
-#[tactic(auto, using(object_store::specs::Live::live_cappage), unfolding(operations::specs::Memory::get_row))]
+#[tactic(auto, using(object_store::proofs::Live::live_cappage), unfolding(operations::specs::Memory::get_row))]
 fn get(objects: &Objects, cap: Cap, request: Request) -> Reply
     requires kind { cap.kind ≡ CapPage }
     requires live { is_live objects.now.items cap ≡ true }
@@ -65,7 +65,7 @@ fn get(objects: &Objects, cap: Cap, request: Request) -> Reply
 }
 
 /// A slot becomes what was sent.
-#[tactic(auto, using(object_store::specs::Live::live_cappage), unfolding(operations::specs::Memory::set_row))]
+#[tactic(auto, using(object_store::proofs::Live::live_cappage), unfolding(operations::specs::Memory::set_row))]
 fn set(objects: &mut Objects, cap: Cap, request: Request) -> Reply
     requires kind { cap.kind ≡ CapPage }
     requires live { is_live objects.old.items cap ≡ true }

@@ -53,7 +53,7 @@ fn is_fixed(cap: Cap) -> bool
 }
 
 /// The capability of a slot, weakened where it is read through WK.
-#[tactic(auto, using(object_store::specs::Live::live_gpt), unfolding(operations::specs::Memory::getslot_row))]
+#[tactic(auto, using(object_store::proofs::Live::live_gpt), unfolding(operations::specs::Memory::getslot_row))]
 fn get_slot<L: Ledger>(
     objects: &Objects,
     cap: Cap,
@@ -78,7 +78,7 @@ fn get_slot<L: Ledger>(
 }
 
 /// A slot becomes what was sent.
-#[tactic(auto, using(object_store::specs::Live::live_gpt), unfolding(operations::specs::Memory::setslot_row))]
+#[tactic(auto, using(object_store::proofs::Live::live_gpt), unfolding(operations::specs::Memory::setslot_row))]
 fn set_slot(objects: &mut Objects, cap: Cap, request: Request) -> Reply
     requires kind { cap.kind ≡ Gpt }
     requires live { is_live objects.old.items cap ≡ true }
@@ -97,7 +97,7 @@ fn set_slot(objects: &mut Objects, cap: Cap, request: Request) -> Reply
 }
 
 /// The header.
-#[tactic(auto, using(object_store::specs::Live::live_gpt), unfolding(operations::specs::Memory::getheader_row))]
+#[tactic(auto, using(object_store::proofs::Live::live_gpt), unfolding(operations::specs::Memory::getheader_row))]
 fn get_header(objects: &Objects, cap: Cap) -> Reply
     requires kind { cap.kind ≡ Gpt }
     requires live { is_live objects.now.items cap ≡ true }
@@ -113,7 +113,7 @@ fn get_header(objects: &Objects, cap: Cap) -> Reply
 }
 
 /// The header becomes that of two words.
-#[tactic(auto, using(object_store::specs::Live::live_gpt), unfolding(operations::specs::Memory::setheader_row))]
+#[tactic(auto, using(object_store::proofs::Live::live_gpt), unfolding(operations::specs::Memory::setheader_row))]
 fn set_header(objects: &mut Objects, cap: Cap, request: Request) -> Reply
     requires kind { cap.kind ≡ Gpt }
     requires live { is_live objects.old.items cap ≡ true }
@@ -134,7 +134,7 @@ fn set_header(objects: &mut Objects, cap: Cap, request: Request) -> Reply
 }
 
 /// A slot becomes the window that three words hold.
-#[tactic(auto, using(object_store::specs::Live::live_gpt), unfolding(operations::specs::Memory::setwindow_row))]
+#[tactic(auto, using(object_store::proofs::Live::live_gpt), unfolding(operations::specs::Memory::setwindow_row))]
 fn set_window(objects: &mut Objects, cap: Cap, request: Request) -> Reply
     requires kind { cap.kind ≡ Gpt }
     requires live { is_live objects.old.items cap ≡ true }

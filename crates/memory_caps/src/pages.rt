@@ -34,7 +34,7 @@ pub(crate) fn page(objects: &mut Objects, cap: Cap, request: Request) -> Reply
 }
 
 /// The page becomes zeros.
-#[tactic(auto, using(object_store::specs::Live::live_page), unfolding(operations::specs::Memory::clear_page_row))]
+#[tactic(auto, using(object_store::proofs::Live::live_page), unfolding(operations::specs::Memory::clear_page_row))]
 fn clear(objects: &mut Objects, cap: Cap) -> Reply
     requires kind { cap.kind ≡ Page }
     requires live { is_live objects.old.items cap ≡ true }
@@ -50,7 +50,7 @@ fn clear(objects: &mut Objects, cap: Cap) -> Reply
 }
 
 /// The page becomes the page that was sent.
-#[tactic(auto, using(object_store::specs::Live::live_page), unfolding(operations::specs::Memory::copy_row))]
+#[tactic(auto, using(object_store::proofs::Live::live_page), unfolding(operations::specs::Memory::copy_row))]
 fn copy(objects: &mut Objects, cap: Cap, request: Request) -> Reply
     requires kind { cap.kind ≡ Page }
     requires live { is_live objects.old.items cap ≡ true }

@@ -1,5 +1,14 @@
+pub mod Lists
+pub mod Means
 pub mod Writes
-pub mod WritesBehind
+pub mod Live
 pub mod Made
+pub mod Each
+pub mod Behind
+pub mod WritesBehind
+pub mod Counted
+pub mod Destroyed
+pub mod DifferLaws
 pub mod Stays
 pub mod Same
+pub mod Ranged

@@ -10,7 +10,7 @@ use Rattle.cap_format.specs.Weakening.{reduced, weakened}
 use Rattle.object_store.specs.Store.{Items, counts_of, size_of, count_of}
 use Rattle.object_store.specs.Meaning.{is_current, is_live, live, meaning}
 use Rattle.object_store.specs.Ahead.{IsBehind}
-use Rattle.object_store.specs.Live.{meaning_live, meaning-weakened, IsBehind-is_live, IsBehind-weakened}
+use Rattle.object_store.proofs.Live.{meaning_live, meaning-weakened, IsBehind-is_live, IsBehind-weakened}
 
 -- ---- of another capability
 

@@ -13,6 +13,7 @@ use Rattle.endpoint_objects.specs.declared.endpoint.Endpoint.{Endpoint as Endpoi
 use Rattle.endpoint_objects.specs.Endpoint.{empty_endpoint}
 use Rattle.object_store.specs.declared.sizes.Sizes.{Sizes}
 use Rattle.object_store.specs.Store.{Store, counts_by_kind, store_of, size_of, count_of, gpt_at, page_at, cappage_at, process_at, endpoint_at, sizes_of}
+use Rattle.object_store.specs.Sizes.{size_in}
 use Rattle.object_store.specs.Ranges.{IsStore}
 use Rattle.object_store.specs.Object.{ObjectValue, object_at, with_object, SameObject, IsEven}
 use Rattle.object_store.specs.Object.ObjectValue.{OfPage, OfCapPage, OfGpt, OfProcess, OfEndpoint, OfNone}
@@ -102,6 +103,15 @@ same_stores s t even even_too sizes same =
 
     endpoints : length s.items.counts.endpoints ≡ length t.items.counts.endpoints
     endpoints = ap (λ (z : Sizes). z.endpoints) sizes
+
+-- the sizes of a store, by kind
+pub size_in_store : (s : Store) (kind : CapKind) → size_in (sizes_of s) kind ≡ size_of s.items kind
+size_in_store s Page = refl
+size_in_store s CapPage = refl
+size_in_store s Gpt = refl
+size_in_store s Process = refl
+size_in_store s Endpoint = refl
+size_in_store s kind = refl
 
 -- ---- an object put in another's place
 

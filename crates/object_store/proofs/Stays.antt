@@ -16,7 +16,7 @@ use Rattle.endpoint_objects.specs.Endpoint.{empty_endpoint}
 use Rattle.object_store.specs.Store.{Store, count_of, gpt_at, process_at, set_gpt, set_slot, set_header, with_items, with_contents, with_page, with_cappage, with_process, with_endpoint, emptied}
 use Rattle.object_store.specs.Object.{ObjectName, object_name, SameObject, IsAmong, Stays}
 use Rattle.object_store.specs.Object.ObjectValue.{OfPage, OfCapPage, OfGpt, OfProcess, OfEndpoint}
-use Rattle.object_store.specs.Lists.{get_or-set}
+use Rattle.object_store.proofs.Lists.{get_or-set}
 
 -- ---- no write, one write after the other
 

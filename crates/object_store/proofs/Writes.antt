@@ -10,7 +10,7 @@ use Rattle.endpoint_objects.specs.declared.endpoint.Endpoint.{Endpoint as Endpoi
 use Rattle.endpoint_objects.specs.Endpoint.{raised}
 use Rattle.object_store.specs.Store.{Store, header_at, slot_at, page_at, cappage_at, process_at, endpoint_at, set_slot, set_header, with_items, with_page, with_cappage, with_process, with_endpoint}
 use Rattle.object_store.specs.Meaning.{meaning, process_map, endpoint_map, state_map}
-use Rattle.object_store.specs.Means.{header_at-map_of, slot_at-map_of, cappage_at-state_map, process_at-state_map, endpoint_at-state_map, cap_at-map, capreg_of-process_map, process_slot-process_map, process_map-with_capreg, process_map-with_slot, state_map-set_slot, state_map-set_header, state_map-with_cappage, state_map-with_process, state_map-with_endpoint, cappage_map-empty}
+use Rattle.object_store.proofs.Means.{header_at-map_of, slot_at-map_of, cappage_at-state_map, process_at-state_map, endpoint_at-state_map, cap_at-map, capreg_of-process_map, process_slot-process_map, process_map-with_capreg, process_map-with_slot, state_map-set_slot, state_map-set_header, state_map-with_cappage, state_map-with_process, state_map-with_endpoint, cappage_map-empty}
 
 -- ---- what is read
 

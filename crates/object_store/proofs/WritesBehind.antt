@@ -11,9 +11,9 @@ use Rattle.endpoint_objects.specs.declared.endpoint.Endpoint.{Endpoint as Endpoi
 use Rattle.endpoint_objects.specs.Endpoint.{raised}
 use Rattle.object_store.specs.Store.{Store, slot_at, cappage_at, process_at, endpoint_at, set_slot, set_header, with_items, with_page, with_cappage, with_process, with_endpoint}
 use Rattle.object_store.specs.Ahead.{IsBehind, NoneAhead}
-use Rattle.object_store.specs.Live.{IsBehind-null}
-use Rattle.object_store.specs.Each.{slot_at-each, cappage_at-each, cap_at-each, capregs-each, capreg_of-each, capreg_set-each, process_slots-each, process_slot-each, recipient-each, empty_cappage-each}
-use Rattle.object_store.specs.Behind.{NoneAhead-set_slot, NoneAhead-set_header, NoneAhead-with_page, NoneAhead-with_cappage, NoneAhead-with_process, NoneAhead-with_endpoint}
+use Rattle.object_store.proofs.Live.{IsBehind-null}
+use Rattle.object_store.proofs.Each.{slot_at-each, cappage_at-each, cap_at-each, capregs-each, capreg_of-each, capreg_set-each, process_slots-each, process_slot-each, recipient-each, empty_cappage-each}
+use Rattle.object_store.proofs.Behind.{NoneAhead-set_slot, NoneAhead-set_header, NoneAhead-with_page, NoneAhead-with_cappage, NoneAhead-with_process, NoneAhead-with_endpoint}
 
 -- Null is not ahead
 pub null_behind : (s : Store) → IsBehind s.items null

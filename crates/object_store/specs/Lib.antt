@@ -1,3 +1,4 @@
+pub mod Sizes
 pub mod Store
 pub mod Meaning
 pub mod Ranges
@@ -7,12 +8,3 @@ pub mod Destruction
 pub mod Object
 pub mod Laws
 pub mod Lending
-pub mod Lists
-pub mod Means
-pub mod Live
-pub mod Ranged
-pub mod Counted
-pub mod Differs
-pub mod Each
-pub mod Destroyed
-pub mod Behind

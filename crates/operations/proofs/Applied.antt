@@ -6,10 +6,10 @@ use Rattle.cap_format.specs.Capability.{Capability}
 use Rattle.object_store.specs.Store.{Store, Items, size_of}
 use Rattle.object_store.specs.Meaning.{meaning, map_of, state_map}
 use Rattle.object_store.specs.Ahead.{IsBehind, NoneAhead}
-use Rattle.object_store.specs.Behind.{NoneAhead-with_cappage, NoneAhead-with_process}
-use Rattle.object_store.specs.Destroyed.{state_map-emptied, NoneAhead-emptied}
-use Rattle.object_store.specs.Differs.{DifferIn-slot_meaning, DifferIn-header_meaning, DifferIn-emptied}
-use Rattle.object_store.specs.Means.{state_map-with_cappage, state_map-with_process, state_map-with_endpoint}
+use Rattle.object_store.proofs.Behind.{NoneAhead-with_cappage, NoneAhead-with_process}
+use Rattle.object_store.proofs.Destroyed.{state_map-emptied, NoneAhead-emptied}
+use Rattle.object_store.proofs.DifferLaws.{DifferIn-slot_meaning, DifferIn-header_meaning, DifferIn-emptied}
+use Rattle.object_store.proofs.Means.{state_map-with_cappage, state_map-with_process, state_map-with_endpoint}
 use Rattle.object_store.specs.Object.{ObjectName, Stays}
 use Rattle.object_store.proofs.Stays.{stays_same, stays_both, stays_page, stays_cappage, stays_slot, stays_header, stays_endpoint, stays_process, stays_emptied}
 use Rattle.object_store.proofs.Writes.{put_gpt_slot, put_header}

@@ -15,9 +15,9 @@ use Rattle.page_store.specs.CapPage.{cap_at, with_cap, empty_cappage}
 use Rattle.object_store.specs.Store.{Store, Items, header_at, slot_at, cappage_at}
 use Rattle.object_store.specs.Meaning.{is_live, meaning, state_map}
 use Rattle.object_store.specs.Ahead.{IsBehind, NoneAhead}
-use Rattle.object_store.specs.Live.{meaning_live, IsBehind-is_live, IsBehind-zero}
-use Rattle.object_store.specs.Means.{cappage_map-empty, cappage_at-state_map}
-use Rattle.object_store.specs.Each.{empty_cappage-each}
+use Rattle.object_store.proofs.Live.{meaning_live, IsBehind-is_live, IsBehind-zero}
+use Rattle.object_store.proofs.Means.{cappage_map-empty, cappage_at-state_map}
+use Rattle.object_store.proofs.Each.{empty_cappage-each}
 use Rattle.object_store.proofs.Made.{meaning_reduced, meaning_guarded, meaning_weakened, meaning_uncounted, behind_weakened}
 use Rattle.object_store.proofs.Writes.{header_means, gpt_slot_means, cap_means}
 use Rattle.object_store.proofs.WritesBehind.{null_behind, gpt_slot_behind, cap_behind, cappage_behind}

@@ -1,4 +1,3 @@
 pub mod Accept
 pub mod State
 pub mod Process
-pub mod Ranges

@@ -9,7 +9,7 @@ use Rattle.cap_format.specs.declared.kind.CapKind.TheVariants.{Page, CapPage, Gp
 use Rattle.cap_format.specs.Kind.{is_object}
 use Rattle.object_store.specs.Ranges.{IsWithinLimits}
 use Rattle.object_store.specs.declared.sizes.Sizes.{Sizes}
-use Rattle.listing_read.specs.Sizes.{size_in}
+use Rattle.object_store.specs.Sizes.{size_in}
 use Rattle.listing_read.specs.Fields.{hex_number_of, object_of, between_of}
 use Rattle.listing_read.specs.StatementLines.{kind_of, hex_bytes_of}
 use Rattle.listing_read.specs.Spelling.{◌>>=◌}

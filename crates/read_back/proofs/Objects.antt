@@ -16,16 +16,16 @@ use Rattle.gpt_objects.specs.Gpt.{IsGpt, slot_of, empty_gpt}
 use Rattle.gpt_objects.proofs.Ranges.{IsCapability-slot_of}
 use Rattle.page_store.specs.Page.{IsPage, bytes_at, empty_page}
 use Rattle.page_store.specs.CapPage.{IsCapPage, cap_at, empty_cappage}
-use Rattle.page_store.specs.Ranges.{IsCapability-cap_at}
+use Rattle.page_store.proofs.Ranges.{IsCapability-cap_at}
 use Rattle.process_objects.specs.Process.{ProcessValue, IsProcess, reg_of, capreg_of, slot_of as process_slot, empty_process}
-use Rattle.process_objects.specs.Ranges.{IsCapability-capreg_of}
+use Rattle.process_objects.proofs.Ranges.{IsCapability-capreg_of}
 use Rattle.endpoint_objects.specs.declared.endpoint.Endpoint.{Endpoint}
 use Rattle.endpoint_objects.specs.Endpoint.{empty_endpoint}
 use Rattle.object_store.specs.declared.sizes.Sizes.{Sizes}
 use Rattle.object_store.specs.Store.{Store, sizes_of, size_of, count_of, counts_of, gpt_at, page_at, cappage_at, process_at, endpoint_at}
 use Rattle.object_store.specs.Ranges.{IsWithinLimits}
-use Rattle.object_store.specs.Lists.{All-at}
-use Rattle.listing_read.specs.Sizes.{size_in}
+use Rattle.object_store.proofs.Lists.{All-at}
+use Rattle.object_store.specs.Sizes.{size_in}
 use Rattle.listing_read.specs.CapWord.{IsStated}
 use Rattle.listing_read.specs.Statement.{is_recipient}
 use Rattle.listing_read.specs.declared.statement.Statement.TheVariants as says

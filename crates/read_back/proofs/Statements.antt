@@ -12,10 +12,10 @@ use Rattle.cap_format.specs.declared.fault.FaultCode.TheVariants.{Stopped}
 use Rattle.process_objects.specs.declared.state.State.{State}
 use Rattle.process_objects.specs.declared.state.State.TheVariants.{Running, Faulted}
 use Rattle.process_objects.specs.Process.{slot_of}
-use Rattle.process_objects.specs.Ranges.{IsCapability-slot_of}
+use Rattle.process_objects.proofs.Ranges.{IsCapability-slot_of}
 use Rattle.object_store.specs.Ranges.{IsWithinLimits}
 use Rattle.object_store.specs.declared.sizes.Sizes.{Sizes}
-use Rattle.listing_read.specs.Sizes.{size_in}
+use Rattle.object_store.specs.Sizes.{size_in}
 use Rattle.listing_read.specs.Fields.{either_of, hex_to, aligned_to}
 use Rattle.listing_read.specs.StatementLines.{statement_of, count_line, page_line, flags_of, gpt_line, cap_line, slot_line, endpoint_line, process_line, reg_line, capreg_line}
 use Rattle.run_text.specs.Each.{line_feed}

@@ -10,7 +10,7 @@ use Rattle.page_store.specs.CapPage.{cap_at}
 use Rattle.process_objects.specs.Process.{ProcessValue, capreg_of, slot_of as process_slot}
 use Rattle.object_store.specs.Store.{Items, Store, gpt_at, slot_at, cappage_at, process_at, endpoint_at}
 use Rattle.object_store.specs.Meaning.{meaning, process_map, endpoint_map, map_of, state_map}
-use Rattle.object_store.specs.Means.{slot_at-map_of, header_at-map_of, cappage_at-state_map, process_at-state_map, endpoint_at-state_map, cap_at-map, capreg_of-process_map, process_slot-process_map}
+use Rattle.object_store.proofs.Means.{slot_at-map_of, header_at-map_of, cappage_at-state_map, process_at-state_map, endpoint_at-state_map, cap_at-map, capreg_of-process_map, process_slot-process_map}
 use Rattle.run_text.specs.Objects.{is_null}
 
 -- slots of capability pages and GPTs, and headers

@@ -108,7 +108,7 @@ fn push_guard(line: &mut LineBuf, cap: Cap)
 }
 
 /// Appends the match of a guard.
-#[tactic(auto, using(cap_format::specs::Ranges::matches_small))]
+#[tactic(auto, using(cap_format::proofs::Ranges::matches_small))]
 fn push_match(line: &mut LineBuf, guard: Guard)
     requires { length line.old ≤ 1000 }
     ensures text { line.new ≡ line.old ++ codes "/" ++ hex_text 5 guard.matches }

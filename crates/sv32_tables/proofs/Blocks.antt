@@ -4,7 +4,7 @@ use Rattle.std.proofs.Math.Nat.{add-mul, mul-le-mul_right}
 use Rattle.std.proofs.lemmas.Nat.{pow-add}
 use Rattle.std.proofs.lemmas.Bool.Decides.{leb_tells}
 use Rattle.guard_math.specs.Block.{BlockValue, IsBlock, first_page, page_count}
-use Rattle.guard_math.specs.Blocks.{base_of_first_page, pages_of_size, quotient_of_multiple}
+use Rattle.guard_math.proofs.BlockLaws.{base_of_first_page, pages_of_size, quotient_of_multiple}
 
 pub pages_below : (b : BlockValue) → IsBlock b → first_page b + page_count b ≤ 1048576
 pages_below b is =

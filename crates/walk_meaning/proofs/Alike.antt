@@ -5,7 +5,7 @@ use Rattle.std.proofs.Math.Arith.{mod-mul}
 use Rattle.std.proofs.Math.Pow.{mod-mod-pow}
 use Rattle.std.proofs.lemmas.Nat.{pow-add, pow_pos, div-mul-add}
 use Rattle.guard_math.specs.Block.{around, block_of}
-use Rattle.guard_math.specs.Blocks.{quotient_of_multiple}
+use Rattle.guard_math.proofs.BlockLaws.{quotient_of_multiple}
 
 -- the two addresses have the same bits from l on
 abbrev pub Alike : ℕ → ℕ → ℕ → Type 0

@@ -8,10 +8,10 @@ use Rattle.cap_format.specs.Kind.{is_counted, object_kind}
 use Rattle.cap_format.specs.declared.item.Item.TheVariants.{Header}
 use Rattle.std.specs.List.{AllByRecursion as Each}
 use Rattle.guard_math.specs.Block.{BlockValue, covers}
-use Rattle.guard_math.specs.Blocks.{covers-around}
+use Rattle.guard_math.proofs.BlockLaws.{covers-around}
 use Rattle.object_store.specs.Store.{Items, slot_at}
 use Rattle.object_store.specs.Ranges.{IsRanged}
-use Rattle.object_store.specs.Ranged.{IsCapability-slot_at}
+use Rattle.object_store.proofs.Ranged.{IsCapability-slot_at}
 use Rattle.walk_meaning.specs.declared.at.At.{At}
 use Rattle.walk_meaning.specs.declared.kind.Kind.{Kind}
 use Rattle.walk_meaning.specs.declared.noted.Noted.{Noted}

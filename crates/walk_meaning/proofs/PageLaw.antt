@@ -8,7 +8,7 @@ use Rattle.cap_format.specs.declared.item.Item.TheVariants.{Slot}
 use Rattle.guard_math.specs.Pass.{remainder}
 use Rattle.object_store.specs.Store.{Items, slot_at}
 use Rattle.object_store.specs.Ranges.{IsRanged}
-use Rattle.object_store.specs.Ranged.{IsHeader-header_at, IsCapability-slot_at}
+use Rattle.object_store.proofs.Ranged.{IsHeader-header_at, IsCapability-slot_at}
 use Rattle.walk_meaning.specs.declared.at.At.{At}
 use Rattle.walk_meaning.specs.declared.kind.Kind.{Kind}
 use Rattle.walk_meaning.specs.declared.noted.Noted.{Noted}

@@ -7,8 +7,8 @@ use Rattle.cap_format.specs.declared.kind.CapKind.{CapKind}
 use Rattle.cap_format.specs.declared.kind.CapKind.TheVariants.{Page, CapPage}
 use Rattle.object_store.specs.Store.{Items, size_of, slot_at}
 use Rattle.object_store.specs.Meaning.{is_live, meaning, map_of}
-use Rattle.object_store.specs.Means.{slot_at-map_of}
-use Rattle.object_store.specs.Live.{live_page, live_cappage}
+use Rattle.object_store.proofs.Means.{slot_at-map_of}
+use Rattle.object_store.proofs.Live.{live_page, live_cappage}
 use Rattle.walk_meaning.specs.declared.at.At.{At}
 use Rattle.walk_meaning.specs.declared.kind.Kind.{Kind}
 use Rattle.walk_meaning.specs.declared.place.Place.{Place}

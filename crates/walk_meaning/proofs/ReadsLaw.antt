@@ -8,10 +8,10 @@ use Rattle.cap_format.specs.declared.item.Item.TheVariants.{Header}
 use Rattle.cap_format.specs.declared.kind.CapKind.{CapKind}
 use Rattle.cap_format.specs.declared.kind.CapKind.TheVariants.{Page, CapPage, Gpt, Endpoint, Entry, Process}
 use Rattle.guard_math.specs.Block.{IsBlock, around, covers}
-use Rattle.guard_math.specs.Blocks.{IsBlock-around, covers-around_self, holds-page}
+use Rattle.guard_math.proofs.BlockLaws.{IsBlock-around, covers-around_self, holds-page}
 use Rattle.object_store.specs.Store.{Items, slot_at}
 use Rattle.object_store.specs.Ranges.{IsRanged}
-use Rattle.object_store.specs.Ranged.{IsHeader-header_at, IsCapability-slot_at}
+use Rattle.object_store.proofs.Ranged.{IsHeader-header_at, IsCapability-slot_at}
 use Rattle.walk_meaning.specs.declared.at.At.{At}
 use Rattle.walk_meaning.specs.declared.kind.Kind.{Kind}
 use Rattle.walk_meaning.specs.declared.noted.Noted.{Noted}

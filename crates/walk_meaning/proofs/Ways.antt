@@ -10,7 +10,7 @@ use Rattle.gpt_objects.specs.Header.{HeaderValue}
 use Rattle.guard_math.specs.Pass.{passes}
 use Rattle.object_store.specs.Store.{Items, header_at}
 use Rattle.object_store.specs.Meaning.{map_of}
-use Rattle.object_store.specs.Means.{header_at-map_of}
+use Rattle.object_store.proofs.Means.{header_at-map_of}
 use Rattle.walk_meaning.specs.declared.at.At.{At}
 use Rattle.walk_meaning.specs.declared.kind.Kind.{Kind}
 use Rattle.walk_meaning.specs.declared.step.Step.{Step}

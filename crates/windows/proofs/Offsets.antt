@@ -5,7 +5,7 @@ use Rattle.std.proofs.lemmas.Nat.{pow-add, pow_pos}
 use Rattle.cap_format.specs.Kind.{is_window, object_limit}
 use Rattle.cap_format.specs.declared.kind.CapKind.{CapKind}
 use Rattle.cap_format.specs.declared.kind.CapKind.TheVariants.{Window, LocalWindow}
-use Rattle.guard_math.specs.Blocks.{quotient_of_multiple}
+use Rattle.guard_math.proofs.BlockLaws.{quotient_of_multiple}
 
 -- an offset is any address
 pub window_limit : (kind : CapKind) → is_window kind ≡ true → object_limit kind ≡ 2 ^ 32

@@ -1,5 +1,5 @@
 use Rattle.std.proofs.Common.{arith}
-use Rattle.cap_format.specs.Ranges.{matches_small}
+use Rattle.cap_format.proofs.Ranges.{matches_small}
 use Rattle.cap_format.proofs.codec.guard_word.Goals as goal
 
 pub overflow_mul-result : goal.overflow_mul-result

@@ -1,6 +1,6 @@
 use Rattle.std.proofs.Common.{refl, sym, ◌∙◌}
 use Rattle.cap_format.specs.Spelling.{spelling}
-use Rattle.cap_format.specs.Kinds.{kind_of_number}
+use Rattle.cap_format.proofs.KindNumbers.{kind_of_number}
 use Rattle.cap_format.proofs.Words.{words_of, same_numbers}
 use Rattle.cap_format.proofs.codec.spellings_differ.Goals as goal
 

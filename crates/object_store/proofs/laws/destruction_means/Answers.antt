@@ -1,4 +1,4 @@
-use Rattle.object_store.specs.Destroyed.{state_map-emptied, destruction-forgets}
+use Rattle.object_store.proofs.Destroyed.{state_map-emptied, destruction-forgets}
 use Rattle.object_store.proofs.laws.destruction_means.Goals as goal
 
 pub returns : goal.returns

@@ -1,5 +1,5 @@
 use Rattle.std.proofs.Common.{refl}
-use Rattle.object_store.specs.Differs.{DifferIn-symmetric, DifferIn-slot_meaning, DifferIn-header_meaning, DifferIn-set_count, DifferIn-emptied}
+use Rattle.object_store.proofs.DifferLaws.{DifferIn-symmetric, DifferIn-slot_meaning, DifferIn-header_meaning, DifferIn-set_count, DifferIn-emptied}
 use Rattle.object_store.proofs.laws.difference_laws.Goals as goal
 
 pub returns : goal.returns

@@ -1,6 +1,6 @@
-use Rattle.object_store.specs.Live.{IsBehind-live}
-use Rattle.object_store.specs.Behind.{NoneAhead-empty_store, NoneAhead-set_slot, NoneAhead-set_header, NoneAhead-with_page, NoneAhead-with_cappage, NoneAhead-with_process, NoneAhead-with_endpoint}
-use Rattle.object_store.specs.Destroyed.{IsBehind-emptied, NoneAhead-emptied}
+use Rattle.object_store.proofs.Live.{IsBehind-live}
+use Rattle.object_store.proofs.Behind.{NoneAhead-empty_store, NoneAhead-set_slot, NoneAhead-set_header, NoneAhead-with_page, NoneAhead-with_cappage, NoneAhead-with_process, NoneAhead-with_endpoint}
+use Rattle.object_store.proofs.Destroyed.{IsBehind-emptied, NoneAhead-emptied}
 use Rattle.object_store.proofs.laws.none_comes_ahead.Goals as goal
 
 pub returns : goal.returns

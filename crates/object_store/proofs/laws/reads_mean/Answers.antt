@@ -1,5 +1,5 @@
 use Rattle.std.proofs.Common.{refl}
-use Rattle.object_store.specs.Means.{header_at-map_of, slot_at-map_of, cappage_at-state_map, process_at-state_map, endpoint_at-state_map}
+use Rattle.object_store.proofs.Means.{header_at-map_of, slot_at-map_of, cappage_at-state_map, process_at-state_map, endpoint_at-state_map}
 use Rattle.object_store.proofs.laws.reads_mean.Goals as goal
 
 pub returns : goal.returns

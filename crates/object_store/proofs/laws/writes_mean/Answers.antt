@@ -1,5 +1,5 @@
 use Rattle.std.proofs.Common.{refl}
-use Rattle.object_store.specs.Means.{state_map-set_slot, state_map-set_header, state_map-with_cappage, state_map-with_process, state_map-with_endpoint}
+use Rattle.object_store.proofs.Means.{state_map-set_slot, state_map-set_header, state_map-with_cappage, state_map-with_process, state_map-with_endpoint}
 use Rattle.object_store.proofs.laws.writes_mean.Goals as goal
 
 pub returns : goal.returns

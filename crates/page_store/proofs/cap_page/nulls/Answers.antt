@@ -1,4 +1,4 @@
-use Rattle.page_store.specs.Ranges.{IsCapPage-empty_cappage}
+use Rattle.page_store.proofs.Ranges.{IsCapPage-empty_cappage}
 use Rattle.page_store.specs.CapPage.{empty_cappage}
 use Rattle.page_store.proofs.cap_page.nulls.Goals as goal
 

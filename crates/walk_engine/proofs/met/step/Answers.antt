@@ -3,8 +3,8 @@ use Rattle.cap_format.specs.Capability.{Capability, bare}
 use Rattle.cap_format.specs.declared.kind.CapKind.TheVariants.{Gpt}
 use Rattle.object_store.specs.Store.{Items, size_of}
 use Rattle.object_store.specs.Meaning.{map_of}
-use Rattle.object_store.specs.Live.{live_gpt}
-use Rattle.object_store.specs.Ranged.{IsHeader-header_at}
+use Rattle.object_store.proofs.Live.{live_gpt}
+use Rattle.object_store.proofs.Ranged.{IsHeader-header_at}
 use Rattle.walk_meaning.specs.declared.at.At.{At}
 use Rattle.walk_meaning.specs.declared.kind.Kind.{Kind}
 use Rattle.walk_meaning.specs.declared.step.Step.{Step}

@@ -1,7 +1,7 @@
 use Rattle.std.proofs.Common.{ℕ, Option, Some, ◌∙◌, sym, ap}
 use Rattle.cap_format.specs.Capability.{Capability}
 use Rattle.object_store.specs.Meaning.{meaning, map_of}
-use Rattle.object_store.specs.Means.{slot_at-map_of}
+use Rattle.object_store.proofs.Means.{slot_at-map_of}
 use Rattle.walk_meaning.specs.declared.place.WalkFault.{WalkFault}
 use Rattle.walk_meaning.specs.Walk.{fault}
 use Rattle.walk_engine.proofs.on_way.told.Goals as goal

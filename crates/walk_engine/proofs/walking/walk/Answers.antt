@@ -5,8 +5,8 @@ use Rattle.cap_format.specs.declared.fault.FaultCode.{FaultCode}
 use Rattle.cap_format.specs.declared.item.Item.TheVariants.{Slot}
 use Rattle.object_store.specs.Store.{Items, slot_at}
 use Rattle.object_store.specs.Meaning.{meaning, map_of}
-use Rattle.object_store.specs.Live.{IsCapability-meaning}
-use Rattle.object_store.specs.Ranged.{IsRanged-map_of}
+use Rattle.object_store.proofs.Live.{IsCapability-meaning}
+use Rattle.object_store.proofs.Ranged.{IsRanged-map_of}
 use Rattle.walk_meaning.specs.declared.at.At.{At}
 use Rattle.walk_meaning.specs.declared.kind.Kind.{Kind}
 use Rattle.walk_meaning.specs.declared.noted.Noted.{Noted}

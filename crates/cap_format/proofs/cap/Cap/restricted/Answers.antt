@@ -1,7 +1,7 @@
 use Rattle.std.proofs.Common.{◌≡◌, true, sym, subst}
 use Rattle.cap_format.specs.Kind.{is_memory}
 use Rattle.cap_format.specs.Capability.{Capability}
-use Rattle.cap_format.specs.Ranges.{IsCapability-reduced}
+use Rattle.cap_format.proofs.Ranges.{IsCapability-reduced}
 use Rattle.cap_format.proofs.cap.Cap.restricted.Goals as goal
 
 pub invariant_of-result : goal.invariant_of-result

@@ -1,5 +1,5 @@
 use Rattle.std.proofs.Common.{arith, ◌<◌, ◌^◌}
-use Rattle.guard_math.specs.Blocks.{IsBlock-around}
+use Rattle.guard_math.proofs.BlockLaws.{IsBlock-around}
 use Rattle.guard_math.proofs.block.Block.around.Goals as goal
 
 pub invariant_of-result : goal.invariant_of-result

@@ -1,5 +1,5 @@
 use Rattle.std.proofs.Common.{arith}
-use Rattle.guard_math.specs.Blocks.{IsWithin-smaller, IsWithin-smaller_behind, covers-within, covers-within_behind}
+use Rattle.guard_math.proofs.BlockLaws.{IsWithin-smaller, IsWithin-smaller_behind, covers-within, covers-within_behind}
 use Rattle.guard_math.proofs.block.Block.meet.Goals as goal
 
 pub returns-then-l2-clause-both : goal.returns-then-l2-clause-both

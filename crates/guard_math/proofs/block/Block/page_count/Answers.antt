@@ -1,5 +1,5 @@
 use Rattle.std.proofs.Common.{arith, ◌≡◌, ◌*◌, ◌^◌, ◌-◌, ap, ◌∙◌}
-use Rattle.guard_math.specs.Blocks.{pages_of_size}
+use Rattle.guard_math.proofs.BlockLaws.{pages_of_size}
 use Rattle.guard_math.proofs.block.Block.page_count.Goals as goal
 
 pub returns-clause-value : goal.returns-clause-value

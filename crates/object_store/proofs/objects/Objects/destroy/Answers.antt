@@ -1,5 +1,5 @@
-use Rattle.object_store.specs.Differs.{DifferIn-emptied}
-use Rattle.object_store.specs.Destroyed.{state_map-emptied, NoneAhead-emptied}
+use Rattle.object_store.proofs.DifferLaws.{DifferIn-emptied}
+use Rattle.object_store.proofs.Destroyed.{state_map-emptied, NoneAhead-emptied}
 use Rattle.object_store.proofs.objects.Objects.destroy.Goals as goal
 
 pub returns-clause-means : goal.returns-clause-means

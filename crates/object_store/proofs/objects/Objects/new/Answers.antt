@@ -1,5 +1,5 @@
-use Rattle.object_store.specs.Ranged.{IsStore-empty_store}
-use Rattle.object_store.specs.Behind.{NoneAhead-empty_store}
+use Rattle.object_store.proofs.Ranged.{IsStore-empty_store}
+use Rattle.object_store.proofs.Behind.{NoneAhead-empty_store}
 use Rattle.object_store.proofs.objects.Objects.new.Goals as goal
 
 pub invariant_of-result : goal.invariant_of-result

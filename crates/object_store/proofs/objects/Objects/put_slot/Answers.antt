@@ -1,4 +1,4 @@
-use Rattle.object_store.specs.Ranged.{IsRanged-set_gpt}
+use Rattle.object_store.proofs.Ranged.{IsRanged-set_gpt}
 use Rattle.object_store.proofs.objects.Objects.put_slot.Goals as goal
 
 pub invariant_of-self : goal.invariant_of-self

@@ -1,4 +1,4 @@
-use Rattle.object_store.specs.Differs.{DifferIn-set_count}
+use Rattle.object_store.proofs.DifferLaws.{DifferIn-set_count}
 use Rattle.object_store.proofs.objects.Objects.set_count.Goals as goal
 
 pub returns-clause-differ : goal.returns-clause-differ

@@ -1,6 +1,6 @@
-use Rattle.object_store.specs.Means.{map_of-set_slot}
-use Rattle.object_store.specs.Differs.{DifferIn-slot_meaning}
-use Rattle.object_store.specs.Behind.{NoneAhead-set_slot}
+use Rattle.object_store.proofs.Means.{map_of-set_slot}
+use Rattle.object_store.proofs.DifferLaws.{DifferIn-slot_meaning}
+use Rattle.object_store.proofs.Behind.{NoneAhead-set_slot}
 use Rattle.object_store.proofs.objects.Objects.set_gpt_slot.Goals as goal
 
 pub returns-clause-means : goal.returns-clause-means

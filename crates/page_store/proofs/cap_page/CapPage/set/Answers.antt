@@ -1,4 +1,4 @@
-use Rattle.page_store.specs.Ranges.{IsCapPage-with_cap}
+use Rattle.page_store.proofs.Ranges.{IsCapPage-with_cap}
 use Rattle.page_store.proofs.cap_page.CapPage.set.Goals as goal
 
 pub returns-clause-range : goal.returns-clause-range

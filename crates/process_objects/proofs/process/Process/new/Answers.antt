@@ -1,7 +1,7 @@
 use Rattle.std.proofs.Common.{◌≡◌, replicate, ap, sym, subst}
 use Rattle.cap_format.specs.Capability.{Capability, null}
 use Rattle.process_objects.specs.Process.{ProcessValue, IsProcess, process_of, stopped, empty_regs, empty_capregs, empty_slots, empty_process}
-use Rattle.process_objects.specs.Ranges.{IsProcess-empty_process}
+use Rattle.process_objects.proofs.Ranges.{IsProcess-empty_process}
 use Rattle.process_objects.proofs.process.Process.new.Goals as goal
 
 -- a process of zeros and of one capability throughout

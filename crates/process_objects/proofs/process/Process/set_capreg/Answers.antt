@@ -1,5 +1,5 @@
 use Rattle.std.proofs.Common.{arith}
-use Rattle.process_objects.specs.Ranges.{IsProcess-capreg}
+use Rattle.process_objects.proofs.Ranges.{IsProcess-capreg}
 use Rattle.process_objects.proofs.process.Process.set_capreg.Goals as goal
 
 pub invariant_of-self : goal.invariant_of-self

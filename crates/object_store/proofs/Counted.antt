@@ -7,7 +7,7 @@ use Rattle.cap_format.specs.Capability.{Capability, null, bare}
 use Rattle.object_store.specs.Store.{CountsValue, Items, counts_of, recounted}
 use Rattle.object_store.specs.Meaning.{is_current, is_live, meaning}
 use Rattle.object_store.specs.Differ.{Names, Forgets}
-use Rattle.object_store.specs.Lists.{get_or-set}
+use Rattle.object_store.proofs.Lists.{get_or-set}
 
 -- after a write of one count the counts of a kind are those before with it written, or the same
 pub recounted-of : (counts : CountsValue) (kind : CapKind) (n count : ℕ) (k : CapKind) →

@@ -11,7 +11,7 @@ use Rattle.endpoint_objects.specs.declared.endpoint.Endpoint.{Endpoint as Endpoi
 use Rattle.endpoint_objects.specs.Endpoint.{empty_endpoint}
 use Rattle.object_store.specs.Store.{Items, Store, gpt_at, header_at, slot_at, cappage_at, process_at, endpoint_at, set_gpt, set_slot, set_header, with_items, with_cappage, with_process, with_endpoint}
 use Rattle.object_store.specs.Meaning.{meaning, gpt_map, process_map, endpoint_map, items_map, store_map, map_of, state_map}
-use Rattle.object_store.specs.Lists.{map-replicate}
+use Rattle.object_store.proofs.Lists.{map-replicate}
 
 -- ---- a function of each capability that leaves Null, as the meaning is one
 

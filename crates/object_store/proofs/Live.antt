@@ -6,7 +6,7 @@ use Rattle.cap_format.specs.declared.kind.CapKind.TheVariants.{Null, Page, CapPa
 use Rattle.cap_format.specs.Kind.{is_counted, object_kind}
 use Rattle.cap_format.specs.Capability.{Capability, IsCapability, null, bare}
 use Rattle.cap_format.specs.Weakening.{weakened, weakened_kind}
-use Rattle.cap_format.specs.Ranges.{IsCapability-null, IsCapability-bare, weakened-bare}
+use Rattle.cap_format.proofs.Ranges.{IsCapability-null, IsCapability-bare, weakened-bare}
 use Rattle.object_store.specs.Store.{CountsValue, Items, counts_of, size_of, count_of}
 use Rattle.object_store.specs.Meaning.{is_current, is_live, live, meaning}
 use Rattle.object_store.specs.Ahead.{IsBehind}

@@ -3,7 +3,7 @@ use Rattle.std.proofs.Common.{ℕ, ◌≢◌, ◌∙◌, refl, slice_set}
 use Rattle.std.proofs.lemmas.List.{length-set, get_or-set_other}
 use Rattle.std.proofs.lemmas.List.Elements.{All-set, All-replicate}
 use Rattle.cap_format.specs.Capability.{Capability, IsCapability, null}
-use Rattle.cap_format.specs.Ranges.{IsCapability-null, IsCapability-at}
+use Rattle.cap_format.proofs.Ranges.{IsCapability-null, IsCapability-at}
 use Rattle.process_objects.specs.Process.{ProcessValue, IsProcess, capreg_of, slot_of, empty_regs, empty_capregs, empty_slots, empty_process}
 
 -- the empty process is in its ranges

@@ -10,9 +10,9 @@ use Rattle.gpt_objects.specs.Gpt.{GptValue, slot_of, with_slot, with_header, emp
 use Rattle.object_store.specs.Store.{Items, gpt_at, header_at, slot_at, count_of, set_slot, set_header, set_count, recounted, emptied_gpts, emptied_items}
 use Rattle.object_store.specs.Meaning.{meaning, map_of}
 use Rattle.object_store.specs.Differ.{Forgets, DifferIn}
-use Rattle.object_store.specs.Lists.{get_or-set}
-use Rattle.object_store.specs.Means.{header_at-map_of, slot_at-map_of, map_of-set_slot, map_of-set_header}
-use Rattle.object_store.specs.Counted.{size_of-recounted, count_of-recounted, meaning-recounted}
+use Rattle.object_store.proofs.Lists.{get_or-set}
+use Rattle.object_store.proofs.Means.{header_at-map_of, slot_at-map_of, map_of-set_slot, map_of-set_header}
+use Rattle.object_store.proofs.Counted.{size_of-recounted, count_of-recounted, meaning-recounted}
 
 -- ---- both directions
 

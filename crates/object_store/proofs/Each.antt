@@ -18,8 +18,8 @@ use Rattle.object_store.specs.declared.sizes.Sizes.{Sizes}
 use Rattle.object_store.specs.Store.{Items, Contents, Store, gpt_at, slot_at, cappage_at, process_at, endpoint_at, set_count, set_gpt, set_slot, set_header, with_items, with_page, with_cappage, with_process, with_endpoint, emptied_gpts, emptied_contents, emptied, empty_store}
 use Rattle.object_store.specs.Meaning.{gpt_map, process_map, endpoint_map, contents_map, store_map}
 use Rattle.object_store.specs.Ahead.{EachCapability}
-use Rattle.object_store.specs.Lists.{map-map, map-same, All-at}
-use Rattle.object_store.specs.Means.{gpt_map-empty, cappage_map-empty, process_map-empty, endpoint_map-empty}
+use Rattle.object_store.proofs.Lists.{map-map, map-same, All-at}
+use Rattle.object_store.proofs.Means.{gpt_map-empty, cappage_map-empty, process_map-empty, endpoint_map-empty}
 
 -- ---- the fact goes on
 

@@ -3,7 +3,7 @@ use Rattle.std.proofs.Common.{◌≡◌, ℕ, ◌<◌, ◌≤◌, ◌^◌, lengt
 use Rattle.std.proofs.lemmas.List.{length-replicate, length-map}
 use Rattle.std.proofs.lemmas.List.Elements.{All-set, All-map, All-replicate}
 use Rattle.cap_format.specs.Capability.{IsCapability, null}
-use Rattle.cap_format.specs.Ranges.{IsCapability-null}
+use Rattle.cap_format.proofs.Ranges.{IsCapability-null}
 use Rattle.gpt_objects.specs.Header.{IsHeader}
 use Rattle.gpt_objects.specs.Gpt.{GptValue, IsGpt, empty_gpt}
 use Rattle.gpt_objects.proofs.Ranges.{IsGpt-empty_gpt}
@@ -11,8 +11,8 @@ use Rattle.object_store.specs.declared.sizes.Sizes.{Sizes}
 use Rattle.object_store.specs.Store.{Items, gpt_at, header_at, slot_at, set_gpt, empty_store}
 use Rattle.object_store.specs.Meaning.{meaning, gpt_map, map_of}
 use Rattle.object_store.specs.Ranges.{IsTable, IsRanged, IsStore, IsWithinLimits}
-use Rattle.object_store.specs.Lists.{All-at}
-use Rattle.object_store.specs.Live.{IsCapability-meaning}
+use Rattle.object_store.proofs.Lists.{All-at}
+use Rattle.object_store.proofs.Live.{IsCapability-meaning}
 
 -- a table of zeros is one of counts
 IsTable-zeros : (limit size : ℕ) → size ≤ limit → IsTable limit (replicate size 0)

@@ -2,7 +2,7 @@
 use Rattle.std.proofs.Common.{◌≡◌, ℕ, ◌<◌, ◌≤◌, ◌+◌, ◌&&◌, inl, inr, true≢false, Bool, true, false, if◌then◌else◌, ◌==◌, refl, sym, ap, subst, ◌∙◌, arith}
 use Rattle.std.proofs.lemmas.Bool.{and_parts, and_from, eqb-true, eq-eqb, cond_both, cases_Bool}
 use Rattle.cap_format.specs.declared.kind.CapKind.{CapKind}
-use Rattle.cap_format.specs.Kinds.{kind_of_number}
+use Rattle.cap_format.proofs.KindNumbers.{kind_of_number}
 use Rattle.cap_format.specs.Kind.{is_counted, number_of, object_kind}
 use Rattle.cap_format.specs.Capability.{Capability, null, bare}
 use Rattle.object_store.specs.Store.{Items, Store, size_of, count_of, emptied_items, emptied}
@@ -10,9 +10,9 @@ use Rattle.object_store.specs.Meaning.{is_live, meaning, store_map, state_map}
 use Rattle.object_store.specs.Differ.{Names}
 use Rattle.object_store.specs.Ahead.{IsBehind, EachCapability, NoneAhead}
 use Rattle.object_store.specs.Destruction.{names, forget, destruction}
-use Rattle.object_store.specs.Live.{meaning_dead, live_names, IsBehind-null}
-use Rattle.object_store.specs.Counted.{size_of-recounted, count_of-recounted, count_of-recounted_here, is_live-recounted}
-use Rattle.object_store.specs.Each.{EachCapability-map, EachCapability-all, EachCapability-store_map, EachCapability-emptied, store_map-same, store_map-store_map, store_map-emptied}
+use Rattle.object_store.proofs.Live.{meaning_dead, live_names, IsBehind-null}
+use Rattle.object_store.proofs.Counted.{size_of-recounted, count_of-recounted, count_of-recounted_here, is_live-recounted}
+use Rattle.object_store.proofs.Each.{EachCapability-map, EachCapability-all, EachCapability-store_map, EachCapability-emptied, store_map-same, store_map-store_map, store_map-emptied}
 
 -- ---- the test and the fact that a capability names an object
 

@@ -3,7 +3,7 @@ use Rattle.std.proofs.Common.{ℕ, ◌∙◌, List}
 use Rattle.std.proofs.lemmas.List.{length-replicate, length-set}
 use Rattle.std.proofs.lemmas.List.Elements.{All-set, All-replicate}
 use Rattle.cap_format.specs.Capability.{Capability, IsCapability, null}
-use Rattle.cap_format.specs.Ranges.{IsCapability-null, IsCapability-at}
+use Rattle.cap_format.proofs.Ranges.{IsCapability-null, IsCapability-at}
 use Rattle.page_store.specs.Page.{IsPage, empty_page}
 use Rattle.page_store.specs.CapPage.{IsCapPage, cap_at, with_cap, empty_cappage}
 

@@ -4,7 +4,7 @@ use Rattle.cap_format.specs.declared.kind.CapKind.{CapKind}
 use Rattle.cap_format.specs.declared.kind.CapKind.TheVariants.{Page, CapPage, Gpt, Endpoint, Process}
 use Rattle.object_store.specs.declared.sizes.Sizes.{Sizes}
 
--- how many objects of a kind a machine has
+-- how many objects of a kind a machine of these sizes has
 abbrev pub size_in : Sizes → CapKind → ℕ
 size_in sizes Page = sizes.pages
 size_in sizes CapPage = sizes.cappages

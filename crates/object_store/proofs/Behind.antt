@@ -8,8 +8,8 @@ use Rattle.endpoint_objects.specs.declared.endpoint.Endpoint.{Endpoint as Endpoi
 use Rattle.object_store.specs.declared.sizes.Sizes.{Sizes}
 use Rattle.object_store.specs.Store.{Store, set_slot, set_header, with_items, with_page, with_cappage, with_process, with_endpoint, empty_store}
 use Rattle.object_store.specs.Ahead.{IsBehind, NoneAhead}
-use Rattle.object_store.specs.Live.{IsBehind-null}
-use Rattle.object_store.specs.Each.{EachCapability-empty_store, EachCapability-set_slot, EachCapability-set_header, EachCapability-with_page, EachCapability-with_cappage, EachCapability-with_process, EachCapability-with_endpoint}
+use Rattle.object_store.proofs.Live.{IsBehind-null}
+use Rattle.object_store.proofs.Each.{EachCapability-empty_store, EachCapability-set_slot, EachCapability-set_header, EachCapability-with_page, EachCapability-with_cappage, EachCapability-with_process, EachCapability-with_endpoint}
 
 -- new objects have Nulls alone, and Null is not ahead
 pub NoneAhead-empty_store : (sizes : Sizes) → NoneAhead (empty_store sizes)
