@@ -4,11 +4,11 @@ use Rattle.std.specs.Prelude.{Some, Ok, codes}
 use Rattle.std.specs.List.{join_with_byte}
 use Rattle.std.proofs.lemmas.Bool.{and_parts, le-leb, not-true}
 use Rattle.std.proofs.lemmas.List.{append-nil}
-use Rattle.coy_text.specs.NumeralLaws.{dec_of-decimal}
-use Rattle.coy_text.specs.WordLaws.{words_of-join}
+use Rattle.coy_text.proofs.NumeralLaws.{dec_of-decimal}
+use Rattle.coy_text.proofs.WordLaws.{words_of-join}
 use Rattle.coy_io.specs.declared.TheConstants.{LINE_LIMIT, INPUT_LIMIT}
 use Rattle.coy_io.specs.Lines.{IsUnfinished, parts}
-use Rattle.coy_io.specs.LineLaws.{parts-line_in_front}
+use Rattle.coy_io.proofs.LineLaws.{parts-line_in_front}
 use Rattle.object_store.specs.declared.sizes.Sizes.{Sizes}
 use Rattle.object_store.specs.Store.{sizes_of}
 use Rattle.object_store.specs.Ranges.{IsWithinLimits}

@@ -1,4 +1,7 @@
+mod Buffers
 mod FirstLine
+pub mod GivenLaws
+pub mod LineLaws
 mod Nexts
 mod Parts
 mod Puts

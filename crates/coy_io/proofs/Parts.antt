@@ -6,7 +6,7 @@ use Rattle.std.proofs.lemmas.List.{take-append-drop, length-take-le, length-drop
 use Rattle.std.proofs.lemmas.List.Sums.{split_at_first, passes_at_first}
 use Rattle.coy_io.specs.declared.TheConstants.{LINE_LIMIT}
 use Rattle.coy_io.specs.Lines.{Part, Line, LongLine, PastLimit, is_line_feed, line_len, part_of, cut_part_of, parts}
-use Rattle.coy_io.specs.LineLaws.{parts-append, parts-line_in_front, short_part}
+use Rattle.coy_io.proofs.LineLaws.{parts-append, parts-line_in_front, short_part}
 use Rattle.coy_io.specs.Found.{HasLine, HasFront, HasLongLine, IsPastLimit}
 use Rattle.coy_io.proofs.FirstLine.{line_len_within, unfinished_front}
 

@@ -1,11 +1,13 @@
-//! Readers and writers of the standard library as a source and a sink. They tell no bytes.
-ghost use Rattle.std.specs.Prelude.{◌≡◌, ◌+◌, ◌≤◌, ◌⊎◌, None, length, IfOk};
+//! Readers and writers of the standard library as a source and a sink, which tell the bytes that the
+//! reader has left and that the writer got, where these do.
+ghost use Rattle.std.specs.Prelude.{◌≡◌, ◌+◌, ◌≤◌, ◌⊎◌, length, IfOk, OnOk};
 ghost use Rattle.std.specs.Io.KnownBytes.{Keeps, ReadConsumes, WriteAppends};
+ghost use Rattle.coy_io.specs.Buffered.{taken_in, gone_out};
 ghost use Rattle.coy_io.specs.Causes.{HasCause, faults_after};
 ghost use Rattle.coy_io.specs.Pieces.{moved};
 
 use crate::{Failed, Sink, Source, WriteFault};
-use std::io::{Read, Write};
+use std::io::{BufWriter, Read, Write};
 
 /// A source over a reader. Each error of the reader is a fault.
 #[derive(Drop)]
@@ -24,17 +26,16 @@ impl<R> ReadSource<R> {
 }
 
 impl<R: Read> Source for ReadSource<R> {
-    ghost held = { λ _. None };
+    ghost held = { λ s. R.remaining s.reader };
 
     ghost faults = { λ s. s.faults };
 
     fn take(&mut self, buf: &mut [u8]) -> Result<usize, Failed>
         ensures bound { IfOk result (λ n. n ≤ length buf.new) }
-        ensures bytes { ReadConsumes None None result buf.new }
+        ensures bytes { ReadConsumes (R.remaining self.old.reader) (R.remaining self.new.reader)
+            result buf.new }
         ensures cause { HasCause self.old.faults self.new.faults result }
         ensures faults { self.new.faults ≡ faults_after self.old.faults result }
-        ensures reader { ReadConsumes (R.remaining self.old.reader) (R.remaining self.new.reader)
-            result buf.new }
     {
         match self.reader.read(buf) {
             Ok(count) => Ok(count),
@@ -63,13 +64,15 @@ impl<W> WriteSink<W> {
     }
 }
 
-impl<W: Write> WriteSink<W> {
-    /// Hands on what the writer still keeps back, as one with a buffer does. Until then a piece
-    /// that was taken may not have gone out yet. A flush that fails is a fault of the sink.
+impl<W: Write + Drop> WriteSink<BufWriter<W>> {
+    /// Hands on what the buffer still keeps. Until then a piece that was taken may not have gone
+    /// out yet. A flush that fails is a fault of the sink.
+    #[tactic(auto, using(crate::proofs::Buffers::keeps_empty))]
     pub fn flush(&mut self) -> Result<(), WriteFault>
+        ensures out { OnOk result (Keeps (taken_in W.contents self.old) (gone_out W.contents self.new)) }
+        ensures kept { Keeps (taken_in W.contents self.old) (taken_in W.contents self.new) }
         ensures cause { HasCause self.old.faults self.new.faults result }
         ensures faults { self.new.faults ≡ faults_after self.old.faults result }
-        ensures writer { Keeps (W.contents self.old.writer) (W.contents self.new.writer) }
     {
         if self.writer.flush().is_err() {
             self.faults = self.faults.saturating_add(1);
@@ -80,14 +83,16 @@ impl<W: Write> WriteSink<W> {
 }
 
 impl<W: Write> Sink for WriteSink<W> {
-    ghost taken = { λ _. None };
+    ghost taken = { λ s. W.contents s.writer };
 
     ghost faults = { λ s. s.faults };
 
+    #[tactic(auto, using(crate::proofs::Buffers::keeps_none))]
     fn put(&mut self, bytes: &[u8]) -> Result<usize, Failed>
         ensures bound { IfOk result (λ n. n ≤ length bytes.now) }
         ensures some { IfOk result (λ n. length bytes.now ≤ 0 ⊎ 1 ≤ n) }
-        ensures bytes { WriteAppends None None result bytes.now }
+        ensures bytes { WriteAppends (W.contents self.old.writer) (W.contents self.new.writer)
+            result bytes.now }
         ensures cause { HasCause self.old.faults self.new.faults result }
         ensures faults { self.new.faults ≡ faults_after self.old.faults result }
     {

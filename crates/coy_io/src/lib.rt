@@ -30,6 +30,3 @@ pub const LINE_LIMIT: usize = 512;
 
 /// The most bytes of an input that are read.
 pub const INPUT_LIMIT: usize = 16_777_216;
-
-#[cfg(test)]
-mod tests;

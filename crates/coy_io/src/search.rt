@@ -19,6 +19,9 @@ pub(crate) fn find_line<S: Source>(
     source: &mut S,
 ) -> Result<Option<usize>, LineFault>
     requires { length window.old ≤ room }
+    ensures calls { S.calls source.new + length window.old ≤
+        S.calls source.old + length window.new + idle_in result }
+    ensures idle { S.idle source.new ≤ S.idle source.old + idle_in result }
     ensures found { IsFound result window.new room (S.held source.new) }
     ensures ahead { Keeps (prepend_known window.old (S.held source.old))
         (prepend_known window.new (S.held source.new)) }
@@ -28,9 +31,6 @@ pub(crate) fn find_line<S: Source>(
     ensures quiet { result ≢ Err LineFault.ReadFault → S.faults source.new ≡ S.faults source.old }
     ensures given { S.given source.new + length window.old ≤
         S.given source.old + length window.new }
-    ensures calls { S.calls source.new + length window.old ≤
-        S.calls source.old + length window.new + idle_in result }
-    ensures idle { S.idle source.new ≤ S.idle source.old + idle_in result }
 {
     let mut read = 0;
     'reading: loop {

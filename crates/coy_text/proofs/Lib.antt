@@ -1,2 +1,4 @@
-mod Numerals
 mod Cuts
+pub mod NumeralLaws
+mod Numerals
+pub mod WordLaws

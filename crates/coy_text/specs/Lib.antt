@@ -1,4 +1,2 @@
 pub mod Numeral
 pub mod Words
-pub mod NumeralLaws
-pub mod WordLaws

@@ -1,6 +1,6 @@
 -- The words of a line, as the listing, the schedule and the assembler cut them: what stands between one or more
 -- spaces, where spaces in front and behind count for nothing. And the parts of a word that a mark stands between.
-use Rattle.std.specs.Prelude.{ℕ, ◌==◌, if◌then◌else◌, List, [], ◌∷◌, ◌++◌, length, Option, Some, None, option_map}
+use Rattle.std.specs.Prelude.{ℕ, ◌==◌, ◌&&◌, not, Bool, true, false, if◌then◌else◌, List, [], ◌∷◌, ◌++◌, length, Option, Some, None, option_map}
 
 -- the word that ends here, which is none where no byte stands in it
 abbrev pub ended : List ℕ → List (List ℕ)
@@ -26,3 +26,13 @@ unfoldable pub cut_at : ℕ → List ℕ → Option (List ℕ × List ℕ)
 cut_at mark [] = None
 cut_at mark (byte ∷ bytes) =
     if byte == mark then Some ([], bytes) else option_map (λ parts. (byte ∷ parts.0, parts.1)) (cut_at mark bytes)
+
+-- the mark is none of the bytes
+abbrev pub lacks : ℕ → List ℕ → Bool
+lacks mark [] = true
+lacks mark (byte ∷ bytes) = not (byte == mark) && lacks mark bytes
+
+-- a text that is one word
+abbrev pub is_word : List ℕ → Bool
+is_word [] = false
+is_word (byte ∷ bytes) = lacks 32 (byte ∷ bytes)

@@ -64,7 +64,7 @@ impl LineBuf {
     }
 
     /// Appends a number in decimal, without leading zeros.
-    #[tactic(auto, using(crate::specs::NumeralLaws::length_decimal, crate::proofs::Numerals::one_digit, crate::proofs::Numerals::more_digits, crate::proofs::Numerals::fewer_digits, crate::proofs::Numerals::length_one))]
+    #[tactic(auto, using(crate::proofs::NumeralLaws::length_decimal, crate::proofs::Numerals::one_digit, crate::proofs::Numerals::more_digits, crate::proofs::Numerals::fewer_digits, crate::proofs::Numerals::length_one))]
     pub fn push_dec(&mut self, value: u64)
         requires { length self.old + length (decimal value) ≤ 1024 }
         ensures text { self.new ≡ self.old ++ decimal value }

@@ -1,26 +1,79 @@
--- What is known of the exit that a flush leaves.
-use Rattle.std.proofs.Common.{◌≡◌, ℕ, List, Option, None, Some, Result, Ok, Err, IfSome, refl, ◌∙◌, subst}
+-- What is known of the exit that a flush leaves, and of what went out.
+use Rattle.std.proofs.Common.{◌≡◌, ℕ, List, [], ◌++◌, take, drop, Option, None, Some, Result, Ok, Err, IfSome, OnOk, refl, sym, ap, ◌∙◌, append_assoc, append-nil, take-append-drop, arith}
+use Rattle.std.specs.Io.KnownBytes.{Appends, Keeps, append_known}
+use Rattle.std.proofs.KnownBytes.{Appends-kept, Keeps-trans}
+use Rattle.coy_io.specs.Pieces.{AppendsSome}
 use Rattle.coyotos_cli.specs.declared.exit.Exit.{Exit}
 use Rattle.coyotos_cli.specs.declared.exit.Exit.TheVariants.{Done, Usage, ListingRefused, ScheduleRefused, ReadFault, WriteFault, OutOfMemory, TooLong}
+use Rattle.coyotos_cli.specs.Exit.{status_of}
 use Rattle.coyotos_cli.specs.Ending.{Output, IsGiven, Outputs}
-use Rattle.coyotos.specs.Flush.{exit_after}
+use Rattle.coyotos.specs.Flush.{exit_after, AreFront, GoesOut}
 
--- one that no fault gave is the exit before the flush
-exit_after-given : {T E : Type 0} (exit : Exit) (flushed : Result T E) → IsGiven (exit_after exit flushed) → exit_after exit flushed ≡ exit
-exit_after-given exit (Ok done) given = refl
-exit_after-given Done (Err fault) given = absurd (given.write refl)
-exit_after-given Usage (Err fault) given = absurd (given.write refl)
-exit_after-given (ListingRefused line why) (Err fault) given = absurd (given.write refl)
-exit_after-given (ScheduleRefused line why) (Err fault) given = absurd (given.write refl)
-exit_after-given ReadFault (Err fault) given = absurd (given.read refl)
-exit_after-given WriteFault (Err fault) given = absurd (given.write refl)
-exit_after-given OutOfMemory (Err fault) given = absurd (given.write refl)
-exit_after-given TooLong (Err fault) given = absurd (given.write refl)
+-- what a sink took, of which some is still in its buffer
+front_of : (old mid sent : Option (List ℕ)) (buffer front behind text : List ℕ) → Appends old mid front → text ≡ front ++ behind → Keeps mid (append_known sent buffer)
+    → AreFront old sent text
+front_of None mid sent buffer front behind text took parts kept = tt
+front_of (Some x) None sent buffer front behind text took parts kept = absurd took
+front_of (Some x) (Some y) None buffer front behind text took parts kept = absurd kept
+front_of (Some x) (Some y) (Some z) buffer front behind text took parts kept = (
+  buffer ++ behind,
+  ap (λ l. x ++ l) parts ∙ sym (append_assoc x front behind) ∙ ap (λ l. l ++ behind) (sym took ∙ sym kept) ∙ append_assoc z buffer behind,
+)
 
--- where the bytes are told, it is the exit of their output
-pub exit_after-told : {T E : Type 0} (old new : Option (List ℕ)) (output : List ℕ → Output) (held : Option (List ℕ)) (exit : Exit) (flushed : Result T E)
-    → IfSome held (λ bytes. Outputs old new exit (output bytes))
-    → IfSome held (λ bytes. IsGiven (exit_after exit flushed) → exit_after exit flushed ≡ (output bytes).exit)
-exit_after-told old new output None exit flushed told = tt
-exit_after-told old new output (Some bytes) exit flushed told =
-    λ given. let same = exit_after-given exit flushed given in same ∙ (told.whole (subst IsGiven same given)).0
+none_took : (old mid : Option (List ℕ)) → Keeps old mid → Appends old mid []
+none_took None mid kept = tt
+none_took (Some x) None kept = absurd kept
+none_took (Some x) (Some y) kept = kept ∙ sym (append-nil x)
+
+given_by : (exit : Exit) → (status_of exit ≡ 4 → ⊥) → (status_of exit ≡ 5 → ⊥) → (status_of exit ≡ 6 → ⊥) → IsGiven exit
+given_by exit four five six = record {
+  read = λ same. four (ap status_of same);
+  write = λ same. five (ap status_of same);
+  memory = λ same. six (ap status_of same);
+}
+
+module _ (old mid sent : Option (List ℕ)) (buffer : List ℕ) (o : Output) (kept : Keeps mid (append_known sent buffer)) where
+  some_front : AppendsSome old mid o.text → AreFront old sent o.text
+  some_front some = front_of old mid sent buffer (take some.0 o.text) (drop some.0 o.text) o.text some.2 (sym (take-append-drop some.0 o.text)) kept
+
+  -- writing failed at the flush or before
+  cut : AreFront old sent o.text → GoesOut old sent WriteFault o
+  cut front = record {
+    whole = λ given. absurd (given.write refl);
+    part = λ same. front;
+    nothing = λ same. let bad : 5 ≡ 6 = ap status_of same in absurd (omega (arith, bad));
+  }
+
+  given_cut : (exit : Exit) → IsGiven exit → Outputs old mid exit o → GoesOut old sent WriteFault o
+  given_cut exit given told = cut (front_of old mid sent buffer o.text [] o.text (told.whole given).1 (sym (append-nil o.text)) kept)
+
+  failed : (T E : Type 0) (exit : Exit) (fault : E) → Outputs old mid exit o → GoesOut old sent (exit_after {T = T} {E = E} exit (Err fault)) o
+  failed T E Done fault told = given_cut Done (given_by Done (λ e. omega (arith, e)) (λ e. omega (arith, e)) (λ e. omega (arith, e))) told
+  failed T E Usage fault told = given_cut Usage (given_by Usage (λ e. omega (arith, e)) (λ e. omega (arith, e)) (λ e. omega (arith, e))) told
+  failed T E (ListingRefused line why) fault told =
+      given_cut (ListingRefused line why) (given_by (ListingRefused line why) (λ e. omega (arith, e)) (λ e. omega (arith, e)) (λ e. omega (arith, e))) told
+  failed T E (ScheduleRefused line why) fault told =
+      given_cut (ScheduleRefused line why) (given_by (ScheduleRefused line why) (λ e. omega (arith, e)) (λ e. omega (arith, e)) (λ e. omega (arith, e))) told
+  failed T E TooLong fault told = given_cut TooLong (given_by TooLong (λ e. omega (arith, e)) (λ e. omega (arith, e)) (λ e. omega (arith, e))) told
+  failed T E WriteFault fault told = cut (some_front (told.part refl))
+  failed T E OutOfMemory fault told = cut (front_of old mid sent buffer [] o.text o.text (none_took old mid (told.nothing refl)) refl kept)
+  failed T E ReadFault fault told = record {
+    whole = λ given. absurd (given.read refl);
+    part = λ same. let bad : 4 ≡ 5 = ap status_of same in absurd (omega (arith, bad));
+    nothing = λ same. let bad : 4 ≡ 6 = ap status_of same in absurd (omega (arith, bad));
+  }
+
+  flushed_out : (T E : Type 0) (exit : Exit) (flushed : Result T E) → Outputs old mid exit o → OnOk flushed (Keeps mid sent) → GoesOut old sent (exit_after exit flushed) o
+  flushed_out T E exit (Ok done) told out = record {
+    whole = λ given. let w = told.whole given in (w.0, Appends-kept old mid sent o.text w.1 out);
+    part = λ same. some_front (told.part same);
+    nothing = λ same. Keeps-trans old mid sent (told.nothing same) out;
+  }
+  flushed_out T E exit (Err fault) told out = failed T E exit fault told
+
+-- where the bytes are told, what went out is the output
+pub goes_out : (T E : Type 0) (old mid sent : Option (List ℕ)) (buffer : List ℕ) (output : List ℕ → Output) (held : Option (List ℕ)) (exit : Exit) (flushed : Result T E)
+    → IfSome held (λ bytes. Outputs old mid exit (output bytes)) → OnOk flushed (Keeps mid sent) → Keeps mid (append_known sent buffer)
+    → IfSome held (λ bytes. GoesOut old sent (exit_after exit flushed) (output bytes))
+goes_out T E old mid sent buffer output None exit flushed told out kept = tt
+goes_out T E old mid sent buffer output (Some bytes) exit flushed told out kept = flushed_out old mid sent buffer (output bytes) kept T E exit flushed told out

@@ -1,5 +1,7 @@
--- How the program ends after a flush of its output.
-use Rattle.std.specs.Prelude.{Result, Ok, Err}
+-- How the program ends after a flush of its output, and what the writer behind the buffer got then.
+use Rattle.std.specs.Prelude.{◌≡◌, ℕ, List, ◌++◌, ⊤, Option, Some, None, Result, Ok, Err}
+use Rattle.std.specs.Io.KnownBytes.{Appends, Keeps}
+use Rattle.coyotos_cli.specs.Ending.{Output, IsGiven}
 use Rattle.coyotos_cli.specs.declared.exit.Exit.{Exit}
 use Rattle.coyotos_cli.specs.declared.exit.Exit.TheVariants as exits
 
@@ -8,3 +10,16 @@ abbrev pub exit_after : {T E : Type 0} → Exit → Result T E → Exit
 exit_after exit (Ok done) = exit
 exit_after exits.ReadFault (Err fault) = exits.ReadFault
 exit_after _ (Err fault) = exits.WriteFault
+
+-- the known bytes are a front of those that there were with this text behind them
+abbrev pub AreFront : Option (List ℕ) → Option (List ℕ) → List ℕ → Type 0
+AreFront None new text = ⊤
+AreFront (Some old) None text = ⊥
+AreFront (Some old) (Some new) text = (rest : List ℕ) × (old ++ text ≡ new ++ rest)
+
+-- what the writer got and the exit are those of an output; where writing failed it got a front of the text, and where
+-- memory was wanting nothing
+pub record GoesOut (old new : Option (List ℕ)) (exit : Exit) (o : Output) : Type 0 where
+  pub whole : IsGiven exit → (exit ≡ o.exit) × Appends old new o.text
+  pub part : exit ≡ exits.WriteFault → AreFront old new o.text
+  pub nothing : exit ≡ exits.OutOfMemory → Keeps old new

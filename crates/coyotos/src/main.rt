@@ -3,12 +3,13 @@
 
 ghost use Rattle.std.specs.Prelude.{◌≡◌, ◌≢◌, ◌⊎◌, Some, None, IfSome, map, string_bytes};
 ghost use Rattle.std.specs.Io.KnownBytes.{IsAtEnd};
+ghost use Rattle.coy_io.specs.Buffered.{taken_in, gone_out};
 ghost use Rattle.coy_io.specs.Causes.{Rose};
 ghost use Rattle.coyotos_cli.specs.Command.{command_of};
 ghost use Rattle.coyotos_cli.specs.declared.command.Command.TheVariants.{Help};
-ghost use Rattle.coyotos_cli.specs.Ending.{IsGiven, Outputs};
+ghost use Rattle.coyotos_cli.specs.Ending.{Outputs};
 ghost use Rattle.coyotos_cli.specs.Program.{out, sure, WritesSure};
-ghost use Rattle.coyotos.specs.Flush.{exit_after};
+ghost use Rattle.coyotos.specs.Flush.{exit_after, GoesOut};
 ghost use Rattle.steps.specs.Permit.{permit_for};
 
 use coy_io::{ReadSource, Sink, Source, WriteFault, WriteSink};
@@ -47,18 +48,19 @@ fn main(rt: HostRuntime) -> ExitCode {
 }
 
 /// Does what the words ask for, and then flushes the output.
-fn run_and_flush<S: Source, W: Write, L: Ledger>(
+fn run_and_flush<S: Source, W: Write + Drop, L: Ledger>(
     alloc: Global,
     words: &[String],
     input: &mut S,
-    output: &mut WriteSink<W>,
+    output: &mut WriteSink<BufWriter<W>>,
     permit: Permit,
 ) -> Exit
     requires ledger { permit ≡ permit_for L.name L.parts }
 
-    // How it ends, where the bytes are told.
-    ensures exit { IfSome (S.held input.old) (λ bytes.
-        IsGiven result → result ≡ (out (map string_bytes words.now) bytes).exit) }
+    // What the writer behind the buffer gets, and how it ends, where the bytes are told.
+    ensures output { IfSome (S.held input.old) (λ bytes.
+        let old = taken_in W.contents output.old in let new = gone_out W.contents output.new in
+        GoesOut old new result (out (map string_bytes words.now) bytes)) }
 
     // The input is read to its end where all was done.
     ensures end { let asked = command_of (map string_bytes words.now) in

@@ -3,7 +3,7 @@ use Rattle.std.proofs.Common.{◌≡◌, ◌+◌, ◌++◌, [], ℕ, List, Optio
 use Rattle.std.specs.Io.KnownBytes.{Appends}
 use Rattle.coy_io.specs.Lines.{Part, IsUnfinished, parts_of, whole_lines}
 use Rattle.coy_io.specs.Reader.{Reader, new_reader, ahead, bytes_ahead, GivesLines}
-use Rattle.coy_io.specs.GivenLaws.{GivesLines-trans, GivesLines-taken}
+use Rattle.coy_io.proofs.GivenLaws.{GivesLines-trans, GivesLines-taken}
 use Rattle.kernel_core.specs.State.{State}
 use Rattle.image_builder.specs.Boot.{booted}
 use Rattle.listing_read.specs.Statement.{ListingValue}

@@ -6,7 +6,7 @@ use Rattle.coy_io.specs.Pieces.{AppendsSome}
 use Rattle.coy_io.specs.Lines.{Part, Line, LongLine, PastLimit, IsUnfinished}
 use Rattle.coy_io.specs.Reader.{Reader, Advances, Begins, IsDone, IsLine, IsNext, IsSpent, GivesLines, ahead, bytes_ahead}
 use Rattle.coy_io.specs.declared.lines.LineFault.{LineFault}
-use Rattle.coy_io.specs.GivenLaws.{Advances-nil, Advances-trans, GivesLines-nil, GivesLines-trans, GivesLines-kept, GivesLines-line}
+use Rattle.coy_io.proofs.GivenLaws.{Advances-nil, Advances-trans, GivesLines-nil, GivesLines-trans, GivesLines-kept, GivesLines-line}
 use Rattle.kernel_core.specs.State.{State}
 use Rattle.listing_read.specs.Schedule.{event_of}
 use Rattle.listing_read.specs.declared.fault.ScheduleFault.{ScheduleFault}

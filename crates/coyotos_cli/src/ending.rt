@@ -46,7 +46,7 @@ pub(crate) fn end_past_limit<K: Sink>(output: &mut K) -> Exit
     end_with(b"too long\n".as_slice(), Exit::TooLong, output)
 }
 
-#[tactic(auto, using(coy_text::specs::NumeralLaws::length_decimal))]
+#[tactic(auto, using(coy_text::proofs::NumeralLaws::length_decimal))]
 fn refuse<K: Sink>(number: u32, name: &str, exit: Exit, output: &mut K) -> Exit
     requires name { length name.now ≤ 20 }
     requires exit { IsGiven exit }

@@ -50,7 +50,7 @@ pub(crate) fn finish<K: Sink, L: Ledger>(
 }
 
 /// Writes the number of events.
-#[tactic(auto, using(coy_text::specs::NumeralLaws::length_decimal))]
+#[tactic(auto, using(coy_text::proofs::NumeralLaws::length_decimal))]
 fn count<K: Sink>(events: u64, output: &mut K) -> Exit
     ensures { EndsIn K.taken K.faults output.old output.new result
         (record { text = count_text events; exit = Exit.Done }) }

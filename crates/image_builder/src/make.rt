@@ -136,7 +136,7 @@ fn make_piece(line: &mut LineBuf, n: u32, done: u8)
 }
 
 /// Appends a word and a decimal number.
-#[tactic(auto, using(coy_text::specs::NumeralLaws::length_decimal_32))]
+#[tactic(auto, using(coy_text::proofs::NumeralLaws::length_decimal_32))]
 fn push_numbered(line: &mut LineBuf, word: &str, number: u32)
     requires { length line.old + length word.now ≤ 1000 }
     ensures text { line.new ≡ line.old ++ word.now ++ decimal number }

@@ -4,7 +4,7 @@ use Rattle.std.specs.List.{All}
 use Rattle.std.proofs.lemmas.List.Elements.{All-append, All-cons, All-nil}
 use Rattle.coy_io.specs.Lines.{Part, Line}
 use Rattle.coy_io.specs.Reader.{Reader, Advances, GivesLines, bytes_ahead, ahead}
-use Rattle.coy_io.specs.GivenLaws.{Advances-nil, Advances-trans, GivesLines-nil, GivesLines-trans, GivesLines-kept}
+use Rattle.coy_io.proofs.GivenLaws.{Advances-nil, Advances-trans, GivesLines-nil, GivesLines-trans, GivesLines-kept}
 use Rattle.object_store.specs.Ranges.{IsWithinLimits}
 use Rattle.object_store.specs.declared.sizes.Sizes.{Sizes}
 use Rattle.listing_read.specs.declared.fault.Fault.{Fault}

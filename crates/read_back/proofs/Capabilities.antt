@@ -5,9 +5,9 @@ use Rattle.std.specs.List.{list_all}
 use Rattle.std.proofs.lemmas.Bool.{leb-true, and_parts, not-true, le-leb, lt-ltb, ne_eqb, eq-eqb, eqb-true, cases_lt, agree_below_at}
 use Rattle.std.proofs.lemmas.List.{append-nil}
 use Rattle.coy_text.specs.Numeral.{hex_text}
-use Rattle.coy_text.specs.NumeralLaws.{dec_of-decimal, hex_of-hex_text}
-use Rattle.coy_text.specs.Words.{cut_at}
-use Rattle.coy_text.specs.WordLaws.{lacks, lacks-decimal, lacks-hex_text, cut_at-append}
+use Rattle.coy_text.proofs.NumeralLaws.{dec_of-decimal, hex_of-hex_text}
+use Rattle.coy_text.specs.Words.{cut_at, lacks}
+use Rattle.coy_text.proofs.WordLaws.{lacks-decimal, lacks-hex_text, cut_at-append}
 use Rattle.cap_format.specs.declared.kind.CapKind.{CapKind}
 use Rattle.cap_format.specs.declared.kind.CapKind.TheVariants.{Page, CapPage, Gpt, Window, LocalWindow, Endpoint, Entry, Process, Schedule}
 use Rattle.cap_format.specs.Guard.{GuardValue, IsGuard, no_guard}

@@ -3,7 +3,7 @@ use Rattle.std.proofs.Common.{ℕ, suc, ◌≡◌, ◌+◌, ◌*◌, ◌/◌, �
 use Rattle.std.specs.Prelude.{Ok, Some, codes}
 use Rattle.std.proofs.lemmas.Bool.{le-leb, lt-ltb}
 use Rattle.coy_text.specs.Numeral.{hex_text}
-use Rattle.coy_text.specs.NumeralLaws.{dec_of-decimal, hex_of-hex_text, hex_digit-byte, length-hex_text}
+use Rattle.coy_text.proofs.NumeralLaws.{dec_of-decimal, hex_of-hex_text, hex_digit-byte, length-hex_text}
 use Rattle.cap_format.specs.declared.kind.CapKind.{CapKind}
 use Rattle.cap_format.specs.declared.kind.CapKind.TheVariants.{Page, CapPage, Gpt, Endpoint, Process}
 use Rattle.cap_format.specs.Kind.{is_object}

@@ -4,12 +4,12 @@ use Rattle.std.specs.Prelude.{nat_le, Ok, bytes_eq, codes}
 use Rattle.std.specs.List.{join_with_byte, list_all}
 use Rattle.std.proofs.lemmas.Fmt.{decimal_nonempty}
 use Rattle.std.proofs.lemmas.Bool.{and_parts, leb-true, not-true}
-use Rattle.coy_text.specs.WordLaws.{words_of-join}
+use Rattle.coy_text.proofs.WordLaws.{words_of-join}
 use Rattle.coy_text.specs.Numeral.{hex_text}
-use Rattle.coy_text.specs.NumeralLaws.{length-hex_text}
+use Rattle.coy_text.proofs.NumeralLaws.{length-hex_text}
 use Rattle.coy_io.specs.declared.TheConstants.{LINE_LIMIT}
 use Rattle.coy_io.specs.Lines.{IsUnfinished, parts}
-use Rattle.coy_io.specs.LineLaws.{parts-line_in_front}
+use Rattle.coy_io.proofs.LineLaws.{parts-line_in_front}
 use Rattle.object_store.specs.declared.sizes.Sizes.{Sizes}
 use Rattle.listing_read.specs.declared.statement.Statement.{Statement}
 use Rattle.listing_read.specs.Line.{says_nothing}

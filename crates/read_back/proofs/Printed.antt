@@ -7,8 +7,8 @@ use Rattle.std.proofs.lemmas.Bool.Decides.{nat_tests}
 use Rattle.std.proofs.lemmas.List.Folds.{list_all-append}
 use Rattle.std.proofs.lemmas.Fmt.{decimal_by_steps}
 use Rattle.coy_text.specs.Numeral.{hex_glyph, hex_text}
-use Rattle.coy_text.specs.NumeralLaws.{length_decimal_32, length-hex_text}
-use Rattle.coy_text.specs.WordLaws.{lacks, is_word}
+use Rattle.coy_text.proofs.NumeralLaws.{length_decimal_32, length-hex_text}
+use Rattle.coy_text.specs.Words.{lacks, is_word}
 use Rattle.coy_io.specs.Lines.{IsUnfinished}
 use Rattle.listing_read.specs.Line.{is_visible}
 

@@ -4,7 +4,7 @@ use Rattle.std.specs.Prelude.{nat_le, Ok, codes, Some, bytes_eq}
 use Rattle.std.proofs.lemmas.Bool.{ne_eqb, le-leb}
 use Rattle.std.proofs.lemmas.List.{append-nil}
 use Rattle.coy_text.specs.Numeral.{hex_text}
-use Rattle.coy_text.specs.NumeralLaws.{hex_of-hex_text}
+use Rattle.coy_text.proofs.NumeralLaws.{hex_of-hex_text}
 use Rattle.cap_format.specs.declared.kind.CapKind.{CapKind}
 use Rattle.cap_format.specs.declared.kind.CapKind.TheVariants as kinds
 use Rattle.cap_format.specs.Capability.{Capability, IsCapability}

@@ -75,7 +75,7 @@ pub(crate) fn push_numbered(line: &mut LineBuf, word: &str, number: u32)
 }
 
 /// Appends a decimal number, which has at most 10 digits.
-#[tactic(auto, using(coy_text::specs::NumeralLaws::length_decimal_32))]
+#[tactic(auto, using(coy_text::proofs::NumeralLaws::length_decimal_32))]
 pub(crate) fn push_number(line: &mut LineBuf, number: u32)
     requires { length line.old ≤ 1010 }
     ensures text { line.new ≡ line.old ++ decimal number }

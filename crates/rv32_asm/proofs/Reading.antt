@@ -5,8 +5,9 @@ use Rattle.std.specs.Fmt.{signed_decimal}
 use Rattle.std.proofs.lemmas.Bool.{cases_lt, lt-ltb, and_parts, and_right, not-true, ne_eqb}
 use Rattle.std.proofs.lemmas.Int.{ints}
 use Rattle.std.proofs.lemmas.Fmt.{first_decimal, decimal_nonempty, decimal_digit}
-use Rattle.coy_text.specs.NumeralLaws.{dec_of-decimal}
-use Rattle.coy_text.specs.WordLaws.{lacks, lacks-append, lacks-decimal, is_word, cut_at-append}
+use Rattle.coy_text.proofs.NumeralLaws.{dec_of-decimal}
+use Rattle.coy_text.specs.Words.{lacks, is_word}
+use Rattle.coy_text.proofs.WordLaws.{lacks-append, lacks-decimal, cut_at-append}
 use Rattle.rv32_decode.specs.InRange.{IsImmediate}
 use Rattle.rv32_asm.specs.Operands.{register_of, immediate_of, number_of, offset_of, natural_of, address_of}
 use Rattle.rv32_asm.specs.Text.{register_text, address_text}

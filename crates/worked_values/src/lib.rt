@@ -11,6 +11,8 @@ mod capabilities;
 #[cfg(test)]
 mod instructions;
 #[cfg(test)]
+mod lines;
+#[cfg(test)]
 mod listings;
 #[cfg(test)]
 mod machine;

@@ -1,7 +1,9 @@
 use Rattle.std.proofs.Common.{map, string_bytes}
 use Rattle.coyotos_cli.specs.Program.{out}
-use Rattle.coyotos.proofs.Flushed.{exit_after-told}
+use Rattle.coyotos.proofs.Flushed.{goes_out}
 use Rattle.coyotos.proofs.run_and_flush.Goals as goal
 
-pub returns-clause-exit : goal.returns-clause-exit
-returns-clause-exit g c = rw c.exit_after.ensures (exit_after-told _ _ (out (map string_bytes c.args.words.now)) _ _ _ c.counted-exit.ensures.output)
+pub returns-clause-output : goal.returns-clause-output
+returns-clause-output g c =
+    rw c.exit_after.ensures
+    (goes_out _ _ _ _ _ _ (out (map string_bytes c.args.words.now)) _ _ _ c.counted-exit.ensures.output c.flush-flushed.ensures.out c.flush-flushed.ensures.kept)

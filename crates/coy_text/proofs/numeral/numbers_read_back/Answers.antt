@@ -1,4 +1,4 @@
-use Rattle.coy_text.specs.NumeralLaws.{dec_of-decimal, hex_of-hex_text}
+use Rattle.coy_text.proofs.NumeralLaws.{dec_of-decimal, hex_of-hex_text}
 use Rattle.coy_text.proofs.numeral.numbers_read_back.Goals as goal
 
 pub returns-clause-dec : goal.returns-clause-dec

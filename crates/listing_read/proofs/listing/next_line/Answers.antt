@@ -1,5 +1,5 @@
 use Rattle.std.proofs.Common.{rules}
-use Rattle.coy_io.specs.GivenLaws.{GivesLines-line}
+use Rattle.coy_io.proofs.GivenLaws.{GivesLines-line}
 use Rattle.listing_read.proofs.listing.next_line.Goals as goal
 
 pub returns-in-Ok-Some-clause-reads : goal.returns-in-Ok-Some-clause-reads

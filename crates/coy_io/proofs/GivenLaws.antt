@@ -5,7 +5,7 @@ use Rattle.std.proofs.Common.{refl, sym, ap, ◌∙◌, subst, append_assoc, app
 use Rattle.std.proofs.KnownBytes.{Consumes-nil, Consumes-trans, Consumes-kept}
 use Rattle.coy_io.specs.declared.TheConstants.{LINE_LIMIT}
 use Rattle.coy_io.specs.Lines.{Part, Line, IsUnfinished, whole_lines}
-use Rattle.coy_io.specs.LineLaws.{short_part, whole_lines-unfinished, whole_lines-line_in_front}
+use Rattle.coy_io.proofs.LineLaws.{short_part, whole_lines-unfinished, whole_lines-line_in_front}
 use Rattle.coy_io.specs.Reader.{Reader, IsLine, IsSpent, line_feed_of, bytes_ahead, new_reader, Advances, AreLines, GivesLines}
 
 -- no part was given

@@ -8,12 +8,7 @@ use Rattle.std.proofs.lemmas.Bool.{and_parts, and_from, not-true, ne_eqb, eq-eqb
 use Rattle.std.proofs.lemmas.Bool.Decides.{nat_tests}
 use Rattle.std.proofs.lemmas.Fmt.{decimal_by_steps}
 use Rattle.coy_text.specs.Numeral.{hex_glyph, hex_text}
-use Rattle.coy_text.specs.Words.{words_on, words_of, cut_at}
-
--- the mark is none of the bytes
-abbrev pub lacks : ℕ → List ℕ → Bool
-lacks mark [] = true
-lacks mark (byte ∷ bytes) = not (byte == mark) && lacks mark bytes
+use Rattle.coy_text.specs.Words.{words_on, words_of, cut_at, lacks, is_word}
 
 -- two texts lack what both lack
 pub lacks-append : (mark : ℕ) (xs ys : List ℕ) → lacks mark xs ≡ true → lacks mark ys ≡ true → lacks mark (xs ++ ys) ≡ true
@@ -67,11 +62,6 @@ words_of-word byte bytes free =
 pub words_of-append : (byte : ℕ) (bytes rest : List ℕ) → lacks 32 (byte ∷ bytes) ≡ true → words_of ((byte ∷ bytes) ++ (32 ∷ rest)) ≡ (byte ∷ bytes) ∷ words_of rest
 unfolding words_on
 words_of-append byte bytes rest free = words_on-append [] (byte ∷ bytes) (32 ∷ rest) free
-
--- a text that is one word
-abbrev pub is_word : List ℕ → Bool
-is_word [] = false
-is_word (byte ∷ bytes) = lacks 32 (byte ∷ bytes)
 
 -- words that are joined by a space are the words of the line that they make
 pub words_of-join : (words : List (List ℕ)) → list_all is_word words ≡ true → words_of (join_with_byte 32 words) ≡ words

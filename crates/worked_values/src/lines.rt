@@ -1,4 +1,5 @@
-use crate::{
+//! Lines of bytes in whatever pieces they come, the faults in between, and readers and writers of the standard library.
+use coy_io::{
     INPUT_LIMIT, LineFault, LineReader, MemSink, MemSource, ReadSource, Source, SureSink,
     SureSource, WriteFault, WriteSink, put_all,
 };
@@ -146,6 +147,30 @@ fn a_source_that_fails_in_mid_stream_ends_the_lines(rt: HostRuntime) -> Result<(
         (lines.number(), source.calls, source.at, source.faults),
         (1, 2, 7, 1)
     );
+    Ok(())
+}
+
+#[test]
+fn no_call_follows_the_one_that_told_the_end(rt: HostRuntime) -> Result<(), Fail> {
+    let alloc = rt.alloc();
+    // (bytes, the most that a call gives, calls)
+    let cases = [
+        ("", 1, 1),
+        ("a", 1, 2),
+        ("a\nb", 1, 4),
+        ("a\nb\n", 1, 5),
+        ("a\nb\n", 7, 2),
+    ];
+    for (bytes, piece, calls) in cases {
+        let mut source = source_of(alloc, bytes.as_bytes().to_vec(alloc)?, piece, false);
+        let mut lines = LineReader::new();
+        for _ in 0..5u8 {
+            if !lines.failed() {
+                let _ = lines.next(&mut source);
+            }
+        }
+        assert_eq!(rt; source.calls, calls, "{bytes:?} by {piece}");
+    }
     Ok(())
 }
 
