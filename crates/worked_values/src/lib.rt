@@ -9,6 +9,8 @@ mod caches;
 #[cfg(test)]
 mod capabilities;
 #[cfg(test)]
+mod command_words;
+#[cfg(test)]
 mod instructions;
 #[cfg(test)]
 mod lines;

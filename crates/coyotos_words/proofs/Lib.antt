@@ -1,0 +1,7 @@
+mod Chosen
+mod Dashed
+mod Entered
+mod Leaves
+mod Plain
+mod Rows
+mod Tables
