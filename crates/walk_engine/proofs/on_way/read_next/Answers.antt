@@ -1,12 +1,7 @@
 use Rattle.std.proofs.Common.{◌∙◌, sym, ap}
 use Rattle.object_store.specs.Meaning.{meaning}
-<<<<<<< HEAD:crates/walk_engine/proofs/on_way/read_next/Answers.antt
 use Rattle.object_store.proofs.Means.{slot_at-map_of}
 use Rattle.walk_engine.proofs.on_way.read_next.Goals as goal
-=======
-use Rattle.object_store.proofs.Means.{slot_at-map_of}
-use Rattle.walk_engine.proofs.walking.read_next.Goals as goal
->>>>>>> 89ee504 (object_store, cap_format, guard_math, page_store, process_objects: keep lemmas in proofs/):crates/walk_engine/proofs/walking/read_next/Answers.antt
 
 pub returns-clause-value : goal.returns-clause-value
 returns-clause-value g c =
