@@ -5,4 +5,6 @@
 #![tactic(auto)]
 
 #[cfg(test)]
+mod machines;
+#[cfg(test)]
 mod rows;

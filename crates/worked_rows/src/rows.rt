@@ -11,25 +11,26 @@ use steps::{Permit, Steps};
 
 /// How a source and a sink in memory answer their calls.
 #[derive(Clone, Copy)]
-struct Calls {
+pub(crate) struct Calls {
     /// The most bytes that a call moves.
-    piece: usize,
+    pub piece: usize,
     /// Whether the source gives no byte past the next line feed.
-    by_line: bool,
+    pub by_line: bool,
     /// The call of the source that fails, 0 where none does.
-    failing_take: u64,
+    pub failing_take: u64,
     /// The call of the sink that fails, 0 where none does.
-    failing_put: u64,
+    pub failing_put: u64,
 }
 
 /// What the program writes for these words and bytes, and its status.
 #[derive(Drop)]
-struct Answer {
-    text: Vec<u8>,
-    status: u8,
+pub(crate) struct Answer {
+    pub text: Vec<u8>,
+    pub status: u8,
 }
 
-fn ask<L: Ledger>(
+/// What the program answers over a source and a sink that answer their calls so.
+pub(crate) fn ask<L: Ledger>(
     alloc: Global,
     words: Vec<String>,
     bytes: Vec<u8>,
@@ -66,7 +67,8 @@ fn ask<L: Ledger>(
     })
 }
 
-fn words_of(alloc: Global, line: &str) -> Result<Vec<String>, Fail> {
+/// The words of a line, one space apart.
+pub(crate) fn words_of(alloc: Global, line: &str) -> Result<Vec<String>, Fail> {
     let mut words = Vec::new(alloc);
     for part in line.split(' ') {
         words.push(part.to_string(alloc)?)?;
