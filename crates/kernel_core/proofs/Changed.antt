@@ -1,15 +1,28 @@
--- A change of a process means the same change of the process as it means.
-use Rattle.std.proofs.Common.{◌≡◌, ℕ, Bool, List, refl, sym, ap, ◌∙◌}
+-- What a change of the objects makes of a state.
+use Rattle.std.proofs.Common.{◌≡◌, ℕ, ◌<◌, List, Bool, true, false, if◌then◌else◌, refl, ap, ◌∙◌, subst}
 use Rattle.cap_format.specs.declared.kind.CapKind.{CapKind}
+use Rattle.cap_format.specs.declared.kind.CapKind.TheVariants.{CapPage}
+use Rattle.cap_format.specs.Restr.{has}
 use Rattle.cap_format.specs.Capability.{Capability}
-use Rattle.process_objects.specs.Process.{ProcessValue, slot_of, capreg_of, with_pc, with_regs, with_capreg, with_state}
-use Rattle.process_objects.specs.declared.state.State.{State as RunState}
-use Rattle.object_store.specs.Store.{Store, with_process, process_at}
-use Rattle.object_store.specs.Meaning.{meaning, process_map, state_map}
-use Rattle.object_store.proofs.Means.{process_at-state_map, process_slot-process_map, capreg_of-process_map, process_map-with_capreg, state_map-with_process}
+use Rattle.cap_format.specs.Weakening.{weakened}
+use Rattle.page_store.specs.CapPage.{cap_at}
+use Rattle.object_store.specs.Store.{Items, Store, size_of, sizes_of, cappage_at}
+use Rattle.object_store.specs.Meaning.{meaning, state_map}
+use Rattle.object_store.specs.Ahead.{IsBehind, NoneAhead}
+use Rattle.object_store.proofs.Made.{meaning_weakened, behind_weakened}
+use Rattle.object_store.proofs.Writes.{cap_means}
+use Rattle.object_store.proofs.WritesBehind.{cap_behind}
 use Rattle.schedules.specs.Queues.{QueuesValue}
-use Rattle.schedules.specs.Ready.{runs_of, with_processes, schedule_of, readied, readied_process}
+use Rattle.operations.specs.Weak.{read_through}
+use Rattle.walk_meaning.specs.declared.kind.Kind.{Kind}
+use Rattle.walk_meaning.specs.declared.place.Place.{Place}
+use Rattle.walk_meaning.specs.Walk.{is_data}
+use Rattle.walk_meaning.specs.Laws.{IsPlace}
+use Rattle.object_store.specs.Object.{ObjectName}
 use Rattle.kernel_core.specs.State.{State}
+use Rattle.kernel_core.specs.Machine.{MachineValue}
+use Rattle.kernel_core.specs.Came.{Leaves}
+use Rattle.kernel_core.specs.CapAccess.{slot_in}
 
 -- a state by its parts
 abbrev pub state_by : Store → QueuesValue → Bool → State
@@ -19,42 +32,36 @@ state_by store queues halted = record { store = store; queues = queues; halted =
 pub same_state : (a b : Store) (q r : QueuesValue) (halted : Bool) → a ≡ b → q ≡ r → state_by a q halted ≡ state_by b r halted
 same_state a b q r halted e f = ap (λ s. state_by s q halted) e ∙ ap (λ n. state_by b n halted) f
 
--- process `p` was replaced by `v`, which means what `u` makes of the process as it meant
-pub put : (o : Store) (p : ℕ) (v : ProcessValue) (u : ProcessValue → ProcessValue) → process_map (meaning o.items) v ≡ u (process_map (meaning o.items) (process_at o p)) → state_map (with_process o p v) ≡ with_process (state_map o) p (u (process_at (state_map o) p))
-put o p v u e = state_map-with_process o p v ∙ ap (with_process (state_map o) p) (e ∙ ap u (sym (process_at-state_map o p)))
+-- what is read through WK means what is read of the meaning
+read_means : (o : Items) (restr : ℕ) (c : Capability) → meaning o (read_through restr c) ≡ read_through restr (meaning o c)
+read_means o restr c = by (has restr 4)
+  where
+    by : (b : Bool) → meaning o (if b then weakened c else c) ≡ (if b then weakened (meaning o c) else meaning o c)
+    by true = meaning_weakened o c
+    by false = refl
 
-pub put_pc : (o : Store) (p pc : ℕ) → state_map (with_process o p (with_pc (process_at o p) pc)) ≡ with_process (state_map o) p (with_pc (process_at (state_map o) p) pc)
-put_pc o p pc = put o p (with_pc (process_at o p) pc) (λ q. with_pc q pc) refl
+-- and is not ahead, where the capability is not
+read_behind : (o : Items) (restr : ℕ) (c : Capability) → IsBehind o c → IsBehind o (read_through restr c)
+read_behind o restr c behind = by (has restr 4)
+  where
+    by : (b : Bool) → IsBehind o (if b then weakened c else c)
+    by true = behind_weakened o c behind
+    by false = behind
 
-pub put_regs : (o : Store) (p : ℕ) (regs : List ℕ) → state_map (with_process o p (with_regs (process_at o p) regs)) ≡ with_process (state_map o) p (with_regs (process_at (state_map o) p) regs)
-put_regs o p regs = put o p (with_regs (process_at o p) regs) (λ q. with_regs q regs) refl
+-- the capability that a loadcap finds, as it means
+pub found_means : (s : Store) (place : Place) → meaning s.items (read_through place.restr.0 (cap_at (cappage_at s place.number) (slot_in place))) ≡ read_through place.restr.0 (cap_at (cappage_at (state_map s) place.number) (slot_in place))
+found_means s place = read_means s.items place.restr.0 (cap_at (cappage_at s place.number) (slot_in place)) ∙ ap (read_through place.restr.0) (cap_means s place.number (slot_in place))
 
-pub put_state : (o : Store) (p : ℕ) (state : RunState) → state_map (with_process o p (with_state (process_at o p) state)) ≡ with_process (state_map o) p (with_state (process_at (state_map o) p) state)
-put_state o p state = put o p (with_state (process_at o p) state) (λ q. with_state q state) refl
+-- it is not ahead
+pub found_behind : (s : Store) (place : Place) → NoneAhead s → IsBehind s.items (read_through place.restr.0 (cap_at (cappage_at s place.number) (slot_in place)))
+found_behind s place none = read_behind s.items place.restr.0 (cap_at (cappage_at s place.number) (slot_in place)) (cap_behind s none place.number (slot_in place))
 
--- what a slot or a capability register of process `p` means
-pub slot_means : (o : Store) (p i : ℕ) → meaning o.items (slot_of (process_at o p) i) ≡ slot_of (process_at (state_map o) p) i
-slot_means o p i = sym (ap (λ q. slot_of q i) (process_at-state_map o p) ∙ process_slot-process_map (meaning o.items) refl (process_at o p) i)
+-- an access of a capability that reaches is over at a capability page that is there
+pub cap_page : (o : Items) (kind : Kind) (place : Place) → is_data kind ≡ false → IsPlace o kind place → place.number < size_of o CapPage
+cap_page o kind place capability is =
+    let served : place.kind ≡ CapPage = is.kind_is ∙ rw capability refl in
+    subst (λ (k : CapKind). place.number < size_of o k) served is.there
 
-pub capreg_means : (o : Store) (p i : ℕ) → meaning o.items (capreg_of (process_at o p) i) ≡ capreg_of (process_at (state_map o) p) i
-capreg_means o p i = sym (ap (λ q. capreg_of q i) (process_at-state_map o p) ∙ capreg_of-process_map (meaning o.items) refl (process_at o p) i)
-
--- a capability was copied from one register to another
-pub put_copy : (o : Store) (p from to : ℕ) → state_map (with_process o p (with_capreg (process_at o p) to (capreg_of (process_at o p) from))) ≡ with_process (state_map o) p (with_capreg (process_at (state_map o) p) to (capreg_of (process_at (state_map o) p) from))
-put_copy o p from to =
-    put o p _ (λ q. with_capreg q to (capreg_of q from))
-    (process_map-with_capreg (meaning o.items) refl (process_at o p) to (capreg_of (process_at o p) from)
-    ∙ ap (with_capreg (process_map (meaning o.items) (process_at o p)) to) (sym (capreg_of-process_map (meaning o.items) refl (process_at o p) from)))
-
--- a process as it is made ready, as it means
-ready_means : (f : Capability → Capability) (kind : CapKind) (q : ProcessValue) → process_map f (readied_process kind q) ≡ readied_process kind (process_map f q)
-ready_means f kind q = refl
-
--- a process was made ready
-pub put_ready : (o : Store) (p : ℕ) (q : QueuesValue) → state_map (with_processes o (readied (schedule_of o p) p (runs_of o q)).processes) ≡ with_processes (state_map o) (readied (slot_of (process_at (state_map o) p) 1) p (runs_of (state_map o) q)).processes
-put_ready o p q =
-    put o p _ (readied_process (schedule_of o p).kind) (ready_means (meaning o.items) (schedule_of o p).kind (process_at o p))
-    ∙ ap (λ (c : Capability). with_process (state_map o) p (readied_process c.kind (process_at (state_map o) p))) (slot_means o p 1)
-
-pub ready_queues : (o : Store) (p : ℕ) (q : QueuesValue) → (readied (schedule_of o p) p (runs_of o q)).queues ≡ (readied (slot_of (process_at (state_map o) p) 1) p (runs_of (state_map o) q)).queues
-ready_queues o p q = ap (λ (c : Capability). (readied c p (runs_of o q)).queues) (slot_means o p 1)
+-- where a part leaves as many objects of each kind and as many harts, the sizes are as before
+pub sizes_left : {T : Type 0} (names : List ObjectName) (m n : MachineValue T) → Leaves names m n → sizes_of n.objects ≡ sizes_of m.objects
+sizes_left names m n l = rw (l.harts, l.pages, l.cappages, l.gpts, l.processes, l.endpoints) refl

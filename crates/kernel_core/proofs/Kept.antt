@@ -1,17 +1,17 @@
 -- Each change of a machine keeps what a machine keeps.
 use Rattle.std.proofs.Common.{◌≡◌, ◌≢◌, ◌⊎◌, inl, inr, ℕ, zero, suc, ◌<◌, eqb, true, false, List, [], replicate, length, get_or, set, refl, sym, ap, ◌∙◌, subst, arith, None}
-use Rattle.std.specs.List.{All, sum_by}
+use Rattle.std.specs.List.{sum_by}
 use Rattle.std.proofs.Math.ListN.{length-set}
 use Rattle.std.proofs.lemmas.List.{get_or-set_same, get_or-set_other, length-replicate}
 use Rattle.std.proofs.lemmas.Bool.Decides.{eqb_tells}
 use Rattle.cap_format.specs.declared.kind.CapKind.TheVariants.{Process}
-use Rattle.process_objects.specs.Process.{ProcessValue, with_capreg, capreg_of, empty_process}
-use Rattle.object_store.specs.Store.{Store, with_process, with_page, process_at, size_of}
+use Rattle.cap_format.specs.Capability.{Capability}
+use Rattle.page_store.specs.CapPage.{with_cap}
+use Rattle.process_objects.specs.Process.{ProcessValue, with_capreg, empty_process}
+use Rattle.object_store.specs.Store.{Store, with_process, with_page, with_cappage, process_at, cappage_at, size_of}
 use Rattle.object_store.specs.Ahead.{IsBehind, NoneAhead}
-use Rattle.object_store.proofs.Live.{IsBehind-null}
 use Rattle.object_store.proofs.Lists.{get_or-set}
-use Rattle.object_store.proofs.Each.{capregs-each, process_slots-each, capreg_of-each, capreg_set-each}
-use Rattle.object_store.proofs.Behind.{NoneAhead-with_process, NoneAhead-with_page}
+use Rattle.object_store.proofs.WritesBehind.{put_process_behind, put_capreg_behind, put_cap_behind, put_page_behind}
 use Rattle.schedules.specs.Queues.{QueuesValue}
 use Rattle.schedules.specs.Standing.{standing, times_in, times_on, empty_queues}
 use Rattle.schedules.specs.Ready.{runs, runs_of, places_due, Agrees, AgreesBut}
@@ -41,40 +41,36 @@ agrees_stopped ps q p v there due but = record {
     at x h (inl (t, e)) = rw (← e) (but.nowhere ∙ (sym due ∙ ap (λ (z : ProcessValue). places_due z.state) (sym (get_or-set_same ps p v empty_process there))))
     at x h (inr (t, other)) = but.each x h (λ e. other (sym e)) ∙ ap (λ (z : ProcessValue). places_due z.state) (sym (get_or-set_other ps p x v empty_process (λ e. other (sym e))))
 
--- a process with capabilities that are not ahead
-behind_process : (o : Store) (p : ℕ) (v : ProcessValue) → NoneAhead o → v.capregs ≡ (process_at o p).capregs → v.slots ≡ (process_at o p).slots → NoneAhead (with_process o p v)
-behind_process o p v none capregs slots =
-    NoneAhead-with_process o none p v
-    (subst (All (IsBehind o.items)) (sym capregs) (capregs-each (IsBehind o.items) (IsBehind-null o.items) o none p))
-    (subst (All (IsBehind o.items)) (sym slots) (process_slots-each (IsBehind o.items) (IsBehind-null o.items) o none p))
-
 -- a process that has another pc or other registers
 pub kept_process : (o : Store) (q : QueuesValue) (p : ℕ) (v : ProcessValue) → v.state ≡ (process_at o p).state → v.capregs ≡ (process_at o p).capregs → v.slots ≡ (process_at o p).slots → IsMachine o q → IsMachine (with_process o p v) q
 kept_process o q p v state capregs slots is = record {
   fits = record { processes = is.fits.processes; harts = is.fits.harts };
   agrees = agrees_same o.contents.processes q p v state is.agrees;
-  behind = behind_process o p v is.behind capregs slots;
+  behind = put_process_behind o is.behind p v capregs slots;
 }
 
--- a process in which a capability was copied
-pub kept_copy : (o : Store) (q : QueuesValue) (p from to : ℕ) → IsMachine o q → IsMachine (with_process o p (with_capreg (process_at o p) to (capreg_of (process_at o p) from))) q
-kept_copy o q p from to is =
-    let P = IsBehind o.items in
-    let null_is = IsBehind-null o.items in
-    record {
-      fits = record { processes = is.fits.processes; harts = is.fits.harts };
-      agrees = agrees_same o.contents.processes q p _ refl is.agrees;
-      behind = NoneAhead-with_process o is.behind p _
-          (capreg_set-each P null_is (process_at o p).capregs to _ (capreg_of-each P null_is o is.behind p from) (capregs-each P null_is o is.behind p))
-          (process_slots-each P null_is o is.behind p);
-    }
+-- a process with another capability in a register
+pub kept_capreg : (o : Store) (q : QueuesValue) (p to : ℕ) (cap : Capability) → IsBehind o.items cap → IsMachine o q → IsMachine (with_process o p (with_capreg (process_at o p) to cap)) q
+kept_capreg o q p to cap behind is = record {
+  fits = record { processes = is.fits.processes; harts = is.fits.harts };
+  agrees = agrees_same o.contents.processes q p _ refl is.agrees;
+  behind = put_capreg_behind o is.behind p to cap behind;
+}
+
+-- a capability page with another slot
+pub kept_cap : (o : Store) (q : QueuesValue) (n slot : ℕ) (cap : Capability) → IsBehind o.items cap → IsMachine o q → IsMachine (with_cappage o n (with_cap (cappage_at o n) slot cap)) q
+kept_cap o q n slot cap behind is = record {
+  fits = record { processes = is.fits.processes; harts = is.fits.harts };
+  agrees = record { sizes = is.agrees.sizes; each = is.agrees.each };
+  behind = put_cap_behind o is.behind n slot cap behind;
+}
 
 -- a page with other bytes
 pub kept_page : (o : Store) (q : QueuesValue) (n : ℕ) (page : List ℕ) → IsMachine o q → IsMachine (with_page o n page) q
 kept_page o q n page is = record {
   fits = record { processes = is.fits.processes; harts = is.fits.harts };
   agrees = record { sizes = is.agrees.sizes; each = is.agrees.each };
-  behind = NoneAhead-with_page o is.behind n page;
+  behind = put_page_behind o is.behind n page;
 }
 
 -- a process in another state, and other queues that agree with it
@@ -82,7 +78,7 @@ pub kept_placed : (o : Store) (q r : QueuesValue) (p : ℕ) (v : ProcessValue) �
 kept_placed o q r p v capregs slots sleepers harts agrees is = record {
   fits = record { processes = sleepers ∙ is.fits.processes; harts = harts ∙ is.fits.harts };
   agrees = agrees;
-  behind = behind_process o p v is.behind capregs slots;
+  behind = put_process_behind o is.behind p v capregs slots;
 }
 
 -- other queues

@@ -13,7 +13,7 @@ use Rattle.kernel_core.specs.declared.record.Record.{Record}
 use Rattle.kernel_core.specs.declared.record.Record.TheVariants.{Access}
 use Rattle.kernel_core.specs.State.{State, process, space_of}
 use Rattle.kernel_core.specs.Setters.{set_registers, set_page, advance}
-use Rattle.kernel_core.specs.Outcome.{Touch, Outcome, done, recorded, touched}
+use Rattle.kernel_core.specs.Outcome.{Touch, Outcome, page_name, done, recorded, touched, changing}
 use Rattle.kernel_core.specs.Outcome.Touch.{DataAccess}
 use Rattle.kernel_core.specs.Fault.{fault, misaligned}
 
@@ -63,7 +63,8 @@ written s hit size value = set_page s hit.page (with_bytes (page_at s.store hit.
 -- a store that is aligned
 abbrev pub stored_to : State → ℕ → ℕ → ℕ → ℕ → Result Hit WalkFault → Outcome
 stored_to s p at size value (Err f) = fault s p f.code at f.handler
-stored_to s p at size value (Ok hit) = recorded (reached p Put at hit) (done (advance (written s hit size value) p))
+stored_to s p at size value (Ok hit) =
+    changing (page_name hit.page) (recorded (reached p Put at hit) (done (advance (written s hit size value) p)))
 
 -- a store of the lowest so many bytes of a value: alignment first, then the walk (RV32I)
 unfoldable pub store : State → ℕ → ℕ → ℕ → ℕ → Outcome

@@ -1,5 +1,5 @@
 -- Events: one step of a hart, or one tick of its timer. Each is atomic.
-use Rattle.std.specs.Prelude.{ℕ, if◌then◌else◌, Option, Some, None, Result, Ok, Err}
+use Rattle.std.specs.Prelude.{ℕ, if◌then◌else◌, [], Option, Some, None, Result, Ok, Err}
 use Rattle.cap_format.specs.declared.fault.FaultCode.TheVariants.{BadOpcode}
 use Rattle.rv32_decode.specs.declared.insn.Insn.{Insn}
 use Rattle.rv32_decode.specs.Table.{insn_at}
@@ -12,7 +12,7 @@ use Rattle.kernel_core.specs.declared.event.Event.TheVariants.{Step, Tick}
 use Rattle.kernel_core.specs.declared.record.Record.TheVariants.{Insn as InsnRead}
 use Rattle.kernel_core.specs.State.{State, pc_of}
 use Rattle.kernel_core.specs.Setters.{set_queues, leave, ready}
-use Rattle.kernel_core.specs.Outcome.{Outcome, done, recorded, touched}
+use Rattle.kernel_core.specs.Outcome.{Outcome, process_name, names_on, done, recorded, touched, changing}
 use Rattle.kernel_core.specs.Fault.{fault}
 use Rattle.kernel_core.specs.Access.{data_access, data_touch, reached, number_at}
 use Rattle.kernel_core.specs.Instruction.{perform}
@@ -29,7 +29,8 @@ fetched_from s p (Ok hit) = recorded (reached p Fetch (pc_of s p) hit) (decoded_
 
 -- one instruction of a process: its fetch, then what the word says
 unfoldable pub instruction : State → ℕ → Outcome
-instruction s p = touched (data_touch s p (pc_of s p) Fetch) (fetched_from s p (data_access s p (pc_of s p) Fetch))
+instruction s p =
+    changing (process_name p) (touched (data_touch s p (pc_of s p) Fetch) (fetched_from s p (data_access s p (pc_of s p) Fetch)))
 
 -- a hart without a process takes the first of the highest ready queue
 abbrev pub dispatch : State → ℕ → State
@@ -45,10 +46,14 @@ abbrev pub ticked : State → Option ℕ → State
 ticked s None = s
 ticked s (Some p) = ready (leave s p) p
 
+-- such a tick, of which nothing is told
+abbrev pub tick_of : State → Option ℕ → Outcome
+tick_of s on = record { state = ticked s on; records = []; touches = []; changed = names_on on }
+
 -- an event of a machine that is not halted
 unfoldable pub event_by : State → Event → Outcome
 event_by s (Step hart) = stepped (dispatch s hart) (hart_of (dispatch s hart).queues hart)
-event_by s (Tick hart) = done (ticked s (hart_of s.queues hart))
+event_by s (Tick hart) = tick_of s (hart_of s.queues hart)
 
 -- an event: nothing happens to a machine that is halted
 abbrev pub event_of : State → Event → Outcome

@@ -14,7 +14,7 @@ abbrev pub faulted : State → ℕ → FaultCode → ℕ → State
 faulted s p code address = set_run_state (leave s p) p (Faulted code address)
 
 -- a fault of a process with the handler that its walk gave; nobody hears it (fewer cases than Coyotos)
-abbrev pub fault : State → ℕ → FaultCode → ℕ → Option Capability → Outcome
+unfoldable pub fault : State → ℕ → FaultCode → ℕ → Option Capability → Outcome
 fault s p code address handler = recorded (Fault p code address None) (done (faulted s p code address))
 
 -- an address that is no multiple of what it has to be

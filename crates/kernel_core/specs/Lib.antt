@@ -2,8 +2,10 @@ pub mod Machine
 pub mod State
 pub mod Setters
 pub mod Outcome
+pub mod Came
 pub mod Fault
 pub mod Access
+pub mod CapAccess
 pub mod SystemCall
 pub mod Instruction
 pub mod Event

@@ -1,8 +1,11 @@
--- What comes of a part of an event: the state afterwards, what is told, and what a translator was asked.
-use Rattle.std.specs.Prelude.{ℕ, ◌+◌, List, [], ◌∷◌}
+-- What comes of a part of an event: the state afterwards, what is told, what a translator was asked, and which objects
+-- change.
+use Rattle.std.specs.Prelude.{ℕ, ◌+◌, List, [], ◌∷◌, Option, Some, None}
 use Rattle.cap_format.specs.Capability.{Capability}
 use Rattle.cap_format.specs.declared.item.Item.{Item}
+use Rattle.cap_format.specs.declared.kind.CapKind.TheVariants.{Page, CapPage, Process}
 use Rattle.object_store.specs.Store.{Items}
+use Rattle.object_store.specs.Object.{ObjectName, object_name}
 use Rattle.walk_meaning.specs.declared.kind.Kind.{Kind}
 use Rattle.walk_meaning.specs.Trail.{slots}
 use Rattle.kernel_core.specs.declared.record.Record.{Record}
@@ -16,23 +19,44 @@ pub data Touch : Type 0 where
   SlotRead : Touch
   Changed : Item → Touch
 
--- a state, the records in their order, and the touches in their order
+-- a state, the records in their order, the touches in their order, and the objects that change, besides those that stay
+-- as they were though they are named
 pub record Outcome : Type 0 where
   pub state : State
   pub records : List Record
   pub touches : List Touch
+  pub changed : List ObjectName
+
+-- the names of a process, of a page and of a capability page
+abbrev pub process_name : ℕ → ObjectName
+process_name p = object_name Process p
+
+abbrev pub page_name : ℕ → ObjectName
+page_name n = object_name Page n
+
+abbrev pub cappage_name : ℕ → ObjectName
+cappage_name n = object_name CapPage n
+
+-- the name of the process of a hart, where it has one
+abbrev pub names_on : Option ℕ → List ObjectName
+names_on None = []
+names_on (Some p) = process_name p ∷ []
 
 -- nothing more happens
 abbrev pub done : State → Outcome
-done s = record { state = s; records = []; touches = [] }
+done s = record { state = s; records = []; touches = []; changed = [] }
 
 -- this record comes first
 abbrev pub recorded : Record → Outcome → Outcome
-recorded r o = record { state = o.state; records = r ∷ o.records; touches = o.touches }
+recorded r o = record { state = o.state; records = r ∷ o.records; touches = o.touches; changed = o.changed }
 
 -- this touch comes first
 abbrev pub touched : Touch → Outcome → Outcome
-touched t o = record { state = o.state; records = o.records; touches = t ∷ o.touches }
+touched t o = record { state = o.state; records = o.records; touches = t ∷ o.touches; changed = o.changed }
+
+-- this object changes as well
+abbrev pub changing : ObjectName → Outcome → Outcome
+changing name o = record { state = o.state; records = o.records; touches = o.touches; changed = name ∷ o.changed }
 
 -- what touches cost and leave, by what a translator says of one access and of one change
 module _ {K : Type 0} (cost : K → Items → Capability → ℕ → Kind → ℕ) (after : K → Items → Capability → ℕ → Kind → K) (without : K → Item → K) where

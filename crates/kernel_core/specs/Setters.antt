@@ -1,10 +1,12 @@
 -- What one change makes of a state. All else stays the same.
 use Rattle.std.specs.Prelude.{ℕ, List}
 use Rattle.cap_format.specs.Capability.{Capability}
+use Rattle.gpt_objects.specs.Gpt.{GptValue}
+use Rattle.endpoint_objects.specs.declared.endpoint.Endpoint.{Endpoint as EndpointValue}
 use Rattle.process_objects.specs.Process.{ProcessValue, with_pc, with_regs, with_capreg, with_state}
 use Rattle.process_objects.specs.declared.state.State.{State as RunState}
 use Rattle.rv32_user.specs.Word.{next_of}
-use Rattle.object_store.specs.Store.{Store, with_page, with_process}
+use Rattle.object_store.specs.Store.{Store, with_items, set_gpt as set_gpt_item, with_page, with_cappage, with_process, with_endpoint}
 use Rattle.schedules.specs.Queues.{QueuesValue, left}
 use Rattle.schedules.specs.Ready.{Runs, runs_of, with_processes, readied}
 use Rattle.kernel_core.specs.State.{State, process, pc_of, schedule_slot}
@@ -24,6 +26,18 @@ set_process s p value = set_store s (with_process s.store p value)
 -- other bytes of page `n`
 abbrev pub set_page : State → ℕ → List ℕ → State
 set_page s n page = set_store s (with_page s.store n page)
+
+-- other slots of capability page `n`
+abbrev pub set_cappage : State → ℕ → List Capability → State
+set_cappage s n page = set_store s (with_cappage s.store n page)
+
+-- another GPT in the place of GPT `g`
+abbrev pub set_gpt : State → ℕ → GptValue → State
+set_gpt s g gpt = set_store s (with_items s.store (set_gpt_item s.store.items g gpt))
+
+-- another endpoint in the place of endpoint `n`
+abbrev pub set_endpoint : State → ℕ → EndpointValue → State
+set_endpoint s n endpoint = set_store s (with_endpoint s.store n endpoint)
 
 -- another pc of process `p`
 abbrev pub set_pc : State → ℕ → ℕ → State

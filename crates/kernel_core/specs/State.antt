@@ -1,4 +1,5 @@
--- The abstract machine's state: what the objects mean, who stands where, and whether it is halted.
+-- The abstract machine's state: what the objects mean, who stands where, and whether it is halted. Its capabilities have
+-- no count, so each is read as it stands: what `meaning` or `live` would make of one here is not what it means.
 use Rattle.std.specs.Prelude.{ℕ, Bool, ◌≡◌, Some}
 use Rattle.cap_format.specs.Capability.{Capability}
 use Rattle.process_objects.specs.Process.{ProcessValue, reg_of, slot_of}
@@ -29,13 +30,23 @@ pc_of s p = (process s p).pc
 abbrev pub register_of : State → ℕ → ℕ → ℕ
 register_of s p i = reg_of (process s p) i
 
+-- the numbers of a process's slots: the space, the schedule and the fault handler (Coyotos; the numbers are this project's)
+abbrev pub space_slot : ℕ
+space_slot = 0
+
+abbrev pub schedule_slot_number : ℕ
+schedule_slot_number = 1
+
+abbrev pub handler_slot : ℕ
+handler_slot = 2
+
 -- the capability in the slot for the space of process `p`, in which its accesses are walked (Coyotos)
 abbrev pub space_of : State → ℕ → Capability
-space_of s p = slot_of (process s p) 0
+space_of s p = slot_of (process s p) space_slot
 
 -- the capability in the slot for the schedule of process `p`, which says in what queue it is made ready (Coyotos)
 abbrev pub schedule_slot : State → ℕ → Capability
-schedule_slot s p = slot_of (process s p) 1
+schedule_slot s p = slot_of (process s p) schedule_slot_number
 
 -- the process stands on a hart
 pub record IsOnHart (q : QueuesValue) (p : ℕ) : Type 0 where

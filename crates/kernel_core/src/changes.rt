@@ -1,29 +1,34 @@
 //! The changes of processes and queues of which events are made. Each does one thing.
-ghost use Rattle.std.specs.Prelude.{◌≡◌, ◌<◌, ◌≤◌, ◌%◌, IfSome};
+ghost use Rattle.std.specs.Prelude.{◌≡◌, ◌<◌, ◌≤◌, ◌%◌, [], ◌∷◌, IfSome};
 ghost use Rattle.cap_format.specs.declared.kind.CapKind.TheVariants.{Process};
+ghost use Rattle.process_objects.specs.Process.{capreg_of};
 ghost use Rattle.object_store.specs.Store.{size_of, process_at};
+ghost use Rattle.object_store.specs.Meaning.{meaning};
+ghost use Rattle.object_store.specs.Ahead.{IsBehind};
 ghost use Rattle.schedules.specs.Queues.{hart_of};
 ghost use Rattle.schedules.specs.Ready.{places_due};
 ghost use Rattle.kernel_core.specs.State.{state_of, process, pc_of};
-ghost use Rattle.kernel_core.specs.Setters.{set_pc, set_registers, advance, leave, ready};
+ghost use Rattle.kernel_core.specs.Setters.{set_pc, set_registers, set_capreg, advance, leave, ready};
+ghost use Rattle.kernel_core.specs.Outcome.{process_name, names_on};
+ghost use Rattle.kernel_core.specs.Came.{Leaves};
 ghost use Rattle.kernel_core.specs.Fault.{faulted};
-ghost use Rattle.kernel_core.specs.SystemCall.{copied, yielded};
+ghost use Rattle.kernel_core.specs.SystemCall.{yielded};
 ghost use Rattle.kernel_core.specs.Event.{dispatch, ticked};
 
 use crate::machine::Machine;
-use cap_format::FaultCode;
+use cap_format::{Cap, FaultCode};
 use process_objects::State;
 use walk_engine::Translator;
 
 impl<T: Translator> Machine<T> {
     /// The process leaves its place and is made ready.
+    #[tactic(auto, using(object_store::proofs::Stays::stays_process))]
     pub(crate) fn requeue(&mut self, p: u16)
         requires there { p < size_of self.old.objects.items Process }
         ensures state { state_of self.new ≡ ready (leave (state_of self.old) p) p }
         ensures stopped { places_due (process_at self.old.objects p).state ≡ 0 →
             state_of self.new ≡ ready (state_of self.old) p }
-        ensures items { self.new.objects.items ≡ self.old.objects.items }
-        ensures harts { self.new.objects.harts ≡ self.old.objects.harts }
+        ensures leaves { Leaves (process_name p ∷ []) self.old self.new }
         ensures translator { self.new.translator ≡ self.old.translator }
     {
         self.queues.leave(p);
@@ -36,8 +41,7 @@ impl<T: Translator> Machine<T> {
         ensures process { result ≡ hart_of self.new.queues hart }
         ensures there { IfSome result (λ p. p < size_of self.new.objects.items Process) }
         ensures state { state_of self.new ≡ dispatch (state_of self.old) hart }
-        ensures items { self.new.objects.items ≡ self.old.objects.items }
-        ensures harts { self.new.objects.harts ≡ self.old.objects.harts }
+        ensures objects { self.new.objects ≡ self.old.objects }
         ensures translator { self.new.translator ≡ self.old.translator }
     {
         let _taken = self.queues.dispatch(hart);
@@ -54,12 +58,12 @@ impl<T: Translator> Machine<T> {
     }
 
     /// The process of the hart, if any, goes to the end of its queue.
+    #[tactic(auto, using(object_store::proofs::Stays::stays_same))]
     pub(crate) fn tick(&mut self, hart: u8)
         requires { hart < self.old.objects.harts }
         ensures state { let s = state_of self.old in
             state_of self.new ≡ ticked s (hart_of s.queues hart) }
-        ensures items { self.new.objects.items ≡ self.old.objects.items }
-        ensures harts { self.new.objects.harts ≡ self.old.objects.harts }
+        ensures leaves { Leaves (names_on (hart_of self.old.queues hart)) self.old self.new }
         ensures translator { self.new.translator ≡ self.old.translator }
     {
         if let Some(p) = self.on_hart(hart) {
@@ -68,11 +72,11 @@ impl<T: Translator> Machine<T> {
     }
 
     /// The process goes on behind its instruction, and to the end of its queue.
+    #[tactic(auto, using(object_store::proofs::Stays::stays_then))]
     pub(crate) fn give_way(&mut self, p: u16)
         requires { p < size_of self.old.objects.items Process }
         ensures state { state_of self.new ≡ yielded (state_of self.old) p }
-        ensures items { self.new.objects.items ≡ self.old.objects.items }
-        ensures harts { self.new.objects.harts ≡ self.old.objects.harts }
+        ensures leaves { Leaves (process_name p ∷ []) self.old self.new }
         ensures translator { self.new.translator ≡ self.old.translator }
     {
         self.advance(p);
@@ -80,11 +84,11 @@ impl<T: Translator> Machine<T> {
     }
 
     /// The process is faulted, and stands nowhere.
+    #[tactic(auto, using(object_store::proofs::Stays::stays_process))]
     pub(crate) fn stop(&mut self, p: u16, code: FaultCode, address: u32)
         requires there { p < size_of self.old.objects.items Process }
         ensures state { state_of self.new ≡ faulted (state_of self.old) p code address }
-        ensures items { self.new.objects.items ≡ self.old.objects.items }
-        ensures harts { self.new.objects.harts ≡ self.old.objects.harts }
+        ensures leaves { Leaves (process_name p ∷ []) self.old self.new }
         ensures translator { self.new.translator ≡ self.old.translator }
     {
         self.queues.leave(p);
@@ -101,12 +105,12 @@ impl<T: Translator> Machine<T> {
         self.objects.process(p).pc()
     }
 
+    #[tactic(auto, using(object_store::proofs::Stays::stays_process))]
     pub(crate) fn set_pc(&mut self, p: u16, pc: u32)
         requires there { p < size_of self.old.objects.items Process }
         requires aligned { pc % 4 ≡ 0 }
         ensures state { state_of self.new ≡ set_pc (state_of self.old) p pc }
-        ensures items { self.new.objects.items ≡ self.old.objects.items }
-        ensures harts { self.new.objects.harts ≡ self.old.objects.harts }
+        ensures leaves { Leaves (process_name p ∷ []) self.old self.new }
         ensures translator { self.new.translator ≡ self.old.translator }
         ensures queues { self.new.queues ≡ self.old.queues }
     {
@@ -117,8 +121,7 @@ impl<T: Translator> Machine<T> {
     pub(crate) fn advance(&mut self, p: u16)
         requires there { p < size_of self.old.objects.items Process }
         ensures state { state_of self.new ≡ advance (state_of self.old) p }
-        ensures items { self.new.objects.items ≡ self.old.objects.items }
-        ensures harts { self.new.objects.harts ≡ self.old.objects.harts }
+        ensures leaves { Leaves (process_name p ∷ []) self.old self.new }
         ensures translator { self.new.translator ≡ self.old.translator }
         ensures queues { self.new.queues ≡ self.old.queues }
     {
@@ -133,29 +136,40 @@ impl<T: Translator> Machine<T> {
         self.objects.process(p).regs()
     }
 
+    #[tactic(auto, using(object_store::proofs::Stays::stays_process))]
     pub(crate) fn set_registers(&mut self, p: u16, registers: &[u32; 32])
         requires there { p < size_of self.old.objects.items Process }
         ensures state { state_of self.new ≡ set_registers (state_of self.old) p registers.now }
-        ensures items { self.new.objects.items ≡ self.old.objects.items }
-        ensures harts { self.new.objects.harts ≡ self.old.objects.harts }
+        ensures leaves { Leaves (process_name p ∷ []) self.old self.new }
         ensures translator { self.new.translator ≡ self.old.translator }
         ensures queues { self.new.queues ≡ self.old.queues }
     {
         self.objects.process_mut(p).set_regs(registers);
     }
 
-    /// The capability of one register goes to another.
-    pub(crate) fn copy_capability(&mut self, p: u16, from: u8, to: u8)
+    /// What a capability register holds, as it is stored.
+    pub(crate) fn capability(&self, p: u16, i: u8) -> Cap
+        requires there { p < size_of self.now.objects.items Process }
+        requires register { i ≤ 31 }
+        ensures means { let s = state_of self.now in
+            meaning self.now.objects.items result ≡ capreg_of (process s p) i }
+        ensures behind { IsBehind self.now.objects.items result }
+    {
+        self.objects.process(p).capreg(i)
+    }
+
+    /// A capability goes to a register.
+    #[tactic(auto, using(object_store::proofs::Stays::stays_process))]
+    pub(crate) fn give_capability(&mut self, p: u16, to: u8, cap: Cap)
         requires there { p < size_of self.old.objects.items Process }
-        requires from { from ≤ 31 }
-        requires to { to ≤ 31 }
-        ensures state { state_of self.new ≡ copied (state_of self.old) p from to }
-        ensures items { self.new.objects.items ≡ self.old.objects.items }
-        ensures harts { self.new.objects.harts ≡ self.old.objects.harts }
+        requires register { to ≤ 31 }
+        requires behind { IsBehind self.old.objects.items cap }
+        ensures state { let meant = meaning self.old.objects.items cap in
+            state_of self.new ≡ set_capreg (state_of self.old) p to meant }
+        ensures leaves { Leaves (process_name p ∷ []) self.old self.new }
         ensures translator { self.new.translator ≡ self.old.translator }
         ensures queues { self.new.queues ≡ self.old.queues }
     {
-        let cap = self.objects.process(p).capreg(from);
         self.objects.process_mut(p).set_capreg(to, cap);
     }
 }

@@ -1,11 +1,12 @@
 //! Events: one step of a hart, or one tick of its timer.
-ghost use Rattle.std.specs.Prelude.{◌≡◌, ◌<◌, ◌≤◌, ◌+◌, ◌++◌, length};
+ghost use Rattle.std.specs.Prelude.{◌≡◌, ◌<◌, ◌+◌, ◌∷◌};
 ghost use Rattle.cap_format.specs.declared.kind.CapKind.TheVariants.{Process};
-ghost use Rattle.object_store.specs.Store.{size_of};
+ghost use Rattle.object_store.specs.Store.{size_of, sizes_of};
 ghost use Rattle.rv32_decode.specs.Table.{insn_at};
 ghost use Rattle.kernel_core.specs.Machine.{hart_in};
 ghost use Rattle.kernel_core.specs.State.{state_of, IsOnHart};
-ghost use Rattle.kernel_core.specs.Outcome.{spent, kept_after};
+ghost use Rattle.kernel_core.specs.Outcome.{process_name, spent, kept_after};
+ghost use Rattle.kernel_core.specs.Came.{Came, Leaves, HasRoom};
 ghost use Rattle.kernel_core.specs.Event.{decoded_to, instruction, event_by, event_of};
 
 use crate::event::Event;
@@ -23,6 +24,7 @@ use walk_meaning::Kind;
 
 impl<T: Translator> Machine<T> {
     /// Performs one event, and tells what happened. Nothing happens to a machine that is halted.
+    #[tactic(auto, using(crate::proofs::Changed::sizes_left))]
     pub fn event<L: Ledger>(&mut self, e: Event, fetches: &mut Steps<L>) -> Records
         requires { hart_in e < self.old.objects.harts }
         ensures state { state_of self.new ≡ (event_of (state_of self.old) e).state }
@@ -33,7 +35,9 @@ impl<T: Translator> Machine<T> {
         ensures kept { let outcome = event_of (state_of self.old) e in
             let kept = T.kept self.old.translator in
             T.kept self.new.translator ≡ kept_after T.cost T.after T.without kept outcome.touches }
-        ensures items { self.new.objects.items ≡ self.old.objects.items }
+        ensures leaves { let outcome = event_of (state_of self.old) e in
+            Leaves outcome.changed self.old self.new }
+        ensures sizes { sizes_of self.new.objects ≡ sizes_of self.old.objects }
         ensures harts { self.new.objects.harts ≡ self.old.objects.harts }
     {
         let mut records = Records::new();
@@ -42,6 +46,7 @@ impl<T: Translator> Machine<T> {
     }
 
     /// Performs one event as `event` does, and leaves its records, and no others, in a list that is there already.
+    #[tactic(auto, using(object_store::proofs::Stays::stays_same, crate::proofs::Changed::sizes_left))]
     pub fn event_into<L: Ledger>(&mut self, e: Event, records: &mut Records, fetches: &mut Steps<L>)
         requires { hart_in e < self.old.objects.harts }
         ensures state { state_of self.new ≡ (event_of (state_of self.old) e).state }
@@ -52,7 +57,9 @@ impl<T: Translator> Machine<T> {
         ensures kept { let outcome = event_of (state_of self.old) e in
             let kept = T.kept self.old.translator in
             T.kept self.new.translator ≡ kept_after T.cost T.after T.without kept outcome.touches }
-        ensures items { self.new.objects.items ≡ self.old.objects.items }
+        ensures leaves { let outcome = event_of (state_of self.old) e in
+            Leaves outcome.changed self.old self.new }
+        ensures sizes { sizes_of self.new.objects ≡ sizes_of self.old.objects }
         ensures harts { self.new.objects.harts ≡ self.old.objects.harts }
     {
         records.clear();
@@ -62,20 +69,14 @@ impl<T: Translator> Machine<T> {
     }
 
     /// An event of a machine that is not halted.
-    #[tactic(auto, unfolding(crate::specs::Event::event_by))]
+    #[tactic(auto, unfolding(crate::specs::Event::event_by), using(object_store::proofs::Stays::stays_same))]
     fn event_by<L: Ledger>(&mut self, e: Event, records: &mut Records, fetches: &mut Steps<L>)
         requires hart { hart_in e < self.old.objects.harts }
-        requires room { length records.old ≤ 20 }
-        ensures state { state_of self.new ≡ (event_by (state_of self.old) e).state }
-        ensures records { records.new ≡ records.old ++ (event_by (state_of self.old) e).records }
-        ensures counted { let outcome = event_by (state_of self.old) e in
-            let kept = T.kept self.old.translator in
-            fetches.new ≡ fetches.old + spent T.cost T.after T.without kept outcome.touches }
-        ensures kept { let outcome = event_by (state_of self.old) e in
-            let kept = T.kept self.old.translator in
-            T.kept self.new.translator ≡ kept_after T.cost T.after T.without kept outcome.touches }
-        ensures items { self.new.objects.items ≡ self.old.objects.items }
-        ensures harts { self.new.objects.harts ≡ self.old.objects.harts }
+        requires room { HasRoom 42 records.old }
+        ensures came { Came T.kept T.cost T.after T.without (event_by (state_of self.old) e)
+            self.old records.old fetches.old self.new records.new fetches.new }
+        ensures leaves { let outcome = event_by (state_of self.old) e in
+            Leaves outcome.changed self.old self.new }
     {
         match e {
             Event::Step(hart) => {
@@ -98,18 +99,12 @@ fn instruction<T: Translator, L: Ledger>(
 )
     requires there { p < size_of machine.old.objects.items Process }
     requires on_hart { IsOnHart machine.old.queues p }
-    requires room { length records.old ≤ 20 }
-    ensures state { state_of machine.new ≡ (instruction (state_of machine.old) p).state }
-    ensures records { records.new ≡ records.old ++ (instruction (state_of machine.old) p).records }
-    ensures counted { let outcome = instruction (state_of machine.old) p in
-        let kept = T.kept machine.old.translator in
-        fetches.new ≡ fetches.old + spent T.cost T.after T.without kept outcome.touches }
-    ensures kept { let outcome = instruction (state_of machine.old) p in
-        let kept = T.kept machine.old.translator in
-        T.kept machine.new.translator ≡ kept_after T.cost T.after T.without kept outcome.touches }
-    ensures room { length records.new ≤ length records.old + 3 }
-    ensures items { machine.new.objects.items ≡ machine.old.objects.items }
-    ensures harts { machine.new.objects.harts ≡ machine.old.objects.harts }
+    requires room { HasRoom 42 records.old }
+    ensures came { let outcome = instruction (state_of machine.old) p in
+        Came T.kept T.cost T.after T.without
+        outcome machine.old records.old fetches.old machine.new records.new fetches.new }
+    ensures leaves { let outcome = instruction (state_of machine.old) p in
+        Leaves outcome.changed machine.old machine.new }
 {
     let pc = machine.pc(p);
     match machine.access(p, pc, Kind::Fetch, fetches) {
@@ -137,20 +132,12 @@ fn decoded<T: Translator, L: Ledger>(
 )
     requires there { p < size_of machine.old.objects.items Process }
     requires on_hart { IsOnHart machine.old.queues p }
-    requires room { length records.old ≤ 22 }
-    ensures state { let outcome = decoded_to (state_of machine.old) p (insn_at word) in
-        state_of machine.new ≡ outcome.state }
-    ensures records { let outcome = decoded_to (state_of machine.old) p (insn_at word) in
-        records.new ≡ records.old ++ outcome.records }
-    ensures counted { let outcome = decoded_to (state_of machine.old) p (insn_at word) in
-        let kept = T.kept machine.old.translator in
-        fetches.new ≡ fetches.old + spent T.cost T.after T.without kept outcome.touches }
-    ensures kept { let outcome = decoded_to (state_of machine.old) p (insn_at word) in
-        let kept = T.kept machine.old.translator in
-        T.kept machine.new.translator ≡ kept_after T.cost T.after T.without kept outcome.touches }
-    ensures room { length records.new ≤ length records.old + 2 }
-    ensures items { machine.new.objects.items ≡ machine.old.objects.items }
-    ensures harts { machine.new.objects.harts ≡ machine.old.objects.harts }
+    requires room { HasRoom 41 records.old }
+    ensures came { let outcome = decoded_to (state_of machine.old) p (insn_at word) in
+        Came T.kept T.cost T.after T.without
+        outcome machine.old records.old fetches.old machine.new records.new fetches.new }
+    ensures leaves { let outcome = decoded_to (state_of machine.old) p (insn_at word) in
+        Leaves (process_name p ∷ outcome.changed) machine.old machine.new }
 {
     let pc = machine.pc(p);
     match decode(word) {

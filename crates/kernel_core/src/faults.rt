@@ -1,9 +1,11 @@
 //! Faults of processes.
-ghost use Rattle.std.specs.Prelude.{◌≡◌, ◌<◌, ◌≤◌, ◌+◌, ◌++◌, length};
+ghost use Rattle.std.specs.Prelude.{◌≡◌, ◌<◌, ◌∷◌};
 ghost use Rattle.cap_format.specs.declared.kind.CapKind.TheVariants.{Process};
 ghost use Rattle.object_store.specs.Store.{size_of};
 ghost use Rattle.walk_engine.specs.Answer.{bare_handler};
-ghost use Rattle.kernel_core.specs.State.{state_of};
+ghost use Rattle.kernel_core.specs.State.{state_of, IsOnHart};
+ghost use Rattle.kernel_core.specs.Outcome.{process_name};
+ghost use Rattle.kernel_core.specs.Came.{Came, Leaves, HasRoom};
 ghost use Rattle.kernel_core.specs.Fault.{fault, misaligned, malformed};
 
 use crate::machine::Machine;
@@ -16,6 +18,7 @@ use walk_engine::Translator;
 
 /// A fault of a process, with the handler that its walk gave. Nobody hears it: the process is faulted and stands
 /// nowhere.
+#[tactic(auto, unfolding(crate::specs::Fault::fault))]
 pub fn fault<T: Translator, L: Ledger>(
     machine: &mut Machine<T>,
     p: u16,
@@ -26,18 +29,14 @@ pub fn fault<T: Translator, L: Ledger>(
     _fetches: &mut Steps<L>,
 )
     requires there { p < size_of machine.old.objects.items Process }
-    requires room { length records.old ≤ 63 }
-    ensures state { let s = state_of machine.old in
-        let outcome = fault s p code address (bare_handler _handler) in
-        state_of machine.new ≡ outcome.state }
-    ensures records { let s = state_of machine.old in
-        let outcome = fault s p code address (bare_handler _handler) in
-        records.new ≡ records.old ++ outcome.records }
-    ensures counted { _fetches.new ≡ _fetches.old }
+    requires on_hart { IsOnHart machine.old.queues p }
+    requires room { HasRoom 1 records.old }
+    ensures came { let outcome = fault (state_of machine.old) p code address (bare_handler _handler) in
+        Came T.kept T.cost T.after T.without
+        outcome machine.old records.old _fetches.old machine.new records.new _fetches.new }
     ensures translator { machine.new.translator ≡ machine.old.translator }
-    ensures room { length records.new ≤ length records.old + 1 }
-    ensures items { machine.new.objects.items ≡ machine.old.objects.items }
-    ensures harts { machine.new.objects.harts ≡ machine.old.objects.harts }
+    ensures leaves { let outcome = fault (state_of machine.old) p code address (bare_handler _handler) in
+        Leaves (process_name p ∷ outcome.changed) machine.old machine.new }
 {
     machine.stop(p, code, address);
     records.push(Record::Fault {
@@ -57,15 +56,14 @@ pub(crate) fn misaligned<T: Translator, L: Ledger>(
     fetches: &mut Steps<L>,
 )
     requires there { p < size_of machine.old.objects.items Process }
-    requires room { length records.old ≤ 63 }
-    ensures state { state_of machine.new ≡ (misaligned (state_of machine.old) p address).state }
-    ensures records { let outcome = misaligned (state_of machine.old) p address in
-        records.new ≡ records.old ++ outcome.records }
-    ensures counted { fetches.new ≡ fetches.old }
+    requires on_hart { IsOnHart machine.old.queues p }
+    requires room { HasRoom 1 records.old }
+    ensures came { let outcome = misaligned (state_of machine.old) p address in
+        Came T.kept T.cost T.after T.without
+        outcome machine.old records.old fetches.old machine.new records.new fetches.new }
     ensures translator { machine.new.translator ≡ machine.old.translator }
-    ensures room { length records.new ≤ length records.old + 1 }
-    ensures items { machine.new.objects.items ≡ machine.old.objects.items }
-    ensures harts { machine.new.objects.harts ≡ machine.old.objects.harts }
+    ensures leaves { let outcome = misaligned (state_of machine.old) p address in
+        Leaves (process_name p ∷ outcome.changed) machine.old machine.new }
 {
     fault(
         machine,
@@ -86,14 +84,14 @@ pub(crate) fn malformed<T: Translator, L: Ledger>(
     fetches: &mut Steps<L>,
 )
     requires there { p < size_of machine.old.objects.items Process }
-    requires room { length records.old ≤ 63 }
-    ensures state { state_of machine.new ≡ (malformed (state_of machine.old) p).state }
-    ensures records { records.new ≡ records.old ++ (malformed (state_of machine.old) p).records }
-    ensures counted { fetches.new ≡ fetches.old }
+    requires on_hart { IsOnHart machine.old.queues p }
+    requires room { HasRoom 1 records.old }
+    ensures came { let outcome = malformed (state_of machine.old) p in
+        Came T.kept T.cost T.after T.without
+        outcome machine.old records.old fetches.old machine.new records.new fetches.new }
     ensures translator { machine.new.translator ≡ machine.old.translator }
-    ensures room { length records.new ≤ length records.old + 1 }
-    ensures items { machine.new.objects.items ≡ machine.old.objects.items }
-    ensures harts { machine.new.objects.harts ≡ machine.old.objects.harts }
+    ensures leaves { let outcome = malformed (state_of machine.old) p in
+        Leaves (process_name p ∷ outcome.changed) machine.old machine.new }
 {
     let pc = machine.pc(p);
     fault(

@@ -1,10 +1,11 @@
 //! One instruction of a process.
-ghost use Rattle.std.specs.Prelude.{◌≡◌, ◌<◌, ◌≤◌, ◌+◌, ◌++◌, length};
+ghost use Rattle.std.specs.Prelude.{◌<◌, ◌∷◌};
 ghost use Rattle.cap_format.specs.declared.kind.CapKind.TheVariants.{Process};
 ghost use Rattle.object_store.specs.Store.{size_of};
 ghost use Rattle.rv32_decode.specs.InRange.{InRange};
 ghost use Rattle.kernel_core.specs.State.{state_of, IsOnHart};
-ghost use Rattle.kernel_core.specs.Outcome.{spent, kept_after};
+ghost use Rattle.kernel_core.specs.Outcome.{process_name};
+ghost use Rattle.kernel_core.specs.Came.{Came, Leaves, HasRoom};
 ghost use Rattle.kernel_core.specs.Instruction.{perform};
 
 use crate::faults::{fault, misaligned};
@@ -21,7 +22,7 @@ use steps::Steps;
 use walk_engine::Translator;
 
 /// This instruction, its fault included.
-#[tactic(auto, unfolding(crate::specs::Instruction::perform))]
+#[tactic(auto, unfolding(crate::specs::Instruction::perform), using(object_store::proofs::Stays::stays_then))]
 pub fn perform<T: Translator, L: Ledger>(
     machine: &mut Machine<T>,
     p: u16,
@@ -32,18 +33,12 @@ pub fn perform<T: Translator, L: Ledger>(
     requires there { p < size_of machine.old.objects.items Process }
     requires on_hart { IsOnHart machine.old.queues p }
     requires insn { InRange insn }
-    requires room { length records.old ≤ 24 }
-    ensures state { state_of machine.new ≡ (perform (state_of machine.old) p insn).state }
-    ensures records { records.new ≡ records.old ++ (perform (state_of machine.old) p insn).records }
-    ensures counted { let outcome = perform (state_of machine.old) p insn in
-        let kept = T.kept machine.old.translator in
-        fetches.new ≡ fetches.old + spent T.cost T.after T.without kept outcome.touches }
-    ensures kept { let outcome = perform (state_of machine.old) p insn in
-        let kept = T.kept machine.old.translator in
-        T.kept machine.new.translator ≡ kept_after T.cost T.after T.without kept outcome.touches }
-    ensures room { length records.new ≤ length records.old + 1 }
-    ensures items { machine.new.objects.items ≡ machine.old.objects.items }
-    ensures harts { machine.new.objects.harts ≡ machine.old.objects.harts }
+    requires room { HasRoom 40 records.old }
+    ensures came { let outcome = perform (state_of machine.old) p insn in
+        Came T.kept T.cost T.after T.without
+        outcome machine.old records.old fetches.old machine.new records.new fetches.new }
+    ensures leaves { let outcome = perform (state_of machine.old) p insn in
+        Leaves (process_name p ∷ outcome.changed) machine.old machine.new }
 {
     let pc = machine.pc(p);
     let mut registers = machine.registers(p);

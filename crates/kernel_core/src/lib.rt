@@ -4,6 +4,8 @@
 //! what a translator keeps.
 #![tactic(auto)]
 
+mod cap_accesses;
+mod cap_memory;
 mod changes;
 mod event;
 mod events;
@@ -18,6 +20,7 @@ mod record;
 mod records;
 mod runs;
 mod stores;
+mod system_call;
 mod system_calls;
 
 pub use event::Event;
@@ -26,3 +29,4 @@ pub use machine::Machine;
 pub use record::Record;
 pub use records::Records;
 pub use runs::{Listener, run};
+pub use system_call::SystemCall;

@@ -1,10 +1,11 @@
 //! Loads.
-ghost use Rattle.std.specs.Prelude.{◌≡◌, ◌<◌, ◌≤◌, ◌+◌, ◌%◌, ◌==◌, ◌++◌, length, Ok};
+ghost use Rattle.std.specs.Prelude.{◌≡◌, ◌<◌, ◌≤◌, ◌+◌, ◌%◌, ◌==◌, ◌∷◌, Ok};
 ghost use Rattle.cap_format.specs.declared.kind.CapKind.TheVariants.{Process};
 ghost use Rattle.object_store.specs.Store.{size_of};
 ghost use Rattle.rv32_user.specs.Size.{IsSize};
 ghost use Rattle.kernel_core.specs.State.{state_of, IsOnHart};
-ghost use Rattle.kernel_core.specs.Outcome.{spent, kept_after};
+ghost use Rattle.kernel_core.specs.Outcome.{process_name};
+ghost use Rattle.kernel_core.specs.Came.{Came, CameUnasked, Leaves, HasRoom};
 ghost use Rattle.kernel_core.specs.Access.{load, loaded_from};
 
 use crate::faults::{fault, misaligned};
@@ -43,24 +44,12 @@ pub(crate) fn load<T: Translator, L: Ledger>(
     requires on_hart { IsOnHart machine.old.queues p }
     requires size { IsSize wanted.size }
     requires register { wanted.rd < 32 }
-    requires room { length records.old ≤ 62 }
-    ensures state { let s = state_of machine.old in
-        let outcome = load s p wanted.at wanted.size wanted.signed wanted.rd in
-        state_of machine.new ≡ outcome.state }
-    ensures records { let s = state_of machine.old in
-        let outcome = load s p wanted.at wanted.size wanted.signed wanted.rd in
-        records.new ≡ records.old ++ outcome.records }
-    ensures counted { let s = state_of machine.old in
-        let outcome = load s p wanted.at wanted.size wanted.signed wanted.rd in
-        let kept = T.kept machine.old.translator in
-        fetches.new ≡ fetches.old + spent T.cost T.after T.without kept outcome.touches }
-    ensures kept { let s = state_of machine.old in
-        let outcome = load s p wanted.at wanted.size wanted.signed wanted.rd in
-        let kept = T.kept machine.old.translator in
-        T.kept machine.new.translator ≡ kept_after T.cost T.after T.without kept outcome.touches }
-    ensures room { length records.new ≤ length records.old + 1 }
-    ensures items { machine.new.objects.items ≡ machine.old.objects.items }
-    ensures harts { machine.new.objects.harts ≡ machine.old.objects.harts }
+    requires room { HasRoom 1 records.old }
+    ensures came { let outcome = load (state_of machine.old) p wanted.at wanted.size wanted.signed wanted.rd in
+        Came T.kept T.cost T.after T.without
+        outcome machine.old records.old fetches.old machine.new records.new fetches.new }
+    ensures leaves { let outcome = load (state_of machine.old) p wanted.at wanted.size wanted.signed wanted.rd in
+        Leaves (process_name p ∷ outcome.changed) machine.old machine.new }
 {
     let at = wanted.at;
     if !is_aligned(at, wanted.size) {
@@ -73,6 +62,7 @@ pub(crate) fn load<T: Translator, L: Ledger>(
 }
 
 /// The end of a load whose walk reached a page.
+#[tactic(auto, using(object_store::proofs::Stays::stays_then))]
 fn loaded_from<T: Translator>(
     machine: &mut Machine<T>,
     p: u16,
@@ -85,17 +75,11 @@ fn loaded_from<T: Translator>(
     requires size { IsSize wanted.size }
     requires within { hit.offset + wanted.size ≤ 4096 }
     requires register { wanted.rd < 32 }
-    requires room { length records.old ≤ 62 }
-    ensures state { let s = state_of machine.old in
-        let outcome = loaded_from s p wanted.at wanted.size wanted.signed wanted.rd (Ok hit) in
-        state_of machine.new ≡ outcome.state }
-    ensures records { let s = state_of machine.old in
-        let outcome = loaded_from s p wanted.at wanted.size wanted.signed wanted.rd (Ok hit) in
-        records.new ≡ records.old ++ outcome.records }
-    ensures translator { machine.new.translator ≡ machine.old.translator }
-    ensures room { length records.new ≤ length records.old + 1 }
-    ensures items { machine.new.objects.items ≡ machine.old.objects.items }
-    ensures harts { machine.new.objects.harts ≡ machine.old.objects.harts }
+    requires room { HasRoom 1 records.old }
+    ensures came { let outcome = loaded_from (state_of machine.old) p wanted.at wanted.size wanted.signed wanted.rd (Ok hit) in
+        CameUnasked outcome machine.old records.old machine.new records.new }
+    ensures leaves { let outcome = loaded_from (state_of machine.old) p wanted.at wanted.size wanted.signed wanted.rd (Ok hit) in
+        Leaves (process_name p ∷ outcome.changed) machine.old machine.new }
 {
     records.push(Record::Access {
         process: p,

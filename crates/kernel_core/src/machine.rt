@@ -1,12 +1,14 @@
 //! The machine, and what can be read of it.
-ghost use Rattle.std.specs.Prelude.{◌≡◌, ◌<◌, ◌≤◌, false, IfOk, length};
+ghost use Rattle.std.specs.Prelude.{◌≡◌, ◌<◌, ◌≤◌, [], ◌∷◌, false, IfOk, length};
 ghost use Rattle.cap_format.specs.declared.kind.CapKind.TheVariants.{Process};
-ghost use Rattle.object_store.specs.Store.{size_of, process_at};
+ghost use Rattle.object_store.specs.Store.{size_of, sizes_of, process_at};
 ghost use Rattle.object_store.specs.Meaning.{map_of};
 ghost use Rattle.object_store.specs.Ahead.{NoneAhead};
 ghost use Rattle.kernel_core.specs.Machine.{NoneRuns};
 ghost use Rattle.kernel_core.specs.State.{state_of};
 ghost use Rattle.kernel_core.specs.Setters.{leave, ready};
+ghost use Rattle.kernel_core.specs.Outcome.{process_name};
+ghost use Rattle.kernel_core.specs.Came.{Leaves};
 ghost use Rattle.schedules.specs.Standing.{empty_queues};
 ghost use Rattle.schedules.specs.Ready.{Agrees, runs_of, places_due};
 
@@ -101,13 +103,14 @@ impl<T: Translator> Machine<T> {
     }
 
     /// Makes a process ready, which leaves the place where it stands, if any.
+    #[tactic(auto, using(crate::proofs::Changed::sizes_left))]
     pub fn start(&mut self, p: u16)
         requires { p < size_of self.old.objects.items Process }
         ensures state { state_of self.new ≡ ready (leave (state_of self.old) p) p }
         ensures stopped { places_due (process_at self.old.objects p).state ≡ 0 →
             state_of self.new ≡ ready (state_of self.old) p }
-        ensures items { self.new.objects.items ≡ self.old.objects.items }
-        ensures harts { self.new.objects.harts ≡ self.old.objects.harts }
+        ensures leaves { Leaves (process_name p ∷ []) self.old self.new }
+        ensures sizes { sizes_of self.new.objects ≡ sizes_of self.old.objects }
         ensures translator { self.new.translator ≡ self.old.translator }
     {
         self.requeue(p);

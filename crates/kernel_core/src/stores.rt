@@ -1,10 +1,11 @@
 //! Stores.
-ghost use Rattle.std.specs.Prelude.{◌≡◌, ◌<◌, ◌≤◌, ◌+◌, ◌*◌, ◌^◌, ◌++◌, length, Ok};
+ghost use Rattle.std.specs.Prelude.{◌<◌, ◌≤◌, ◌+◌, ◌*◌, ◌^◌, ◌∷◌, Ok};
 ghost use Rattle.cap_format.specs.declared.kind.CapKind.TheVariants.{Process};
 ghost use Rattle.object_store.specs.Store.{size_of};
 ghost use Rattle.rv32_user.specs.Size.{IsSize};
 ghost use Rattle.kernel_core.specs.State.{state_of, IsOnHart};
-ghost use Rattle.kernel_core.specs.Outcome.{spent, kept_after};
+ghost use Rattle.kernel_core.specs.Outcome.{process_name};
+ghost use Rattle.kernel_core.specs.Came.{Came, CameUnasked, Leaves, HasRoom};
 ghost use Rattle.kernel_core.specs.Access.{store, stored_to};
 
 use crate::faults::{fault, misaligned};
@@ -33,19 +34,12 @@ pub(crate) fn store<T: Translator, L: Ledger>(
     requires on_hart { IsOnHart machine.old.queues p }
     requires size { IsSize size }
     requires fits { value < 2 ^ (8 * size) }
-    requires room { length records.old ≤ 62 }
-    ensures state { state_of machine.new ≡ (store (state_of machine.old) p at size value).state }
-    ensures records { let outcome = store (state_of machine.old) p at size value in
-        records.new ≡ records.old ++ outcome.records }
-    ensures counted { let outcome = store (state_of machine.old) p at size value in
-        let kept = T.kept machine.old.translator in
-        fetches.new ≡ fetches.old + spent T.cost T.after T.without kept outcome.touches }
-    ensures kept { let outcome = store (state_of machine.old) p at size value in
-        let kept = T.kept machine.old.translator in
-        T.kept machine.new.translator ≡ kept_after T.cost T.after T.without kept outcome.touches }
-    ensures room { length records.new ≤ length records.old + 1 }
-    ensures items { machine.new.objects.items ≡ machine.old.objects.items }
-    ensures harts { machine.new.objects.harts ≡ machine.old.objects.harts }
+    requires room { HasRoom 1 records.old }
+    ensures came { let outcome = store (state_of machine.old) p at size value in
+        Came T.kept T.cost T.after T.without
+        outcome machine.old records.old fetches.old machine.new records.new fetches.new }
+    ensures leaves { let outcome = store (state_of machine.old) p at size value in
+        Leaves (process_name p ∷ outcome.changed) machine.old machine.new }
 {
     if !is_aligned(at, size) {
         return misaligned(machine, p, records, at, fetches);
@@ -57,6 +51,7 @@ pub(crate) fn store<T: Translator, L: Ledger>(
 }
 
 /// The end of a store whose walk reached a page.
+#[tactic(auto, using(object_store::proofs::Stays::stays_then, object_store::proofs::Stays::stays_more, object_store::proofs::Stays::stays_after))]
 fn stored_to<T: Translator>(
     machine: &mut Machine<T>,
     p: u16,
@@ -71,15 +66,11 @@ fn stored_to<T: Translator>(
     requires size { IsSize size }
     requires within { hit.offset + size ≤ 4096 }
     requires fits { value < 2 ^ (8 * size) }
-    requires room { length records.old ≤ 62 }
-    ensures state { let outcome = stored_to (state_of machine.old) p at size value (Ok hit) in
-        state_of machine.new ≡ outcome.state }
-    ensures records { let outcome = stored_to (state_of machine.old) p at size value (Ok hit) in
-        records.new ≡ records.old ++ outcome.records }
-    ensures translator { machine.new.translator ≡ machine.old.translator }
-    ensures room { length records.new ≤ length records.old + 1 }
-    ensures items { machine.new.objects.items ≡ machine.old.objects.items }
-    ensures harts { machine.new.objects.harts ≡ machine.old.objects.harts }
+    requires room { HasRoom 1 records.old }
+    ensures came { let outcome = stored_to (state_of machine.old) p at size value (Ok hit) in
+        CameUnasked outcome machine.old records.old machine.new records.new }
+    ensures leaves { let outcome = stored_to (state_of machine.old) p at size value (Ok hit) in
+        Leaves (process_name p ∷ outcome.changed) machine.old machine.new }
 {
     records.push(Record::Access {
         process: p,

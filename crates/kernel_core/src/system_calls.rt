@@ -1,14 +1,18 @@
-//! System calls. Those that are not built are malformed.
-ghost use Rattle.std.specs.Prelude.{◌≡◌, ◌<◌, ◌≤◌, ◌+◌, ◌++◌, false, length};
+//! System calls. Messages and operations of the kernel are not built: they are malformed.
+ghost use Rattle.std.specs.Prelude.{◌≡◌, ◌<◌, ◌∷◌, false};
 ghost use Rattle.cap_format.specs.declared.kind.CapKind.TheVariants.{Process};
 ghost use Rattle.object_store.specs.Store.{size_of};
-ghost use Rattle.kernel_core.specs.State.{state_of};
-ghost use Rattle.kernel_core.specs.Outcome.{spent, kept_after};
-ghost use Rattle.kernel_core.specs.SystemCall.{copy_cap, move_cap, send, receive, kernel_op, system_call};
+ghost use Rattle.object_store.specs.Meaning.{meaning};
+ghost use Rattle.kernel_core.specs.State.{state_of, IsOnHart};
+ghost use Rattle.kernel_core.specs.Outcome.{process_name};
+ghost use Rattle.kernel_core.specs.Came.{Came, Leaves, HasRoom};
+ghost use Rattle.kernel_core.specs.SystemCall.{copy_cap, move_cap, invoke, send, receive, kernel_op, system_call};
 
+use crate::cap_accesses::{load_cap, store_cap};
 use crate::faults::malformed;
 use crate::machine::Machine;
 use crate::records::Records;
+use crate::system_call::SystemCall;
 use cap_format::Cap;
 use std::sync::ledger::Ledger;
 use steps::Steps;
@@ -23,32 +27,27 @@ pub(crate) fn system_call<T: Translator, L: Ledger>(
     fetches: &mut Steps<L>,
 )
     requires there { p < size_of machine.old.objects.items Process }
-    requires room { length records.old ≤ 24 }
-    ensures state { let outcome = system_call (state_of machine.old) p in
-        state_of machine.new ≡ outcome.state }
-    ensures records { let outcome = system_call (state_of machine.old) p in
-        records.new ≡ records.old ++ outcome.records }
-    ensures counted { let outcome = system_call (state_of machine.old) p in
-        let kept = T.kept machine.old.translator in
-        fetches.new ≡ fetches.old + spent T.cost T.after T.without kept outcome.touches }
-    ensures kept { let outcome = system_call (state_of machine.old) p in
-        let kept = T.kept machine.old.translator in
-        T.kept machine.new.translator ≡ kept_after T.cost T.after T.without kept outcome.touches }
-    ensures room { length records.new ≤ length records.old + 1 }
-    ensures items { machine.new.objects.items ≡ machine.old.objects.items }
-    ensures harts { machine.new.objects.harts ≡ machine.old.objects.harts }
+    requires on_hart { IsOnHart machine.old.queues p }
+    requires room { HasRoom 40 records.old }
+    ensures came { let outcome = system_call (state_of machine.old) p in
+        Came T.kept T.cost T.after T.without
+        outcome machine.old records.old fetches.old machine.new records.new fetches.new }
+    ensures leaves { let outcome = system_call (state_of machine.old) p in
+        Leaves (process_name p ∷ outcome.changed) machine.old machine.new }
 {
     let number = machine.registers(p)[17];
-    if number == 4 {
-        machine.give_way(p);
-    } else if 1 <= number && number <= 3 {
-        move_cap(machine, p, records, fetches);
-    } else {
-        malformed(machine, p, records, fetches);
+    match SystemCall::from_number(number) {
+        None => malformed(machine, p, records, fetches),
+        Some(SystemCall::Invoke) => invoke(machine, p, records, fetches),
+        Some(SystemCall::Yield) => machine.give_way(p),
+        Some(SystemCall::LoadCap) => move_cap(machine, p, records, fetches),
+        Some(SystemCall::StoreCap) => move_cap(machine, p, records, fetches),
+        Some(SystemCall::CopyCap) => move_cap(machine, p, records, fetches),
     }
 }
 
-/// The system calls 1 to 3, which move a capability. Of these only 3, copycap, is built.
+/// The system calls 1 to 3, which move a capability.
+#[tactic(auto, unfolding(crate::specs::SystemCall::move_cap))]
 pub fn move_cap<T: Translator, L: Ledger>(
     machine: &mut Machine<T>,
     p: u16,
@@ -56,29 +55,28 @@ pub fn move_cap<T: Translator, L: Ledger>(
     fetches: &mut Steps<L>,
 )
     requires there { p < size_of machine.old.objects.items Process }
-    requires room { length records.old ≤ 24 }
-    ensures state { state_of machine.new ≡ (move_cap (state_of machine.old) p).state }
-    ensures records { records.new ≡ records.old ++ (move_cap (state_of machine.old) p).records }
-    ensures counted { let outcome = move_cap (state_of machine.old) p in
-        let kept = T.kept machine.old.translator in
-        fetches.new ≡ fetches.old + spent T.cost T.after T.without kept outcome.touches }
-    ensures kept { let outcome = move_cap (state_of machine.old) p in
-        let kept = T.kept machine.old.translator in
-        T.kept machine.new.translator ≡ kept_after T.cost T.after T.without kept outcome.touches }
-    ensures room { length records.new ≤ length records.old + 1 }
-    ensures items { machine.new.objects.items ≡ machine.old.objects.items }
-    ensures harts { machine.new.objects.harts ≡ machine.old.objects.harts }
+    requires on_hart { IsOnHart machine.old.queues p }
+    requires room { HasRoom 40 records.old }
+    ensures came { let outcome = move_cap (state_of machine.old) p in
+        Came T.kept T.cost T.after T.without
+        outcome machine.old records.old fetches.old machine.new records.new fetches.new }
+    ensures leaves { let outcome = move_cap (state_of machine.old) p in
+        Leaves (process_name p ∷ outcome.changed) machine.old machine.new }
 {
     let registers = machine.registers(p);
-    if registers[17] == 3 {
-        copy_cap(machine, p, records, registers[10], registers[11], fetches);
-    } else {
-        malformed(machine, p, records, fetches);
+    let (x10, x11) = (registers[10], registers[11]);
+    match SystemCall::from_number(registers[17]) {
+        Some(SystemCall::LoadCap) => load_cap(machine, p, records, x10, x11, fetches),
+        Some(SystemCall::StoreCap) => store_cap(machine, p, records, x10, x11, fetches),
+        Some(SystemCall::CopyCap) => copy_cap(machine, p, records, x10, x11, fetches),
+        Some(SystemCall::Invoke) => malformed(machine, p, records, fetches),
+        Some(SystemCall::Yield) => malformed(machine, p, records, fetches),
+        None => malformed(machine, p, records, fetches),
     }
 }
 
 /// The capability of one register goes to another, where both are registers.
-#[tactic(auto, unfolding(crate::specs::SystemCall::copy_cap))]
+#[tactic(auto, unfolding(crate::specs::SystemCall::copy_cap), using(object_store::proofs::Stays::stays_then))]
 fn copy_cap<T: Translator, L: Ledger>(
     machine: &mut Machine<T>,
     p: u16,
@@ -88,29 +86,51 @@ fn copy_cap<T: Translator, L: Ledger>(
     fetches: &mut Steps<L>,
 )
     requires there { p < size_of machine.old.objects.items Process }
-    requires room { length records.old ≤ 24 }
-    ensures state { state_of machine.new ≡ (copy_cap (state_of machine.old) p from to).state }
-    ensures records { let outcome = copy_cap (state_of machine.old) p from to in
-        records.new ≡ records.old ++ outcome.records }
-    ensures counted { let outcome = copy_cap (state_of machine.old) p from to in
-        let kept = T.kept machine.old.translator in
-        fetches.new ≡ fetches.old + spent T.cost T.after T.without kept outcome.touches }
-    ensures kept { let outcome = copy_cap (state_of machine.old) p from to in
-        let kept = T.kept machine.old.translator in
-        T.kept machine.new.translator ≡ kept_after T.cost T.after T.without kept outcome.touches }
-    ensures room { length records.new ≤ length records.old + 1 }
-    ensures items { machine.new.objects.items ≡ machine.old.objects.items }
-    ensures harts { machine.new.objects.harts ≡ machine.old.objects.harts }
+    requires on_hart { IsOnHart machine.old.queues p }
+    requires room { HasRoom 40 records.old }
+    ensures came { let outcome = copy_cap (state_of machine.old) p from to in
+        Came T.kept T.cost T.after T.without
+        outcome machine.old records.old fetches.old machine.new records.new fetches.new }
+    ensures leaves { let outcome = copy_cap (state_of machine.old) p from to in
+        Leaves (process_name p ∷ outcome.changed) machine.old machine.new }
 {
     if from <= 31 && to <= 31 {
-        machine.copy_capability(p, from as u8, to as u8);
+        let cap = machine.capability(p, from as u8);
+        machine.give_capability(p, to as u8, cap);
         machine.advance(p);
     } else {
         malformed(machine, p, records, fetches);
     }
 }
 
-/// The send phase of a message, which is not built. Whether one was delivered.
+/// An invocation: its send phase, where it has one, and else its receive phase.
+#[tactic(auto, unfolding(crate::specs::SystemCall::invoke))]
+fn invoke<T: Translator, L: Ledger>(
+    machine: &mut Machine<T>,
+    p: u16,
+    records: &mut Records,
+    fetches: &mut Steps<L>,
+)
+    requires there { p < size_of machine.old.objects.items Process }
+    requires on_hart { IsOnHart machine.old.queues p }
+    requires room { HasRoom 40 records.old }
+    ensures came { let outcome = invoke (state_of machine.old) p in
+        Came T.kept T.cost T.after T.without
+        outcome machine.old records.old fetches.old machine.new records.new fetches.new }
+    ensures leaves { let outcome = invoke (state_of machine.old) p in
+        Leaves (process_name p ∷ outcome.changed) machine.old machine.new }
+{
+    let sends = machine.registers(p)[10] / 32 % 2;
+    if sends == 1 {
+        let _delivered = send(machine, p, records, fetches);
+    } else {
+        receive(machine, p, records, fetches);
+    }
+}
+
+/// The send phase of a message: so far every capability is asked as one of the kernel's. Whether a message was
+/// delivered.
+#[tactic(auto, unfolding(crate::specs::SystemCall::send))]
 pub fn send<T: Translator, L: Ledger>(
     machine: &mut Machine<T>,
     p: u16,
@@ -118,25 +138,23 @@ pub fn send<T: Translator, L: Ledger>(
     fetches: &mut Steps<L>,
 ) -> bool
     requires there { p < size_of machine.old.objects.items Process }
-    requires room { length records.old ≤ 24 }
+    requires on_hart { IsOnHart machine.old.queues p }
+    requires room { HasRoom 40 records.old }
     ensures delivered { result ≡ false }
-    ensures state { state_of machine.new ≡ (send (state_of machine.old) p).state }
-    ensures records { records.new ≡ records.old ++ (send (state_of machine.old) p).records }
-    ensures counted { let outcome = send (state_of machine.old) p in
-        let kept = T.kept machine.old.translator in
-        fetches.new ≡ fetches.old + spent T.cost T.after T.without kept outcome.touches }
-    ensures kept { let outcome = send (state_of machine.old) p in
-        let kept = T.kept machine.old.translator in
-        T.kept machine.new.translator ≡ kept_after T.cost T.after T.without kept outcome.touches }
-    ensures room { length records.new ≤ length records.old + 1 }
-    ensures items { machine.new.objects.items ≡ machine.old.objects.items }
-    ensures harts { machine.new.objects.harts ≡ machine.old.objects.harts }
+    ensures came { let outcome = send (state_of machine.old) p in
+        Came T.kept T.cost T.after T.without
+        outcome machine.old records.old fetches.old machine.new records.new fetches.new }
+    ensures leaves { let outcome = send (state_of machine.old) p in
+        Leaves (process_name p ∷ outcome.changed) machine.old machine.new }
 {
-    malformed(machine, p, records, fetches);
+    let register = machine.registers(p)[10] % 32;
+    let cap = machine.capability(p, register as u8);
+    kernel_op(machine, p, records, cap, fetches);
     false
 }
 
 /// The receive phase of a message, which is not built.
+#[tactic(auto, unfolding(crate::specs::SystemCall::receive))]
 pub fn receive<T: Translator, L: Ledger>(
     machine: &mut Machine<T>,
     p: u16,
@@ -144,23 +162,19 @@ pub fn receive<T: Translator, L: Ledger>(
     fetches: &mut Steps<L>,
 )
     requires there { p < size_of machine.old.objects.items Process }
-    requires room { length records.old ≤ 24 }
-    ensures state { state_of machine.new ≡ (receive (state_of machine.old) p).state }
-    ensures records { records.new ≡ records.old ++ (receive (state_of machine.old) p).records }
-    ensures counted { let outcome = receive (state_of machine.old) p in
-        let kept = T.kept machine.old.translator in
-        fetches.new ≡ fetches.old + spent T.cost T.after T.without kept outcome.touches }
-    ensures kept { let outcome = receive (state_of machine.old) p in
-        let kept = T.kept machine.old.translator in
-        T.kept machine.new.translator ≡ kept_after T.cost T.after T.without kept outcome.touches }
-    ensures room { length records.new ≤ length records.old + 1 }
-    ensures items { machine.new.objects.items ≡ machine.old.objects.items }
-    ensures harts { machine.new.objects.harts ≡ machine.old.objects.harts }
+    requires on_hart { IsOnHart machine.old.queues p }
+    requires room { HasRoom 40 records.old }
+    ensures came { let outcome = receive (state_of machine.old) p in
+        Came T.kept T.cost T.after T.without
+        outcome machine.old records.old fetches.old machine.new records.new fetches.new }
+    ensures leaves { let outcome = receive (state_of machine.old) p in
+        Leaves (process_name p ∷ outcome.changed) machine.old machine.new }
 {
     malformed(machine, p, records, fetches);
 }
 
 /// An operation of the kernel on a capability, which is not built.
+#[tactic(auto, unfolding(crate::specs::SystemCall::kernel_op))]
 pub fn kernel_op<T: Translator, L: Ledger>(
     machine: &mut Machine<T>,
     p: u16,
@@ -169,19 +183,13 @@ pub fn kernel_op<T: Translator, L: Ledger>(
     fetches: &mut Steps<L>,
 )
     requires there { p < size_of machine.old.objects.items Process }
-    requires room { length records.old ≤ 24 }
-    ensures state { state_of machine.new ≡ (kernel_op (state_of machine.old) p cap).state }
-    ensures records { let outcome = kernel_op (state_of machine.old) p cap in
-        records.new ≡ records.old ++ outcome.records }
-    ensures counted { let outcome = kernel_op (state_of machine.old) p cap in
-        let kept = T.kept machine.old.translator in
-        fetches.new ≡ fetches.old + spent T.cost T.after T.without kept outcome.touches }
-    ensures kept { let outcome = kernel_op (state_of machine.old) p cap in
-        let kept = T.kept machine.old.translator in
-        T.kept machine.new.translator ≡ kept_after T.cost T.after T.without kept outcome.touches }
-    ensures room { length records.new ≤ length records.old + 1 }
-    ensures items { machine.new.objects.items ≡ machine.old.objects.items }
-    ensures harts { machine.new.objects.harts ≡ machine.old.objects.harts }
+    requires on_hart { IsOnHart machine.old.queues p }
+    requires room { HasRoom 40 records.old }
+    ensures came { let outcome = kernel_op (state_of machine.old) p (meaning machine.old.objects.items cap) in
+        Came T.kept T.cost T.after T.without
+        outcome machine.old records.old fetches.old machine.new records.new fetches.new }
+    ensures leaves { let outcome = kernel_op (state_of machine.old) p (meaning machine.old.objects.items cap) in
+        Leaves (process_name p ∷ outcome.changed) machine.old machine.new }
 {
     let _ = cap;
     malformed(machine, p, records, fetches);

@@ -1,5 +1,6 @@
 use Rattle.std.proofs.Common.{refl}
-use Rattle.kernel_core.proofs.Changed.{same_state, put_pc}
+use Rattle.object_store.proofs.Writes.{put_pc}
+use Rattle.kernel_core.proofs.Changed.{same_state}
 use Rattle.kernel_core.proofs.machine.Machine.set_pc.Goals as goal
 
 pub returns-clause-state : goal.returns-clause-state

@@ -1,5 +1,6 @@
 use Rattle.std.proofs.Common.{refl}
-use Rattle.kernel_core.proofs.Changed.{same_state, put_regs}
+use Rattle.object_store.proofs.Writes.{put_regs}
+use Rattle.kernel_core.proofs.Changed.{same_state}
 use Rattle.kernel_core.proofs.machine.Machine.set_registers.Goals as goal
 
 pub returns-clause-state : goal.returns-clause-state

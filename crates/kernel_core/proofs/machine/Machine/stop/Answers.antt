@@ -1,4 +1,5 @@
-use Rattle.kernel_core.proofs.Changed.{same_state, put_state}
+use Rattle.object_store.proofs.Writes.{put_state}
+use Rattle.kernel_core.proofs.Changed.{same_state}
 use Rattle.kernel_core.proofs.machine.Machine.stop.Goals as goal
 
 pub returns-clause-state : goal.returns-clause-state
