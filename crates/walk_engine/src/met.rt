@@ -6,7 +6,7 @@ ghost use Rattle.guard_math.specs.Pass.{passes};
 ghost use Rattle.cap_format.specs.Kind.{is_counted, is_memory, is_window};
 ghost use Rattle.object_store.specs.Store.{size_of, header_at};
 ghost use Rattle.object_store.specs.Meaning.{is_live, map_of};
-ghost use Rattle.walk_meaning.specs.Walk.{invalid, denied, past, place_of, at_page, at_cappage, at_gpt, at_kind, handler_from, background_from, is_reserved, step};
+ghost use Rattle.walk_meaning.specs.Walk.{invalid, denied, restricted, past, place_of, at_page, at_cappage, at_gpt, at_kind, handler_from, background_from, is_reserved, step};
 ghost use Rattle.walk_meaning.specs.Trail.{slots_from};
 ghost use Rattle.walk_meaning.specs.After.{slots_after};
 ghost use Rattle.walk_meaning.specs.Bounds.{Below, IsAt, GoesBelow};
@@ -52,7 +52,7 @@ fn behind(cap: Cap, at: At) -> Option<At>
         return None;
     }
     let address = pass(cap.guard(), at.address).ok()?;
-    let restr = at.restr.union(cap.restr());
+    let restr = restricted(at.restr, cap.restr());
     let l2 = at.l2.min(cap.guard().l2g());
     Some(At {
         restr,
@@ -60,6 +60,13 @@ fn behind(cap: Cap, at: At) -> Option<At>
         l2,
         ..at
     })
+}
+
+/// All restrictions of the way, with those of one more capability.
+fn restricted(met: Restr, more: Restr) -> Restr
+    ensures { result ≡ restricted met more.0 }
+{
+    met.union(more)
 }
 
 /// The rule of the capability's kind, behind its guard.

@@ -64,7 +64,8 @@ pub fn note_slot(gpt: u16, slot: u8, address: u32, l2: u8, trail: &mut Trail)
     requires low { 12 ≤ l2 }
     requires high { l2 ≤ 32 }
     requires room { array_vec_len trail.old < 66 }
-    ensures value { trail.new.items ≡ trail.old.items ++ noted (Item.Slot gpt slot) address l2 ∷ [] }
+    ensures value { trail.new.items
+        ≡ trail.old.items ++ noted (Item.Slot gpt slot) address l2 ∷ [] }
     ensures room { array_vec_len trail.new ≡ array_vec_len trail.old + 1 }
 {
     trail.push(noted(Item::Slot(gpt, slot), address, l2));
