@@ -7,7 +7,7 @@ use Rattle.kernel_core.specs.declared.event.Event.TheVariants.{Step}
 use Rattle.listing_read.specs.Schedule.{IsTimed}
 use Rattle.listing_read.specs.declared.schedule.Timed.{Timed}
 use Rattle.listing_read.specs.declared.schedule.Timed.TheVariants.{Step as Steps, Tick as TimerTick, Round}
-use Rattle.coyotos_cli.specs.Events.{steps_from, rounds, events_of, OfHarts}
+use Rattle.coyotos_cli.specs.Events.{steps_from, rounds, line_events, OfHarts}
 
 -- a round that is not over goes on with the step of its hart
 pub round_goes_on : (hart harts times : ℕ) → hart < harts
@@ -55,10 +55,10 @@ rounds_of_harts : (harts times : ℕ) → OfHarts harts (rounds harts times)
 rounds_of_harts harts zero = tt
 rounds_of_harts harts (suc times) = of_harts-append harts (steps_from 0 harts) (rounds harts times) (round_of_harts harts 0 harts (omega arith)) (rounds_of_harts harts times)
 
-pub events_of_harts : (harts : ℕ) (timed : Timed) → IsTimed harts timed → OfHarts harts (events_of harts timed)
-events_of_harts harts (Steps hart times) h = steps_of_harts harts hart times h.0
-events_of_harts harts (TimerTick hart) h = (h, tt)
-events_of_harts harts (Round times) h = rounds_of_harts harts times
+pub line_events_of_harts : (harts : ℕ) (timed : Timed) → IsTimed harts timed → OfHarts harts (line_events harts timed)
+line_events_of_harts harts (Steps hart times) h = steps_of_harts harts hart times h.0
+line_events_of_harts harts (TimerTick hart) h = (h, tt)
+line_events_of_harts harts (Round times) h = rounds_of_harts harts times
 
 -- ---- how many events a line stands for
 

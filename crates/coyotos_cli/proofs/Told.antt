@@ -1,16 +1,19 @@
--- The lines of records, by parts.
-use Rattle.std.proofs.Common.{◌≡◌, ◌<◌, ◌+◌, ℕ, suc, List, [], ◌∷◌, ◌++◌, length, get_or, drop, true, false, refl, sym, ap, ◌∙◌, append_assoc, arith}
+-- The lines of records and the slots of touches, by parts.
+use Rattle.std.proofs.Common.{◌≡◌, ◌<◌, ◌≤◌, ◌+◌, ℕ, suc, List, [], ◌∷◌, ◌++◌, length, get_or, drop, true, false, refl, sym, ap, ◌∙◌, append_assoc, arith}
 use Rattle.std.proofs.Math.Seq.{drop-cons}
 use Rattle.kernel_core.specs.declared.event.Event.{Event}
 use Rattle.kernel_core.specs.declared.record.Record.{Record}
 use Rattle.kernel_core.specs.Event.{event_of}
-use Rattle.kernel_core.specs.Ran.{run_state-nil, run_state-cons, run_records-nil, run_records-cons, run_touches-nil, run_touches-cons, spent-append}
-use Rattle.kernel_core.specs.Outcome.{Touch}
+use Rattle.kernel_core.specs.Ran.{run_state-nil, run_state-cons, run_records-nil, run_records-cons, run_touches-nil, run_touches-cons, spent-append, kept_after-append}
+use Rattle.kernel_core.specs.Outcome.{Touch, spent, kept_after}
 use Rattle.kernel_core.specs.Run.{run_state, run_records, run_touches}
 use Rattle.kernel_core.specs.State.{State}
-use Rattle.walk_meaning.specs.Trail.{slots}
+use Rattle.walk_meaning.specs.declared.kind.Kind.{Kind}
+use Rattle.cap_format.specs.Capability.{Capability}
+use Rattle.cap_format.specs.declared.item.Item.{Item}
+use Rattle.object_store.specs.Store.{Items}
 use Rattle.coyotos_cli.specs.declared.command.Command.{Command}
-use Rattle.coyotos_cli.specs.Told.{line_of, lines_of, performed, runs, told, walked, spent_on}
+use Rattle.coyotos_cli.specs.Told.{line_of, lines_of, runs, state_behind, told, touches_on}
 
 pub lines_of-nil : (command : Command) → lines_of command [] ≡ []
 unfolding lines_of
@@ -63,29 +66,52 @@ end_state s events none = rw none (run_state-nil s)
 pub told_runs : (command : Command) (s : State) (events : List Event) → runs command ≡ true → told command s events ≡ lines_of command (run_records s events)
 told_runs command s events on = rw on refl
 
-pub performed_runs : (command : Command) (s : State) (events : List Event) → runs command ≡ true → performed command s events ≡ run_state s events
-performed_runs command s events on = rw on refl
+pub state_runs : (command : Command) (s : State) (events : List Event) → runs command ≡ true → state_behind command s events ≡ run_state s events
+state_runs command s events on = rw on refl
 
--- ---- the slots that a run fetches
+pub touches_run : (command : Command) (s : State) (events : List Event) → runs command ≡ true → touches_on command s events ≡ run_touches s events
+touches_run command s events on = rw on refl
 
-walked-append : (first second : List Touch) → walked (first ++ second) ≡ walked first + walked second
-walked-append first second =
-    spent-append {K = Unit {0}} (λ kept o space address kind. slots o space address kind) (λ kept o space address kind. kept) (λ kept item. kept) tt first second
+-- a command that lets nothing run
+pub touches_stay : (command : Command) (s : State) (events : List Event) → runs command ≡ false → touches_on command s events ≡ []
+touches_stay command s events off = rw off refl
 
--- those of a run whose first event comes to this state
-pub step_spent : (s s1 : State) (event : Event) (events rest : List Event) (f f1 : ℕ) → events ≡ event ∷ rest → s1 ≡ (event_of s event).state
-    → f1 ≡ f + walked (event_of s event).touches → f1 + walked (run_touches s1 rest) ≡ f + walked (run_touches s events)
-step_spent s s1 event events rest f f1 split state more =
-    let all : walked (run_touches s (event ∷ rest)) ≡ walked (event_of s event).touches + walked (run_touches (event_of s event).state rest) =
-    ap walked (run_touches-cons s event rest) ∙ walked-append (event_of s event).touches (run_touches (event_of s event).state rest) in
-    rw (split, state) (omega (arith, all, more))
+-- ---- the slots that a run fetches, and what is kept behind it
 
--- no event
-pub end_spent : (s : State) (events : List Event) → events ≡ [] → walked (run_touches s events) ≡ 0
-end_spent s events none = rw none (ap walked (run_touches-nil s))
+module _ {K : Type 0} (cost : K → Items → Capability → ℕ → Kind → ℕ) (after : K → Items → Capability → ℕ → Kind → K) (without : K → Item → K) where
+  -- touches fetch what the first of them fetch, and what the others fetch from what is kept then
+  pub spent-goes : (k k1 : K) (ts us : List Touch) → k1 ≡ kept_after cost after without k ts
+      → spent cost after without k (ts ++ us) ≡ spent cost after without k ts + spent cost after without k1 us
+  spent-goes k k1 ts us kept = rw kept (spent-append cost after without k ts us)
 
-pub spent_runs : (command : Command) (s : State) (events : List Event) → runs command ≡ true → spent_on command s events ≡ walked (run_touches s events)
-spent_runs command s events on = rw on refl
+  -- and no less than the first of them
+  pub spent-front : (k : K) (ts us : List Touch) → spent cost after without k ts ≤ spent cost after without k (ts ++ us)
+  spent-front k ts us =
+      let all = spent-append cost after without k ts us in
+      omega (arith, all)
 
-pub spent_stays : (command : Command) (s : State) (events : List Event) → runs command ≡ false → spent_on command s events ≡ 0
-spent_stays command s events off = rw off refl
+  -- those of a run whose first event comes to this state
+  pub step_spent : (k k1 : K) (s s1 : State) (event : Event) (events rest : List Event) (f f1 : ℕ) → events ≡ event ∷ rest → s1 ≡ (event_of s event).state
+      → f1 ≡ f + spent cost after without k (event_of s event).touches → k1 ≡ kept_after cost after without k (event_of s event).touches
+      → f1 + spent cost after without k1 (run_touches s1 rest) ≡ f + spent cost after without k (run_touches s events)
+  step_spent k k1 s s1 event events rest f f1 split state more kept =
+      let all : spent cost after without k (run_touches s (event ∷ rest))
+      ≡ spent cost after without k (event_of s event).touches + spent cost after without k1 (run_touches (event_of s event).state rest) =
+      ap (spent cost after without k) (run_touches-cons s event rest) ∙ spent-goes k k1 (event_of s event).touches (run_touches (event_of s event).state rest) kept in
+      rw (split, state) (omega (arith, all, more))
+
+  -- what is kept behind it
+  pub step_kept : (k k1 : K) (s s1 : State) (event : Event) (events rest : List Event) → events ≡ event ∷ rest → s1 ≡ (event_of s event).state
+      → k1 ≡ kept_after cost after without k (event_of s event).touches
+      → kept_after cost after without k1 (run_touches s1 rest) ≡ kept_after cost after without k (run_touches s events)
+  step_kept k k1 s s1 event events rest split state kept =
+      rw (split, state, kept)
+      (sym (kept_after-append cost after without k (event_of s event).touches (run_touches (event_of s event).state rest))
+      ∙ ap (kept_after cost after without k) (sym (run_touches-cons s event rest)))
+
+  -- no event
+  pub end_spent : (k : K) (s : State) (events : List Event) → events ≡ [] → spent cost after without k (run_touches s events) ≡ 0
+  end_spent k s events none = rw none (ap (spent cost after without k) (run_touches-nil s))
+
+  pub end_kept : (k : K) (s : State) (events : List Event) → events ≡ [] → kept_after cost after without k (run_touches s events) ≡ k
+  end_kept k s events none = rw none (ap (kept_after cost after without k) (run_touches-nil s))

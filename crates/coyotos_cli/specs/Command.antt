@@ -1,5 +1,5 @@
 -- The forms of the program's words. A word that begins with `-` stands in none of them but for `--help` by itself.
-use Rattle.std.specs.Prelude.{ℕ, List, [], ◌∷◌, Option, Some, None, codes, nat_le, if◌then◌else◌}
+use Rattle.std.specs.Prelude.{ℕ, Bool, true, false, List, [], ◌∷◌, Option, Some, None, codes, nat_le, if◌then◌else◌}
 use Rattle.std.specs.Option.{option_and_then}
 use Rattle.std.specs.Str.{bytes_eq}
 use Rattle.coy_text.specs.Numeral.{dec_of, hex_of}
@@ -54,3 +54,13 @@ command_of (word ∷ process ∷ []) = None
 command_of (word ∷ process ∷ kind ∷ []) = None
 command_of (word ∷ process ∷ kind ∷ address ∷ []) = walk_command word process kind address
 command_of (word ∷ process ∷ kind ∷ address ∷ other ∷ words) = None
+
+-- whether a command asks for input; `--help` does not
+abbrev pub asks_input : Command → Bool
+asks_input Help = false
+asks_input _ = true
+
+-- whether the input is read for these words; for words of no form it is not
+abbrev pub reads_input : Option Command → Bool
+reads_input None = false
+reads_input (Some command) = asks_input command

@@ -1,5 +1,5 @@
 -- A text and an exit, and the last lines of the program.
-use Rattle.std.specs.Prelude.{◌≡◌, ◌≢◌, ◌≤◌, ◌+◌, ◌⊎◌, ℕ, List, ◌++◌, codes, decimal, Option}
+use Rattle.std.specs.Prelude.{◌≡◌, ◌≢◌, ◌≤◌, ◌+◌, ◌⊎◌, ℕ, List, ◌++◌, codes, decimal, Option, ⊤}
 use Rattle.std.specs.Io.KnownBytes.{Keeps, Appends}
 use Rattle.coy_io.specs.Causes.{Rose}
 use Rattle.coy_io.specs.Pieces.{AppendsSome}
@@ -7,7 +7,7 @@ use Rattle.listing_read.specs.declared.fault.Fault.{Fault}
 use Rattle.listing_read.specs.declared.fault.ScheduleFault.{ScheduleFault}
 use Rattle.coyotos_cli.specs.Names.{fault_name, schedule_fault_name}
 use Rattle.coyotos_cli.specs.declared.exit.Exit.{Exit}
-use Rattle.coyotos_cli.specs.declared.exit.Exit.TheVariants.{ListingRefused, ScheduleRefused, ReadFault, WriteFault, OutOfMemory, TooLong}
+use Rattle.coyotos_cli.specs.declared.exit.Exit.TheVariants.{Done, ListingRefused, ScheduleRefused, ReadFault, WriteFault, OutOfMemory, TooLong}
 
 -- a text and an exit
 pub record Output : Type 0 where
@@ -39,6 +39,12 @@ refused_schedule line fault =
 abbrev pub too_long : Output
 too_long = record { text = codes "too long" ++ codes "\n"; exit = TooLong }
 
+-- so many lines end nothing: all of them were read, or their listing is not over and lacks the line behind them all
+abbrev pub EndsNothing : ℕ → Exit → Type 0
+EndsNothing n Done = ⊤
+EndsNothing n (ListingRefused line fault) = line ≡ n + 1
+EndsNothing n _ = ⊥
+
 -- an exit that no fault of reading or writing and no want of memory gave
 pub record IsGiven (exit : Exit) : Type 0 where
   pub read : exit ≢ ReadFault
@@ -57,6 +63,14 @@ pub record Outputs (old new : Option (List ℕ)) (exit : Exit) (o : Output) : Ty
 pub record Fetches (old new : ℕ) (exit : Exit) (all : ℕ) : Type 0 where
   pub whole : IsGiven exit → new ≡ old + all
   pub most : new ≤ old + all
+
+-- why a call ends with a fault of reading or of writing, by the counts of both objects' faults: that object's count rose, and
+-- where it ends otherwise, the count stayed
+pub record HasCauses (unread unread' unwritten unwritten' : ℕ) (exit : Exit) : Type 0 where
+  pub read : exit ≡ ReadFault → Rose unread unread'
+  pub read_quiet : exit ≢ ReadFault → unread' ≡ unread
+  pub write : exit ≡ WriteFault → Rose unwritten unwritten'
+  pub write_quiet : exit ≢ WriteFault → unwritten' ≡ unwritten
 
 -- an output's exit was given and its whole text was written, or memory was wanting and nothing was written
 abbrev pub Completes : Option (List ℕ) → Option (List ℕ) → Exit → Output → Type 0

@@ -19,10 +19,10 @@ rounds harts zero = []
 rounds harts (suc n) = steps_from 0 harts ++ rounds harts n
 
 -- the events of a line, on a machine with so many harts
-abbrev pub events_of : ℕ → Timed → List Event
-events_of harts (Steps hart times) = replicate times (Step hart)
-events_of harts (TimerTick hart) = Tick hart ∷ []
-events_of harts (Round times) = rounds harts times
+abbrev pub line_events : ℕ → Timed → List Event
+line_events harts (Steps hart times) = replicate times (Step hart)
+line_events harts (TimerTick hart) = Tick hart ∷ []
+line_events harts (Round times) = rounds harts times
 
 -- the events that are left
 abbrev pub left : Events → List Event

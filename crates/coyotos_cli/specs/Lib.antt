@@ -7,3 +7,4 @@ pub mod Ending
 pub mod Told
 pub mod Schedule
 pub mod Program
+pub mod Contract

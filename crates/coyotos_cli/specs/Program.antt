@@ -1,15 +1,17 @@
 -- What the program writes, how it ends and how many slots it fetches, for its words and for the bytes of its input (this
 -- project's own).
-use Rattle.std.specs.Prelude.{◌≡◌, ◌+◌, ℕ, Bool, true, false, if◌then◌else◌, ◌&&◌, List, [], Option, Some, None}
+use Rattle.std.specs.Prelude.{◌≡◌, ◌+◌, ℕ, Bool, false, ◌&&◌, List, [], length, Option, Some, None}
 use Rattle.std.specs.Io.KnownBytes.{Consumes, Appends}
 use Rattle.coy_io.specs.Lines.{Part, parts_of, whole_lines}
+use Rattle.kernel_core.specs.Outcome.{Touch, spent}
 use Rattle.listing_read.specs.Listing.{Listed, Good, Refused, Past, listing_of}
 use Rattle.listing_read.specs.declared.place.Place.TheVariants.{Header}
 use Rattle.image_builder.specs.Boot.{booted}
-use Rattle.coyotos_cli.specs.Command.{command_of}
-use Rattle.coyotos_cli.specs.Ending.{Output, usage_text, refused_listing, too_long}
+use Rattle.walk_meaning.specs.Trail.{slots}
+use Rattle.coyotos_cli.specs.Command.{command_of, asks_input}
+use Rattle.coyotos_cli.specs.Ending.{Output, EndsNothing, usage_text, refused_listing, too_long}
 use Rattle.coyotos_cli.specs.Schedule.{Course, ends_in, course_of, course_output, course_fetches}
-use Rattle.coyotos_cli.specs.Told.{runs}
+use Rattle.coyotos_cli.specs.Told.{begun, runs}
 use Rattle.coyotos_cli.specs.declared.command.Command.{Command}
 use Rattle.coyotos_cli.specs.declared.command.Command.TheVariants.{Help}
 use Rattle.coyotos_cli.specs.declared.exit.Exit.{Exit}
@@ -18,7 +20,8 @@ use Rattle.coyotos_cli.specs.declared.exit.Exit.TheVariants.{Done, Usage}
 -- what a command comes to, by the listing that the lines of its input make: what the lines behind it come to, or the
 -- one line of its refusal
 abbrev pub listed_course : Command → Listed → Course
-listed_course command (Good listing last rest) = course_of command listing.sizes.harts last (booted listing) 0 rest
+listed_course command (Good listing last rest) =
+    course_of command listing.sizes.harts last (begun (booted listing)) rest
 listed_course command (Refused line fault) = ends_in (refused_listing line fault)
 listed_course command Past = ends_in too_long
 
@@ -30,15 +33,15 @@ lines_course command parts = listed_course command (listing_of Header 1 parts)
 abbrev pub tells_usage : Exit → Course
 tells_usage exit = ends_in (record { text = usage_text; exit = exit })
 
--- `--help` asks nothing of the input
-abbrev pub asks_input : Command → Bool
-asks_input Help = false
-asks_input _ = true
+-- the same of any command; `--help` tells how the program is used, whatever the input
+abbrev pub command_course : Command → List Part → Course
+command_course Help parts = tells_usage Done
+command_course command parts = lines_course command parts
 
--- what words come to with the lines of the input; words of no form ask nothing of them either
+-- what words come to with the lines of the input; those of no form tell how the program is used
 abbrev pub words_course : Option Command → List Part → Course
 words_course None parts = tells_usage Usage
-words_course (Some command) parts = if asks_input command then lines_course command parts else tells_usage Done
+words_course (Some command) parts = command_course command parts
 
 -- what words come to with all bytes of the input
 abbrev pub whole_course : List (List ℕ) → List ℕ → Course
@@ -48,9 +51,15 @@ whole_course words bytes = words_course (command_of words) (parts_of bytes)
 abbrev pub out : List (List ℕ) → List ℕ → Output
 out words bytes = course_output (whole_course words bytes)
 
--- how many slots it fetches
+-- how many slots touches fetch where each access of data is a walk, as in the program
+abbrev pub walked : List Touch → ℕ
+walked touches =
+    spent {K = Unit {0}} (λ kept o space address kind. slots o space address kind)
+    (λ kept o space address kind. kept) (λ kept item. kept) tt touches
+
+-- how many slots the program fetches
 abbrev pub fetched : List (List ℕ) → List ℕ → ℕ
-fetched words bytes = course_fetches (whole_course words bytes)
+fetched words bytes = course_fetches walked (whole_course words bytes)
 
 -- whether words ask for a run; others fetch nothing
 abbrev pub asks_run : Option Command → Bool
@@ -59,18 +68,20 @@ asks_run (Some command) = asks_input command && runs command
 
 -- ---- what stands where reading failed
 
--- what bytes that were read make sure: the records of the whole lines in them, and the slots fetched for these. What is
--- written last is not among it
+-- what bytes that were read make sure: the records of the whole lines in them, and the touches of these. What is written
+-- last is not among it
 abbrev pub sure : List (List ℕ) → List ℕ → Course
 sure words bytes = words_course (command_of words) (whole_lines [] bytes)
 
--- reading failed behind these bytes, and the records that they make sure were written, no more and no less
+-- reading failed behind these bytes, no whole line of which ended the call, and the records that they make sure were
+-- written, no more and no less
 pub record WritesSure (held held' taken taken' : Option (List ℕ)) (course : List ℕ → Course) : Type 0 where
   pub bytes : List ℕ
   pub read : Consumes held held' bytes
+  pub goes_on : EndsNothing (length (whole_lines [] bytes)) (course bytes).last.exit
   pub written : Appends taken taken' (course bytes).records
 
--- and exactly the slots were fetched that these records cost
-pub record StandsSure (held held' taken taken' : Option (List ℕ)) (fetches fetches' : ℕ) (course : List ℕ → Course) : Type 0 where
+-- and exactly the slots were fetched that the touches of these lines cost
+pub record StandsSure (held held' taken taken' : Option (List ℕ)) (fetches fetches' : ℕ) (count : List Touch → ℕ) (course : List ℕ → Course) : Type 0 where
   pub writes : WritesSure held held' taken taken' course
-  pub fetched : fetches' ≡ fetches + (course writes.bytes).fetches
+  pub fetched : fetches' ≡ fetches + count (course writes.bytes).touches

@@ -1,5 +1,5 @@
 -- What the lines behind a listing come to: the records of their events, and what stands behind those.
-use Rattle.std.specs.Prelude.{◌≡◌, ℕ, false, ◌+◌, ◌*◌, nat_lt, if◌then◌else◌, List, [], ◌∷◌, ◌++◌, length, codes, decimal, Option, Some, None, Result, Ok, Err, ⊤}
+use Rattle.std.specs.Prelude.{◌≡◌, ℕ, false, ◌+◌, ◌*◌, nat_lt, if◌then◌else◌, List, [], ◌∷◌, ◌++◌, codes, decimal, Option, Some, None, Result, Ok, Err, ⊤}
 use Rattle.std.specs.Io.KnownBytes.{Appends}
 use Rattle.coy_io.specs.Lines.{Part, Line, LongLine, PastLimit, IsUnfinished}
 use Rattle.coy_io.specs.Reader.{Reader, bytes_ahead, GivesLines}
@@ -8,16 +8,17 @@ use Rattle.object_store.specs.Store.{size_of}
 use Rattle.walk_meaning.specs.Trail.{slots}
 use Rattle.walk_meaning.specs.Walk.{access}
 use Rattle.walk_meaning.specs.declared.kind.Kind.{Kind}
+use Rattle.kernel_core.specs.Outcome.{Touch}
 use Rattle.kernel_core.specs.State.{State, space_of}
-use Rattle.listing_read.specs.Schedule.{event_of}
+use Rattle.listing_read.specs.Schedule.{schedule_line}
 use Rattle.listing_read.specs.declared.fault.ScheduleFault.{ScheduleFault}
 use Rattle.listing_read.specs.declared.fault.ScheduleFault.TheVariants.{LineTooLong}
 use Rattle.listing_read.specs.declared.schedule.Timed.{Timed}
 use Rattle.run_text.specs.State.{state_text}
 use Rattle.run_text.specs.Walk.{walk_text, no_process_text}
-use Rattle.coyotos_cli.specs.Events.{events_of}
+use Rattle.coyotos_cli.specs.Events.{line_events}
 use Rattle.coyotos_cli.specs.Ending.{Output, Outputs, Fetches, before, refused_schedule, too_long}
-use Rattle.coyotos_cli.specs.Told.{performed, told, spent_on}
+use Rattle.coyotos_cli.specs.Told.{Progress, progress_behind, told, touches_on}
 use Rattle.coyotos_cli.specs.declared.command.Command.{Command}
 use Rattle.coyotos_cli.specs.declared.command.Command.TheVariants.{Check, Walk}
 use Rattle.coyotos_cli.specs.declared.exit.Exit.{Exit}
@@ -37,11 +38,11 @@ count_text events = codes "ok events=" ++ decimal events ++ codes "\n"
 abbrev pub last_state_text : State → List ℕ
 last_state_text s = state_text s
 
--- what comes behind the records, of the last state and the number of events
-abbrev pub last_text : Command → State → ℕ → List ℕ
-last_text Check s events = count_text events
-last_text (Walk process kind address) s events = access_text s process kind address
-last_text _ s events = last_state_text s
+-- what comes behind the records, by what the run has come to
+abbrev pub last_text : Command → Progress → List ℕ
+last_text Check run = count_text run.events
+last_text (Walk process kind address) run = access_text run.state process kind address
+last_text _ run = last_state_text run.state
 
 -- the slots that are fetched for it: all of each GPT to print a state, and those that the access of `walk` reads
 abbrev pub last_fetches : Command → State → ℕ
@@ -52,59 +53,59 @@ last_fetches (Walk process kind address) s =
 last_fetches _ s = 16 * size_of s.store.items Gpt
 
 -- all lines were read: what is written last
-abbrev pub finished : Command → State → ℕ → Output
-finished command s events = record { text = last_text command s events; exit = Done }
+abbrev pub finished : Command → Progress → Output
+finished command run = record { text = last_text command run; exit = Done }
 
 -- ---- the lines behind a listing
 
--- what lines come to: the records that are written and the slots that are fetched for them; then what is written last,
+-- what lines come to: the records that are written, and what the translator is asked for them; then what is written last,
 -- how the program ends, and the slots that are fetched for that
 pub record Course : Type 0 where
   pub records : List ℕ
-  pub fetches : ℕ
+  pub touches : List Touch
   pub last : Output
   pub last_fetches : ℕ
 
--- these records and so many fetches come first
-abbrev pub preceded : List ℕ → ℕ → Course → Course
-preceded records fetches course = record course { records = records ++ course.records; fetches = fetches + course.fetches }
+-- these records and touches come first
+abbrev pub preceded : List ℕ → List Touch → Course → Course
+preceded records touches course = record course { records = records ++ course.records; touches = touches ++ course.touches }
 
 -- nothing comes but this
 abbrev pub ends_in : Output → Course
-ends_in last = record { records = []; fetches = 0; last = last; last_fetches = 0 }
+ends_in last = record { records = []; touches = []; last = last; last_fetches = 0 }
 
--- the last line is over, in this state after so many events
-abbrev pub ends_at : Command → State → ℕ → Course
-ends_at command s events = record (ends_in (finished command s events)) { last_fetches = last_fetches command s }
+-- the last line is over
+abbrev pub ends_at : Command → Progress → Course
+ends_at command run = record (ends_in (finished command run)) { last_fetches = last_fetches command run.state }
 
--- what a line asks for, line `n`, with what the lines behind it come to from a state and a number of events on
-abbrev pub line_course : Command → ℕ → ℕ → State → ℕ → Result (Option Timed) ScheduleFault → (State → ℕ → Course) → Course
-line_course command harts n s events (Ok None) behind = behind s events
-line_course command harts n s events (Ok (Some timed)) behind =
-    preceded (told command s (events_of harts timed)) (spent_on command s (events_of harts timed))
-    (behind (performed command s (events_of harts timed)) (events + length (events_of harts timed)))
-line_course command harts n s events (Err fault) behind = ends_in (refused_schedule n fault)
+-- what a line asks for, line `n`, with what the lines behind it come to from a run on
+abbrev pub line_course : Command → ℕ → ℕ → Progress → Result (Option Timed) ScheduleFault → (Progress → Course) → Course
+line_course command harts n run (Ok None) behind = behind run
+line_course command harts n run (Ok (Some timed)) behind =
+    preceded (told command run.state (line_events harts timed)) (touches_on command run.state (line_events harts timed))
+    (behind (progress_behind command run (line_events harts timed)))
+line_course command harts n run (Err fault) behind = ends_in (refused_schedule n fault)
 
--- what the lines behind line `n` come to, on a machine with so many harts in this state, after so many events
-unfoldable pub course_of : Command → ℕ → ℕ → State → ℕ → List Part → Course
-course_of command harts n s events [] = ends_at command s events
-course_of command harts n s events (LongLine ∷ parts) = ends_in (refused_schedule (n + 1) LineTooLong)
-course_of command harts n s events (PastLimit ∷ parts) = ends_in too_long
-course_of command harts n s events (Line line ∷ parts) =
-    line_course command harts (n + 1) s events (event_of harts line) (λ s events. course_of command harts (n + 1) s events parts)
+-- what the lines behind line `n` come to, on a machine with so many harts, by what its run has come to
+unfoldable pub course_of : Command → ℕ → ℕ → Progress → List Part → Course
+course_of command harts n run [] = ends_at command run
+course_of command harts n run (LongLine ∷ parts) = ends_in (refused_schedule (n + 1) LineTooLong)
+course_of command harts n run (PastLimit ∷ parts) = ends_in too_long
+course_of command harts n run (Line line ∷ parts) =
+    line_course command harts (n + 1) run (schedule_line harts line) (λ run. course_of command harts (n + 1) run parts)
 
 -- the records, what is written last, and how the program ends
 abbrev pub course_output : Course → Output
 course_output course = before course.records course.last
 
--- all slots that are fetched
-abbrev pub course_fetches : Course → ℕ
-course_fetches course = course.fetches + course.last_fetches
+-- all slots that are fetched, where touches fetch so many
+abbrev pub course_fetches : (List Touch → ℕ) → Course → ℕ
+course_fetches count course = count course.touches + course.last_fetches
 
 -- what a call wrote, how many slots it fetched and how it ended is what lines come to
-pub record ComesTo (taken taken' : Option (List ℕ)) (fetches fetches' : ℕ) (exit : Exit) (course : Course) : Type 0 where
+pub record ComesTo (taken taken' : Option (List ℕ)) (fetches fetches' : ℕ) (exit : Exit) (count : List Touch → ℕ) (course : Course) : Type 0 where
   pub output : Outputs taken taken' exit (course_output course)
-  pub fetched : Fetches fetches fetches' exit (course_fetches course)
+  pub fetched : Fetches fetches fetches' exit (course_fetches count course)
 
 -- ---- lines that are known in part
 
@@ -113,12 +114,14 @@ abbrev pub OnParts : Option (List Part) → (List Part → Type 0) → Type 0
 OnParts None P = ⊤
 OnParts (Some parts) P = P parts
 
--- reading failed behind these lines, whose records were written; the reader holds no whole line
-pub record FailsBehind (old new : Reader) (held held' taken taken' : Option (List ℕ)) (fetches fetches' : ℕ) (course : List Part → Course) : Type 0 where
+-- reading failed behind these lines, none of which ended the run, and whose records were written; the reader holds no
+-- whole line
+pub record FailsBehind (old new : Reader) (held held' taken taken' : Option (List ℕ)) (fetches fetches' : ℕ) (count : List Touch → ℕ) (course : List Part → Course) : Type 0 where
   pub before : old.ended ≡ false
   pub going : new.ended ≡ false
   pub unfinished : IsUnfinished new.rest
   pub given : List Part
   pub gives : GivesLines (bytes_ahead old held) (bytes_ahead new held') given
+  pub goes_on : (course given).last.exit ≡ Done
   pub written : Appends taken taken' (course given).records
-  pub fetched : fetches' ≡ fetches + (course given).fetches
+  pub fetched : fetches' ≡ fetches + count (course given).touches

@@ -1,12 +1,15 @@
--- What a command writes of the events of a line, and what they make of the machine.
-use Rattle.std.specs.Prelude.{Bool, true, false, not, if◌then◌else◌, List, [], ◌∷◌, ◌++◌, ℕ}
+-- What a command writes of the events of a line, what they make of the machine, and what they ask of its translator.
+use Rattle.std.specs.Prelude.{◌≡◌, ◌+◌, Bool, true, false, not, if◌then◌else◌, List, [], ◌∷◌, ◌++◌, length, ℕ}
+use Rattle.cap_format.specs.Capability.{Capability}
+use Rattle.cap_format.specs.declared.item.Item.{Item}
+use Rattle.object_store.specs.Store.{Items}
 use Rattle.kernel_core.specs.declared.event.Event.{Event}
 use Rattle.kernel_core.specs.declared.record.Record.{Record}
 use Rattle.kernel_core.specs.declared.record.Record.TheVariants.{Access, Insn}
-use Rattle.kernel_core.specs.Outcome.{Touch, spent}
+use Rattle.kernel_core.specs.Outcome.{Touch, spent, kept_after}
 use Rattle.kernel_core.specs.State.{State}
 use Rattle.kernel_core.specs.Run.{run_state, run_records, run_touches}
-use Rattle.walk_meaning.specs.Trail.{slots}
+use Rattle.walk_meaning.specs.declared.kind.Kind.{Kind}
 use Rattle.run_text.specs.Record.{record_text}
 use Rattle.coyotos_cli.specs.declared.command.Command.{Command}
 use Rattle.coyotos_cli.specs.declared.command.Command.TheVariants.{Check, Run, Trace}
@@ -37,20 +40,33 @@ abbrev pub runs : Command → Bool
 runs Check = false
 runs _ = true
 
--- the state after events
-abbrev pub performed : Command → State → List Event → State
-performed command s events = if runs command then run_state s events else s
+-- the state behind events
+abbrev pub state_behind : Command → State → List Event → State
+state_behind command s events = if runs command then run_state s events else s
 
 -- the lines that are written of their records
 abbrev pub told : Command → State → List Event → List ℕ
 told command s events = if runs command then lines_of command (run_records s events) else []
 
--- how many slots touches fetch where each access of data is a walk
-abbrev pub walked : List Touch → ℕ
-walked touches =
-    spent {K = Unit {0}} (λ kept o space address kind. slots o space address kind)
-    (λ kept o space address kind. kept) (λ kept item. kept) tt touches
+-- what a translator is asked for them
+abbrev pub touches_on : Command → State → List Event → List Touch
+touches_on command s events = if runs command then run_touches s events else []
 
--- how many slots are fetched for events
-abbrev pub spent_on : Command → State → List Event → ℕ
-spent_on command s events = if runs command then walked (run_touches s events) else 0
+-- what a run has come to so far: the state of the machine, and how many events the lines stand for
+pub record Progress : Type 0 where
+  pub state : State
+  pub events : ℕ
+
+-- a run that begins in this state
+abbrev pub begun : State → Progress
+begun s = record { state = s; events = 0 }
+
+-- the same behind the events of one line more
+abbrev pub progress_behind : Command → Progress → List Event → Progress
+progress_behind command so_far events =
+    record { state = state_behind command so_far.state events; events = so_far.events + length events }
+
+-- a translator that keeps this fetched exactly what touches cost it, and keeps then what they make of it
+pub record Spends {K : Type 0} (cost : K → Items → Capability → ℕ → Kind → ℕ) (after : K → Items → Capability → ℕ → Kind → K) (without : K → Item → K) (before behind : K) (fetches fetches' : ℕ) (touches : List Touch) : Type 0 where
+  pub counted : fetches' ≡ fetches + spent cost after without before touches
+  pub kept : behind ≡ kept_after cost after without before touches

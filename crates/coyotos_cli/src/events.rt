@@ -2,7 +2,7 @@
 ghost use Rattle.std.specs.Prelude.{◌≡◌, ◌<◌, ◌≤◌, ◌∷◌, [], ℕ, length, IfSome, IsNone, Some, None};
 ghost use Rattle.kernel_core.specs.Machine.{hart_in};
 ghost use Rattle.listing_read.specs.Schedule.{IsTimed};
-ghost use Rattle.coyotos_cli.specs.Events.{events_of, left, IsTaken};
+ghost use Rattle.coyotos_cli.specs.Events.{line_events, left, IsTaken};
 
 use kernel_core::Event;
 use listing_read::Timed;
@@ -22,7 +22,7 @@ pub enum Events {
 impl Events {
     /// All events of a line, on a machine with so many harts.
     pub(crate) fn new(harts: u8, timed: Timed) -> Events
-        ensures { left result ≡ events_of harts timed }
+        ensures { left result ≡ line_events harts timed }
     {
         match timed {
             Timed::Step { hart, times } => Events::StepsLeft { hart, times },

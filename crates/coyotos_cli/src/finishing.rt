@@ -21,19 +21,19 @@ use kernel_core::Machine;
 use run_text::{dump, walk_line};
 use std::sync::ledger::Ledger;
 use steps::Steps;
-use walk_engine::{Plain, Trail, walk};
+use walk_engine::{Trail, Translator, walk};
 use walk_meaning::Kind;
 
 /// Writes what comes behind the records: the number of events, the last state, or where a walk ends.
-pub(crate) fn finish<K: Sink, L: Ledger>(
+pub(crate) fn finish<T: Translator, K: Sink, L: Ledger>(
     command: Command,
     events: u64,
-    machine: &Machine<Plain>,
+    machine: &Machine<T>,
     output: &mut K,
     fetches: &mut Steps<L>,
 ) -> Exit
     ensures ends { EndsIn K.taken K.faults output.old output.new result
-        (finished command (state_of machine.now) events) }
+        (finished command (record { state = state_of machine.now; events = events })) }
     ensures fetched { let all = last_fetches command (state_of machine.now) in
         Fetches fetches.old fetches.new result all }
     ensures stays { runs command ≡ false → fetches.new ≡ fetches.old }
@@ -63,8 +63,8 @@ fn count<K: Sink>(events: u64, output: &mut K) -> Exit
 }
 
 /// Writes where an access of a process's space ends, by a walk at this moment.
-fn access<K: Sink, L: Ledger>(
-    machine: &Machine<Plain>,
+fn access<T: Translator, K: Sink, L: Ledger>(
+    machine: &Machine<T>,
     process: u16,
     kind: Kind,
     address: u32,
@@ -86,8 +86,8 @@ fn access<K: Sink, L: Ledger>(
 }
 
 /// Makes the line of a walk from a process's space.
-fn walk_from<L: Ledger>(
-    machine: &Machine<Plain>,
+fn walk_from<T: Translator, L: Ledger>(
+    machine: &Machine<T>,
     process: u16,
     kind: Kind,
     address: u32,
@@ -107,7 +107,7 @@ fn walk_from<L: Ledger>(
 }
 
 /// The capability in a process's slot for its space.
-fn space_of(machine: &Machine<Plain>, process: u16) -> Cap
+fn space_of<T: Translator>(machine: &Machine<T>, process: u16) -> Cap
     requires { process < size_of machine.now.objects.items Process }
     ensures { meaning machine.now.objects.items result ≡ space_of (state_of machine.now) process }
 {
@@ -115,8 +115,8 @@ fn space_of(machine: &Machine<Plain>, process: u16) -> Cap
 }
 
 /// Writes the last state.
-fn last_state<K: Sink, L: Ledger>(
-    machine: &Machine<Plain>,
+fn last_state<T: Translator, K: Sink, L: Ledger>(
+    machine: &Machine<T>,
     output: &mut K,
     fetches: &mut Steps<L>,
 ) -> Exit

@@ -1,9 +1,9 @@
-//! A listing and its schedule, from the first line to the last.
+//! A listing and its schedule, from the first line to the last. Here, and nowhere else, a translator is chosen.
 ghost use Rattle.std.specs.Prelude.{◌≡◌, ◌≢◌, [], false, IfSome};
 ghost use Rattle.std.specs.Io.KnownBytes.{IsAtEnd};
-ghost use Rattle.coy_io.specs.Causes.{Rose};
 ghost use Rattle.coy_io.specs.Lines.{parts_of, whole_lines};
-ghost use Rattle.coyotos_cli.specs.Program.{lines_course, StandsSure};
+ghost use Rattle.coyotos_cli.specs.Ending.{HasCauses};
+ghost use Rattle.coyotos_cli.specs.Program.{lines_course, walked, StandsSure};
 ghost use Rattle.coyotos_cli.specs.Schedule.{ComesTo};
 ghost use Rattle.coyotos_cli.specs.Told.{runs};
 
@@ -29,19 +29,17 @@ pub(crate) fn answer_input<S: Source, K: Sink, L: Ledger>(
 ) -> Exit
     // What the known bytes come to, and where the source stands then.
     ensures comes { IfSome (S.held input.old) (λ bytes.
-        ComesTo (K.taken output.old) (K.taken output.new) fetches.old fetches.new result
+        ComesTo (K.taken output.old) (K.taken output.new) fetches.old fetches.new result walked
         (lines_course command (parts_of bytes))) }
     ensures end { result ≡ Exit.Done → IsAtEnd (S.held input.new) }
     ensures sure { result ≡ Exit.ReadFault →
         StandsSure (S.held input.old) (S.held input.new) (K.taken output.old) (K.taken output.new)
-        fetches.old fetches.new (λ bytes. lines_course command (whole_lines [] bytes)) }
+        fetches.old fetches.new walked (λ bytes. lines_course command (whole_lines [] bytes)) }
 
     // Why it may end otherwise.
     ensures usage { result ≢ Exit.Usage }
-    ensures read { result ≡ Exit.ReadFault → Rose (S.faults input.old) (S.faults input.new) }
-    ensures read_quiet { result ≢ Exit.ReadFault → S.faults input.new ≡ S.faults input.old }
-    ensures write { result ≡ Exit.WriteFault → Rose (K.faults output.old) (K.faults output.new) }
-    ensures write_quiet { result ≢ Exit.WriteFault → K.faults output.new ≡ K.faults output.old }
+    ensures causes { HasCauses (S.faults input.old) (S.faults input.new)
+        (K.faults output.old) (K.faults output.new) result }
     ensures unwritten { result ≡ Exit.OutOfMemory → K.taken output.new ≡ K.taken output.old }
 
     // Where no slot is fetched.

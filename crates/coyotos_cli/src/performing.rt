@@ -1,12 +1,13 @@
 //! The events of a line, performed, and their records, written.
 ghost use Rattle.std.specs.Prelude.{◌≡◌, ◌≢◌, ◌<◌, ◌≤◌, ◌+◌, false, OnOk};
 ghost use Rattle.coy_io.specs.Causes.{HasCause};
+ghost use Rattle.kernel_core.specs.Outcome.{spent};
 ghost use Rattle.kernel_core.specs.State.{state_of};
 ghost use Rattle.kernel_core.specs.Machine.{hart_in, IsRecord};
 ghost use Rattle.listing_read.specs.Schedule.{IsTimed};
 ghost use Rattle.run_text.specs.Written.{Writes};
-ghost use Rattle.coyotos_cli.specs.Events.{events_of};
-ghost use Rattle.coyotos_cli.specs.Told.{is_told, line_of, lines_of, performed, runs, spent_on, told};
+ghost use Rattle.coyotos_cli.specs.Events.{line_events};
+ghost use Rattle.coyotos_cli.specs.Told.{is_told, line_of, lines_of, runs, state_behind, told, touches_on, Spends};
 
 use crate::command::Command;
 use crate::events::Events;
@@ -17,33 +18,34 @@ use listing_read::Timed;
 use run_text::record_line;
 use std::sync::ledger::Ledger;
 use steps::Steps;
-use walk_engine::Plain;
+use walk_engine::Translator;
 
 /// Performs the events of a line, and writes their records, each event's in the place of those before. `check` performs
 /// nothing.
-pub(crate) fn perform<K: Sink, L: Ledger>(
+pub(crate) fn perform<T: Translator, K: Sink, L: Ledger>(
     command: Command,
     timed: Timed,
     harts: u8,
-    machine: &mut Machine<Plain>,
+    machine: &mut Machine<T>,
     records: &mut Records,
     output: &mut K,
     fetches: &mut Steps<L>,
 ) -> Result<(), WriteFault>
     requires harts { machine.old.objects.harts ≡ harts }
     requires timed { IsTimed harts timed }
-    ensures text { let text = told command (state_of machine.old) (events_of harts timed) in
+    ensures text { let text = told command (state_of machine.old) (line_events harts timed) in
         Writes (K.taken output.old) (K.taken output.new) result text }
-    ensures state { let s = performed command (state_of machine.old) (events_of harts timed) in
+    ensures state { let s = state_behind command (state_of machine.old) (line_events harts timed) in
         OnOk result (state_of machine.new ≡ s) }
     ensures harts { machine.new.objects.harts ≡ machine.old.objects.harts }
     ensures cause { HasCause (K.faults output.old) (K.faults output.new) result }
 
     // How many slots are fetched.
-    ensures counted { let spent = spent_on command (state_of machine.old) (events_of harts timed) in
-        OnOk result (fetches.new ≡ fetches.old + spent) }
-    ensures most { let spent = spent_on command (state_of machine.old) (events_of harts timed) in
-        fetches.new ≤ fetches.old + spent }
+    ensures spends { let touches = touches_on command (state_of machine.old) (line_events harts timed) in
+        OnOk result (Spends T.cost T.after T.without (T.kept machine.old.translator)
+        (T.kept machine.new.translator) fetches.old fetches.new touches) }
+    ensures most { let touches = touches_on command (state_of machine.old) (line_events harts timed) in
+        fetches.new ≤ fetches.old + spent T.cost T.after T.without (T.kept machine.old.translator) touches }
     ensures stays { runs command ≡ false → fetches.new ≡ fetches.old }
 {
     if !runs(command) {

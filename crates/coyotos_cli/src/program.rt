@@ -1,11 +1,10 @@
 //! The top call.
-ghost use Rattle.std.specs.Prelude.{◌≡◌, ◌≢◌, ◌⊎◌, false, map, string_bytes, IfSome, Some, None};
-ghost use Rattle.std.specs.Io.KnownBytes.{IsAtEnd};
+ghost use Rattle.std.specs.Prelude.{◌≡◌, map, string_bytes, IfSome};
 ghost use Rattle.coy_io.specs.Causes.{Rose};
-ghost use Rattle.coyotos_cli.specs.Command.{command_of};
-ghost use Rattle.coyotos_cli.specs.Ending.{IsGiven, Completes, EndsIn, Outputs, Fetches, usage_text};
-ghost use Rattle.coyotos_cli.specs.Program.{asks_input, asks_run, out, fetched, sure, StandsSure};
-ghost use Rattle.coyotos_cli.specs.declared.command.Command.TheVariants.{Help};
+ghost use Rattle.coyotos_cli.specs.Command.{asks_input, command_of};
+ghost use Rattle.coyotos_cli.specs.Ending.{HasCauses, IsGiven, Completes, EndsIn, usage_text};
+ghost use Rattle.coyotos_cli.specs.Program.{out, sure, walked, StandsSure};
+ghost use Rattle.coyotos_cli.specs.Contract.{bytes_for, Answers, HasForm, ReadsInput, FetchesFor};
 
 use crate::command::{Command, read_command};
 use crate::ending::end_with;
@@ -24,46 +23,34 @@ pub fn coyotos<S: Source, K: Sink, L: Ledger>(
     output: &mut K,
     fetches: &mut Steps<L>,
 ) -> Exit
-    // What is written, and how it ends, where the bytes are told.
-    ensures output { IfSome (S.held input.old) (λ bytes.
-        Outputs (K.taken output.old) (K.taken output.new) result (out (map string_bytes words.now) bytes)) }
+    // What is written, and how it ends, where the bytes that are read are told.
+    ensures answers { Answers (map string_bytes words.now) (S.held input.old)
+        (K.taken output.old) (K.taken output.new) result }
 
     // Where nothing failed, that is the whole answer, or there was no memory for it.
-    ensures complete { ¬ Rose (S.faults input.old) (S.faults input.new) →
-        ¬ Rose (K.faults output.old) (K.faults output.new) → IfSome (S.held input.old) (λ bytes.
-        Completes (K.taken output.old) (K.taken output.new) result (out (map string_bytes words.now) bytes)) }
+    ensures complete { let words = map string_bytes words.now in
+        ¬ Rose (S.faults input.old) (S.faults input.new) →
+        ¬ Rose (K.faults output.old) (K.faults output.new) →
+        IfSome (bytes_for (command_of words) (S.held input.old)) (λ bytes.
+        Completes (K.taken output.old) (K.taken output.new) result (out words bytes)) }
 
-    // The input is read to its end where all was done.
-    ensures end { let asked = command_of (map string_bytes words.now) in
-        result ≡ Exit.Done → asked ≢ Some Help → IsAtEnd (S.held input.new) }
-
-    // Where reading failed, what was written and fetched is what the whole lines that were read come to.
+    // Where reading failed, no whole line that was read ended the call, and what was written and fetched is what these
+    // lines come to.
     ensures sure { let course = sure (map string_bytes words.now) in result ≡ Exit.ReadFault →
         StandsSure (S.held input.old) (S.held input.new) (K.taken output.old) (K.taken output.new)
-        fetches.old fetches.new course }
+        fetches.old fetches.new walked course }
 
-    // Words that are of no form, and `--help`, take nothing from the source.
-    ensures no_input { command_of (map string_bytes words.now) ≡ None → input.new ≡ input.old }
-    ensures help { command_of (map string_bytes words.now) ≡ Some Help → input.new ≡ input.old }
+    // How much of the input is read.
+    ensures reads { ReadsInput S.held (map string_bytes words.now) input.old input.new result }
 
     // Why it ends as it does.
-    ensures usage { result ≡ Exit.Usage → command_of (map string_bytes words.now) ≡ None }
-    ensures no_form { command_of (map string_bytes words.now) ≡ None →
-        (result ≡ Exit.Usage) ⊎ (result ≡ Exit.WriteFault) }
+    ensures form { HasForm (map string_bytes words.now) result }
+    ensures causes { HasCauses (S.faults input.old) (S.faults input.new)
+        (K.faults output.old) (K.faults output.new) result }
 
-    ensures read { result ≡ Exit.ReadFault → Rose (S.faults input.old) (S.faults input.new) }
-    ensures read_quiet { result ≢ Exit.ReadFault → S.faults input.new ≡ S.faults input.old }
-    ensures write { result ≡ Exit.WriteFault → Rose (K.faults output.old) (K.faults output.new) }
-    ensures write_quiet { result ≢ Exit.WriteFault → K.faults output.new ≡ K.faults output.old }
-
-    ensures unwritten { result ≡ Exit.OutOfMemory → K.taken output.new ≡ K.taken output.old }
-
-    // How many slots are fetched: those of the whole run, and never more, whatever the exit.
-    ensures counted { IfSome (S.held input.old) (λ bytes.
-        Fetches fetches.old fetches.new result (fetched (map string_bytes words.now) bytes)) }
-    ensures unfetched { asks_run (command_of (map string_bytes words.now)) ≡ false →
-        fetches.new ≡ fetches.old }
-    ensures unspent { result ≡ Exit.OutOfMemory → fetches.new ≡ fetches.old }
+    // How many slots are fetched.
+    ensures fetches { FetchesFor (map string_bytes words.now) (S.held input.old)
+        fetches.old fetches.new result }
 {
     let Some(command) = read_command(words) else {
         return usage(output, Exit::Usage);
@@ -74,7 +61,7 @@ pub fn coyotos<S: Source, K: Sink, L: Ledger>(
     answer_input(alloc, command, input, output, fetches)
 }
 
-/// Whether the command reads the source.
+/// Whether the command asks for input.
 fn asks_input(command: Command) -> bool
     ensures { result ≡ asks_input command }
 {

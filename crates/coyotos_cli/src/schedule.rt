@@ -1,12 +1,13 @@
 //! The lines behind a listing, and what the machine does by them.
 ghost use Rattle.std.specs.Prelude.{◌≡◌, ◌≢◌, ◌≤◌, false, length};
 ghost use Rattle.std.specs.Io.KnownBytes.{IsAtEnd};
-ghost use Rattle.coy_io.specs.Causes.{Rose};
 ghost use Rattle.coy_io.specs.Reader.{TellsEnd, ahead};
+ghost use Rattle.kernel_core.specs.Outcome.{spent};
 ghost use Rattle.kernel_core.specs.State.{state_of};
+ghost use Rattle.coyotos_cli.specs.Ending.{HasCauses};
 ghost use Rattle.listing_read.specs.Schedule.{IsTimed};
-ghost use Rattle.coyotos_cli.specs.Events.{events_of};
-ghost use Rattle.coyotos_cli.specs.Told.{runs};
+ghost use Rattle.coyotos_cli.specs.Events.{line_events};
+ghost use Rattle.coyotos_cli.specs.Told.{begun, runs};
 ghost use Rattle.coyotos_cli.specs.Schedule.{course_of, ComesTo, OnParts, FailsBehind};
 
 use crate::command::Command;
@@ -19,13 +20,13 @@ use kernel_core::{Machine, Records};
 use listing_read::{ScheduleFault, Timed, read_event};
 use std::sync::ledger::Ledger;
 use steps::Steps;
-use walk_engine::Plain;
+use walk_engine::Translator;
 
 /// Reads the lines behind the listing, and lets the machine run by them.
-pub(crate) fn schedule<S: Source, K: Sink, L: Ledger>(
+pub(crate) fn schedule<T: Translator, S: Source, K: Sink, L: Ledger>(
     command: Command,
     harts: u8,
-    machine: &mut Machine<Plain>,
+    machine: &mut Machine<T>,
     lines: &mut LineReader,
     input: &mut S,
     output: &mut K,
@@ -37,21 +38,23 @@ pub(crate) fn schedule<S: Source, K: Sink, L: Ledger>(
     requires told { TellsEnd lines.old (S.held input.old) }
 
     // What the known lines come to, and where the source stands then.
-    ensures comes { OnParts (ahead lines.old (S.held input.old)) (λ parts.
-        ComesTo (K.taken output.old) (K.taken output.new) fetches.old fetches.new result
-        (course_of command harts lines.old.number (state_of machine.old) 0 parts)) }
+    ensures comes { let run = begun (state_of machine.old) in
+        let count = spent T.cost T.after T.without (T.kept machine.old.translator) in
+        OnParts (ahead lines.old (S.held input.old)) (λ parts.
+        ComesTo (K.taken output.old) (K.taken output.new) fetches.old fetches.new result count
+        (course_of command harts lines.old.number run parts)) }
     ensures end { result ≡ Exit.Done → IsAtEnd (S.held input.new) }
-    ensures sure { let course = course_of command harts lines.old.number (state_of machine.old) 0 in
+    ensures sure { let run = begun (state_of machine.old) in
+        let count = spent T.cost T.after T.without (T.kept machine.old.translator) in
         result ≡ Exit.ReadFault → FailsBehind lines.old lines.new (S.held input.old) (S.held input.new)
-        (K.taken output.old) (K.taken output.new) fetches.old fetches.new course }
+        (K.taken output.old) (K.taken output.new) fetches.old fetches.new count
+        (course_of command harts lines.old.number run) }
 
     // Why it may end otherwise.
     ensures usage { result ≢ Exit.Usage }
     ensures memory { result ≢ Exit.OutOfMemory }
-    ensures read { result ≡ Exit.ReadFault → Rose (S.faults input.old) (S.faults input.new) }
-    ensures read_quiet { result ≢ Exit.ReadFault → S.faults input.new ≡ S.faults input.old }
-    ensures write { result ≡ Exit.WriteFault → Rose (K.faults output.old) (K.faults output.new) }
-    ensures write_quiet { result ≢ Exit.WriteFault → K.faults output.new ≡ K.faults output.old }
+    ensures causes { HasCauses (S.faults input.old) (S.faults input.new)
+        (K.faults output.old) (K.faults output.new) result }
 
     // Where no slot is fetched.
     ensures stays { runs command ≡ false → fetches.new ≡ fetches.old }
@@ -81,7 +84,7 @@ pub(crate) fn schedule<S: Source, K: Sink, L: Ledger>(
                     output,
                     fetches,
                 ) {
-                    Ok(()) => events += count_of(timed, harts),
+                    Ok(()) => events += events_in(timed, harts),
                     Err(_) => return Exit::WriteFault,
                 }
             }
@@ -92,10 +95,10 @@ pub(crate) fn schedule<S: Source, K: Sink, L: Ledger>(
 
 /// How many events a line stands for.
 #[tactic(auto, using(crate::proofs::Rounds::length_rounds, crate::proofs::Rounds::length_steps))]
-fn count_of(timed: Timed, harts: u8) -> u64
+fn events_in(timed: Timed, harts: u8) -> u64
     requires timed { IsTimed harts timed }
     requires few { harts ≤ 8 }
-    ensures count { result ≡ length (events_of harts timed) }
+    ensures count { result ≡ length (line_events harts timed) }
     ensures most { result ≤ 8000000 }
 {
     match timed {

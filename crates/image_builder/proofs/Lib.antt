@@ -4,6 +4,3 @@ mod Further
 mod AtRest
 mod Ready
 mod Booted
-mod Numbers
-mod Pieces
-mod Pushed

@@ -1,5 +1,5 @@
 -- The listing while it is read: what the lines given and any others make is what those others make behind these statements.
-use Rattle.std.proofs.Common.{ℕ, ◌≡◌, ◌+◌, ◌<◌, ◌^◌, refl, sym, ap, ◌∙◌, append_assoc, append-nil, List, [], ◌∷◌, ◌++◌, length, Option, Some, None, Result, Ok, Err, false, subst}
+use Rattle.std.proofs.Common.{ℕ, ◌≡◌, ◌+◌, ◌<◌, ◌^◌, refl, sym, ap, ◌∙◌, append_assoc, append-nil, length-append, List, [], ◌∷◌, ◌++◌, length, Option, Some, None, Result, Ok, Err, false, subst, arith}
 use Rattle.std.specs.List.{All}
 use Rattle.std.proofs.lemmas.List.Elements.{All-append, All-cons, All-nil}
 use Rattle.coy_io.specs.Lines.{Part, Line}
@@ -88,6 +88,7 @@ caused start (Some all) (Some rest) given statements place n faults.OutOfMemory 
 -- what was read so far: the lines given, what they make, and that no byte of others was lost
 pub record Follows (old now : Reader) (held held' : Option (List ℕ)) (statements : List Statement) (place : Place) : Type 0 where
   pub given : List Part
+  pub counted : now.number ≡ old.number + length given
   pub makes : Makes (old.number + 1) given statements place (now.number + 1)
   pub advances : Advances (ahead old held) (ahead now held') given
   pub gives : now.ended ≡ false → (old.ended ≡ false) × GivesLines (bytes_ahead old held) (bytes_ahead now held') given
@@ -96,6 +97,7 @@ pub record Follows (old now : Reader) (held held' : Option (List ℕ)) (statemen
 pub follows_start : (reader : Reader) (held : Option (List ℕ)) → Follows reader reader held held [] Header
 follows_start reader held = record {
   given = [];
+  counted = omega arith;
   makes = λ rest. sym (with_front-nil (listing_of Header (reader.number + 1) rest));
   advances = Advances-nil (ahead reader held);
   gives = λ unended. (unended, GivesLines-nil (bytes_ahead reader held));
@@ -117,12 +119,17 @@ module _ (old mid new : Reader) (held held' held'' : Option (List ℕ)) (stateme
   -- the next line makes these statements and opens this place
   follows_line : (more : List Statement) (next : Place) (follows : Follows old mid held held' statements place) → ReadsLine mid new held' held''
       → Makes (old.number + 1) (follows.given ++ Line new.line ∷ []) more next (mid.number + 1 + 1) → Follows old new held held'' more next
-  follows_line more next follows reads makes = record {
-    given = follows.given ++ Line new.line ∷ [];
-    makes = rw reads.counted makes;
-    advances = line_advances follows reads;
-    gives = line_gives follows reads;
-  }
+  follows_line more next follows reads makes =
+      let before = follows.counted in
+      let more_lines = length-append follows.given (Line new.line ∷ []) in
+      let next_number = reads.counted in
+      record {
+        given = follows.given ++ Line new.line ∷ [];
+        counted = omega (arith, before, more_lines, next_number);
+        makes = rw reads.counted makes;
+        advances = line_advances follows reads;
+        gives = line_gives follows reads;
+      }
 
   -- it says nothing
   pub follows_nothing : Follows old mid held held' statements place → ReadsLine mid new held' held'' → judged place new.line ≡ Ok Nothing
@@ -192,6 +199,7 @@ module _ (old mid new : Reader) (held held' held'' : Option (List ℕ)) (stateme
         unfinished = stopped.unfinished;
         given = follows.given;
         gives = GivesLines-kept (bytes_ahead old held) (bytes_ahead mid held') (bytes_ahead new held'') follows.given gives.1 stopped.kept;
+        counted = stopped.counted ∙ follows.counted;
         fault = fault_at_end place;
         ends_early = rw stopped.counted (ap (listing_of Header (old.number + 1)) (sym (append-nil follows.given)) ∙ follows.makes [] ∙ ap (with_front statements) (listing_of-nil place (mid.number + 1)));
       }

@@ -11,8 +11,8 @@ abbrev pub field : List (List ℕ) → ℕ → List ℕ
 field words n = slice_index_or words n []
 
 -- a decimal number
-abbrev pub number_of : List ℕ → Result ℕ Fault
-number_of word = ok_or (dec_of word) BadNumber
+abbrev pub decimal_of : List ℕ → Result ℕ Fault
+decimal_of word = ok_or (dec_of word) BadNumber
 
 -- a hexadecimal number
 abbrev pub hex_number_of : List ℕ → Result ℕ Fault
@@ -21,14 +21,14 @@ hex_number_of word = ok_or (hex_of word) BadNumber
 -- the number of an object of which there are `size`
 unfoldable pub object_of : ℕ → List ℕ → Result ℕ Fault
 object_of size word = do
-  number ← number_of word
+  number ← decimal_of word
   _ ← ensured (nat_lt number size) NoObject
   Ok number
 
 -- a decimal number from `least` to `most`
 unfoldable pub between_of : ℕ → ℕ → List ℕ → Result ℕ Fault
 between_of least most word = do
-  number ← number_of word
+  number ← decimal_of word
   _ ← ensured (nat_le least number && nat_le number most) BadValue
   Ok number
 

@@ -1,5 +1,5 @@
 -- What reading a listing does to its reader: which lines were given, and that no byte of others was lost.
-use Rattle.std.specs.Prelude.{◌≡◌, ℕ, ◌+◌, false, List, [], ◌∷◌, ◌++◌, Option}
+use Rattle.std.specs.Prelude.{◌≡◌, ℕ, ◌+◌, false, List, [], ◌∷◌, ◌++◌, length, Option}
 use Rattle.std.specs.Io.KnownBytes.{Keeps}
 use Rattle.coy_io.specs.Lines.{Part, Line, IsUnfinished}
 use Rattle.coy_io.specs.Reader.{Reader, bytes_ahead, ahead, Advances, GivesLines}
@@ -30,12 +30,13 @@ pub record GivesListing (old new : Reader) (held held' : Option (List ℕ)) (lis
   pub gives : GivesLines (bytes_ahead old held) (bytes_ahead new held') given
   pub makes : (rest : List Part) → listing_of Header (old.number + 1) (given ++ rest) ≡ Good listing new.number rest
 
--- the lines given have no fault but that they end before their listing does, which is one of the line behind them, and the
--- reader holds the front of that line
+-- the lines given have no fault but that they end before their listing does, which is one of the line behind them all, and
+-- the reader holds the front of that line
 pub record GivesFront (old new : Reader) (held held' : Option (List ℕ)) : Type 0 where
   pub unended : new.ended ≡ false
   pub unfinished : IsUnfinished new.rest
   pub given : List Part
   pub gives : GivesLines (bytes_ahead old held) (bytes_ahead new held') given
+  pub counted : new.number ≡ old.number + length given
   pub fault : Fault
   pub ends_early : listing_of Header (old.number + 1) given ≡ Refused (new.number + 1) fault

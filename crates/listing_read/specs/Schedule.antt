@@ -18,20 +18,20 @@ IsTimed harts (Tick hart) = hart < harts
 IsTimed harts (Round times) = (1 ≤ times) × (times ≤ 1000000)
 
 -- a decimal number
-abbrev pub count_of : List ℕ → Result ℕ ScheduleFault
-count_of word = ok_or (dec_of word) BadNumber
+abbrev pub schedule_number : List ℕ → Result ℕ ScheduleFault
+schedule_number word = ok_or (dec_of word) BadNumber
 
 -- the number of a hart
 unfoldable pub hart_of : ℕ → List ℕ → Result ℕ ScheduleFault
 hart_of harts word = do
-  hart ← count_of word
+  hart ← schedule_number word
   _ ← ensured (nat_lt hart harts) NoHart
   Ok hart
 
 -- a number of times
 unfoldable pub times_of : List ℕ → Result ℕ ScheduleFault
 times_of word = do
-  times ← count_of word
+  times ← schedule_number word
   _ ← ensured (nat_le 1 times && nat_le times 1000000) BadRepeat
   Ok times
 
@@ -72,12 +72,12 @@ asked_by harts words = do
   Ok (Some timed)
 
 -- a line by its words
-abbrev pub event_by : ℕ → List (List ℕ) → Result (Option Timed) ScheduleFault
-event_by harts words = if is_skipped words then Ok None else asked_by harts words
+abbrev pub schedule_words : ℕ → List (List ℕ) → Result (Option Timed) ScheduleFault
+schedule_words harts words = if is_skipped words then Ok None else asked_by harts words
 
 -- what a line asks for, which is nothing where it is skipped
-unfoldable pub event_of : ℕ → List ℕ → Result (Option Timed) ScheduleFault
-event_of harts line = do
+unfoldable pub schedule_line : ℕ → List ℕ → Result (Option Timed) ScheduleFault
+schedule_line harts line = do
   _ ← ensured (nat_le (length line) LINE_LIMIT) LineTooLong
   _ ← ensured (is_visible_line line) BadByte
-  event_by harts (words_of line)
+  schedule_words harts (words_of line)

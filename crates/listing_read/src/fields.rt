@@ -3,7 +3,7 @@ ghost use Rattle.std.specs.Prelude.{◌<◌, ◌≤◌, ◌%◌, ◌≡◌, ◌^
 ghost use Rattle.coy_text.specs.Words.{words_of, count_of};
 ghost use Rattle.listing_read.specs.declared.fault.Fault.TheVariants.{WrongWords};
 ghost use Rattle.listing_read.specs.Faults.{ensured};
-ghost use Rattle.listing_read.specs.Fields.{number_of, hex_number_of, object_of, between_of, hex_to, aligned_to, either_of};
+ghost use Rattle.listing_read.specs.Fields.{decimal_of, hex_number_of, object_of, between_of, hex_to, aligned_to, either_of};
 
 use crate::fault::Fault;
 use coy_text::{read_dec, read_hex, word_count};
@@ -20,7 +20,7 @@ pub(crate) fn has_words(line: &[u8], count: usize) -> Result<(), Fault>
 
 /// A decimal number.
 pub(crate) fn number(word: &[u8]) -> Result<u32, Fault>
-    ensures { result ≡ number_of word.now }
+    ensures { result ≡ decimal_of word.now }
 {
     match read_dec(word) {
         Ok(value) => Ok(value),

@@ -3,7 +3,7 @@ ghost use Rattle.std.specs.Prelude.{ℕ, ◌<◌, ◌≤◌, ◌≡◌, ◌==◌
 ghost use Rattle.coy_text.specs.Words.{words_of};
 ghost use Rattle.listing_read.specs.declared.fault.ScheduleFault.TheVariants.{WrongWords};
 ghost use Rattle.listing_read.specs.Faults.{ensured};
-ghost use Rattle.listing_read.specs.Schedule.{IsTimed, count_of, hart_of, times_of, step_line, tick_line, round_line, timed_of, asked_by, event_of};
+ghost use Rattle.listing_read.specs.Schedule.{IsTimed, schedule_number, hart_of, times_of, step_line, tick_line, round_line, timed_of, asked_by, schedule_line};
 
 use crate::fault::ScheduleFault;
 use crate::line::{is_skipped, is_visible};
@@ -22,9 +22,9 @@ pub enum Timed {
 }
 
 /// The events of a line, on a machine with so many harts. `None` for a line that is skipped.
-#[tactic(auto, unfolding(crate::specs::Schedule::event_of))]
+#[tactic(auto, unfolding(crate::specs::Schedule::schedule_line))]
 pub fn read_event(line: &[u8], harts: u8) -> Result<Option<Timed>, ScheduleFault>
-    ensures value { result ≡ event_of harts line.now }
+    ensures value { result ≡ schedule_line harts line.now }
     ensures range { IfOk result (λ event. IfSome event (IsTimed harts)) }
 {
     if line.len() > LINE_LIMIT {
@@ -106,7 +106,7 @@ fn has_words(line: &[u8], count: usize) -> Result<(), ScheduleFault>
 }
 
 fn number(word: &[u8]) -> Result<u32, ScheduleFault>
-    ensures { result ≡ count_of word.now }
+    ensures { result ≡ schedule_number word.now }
 {
     match read_dec(word) {
         Ok(value) => Ok(value),

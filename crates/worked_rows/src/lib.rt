@@ -1,10 +1,12 @@
 //! The rows of the whole program as tables: for its words and its input, the output and the status that were worked out
-//! by hand.
+//! by hand. Beside them the text that is generated, and the start of a machine.
 //!
-//! It has tests alone, so that `coyotos_cli` is proved once.
+//! It has tests alone, so that the crates that they try are proved once.
 #![tactic(auto)]
 
 #[cfg(test)]
 mod machines;
 #[cfg(test)]
 mod rows;
+#[cfg(test)]
+mod starts;

@@ -283,18 +283,19 @@ fn rows_give_what_is_written_down_for_them(rt: HostRuntime) -> Result<(), Fail> 
     Ok(())
 }
 
-/// Where a call fails, a front of the row's text stands. The rows say how long it is at most: where the sink fails, it
-/// is not the whole text, and where the source fails behind line 9, it is of the first two lines.
+/// Where a call fails, exactly these texts stand. By line, the source gives line n in its call n, and a line is told to the
+/// sink by one call. A call behind the line that is refused is not made, so its failing shows nowhere.
 #[test]
 fn a_failing_call_leaves_a_front_of_the_text(rt: HostRuntime) -> Result<(), Fail> {
     let input =
         "coyotos 1\nmachine 1 2 0 1 1 0\npage 0 000 93005000371100002320110083210100\ngpt 0 12\nslot 0 0 page:0@12/0+r\nslot 0 1 page:1@12/0\nprocess 0 00000000 gpt:0@16/0 schedule:3 null run\nend\nstep 0 1\nstep 0 1\ntick 9\n";
-    // (the call of the source that fails, that of the sink, the longest front, status)
+    // (the call of the source that fails, that of the sink, the text, status)
     let cases = [
+        (0, 2, "fetch 0 00000000 page 0\n", 5),
         (
             0,
-            2,
-            "fetch 0 00000000 page 0\ninsn 0 00000000 addi x1 x0 5\nfetch 0 00000004 page 0\ninsn 0 00000004 lui x2 1\nrefused 11 NoHart",
+            5,
+            "fetch 0 00000000 page 0\ninsn 0 00000000 addi x1 x0 5\nfetch 0 00000004 page 0\ninsn 0 00000004 lui x2 1\n",
             5,
         ),
         (
@@ -303,9 +304,21 @@ fn a_failing_call_leaves_a_front_of_the_text(rt: HostRuntime) -> Result<(), Fail
             "fetch 0 00000000 page 0\ninsn 0 00000000 addi x1 x0 5\n",
             4,
         ),
+        (
+            11,
+            0,
+            "fetch 0 00000000 page 0\ninsn 0 00000000 addi x1 x0 5\nfetch 0 00000004 page 0\ninsn 0 00000004 lui x2 1\n",
+            4,
+        ),
+        (
+            12,
+            0,
+            "fetch 0 00000000 page 0\ninsn 0 00000000 addi x1 x0 5\nfetch 0 00000004 page 0\ninsn 0 00000004 lui x2 1\nrefused 11 NoHart\n",
+            3,
+        ),
         (1, 0, "", 4),
     ];
-    for (failing_take, failing_put, longest, status) in cases {
+    for (failing_take, failing_put, text, status) in cases {
         let calls = Calls {
             piece: 65536,
             by_line: true,
@@ -316,7 +329,7 @@ fn a_failing_call_leaves_a_front_of_the_text(rt: HostRuntime) -> Result<(), Fail
         let bytes = input.as_bytes().to_vec(rt.alloc())?;
         let answer = ask::<Brand>(rt.alloc(), asked, bytes, calls, Permit::new(&rt))?;
         assert!(rt;
-            longest.as_bytes().starts_with(answer.text.as_slice()) && answer.status == status,
+            answer.text.as_slice() == text.as_bytes() && answer.status == status,
             "call {failing_take} of the source or {failing_put} of the sink"
         );
     }

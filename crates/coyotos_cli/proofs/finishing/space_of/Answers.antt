@@ -2,4 +2,4 @@ use Rattle.kernel_core.proofs.Changed.{slot_means}
 use Rattle.coyotos_cli.proofs.finishing.space_of.Goals as goal
 
 pub returns : goal.returns
-returns c = rw (c.slot.ensures.value, c.process.ensures.value, c.objects.ensures) (slot_means c.args.machine.now.objects c.args.process 0)
+returns g c = rw (c.slot.ensures.value, c.process.ensures.value, c.objects.ensures) (slot_means c.args.machine.now.objects c.args.process 0)

@@ -6,14 +6,14 @@ use Rattle.coyotos_cli.proofs.input.answer_input.Goals as goal
 pub returns-in-Err-ReadFault-clause-sure : goal.returns-in-Err-ReadFault-clause-sure
 returns-in-Err-ReadFault-clause-sure g c =
     let e = rw c.in-Err-ReadFault.field-0-is at c.in-Err-ReadFault.ensures in
-    λ fault. sure-listing _ _ _ _ _ _ _ c.new-lines.result c.read_listing.new.lines c.new-lines.ensures (e.front refl) (Appends-nil _) refl
+    λ fault. sure-listing _ _ _ _ _ _ _ _ c.new-lines.result c.read_listing.new.lines c.new-lines.ensures (e.front refl) (Appends-nil _) refl refl
 
 pub returns-clause-comes : goal.returns-clause-comes
 returns-clause-comes g c =
     bytes-come _ _ _ c.new-lines.result c.read_listing.new.lines c.in-Ok.listing _ _ c.new-lines.ensures
-    (ap (λ sizes. sizes.harts) c.sizes-harts.ensures.value) c.in-Ok-boot.ensures.state c.in-Ok.ensures.listed _ _ _ _ _ c.schedule.ensures.comes
+    (ap (λ sizes. sizes.harts) c.sizes-harts.ensures.value) c.in-Ok-boot.ensures.state c.in-Ok.ensures.listed _ _ _ _ _ _ c.schedule.ensures.comes
 
 pub returns-clause-sure : goal.returns-clause-sure
 returns-clause-sure g c =
-    λ fault. sure-schedule _ _ _ _ _ _ _ _ c.new-lines.result c.read_listing.new.lines c.schedule.new.lines c.in-Ok.listing _ _ c.new-lines.ensures
+    λ fault. sure-schedule _ _ _ _ _ _ _ _ _ c.new-lines.result c.read_listing.new.lines c.schedule.new.lines c.in-Ok.listing _ _ c.new-lines.ensures
     (ap (λ sizes. sizes.harts) c.sizes-harts.ensures.value) c.in-Ok-boot.ensures.state c.in-Ok.ensures.given (c.schedule.ensures.sure fault)
