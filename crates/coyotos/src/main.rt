@@ -1,14 +1,13 @@
 //! The program: standard input, standard output and the words after the program's name.
 #![tactic(auto)]
 
-ghost use Rattle.std.specs.Prelude.{◌≡◌, ◌≢◌, ◌⊎◌, Some, None, IfSome, map, string_bytes};
-ghost use Rattle.std.specs.Io.KnownBytes.{IsAtEnd};
+ghost use Rattle.std.specs.Prelude.{◌≡◌, ◌≢◌, IfSome, map, string_bytes};
 ghost use Rattle.coy_io.specs.Buffered.{taken_in, gone_out};
 ghost use Rattle.coy_io.specs.Causes.{Rose};
 ghost use Rattle.coyotos_cli.specs.Command.{command_of};
-ghost use Rattle.coyotos_cli.specs.declared.command.Command.TheVariants.{Help};
-ghost use Rattle.coyotos_cli.specs.Ending.{Outputs};
+ghost use Rattle.coyotos_cli.specs.Ending.{HasCauses};
 ghost use Rattle.coyotos_cli.specs.Program.{out, sure, WritesSure};
+ghost use Rattle.coyotos_cli.specs.Contract.{bytes_for, Answers, HasForm, ReadsInput};
 ghost use Rattle.coyotos.specs.Flush.{exit_after, GoesOut};
 ghost use Rattle.steps.specs.Permit.{permit_for};
 
@@ -57,23 +56,17 @@ fn run_and_flush<S: Source, W: Write + Drop, L: Ledger>(
 ) -> Exit
     requires ledger { permit ≡ permit_for L.name L.parts }
 
-    // What the writer behind the buffer gets, and how it ends, where the bytes are told.
-    ensures output { IfSome (S.held input.old) (λ bytes.
+    // What the writer behind the buffer gets, and how it ends, where the bytes that are read are told.
+    ensures output { let words = map string_bytes words.now in
+        IfSome (bytes_for (command_of words) (S.held input.old)) (λ bytes.
         let old = taken_in W.contents output.old in let new = gone_out W.contents output.new in
-        GoesOut old new result (out (map string_bytes words.now) bytes)) }
+        GoesOut old new result (out words bytes)) }
 
-    // The input is read to its end where all was done.
-    ensures end { let asked = command_of (map string_bytes words.now) in
-        result ≡ Exit.Done → asked ≢ Some Help → IsAtEnd (S.held input.new) }
-
-    // Words that are of no form, and `--help`, take nothing from the source.
-    ensures no_input { command_of (map string_bytes words.now) ≡ None → input.new ≡ input.old }
-    ensures help { command_of (map string_bytes words.now) ≡ Some Help → input.new ≡ input.old }
+    // How much of the input is read.
+    ensures reads { ReadsInput S.held (map string_bytes words.now) input.old input.new result }
 
     // Why it ends as it does.
-    ensures usage { result ≡ Exit.Usage → command_of (map string_bytes words.now) ≡ None }
-    ensures no_form { command_of (map string_bytes words.now) ≡ None →
-        (result ≡ Exit.Usage) ⊎ (result ≡ Exit.WriteFault) }
+    ensures form { HasForm (map string_bytes words.now) result }
     ensures read { result ≡ Exit.ReadFault → Rose (S.faults input.old) (S.faults input.new) }
     ensures read_quiet { result ≢ Exit.ReadFault → S.faults input.new ≡ S.faults input.old }
     ensures write { result ≡ Exit.WriteFault → Rose output.old.faults output.new.faults }
@@ -106,31 +99,21 @@ fn counted<S: Source, K: Sink, L: Ledger>(
 ) -> Exit
     requires ledger { permit ≡ permit_for L.name L.parts }
 
-    // What is written, and how it ends, where the bytes are told.
-    ensures output { IfSome (S.held input.old) (λ bytes.
-        Outputs (K.taken output.old) (K.taken output.new) result (out (map string_bytes words.now) bytes)) }
+    // What is written, and how it ends, where the bytes that are read are told.
+    ensures answers { Answers (map string_bytes words.now) (S.held input.old)
+        (K.taken output.old) (K.taken output.new) result }
 
-    // The input is read to its end where all was done.
-    ensures end { let asked = command_of (map string_bytes words.now) in
-        result ≡ Exit.Done → asked ≢ Some Help → IsAtEnd (S.held input.new) }
-
-    // Where reading failed, the records of the whole lines that were read were written.
+    // Where reading failed, no whole line that was read ended the call, and the records of these lines were written.
     ensures sure { let course = sure (map string_bytes words.now) in result ≡ Exit.ReadFault →
         WritesSure (S.held input.old) (S.held input.new) (K.taken output.old) (K.taken output.new) course }
 
-    // Words that are of no form, and `--help`, take nothing from the source.
-    ensures no_input { command_of (map string_bytes words.now) ≡ None → input.new ≡ input.old }
-    ensures help { command_of (map string_bytes words.now) ≡ Some Help → input.new ≡ input.old }
+    // How much of the input is read.
+    ensures reads { ReadsInput S.held (map string_bytes words.now) input.old input.new result }
 
     // Why it ends as it does.
-    ensures usage { result ≡ Exit.Usage → command_of (map string_bytes words.now) ≡ None }
-    ensures no_form { command_of (map string_bytes words.now) ≡ None →
-        (result ≡ Exit.Usage) ⊎ (result ≡ Exit.WriteFault) }
-    ensures read { result ≡ Exit.ReadFault → Rose (S.faults input.old) (S.faults input.new) }
-    ensures read_quiet { result ≢ Exit.ReadFault → S.faults input.new ≡ S.faults input.old }
-    ensures write { result ≡ Exit.WriteFault → Rose (K.faults output.old) (K.faults output.new) }
-    ensures write_quiet { result ≢ Exit.WriteFault → K.faults output.new ≡ K.faults output.old }
-    ensures unwritten { result ≡ Exit.OutOfMemory → K.taken output.new ≡ K.taken output.old }
+    ensures form { HasForm (map string_bytes words.now) result }
+    ensures causes { HasCauses (S.faults input.old) (S.faults input.new)
+        (K.faults output.old) (K.faults output.new) result }
 {
     let mut fetches = Steps::<L>::new(permit);
     coyotos(alloc, words, input, output, &mut fetches)

@@ -6,4 +6,4 @@ use Rattle.coyotos.proofs.run_and_flush.Goals as goal
 pub returns-clause-output : goal.returns-clause-output
 returns-clause-output g c =
     rw c.exit_after.ensures
-    (goes_out _ _ _ _ _ _ (out (map string_bytes c.args.words.now)) _ _ _ c.counted-exit.ensures.output c.flush-flushed.ensures.out c.flush-flushed.ensures.kept)
+    (goes_out _ _ _ _ _ _ (out (map string_bytes c.args.words.now)) _ _ _ c.counted-exit.ensures.answers.output c.flush-flushed.ensures.out c.flush-flushed.ensures.kept)
