@@ -16,7 +16,7 @@ use Rattle.walk_meaning.specs.Walk.{step}
 use Rattle.walk_meaning.specs.Trail.{noted, header_noted, trail_from, handler_cost, read_cost, slots_from}
 use Rattle.walk_meaning.specs.After.{walk_after, trail_after, slots_after}
 use Rattle.walk_meaning.proofs.Walked.{walk-zero, walk-suc, trail_from-zero, trail_from-suc, slots_from-zero, slots_from-suc}
-use Rattle.walk_engine.specs.OnWay.{IsOnWay, EndsAt, EndsIn}
+use Rattle.walk_engine.specs.OnWay.{IsOnWay, WalkEndsAt, WalkEndsIn}
 
 module _ (o : Items) (space : Capability) (address : ℕ) (kind : Kind) (c : Capability) (w : At) (reads : List Noted) (start count : ℕ) where
   abbrev On : ℕ → Type 0
@@ -44,7 +44,7 @@ module _ (o : Items) (space : Capability) (address : ℕ) (kind : Kind) (c : Cap
 
   -- at a place
   pub on_way-reach : (n k : ℕ) (place : Place) → n ≡ suc k → step o kind c w ≡ Reach place → On n
-      → EndsAt o space address kind place (reads ++ header_noted c address w.l2) start count
+      → WalkEndsAt o space address kind place (reads ++ header_noted c address w.l2) start count
   on_way-reach n k place fewer e way =
       let now : On (suc k) = subst On fewer way in
       let tail : trail_from o kind address (suc k) c w ≡ header_noted c address w.l2 ++ [] =
@@ -58,7 +58,7 @@ module _ (o : Items) (space : Capability) (address : ℕ) (kind : Kind) (c : Cap
 
   -- in a fault
   pub on_way-fault : (n k : ℕ) (code : FaultCode) (handler : Option ℕ) → n ≡ suc k → step o kind c w ≡ Fault code handler → On n
-      → EndsIn o space address kind code handler start count
+      → WalkEndsIn o space address kind code handler start count
   on_way-fault n k code handler fewer e way =
       let now : On (suc k) = subst On fewer way in
       let cost : slots_from o kind (suc k) c w ≡ handler_cost handler = slots_from-suc o kind k c w ∙ ap (λ (s : Step). slots_after o kind k s) e in
@@ -68,7 +68,7 @@ module _ (o : Items) (space : Capability) (address : ℕ) (kind : Kind) (c : Cap
       }
 
   -- where no capability may be met any more
-  pub on_way-end : (n : ℕ) → n ≡ zero → On n → EndsIn o space address kind MalformedSpace w.handler start count
+  pub on_way-end : (n : ℕ) → n ≡ zero → On n → WalkEndsIn o space address kind MalformedSpace w.handler start count
   on_way-end n none way =
       let now : On zero = subst On none way in
       let cost : slots_from o kind zero c w ≡ handler_cost w.handler = slots_from-zero o kind c w in

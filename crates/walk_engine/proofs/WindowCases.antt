@@ -48,5 +48,6 @@ module _ (o : Items) (c : Capability) (w : At) where
   by_kind kind LocalWindow e = by_holding w.holding
   by_kind kind _ e = absurd (cc (e))
 
+-- the two window rules of a walk are what windows come to
 pub window_law : WindowLaw
 window_law o kind c w e = by_kind o c w kind c.kind e

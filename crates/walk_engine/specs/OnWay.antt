@@ -17,12 +17,12 @@ pub record IsOnWay (o : Items) (space : Capability) (address : ℕ) (kind : Kind
   pub counted : count + slots_from o kind n c w ≡ start + slots o space address kind
 
 -- a walk that ended: at a place
-pub record EndsAt (o : Items) (space : Capability) (address : ℕ) (kind : Kind) (place : Place) (reads : List Noted) (start count : ℕ) : Type 0 where
+pub record WalkEndsAt (o : Items) (space : Capability) (address : ℕ) (kind : Kind) (place : Place) (reads : List Noted) (start count : ℕ) : Type 0 where
   pub reached : access o space address kind ≡ Ok place
   pub noted : reads ≡ trail o space address kind
   pub counted : count ≡ start + slots o space address kind
 
 -- or in a fault, whose handler is still to be read
-pub record EndsIn (o : Items) (space : Capability) (address : ℕ) (kind : Kind) (code : FaultCode) (handler : Option ℕ) (start count : ℕ) : Type 0 where
+pub record WalkEndsIn (o : Items) (space : Capability) (address : ℕ) (kind : Kind) (code : FaultCode) (handler : Option ℕ) (start count : ℕ) : Type 0 where
   pub faulted : access o space address kind ≡ Err (fault o code handler)
   pub counted : count + handler_cost handler ≡ start + slots o space address kind

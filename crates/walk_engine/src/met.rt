@@ -6,7 +6,7 @@ ghost use Rattle.guard_math.specs.Pass.{passes};
 ghost use Rattle.cap_format.specs.Kind.{is_counted, is_memory, is_window};
 ghost use Rattle.object_store.specs.Store.{size_of, header_at};
 ghost use Rattle.object_store.specs.Meaning.{is_live, map_of};
-ghost use Rattle.walk_meaning.specs.Walk.{invalid, denied, restricted, past, place_of, at_page, at_cappage, at_gpt, at_kind, handler_from, background_from, is_reserved, step};
+ghost use Rattle.walk_meaning.specs.Walk.{invalid, denied, restricted, past, reached_place, at_page, at_cappage, at_gpt, at_kind, handler_from, background_from, is_reserved, step};
 ghost use Rattle.walk_meaning.specs.Trail.{slots_from};
 ghost use Rattle.walk_meaning.specs.After.{slots_after};
 ghost use Rattle.walk_meaning.specs.Bounds.{Below, IsAt, GoesBelow};
@@ -99,7 +99,7 @@ fn at_page(kind: Kind, cap: Cap, at: At) -> Step
     if denied(kind, at.restr) {
         return Step::Fault(FaultCode::AccessViolation, at.handler);
     }
-    Step::Reach(place_of(cap, at))
+    Step::Reach(reached_place(cap, at))
 }
 
 fn at_cappage(kind: Kind, cap: Cap, at: At) -> Step
@@ -115,7 +115,7 @@ fn at_cappage(kind: Kind, cap: Cap, at: At) -> Step
     if denied(kind, at.restr) {
         return Step::Fault(FaultCode::AccessViolation, at.handler);
     }
-    Step::Reach(place_of(cap, at))
+    Step::Reach(reached_place(cap, at))
 }
 
 fn at_gpt(header: GptHeader, gpt: u16, kind: Kind, at: At) -> Step
@@ -188,10 +188,10 @@ fn handler_from(header: GptHeader, gpt: u16, at: At) -> Option<u16>
     at.handler
 }
 
-fn place_of(cap: Cap, at: At) -> Place
+fn reached_place(cap: Cap, at: At) -> Place
     requires counted { is_counted cap.kind ≡ true }
     requires within { at.address < 4096 }
-    ensures { result ≡ place_of cap at }
+    ensures { result ≡ reached_place cap at }
 {
     Place {
         kind: cap.kind(),

@@ -94,7 +94,8 @@ pub trait Translator: Drop {
         ensures harts { harts self.new ≡ harts self.old }
         ensures without { kept self.new ≡ without (kept self.old) item };
 
-    /// Coherence carries over between maps that differ in no item.
+    /// Coherence carries over between maps that differ in no item. `DifferInNone` is equality, so this
+    /// holds of every coherence.
     ghost carries: { (t : Self) (o p : Items) → DifferInNone o p → coherent t o → coherent t p };
 
     /// One that is fresh is coherent with all objects.

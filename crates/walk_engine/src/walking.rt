@@ -4,7 +4,7 @@ ghost use Rattle.std.specs.Prelude.{◌≡◌, ◌≤◌, ◌+◌, ◌%◌, [], 
 ghost use Rattle.object_store.specs.Meaning.{meaning, map_of};
 ghost use Rattle.walk_meaning.specs.Walk.{access};
 ghost use Rattle.walk_meaning.specs.Trail.{trail as trail_of, slots};
-ghost use Rattle.walk_meaning.specs.Laws.{IsPlace};
+ghost use Rattle.walk_meaning.specs.Laws.{IsReached};
 ghost use Rattle.walk_engine.specs.Answer.{HandlerLives, answer_meaning};
 
 use crate::met::step;
@@ -30,7 +30,7 @@ pub fn walk<L: Ledger>(
 ) -> Result<Place, WalkFault>
     ensures value { let o = map_of objects.now.items in let c = meaning objects.now.items space in
         answer_meaning result ≡ access o c address kind }
-    ensures place { IfOk result (λ place. IsPlace objects.now.items kind place) }
+    ensures place { IfOk result (λ place. IsReached objects.now.items kind place) }
     ensures offset { IfOk result (λ place. place.offset ≡ address % 4096) }
     ensures handler { IfErr result (λ fault. HandlerLives objects.now.items fault.handler) }
 

@@ -90,6 +90,7 @@ module _ (o : Items) (kind : Kind) (a : ℕ) where
   falls_after n ih c w (Fault code handler) e = tt
   falls_after n ih c w (Go next g i) e = (goes_shrinks o kind c w next g i e, ih (slot_at o g i) next)
 
+  -- the blocks of a walk's reads never get larger
   pub falls : (n : ℕ) (c : Capability) (w : At) → Falls w.l2 (trail_from o kind a n c w)
   falls zero c w = subst (Falls w.l2) (sym (trail_from-zero o kind a c w)) tt
   falls (suc n) c w = subst (Falls w.l2) (sym (trail_from-suc o kind a n c w))

@@ -14,7 +14,7 @@ use Rattle.walk_meaning.specs.declared.kind.Kind.{Kind}
 use Rattle.walk_meaning.specs.declared.place.Place.{Place}
 use Rattle.walk_meaning.specs.declared.step.Step.{Step}
 use Rattle.walk_meaning.specs.declared.step.Step.TheVariants.{Reach, Fault, Go}
-use Rattle.walk_meaning.specs.Walk.{is_data, invalid, denied, place_of, at_page, at_cappage, at_window, at_local, at_kind, is_reserved, handler_from, into_slot, through_window, past, step}
+use Rattle.walk_meaning.specs.Walk.{is_data, invalid, denied, reached_place, at_page, at_cappage, at_window, at_local, at_kind, is_reserved, handler_from, into_slot, through_window, past, step}
 use Rattle.walk_meaning.proofs.Ways.{step-passed}
 
 -- a fact of both branches of a test, and of all four branches of the rules of pages
@@ -34,7 +34,7 @@ pub record Reached (kind : Kind) (c : Capability) (w : At) (p : Place) : Type 0 
   pub serves : Serves c.kind kind
   pub within : nat_le 4096 (past c w).address ≡ false
   pub allowed : denied kind (past c w).restr.0 ≡ false
-  pub place : place_of c (past c w) ≡ p
+  pub place : reached_place c (past c w) ≡ p
 
 -- what the rules of pages find where they reach place p: no test is true
 pub record Tests (a b d : Bool) (place p : Place) : Type 0 where
@@ -56,12 +56,12 @@ module _ (kind : Kind) (p : Place) where
 
   reached_page : (c : Capability) (w : At) → (is_memory c.kind && passes c.guard w.address) ≡ true → c.kind ≡ Page → at_page kind c (past c w) ≡ Reach p → Reached kind c w p
   reached_page c w passed k e =
-      let t = tests CapAccessTypeError AccessViolation w.handler (place_of c (past c w)) (nat_le 4096 (past c w).address) (not (is_data kind)) (denied kind (past c w).restr.0) e in
+      let t = tests CapAccessTypeError AccessViolation w.handler (reached_place c (past c w)) (nat_le 4096 (past c w).address) (not (is_data kind)) (denied kind (past c w).restr.0) e in
       record { passed = passed; serves = inl (k, not_false (is_data kind) t.second); within = t.first; allowed = t.third; place = t.place_is }
 
   reached_cappage : (c : Capability) (w : At) → (is_memory c.kind && passes c.guard w.address) ≡ true → c.kind ≡ CapPage → at_cappage kind c (past c w) ≡ Reach p → Reached kind c w p
   reached_cappage c w passed k e =
-      let t = tests DataAccessTypeError AccessViolation w.handler (place_of c (past c w)) (nat_le 4096 (past c w).address) (is_data kind) (denied kind (past c w).restr.0) e in
+      let t = tests DataAccessTypeError AccessViolation w.handler (reached_place c (past c w)) (nat_le 4096 (past c w).address) (is_data kind) (denied kind (past c w).restr.0) e in
       record { passed = passed; serves = inr (k, t.second); within = t.first; allowed = t.third; place = t.place_is }
 
   never_slot : (b : Bool) (s t : Step) → (s ≡ Reach p → ⊥) → (t ≡ Reach p → ⊥) → (if b then s else t) ≡ Reach p → ⊥
@@ -107,15 +107,15 @@ all_pass kind x y h place a b d ea eb ed =
 
 -- where the guard is passed, the page serves the kind, and nothing denies it, the step reaches
 pub step-reaches : (o : Items) (kind : Kind) (c : Capability) (w : At) → (is_memory c.kind && passes c.guard w.address) ≡ true → Serves c.kind kind
-    → nat_le 4096 (past c w).address ≡ false → denied kind (past c w).restr.0 ≡ false → step o kind c w ≡ Reach (place_of c (past c w))
+    → nat_le 4096 (past c w).address ≡ false → denied kind (past c w).restr.0 ≡ false → step o kind c w ≡ Reach (reached_place c (past c w))
 step-reaches o kind c w passed (inl serves) within allowed =
     step-passed o kind c w passed
     ∙ (ap (λ (k : CapKind). at_kind o kind k c (past c w)) serves.0
-    ∙ all_pass kind CapAccessTypeError AccessViolation w.handler (place_of c (past c w)) _ _ _ within (ap not serves.1) allowed)
+    ∙ all_pass kind CapAccessTypeError AccessViolation w.handler (reached_place c (past c w)) _ _ _ within (ap not serves.1) allowed)
 step-reaches o kind c w passed (inr serves) within allowed =
     step-passed o kind c w passed
     ∙ (ap (λ (k : CapKind). at_kind o kind k c (past c w)) serves.0
-    ∙ all_pass kind DataAccessTypeError AccessViolation w.handler (place_of c (past c w)) _ _ _ within serves.1 allowed)
+    ∙ all_pass kind DataAccessTypeError AccessViolation w.handler (reached_place c (past c w)) _ _ _ within serves.1 allowed)
 
 -- ---- denied there
 
@@ -131,11 +131,11 @@ pub step-denied : (o : Items) (kind : Kind) (c : Capability) (w : At) → (is_me
 step-denied o kind c w passed (inl serves) within allowed =
     step-passed o kind c w passed
     ∙ (ap (λ (k : CapKind). at_kind o kind k c (past c w)) serves.0
-    ∙ last_denies kind CapAccessTypeError w.handler (place_of c (past c w)) _ _ _ within (ap not serves.1) allowed)
+    ∙ last_denies kind CapAccessTypeError w.handler (reached_place c (past c w)) _ _ _ within (ap not serves.1) allowed)
 step-denied o kind c w passed (inr serves) within allowed =
     step-passed o kind c w passed
     ∙ (ap (λ (k : CapKind). at_kind o kind k c (past c w)) serves.0
-    ∙ last_denies kind DataAccessTypeError w.handler (place_of c (past c w)) _ _ _ within serves.1 allowed)
+    ∙ last_denies kind DataAccessTypeError w.handler (reached_place c (past c w)) _ _ _ within serves.1 allowed)
 
 -- ---- in a fault
 
@@ -162,8 +162,8 @@ module _ (o : Items) (kind : Kind) (code : FaultCode) (h : Option ℕ) where
       if_all (Handled c w) (is_reserved (header_at o g) c.slot) (Fault MalformedSpace w.handler) (Go (through_window c g (past c w)) g c.slot) (λ e. inl cc) (λ e. absurd (cc (e))) e
 
   handled_kind : (k : CapKind) (c : Capability) (w : At) → c.kind ≡ k → Handled c w (at_kind o kind k c (past c w))
-  handled_kind Page c w k e = handled_page c w CapAccessTypeError AccessViolation (place_of c (past c w)) (nat_le 4096 (past c w).address) (not (is_data kind)) (denied kind (past c w).restr.0) e
-  handled_kind CapPage c w k e = handled_page c w DataAccessTypeError AccessViolation (place_of c (past c w)) (nat_le 4096 (past c w).address) (is_data kind) (denied kind (past c w).restr.0) e
+  handled_kind Page c w k e = handled_page c w CapAccessTypeError AccessViolation (reached_place c (past c w)) (nat_le 4096 (past c w).address) (not (is_data kind)) (denied kind (past c w).restr.0) e
+  handled_kind CapPage c w k e = handled_page c w DataAccessTypeError AccessViolation (reached_place c (past c w)) (nat_le 4096 (past c w).address) (is_data kind) (denied kind (past c w).restr.0) e
   handled_kind Gpt c w k e =
       let header = header_at o c.object in
       let i : ℕ = (past c w).address / 2 ^ header.l2v in

@@ -184,6 +184,7 @@ module _ (x : Item) (o p : Items) (same : Agree x o p) (kind : Kind) (a : ℕ) (
         cost = slots_from-suc p kind n c w ∙ (ap (λ (s : Step). slots_after p kind n s) (sym one) ∙ (rest.cost ∙ sym (slots_from-suc o kind n c w)));
       }
 
+  -- a walk that reaches, from GPTs that are not the item's, and reads no such item, is the same in both maps
   pub same_walk : (n : ℕ) (c : Capability) (w : At) → Apart x w.holding → Apart x w.background → walk o kind n c w ≡ Ok place → Unread x (trail_from o kind a n c w) → Same o p kind a place n c w
   same_walk zero c w hold back reach unread = let e : ◌≡◌ {A = Result Place WalkFault} (Err (fault o MalformedSpace w.handler)) (Ok place) = sym (walk-zero o kind c w) ∙ reach in absurd (cc (e))
   same_walk (suc n) c w hold back reach unread = same_suc n (same_walk n) c w hold back reach unread

@@ -16,7 +16,7 @@ use Rattle.walk_meaning.specs.declared.place.Place.{Place}
 use Rattle.walk_meaning.specs.declared.place.WalkFault.{WalkFault}
 use Rattle.walk_meaning.specs.declared.step.Step.{Step}
 use Rattle.walk_meaning.specs.declared.step.Step.TheVariants.{Reach, Fault, Go}
-use Rattle.walk_meaning.specs.Walk.{past, place_of, step, walk, fault, start_at}
+use Rattle.walk_meaning.specs.Walk.{past, reached_place, step, walk, fault, start_at}
 use Rattle.walk_meaning.specs.Trail.{noted, header_noted, trail_from, read_cost, slots_from}
 use Rattle.walk_meaning.specs.After.{walk_after, trail_after, slots_after}
 use Rattle.walk_meaning.proofs.Walked.{walk-zero, walk-suc, trail_from-suc, slots_from-suc}
@@ -66,9 +66,9 @@ module _ (o : Items) (ranged : IsRanged o) (kind : Kind) (a b : ℕ) (page : a /
       let steps = step-reaches o kind c (at w y) (passes_along 12 (omega arith) o kind c beside.is w y beside.alike beside.is.guard.low r.passed) r.serves within.0 r.allowed in
       let first : remainder c.guard w.address ≡ a % 4096 = sym within.1 ∙ (low-mod c.guard.l2g w.address beside.is.guard.low ∙ beside.first) in
       let second : remainder c.guard y ≡ b % 4096 = sym within.2 ∙ (low-mod c.guard.l2g y beside.is.guard.low ∙ beside.second) in
-      let place_is : place_of c (past c w) ≡ place = r.place ∙ same in
+      let place_is : reached_place c (past c w) ≡ place = r.place ∙ same in
       let end : step o kind c (at w y) ≡ Reach (at_offset place (b % 4096)) =
-      steps ∙ (ap (λ (v : ℕ). Reach (at_offset (place_of c (past c w)) v)) second ∙ ap (λ (q : Place). Reach (at_offset q (b % 4096))) place_is) in
+      steps ∙ (ap (λ (v : ℕ). Reach (at_offset (reached_place c (past c w)) v)) second ∙ ap (λ (q : Place). Reach (at_offset q (b % 4096))) place_is) in
       record {
         offset = sym (ap (λ (q : Place). q.offset) place_is) ∙ first;
         there = ap (λ (t : Step). walk_after o kind n t) end;

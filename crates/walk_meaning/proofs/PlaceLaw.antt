@@ -20,7 +20,7 @@ use Rattle.walk_meaning.specs.After.{walk_after}
 use Rattle.walk_meaning.proofs.Walked.{walk-zero, walk-suc}
 use Rattle.walk_meaning.proofs.Ends.{Serves, reached}
 use Rattle.walk_meaning.proofs.FrameLaw.{null_stops}
-use Rattle.walk_meaning.specs.Laws.{serving, IsPlace, PlaceLaw}
+use Rattle.walk_meaning.specs.Laws.{serving, IsReached, PlaceLaw}
 
 -- a live page or capability page, which serves the kind, is there
 place_kind : (o : Items) (kind : Kind) (d : Capability) → is_live o d ≡ true → Serves d.kind kind → (d.kind ≡ serving kind) × (d.object < size_of o d.kind)
@@ -31,22 +31,22 @@ place_kind o kind d live (inr s) =
 
 module _ (o : Items) (kind : Kind) (place : Place) where
   abbrev Rest : ℕ → Type 0
-  Rest n = (d : Capability) (w : At) → walk (map_of o) kind n (meaning o d) w ≡ Ok place → IsPlace o kind place
+  Rest n = (d : Capability) (w : At) → walk (map_of o) kind n (meaning o d) w ≡ Ok place → IsReached o kind place
 
-  placed_reach : (p : Place) (d : Capability) (w : At) → is_live o d ≡ true → step (map_of o) kind (bare d) w ≡ Reach p → p ≡ place → IsPlace o kind place
+  placed_reach : (p : Place) (d : Capability) (w : At) → is_live o d ≡ true → step (map_of o) kind (bare d) w ≡ Reach p → p ≡ place → IsReached o kind place
   placed_reach p d w live e same =
       let r = reached kind p (map_of o) (bare d) w e in
       let serves = place_kind o kind d live r.serves in
-      let is : IsPlace o kind p = subst (IsPlace o kind) r.place (record { kind_is = serves.0; there = serves.1; within = leb-false 4096 (past (bare d) w).address r.within }) in
-      subst (IsPlace o kind) same is
+      let is : IsReached o kind p = subst (IsReached o kind) r.place (record { kind_is = serves.0; there = serves.1; within = leb-false 4096 (past (bare d) w).address r.within }) in
+      subst (IsReached o kind) same is
 
-  placed_after : (n : ℕ) → Rest n → (d : Capability) (w : At) → is_live o d ≡ true → (s : Step) → step (map_of o) kind (bare d) w ≡ s → walk_after (map_of o) kind n s ≡ Ok place → IsPlace o kind place
+  placed_after : (n : ℕ) → Rest n → (d : Capability) (w : At) → is_live o d ≡ true → (s : Step) → step (map_of o) kind (bare d) w ≡ s → walk_after (map_of o) kind n s ≡ Ok place → IsReached o kind place
   placed_after n ih d w live (Reach p) e reach = placed_reach p d w live e (cc (reach))
   placed_after n ih d w live (Fault code handler) e reach = absurd (cc (reach))
   placed_after n ih d w live (Go next g i) e reach =
       ih (slot_at o g i) next (ap (λ (c : Capability). walk (map_of o) kind n c next) (sym (slot_at-map_of o g i)) ∙ reach)
 
-  placed_suc : (n : ℕ) → Rest n → (d : Capability) (w : At) → (b : Bool) → is_live o d ≡ b → walk (map_of o) kind (suc n) (if b then bare d else null) w ≡ Ok place → IsPlace o kind place
+  placed_suc : (n : ℕ) → Rest n → (d : Capability) (w : At) → (b : Bool) → is_live o d ≡ b → walk (map_of o) kind (suc n) (if b then bare d else null) w ≡ Ok place → IsReached o kind place
   placed_suc n ih d w true live reach =
       placed_after n ih d w live (step (map_of o) kind (bare d) w) refl (sym (walk-suc (map_of o) kind n (bare d) w) ∙ reach)
   placed_suc n ih d w false dead reach = absurd (null_stops (map_of o) kind (suc n) w place reach)

@@ -83,6 +83,7 @@ module _ (o : Items) (ranged : IsRanged o) (kind : Kind) (a : ℕ) where
       (each-append (NotedAt a) (header_noted c a w.l2) (trail_after o kind a n (step o kind c w))
       (noted_header c w is at (is_counted c.kind) refl) (noted_after n ih (step o kind c w) below))
 
+  -- all reads of a walk are such, from wherever it stands
   pub noted_from : (n : ℕ) → Rest n
   noted_from zero c w is at = subst (Each (NotedAt a)) (sym (trail_from-zero o kind a c w)) tt
   noted_from (suc n) c w is at = noted_suc n (noted_from n) c w is at

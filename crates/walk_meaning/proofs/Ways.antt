@@ -15,7 +15,7 @@ use Rattle.walk_meaning.specs.declared.at.At.{At}
 use Rattle.walk_meaning.specs.declared.kind.Kind.{Kind}
 use Rattle.walk_meaning.specs.declared.step.Step.{Step}
 use Rattle.walk_meaning.specs.declared.step.Step.TheVariants.{Reach, Fault, Go}
-use Rattle.walk_meaning.specs.Walk.{is_data, invalid, denied, place_of, at_slot, at_gpt, at_window, at_local, at_kind, is_reserved, handler_from, into_slot, through_window, past, step}
+use Rattle.walk_meaning.specs.Walk.{is_data, invalid, denied, reached_place, at_slot, at_gpt, at_window, at_local, at_kind, is_reserved, handler_from, into_slot, through_window, past, step}
 
 -- the rule by which the walk goes from a capability, whose guard was passed before w, to slot i of GPT g
 pub data Way (o : Items) (c : Capability) (w next : At) (g i : ℕ) : Type 0 where
@@ -71,8 +71,8 @@ module _ (o : Items) (next : At) (g i : ℕ) where
       ByLocal k (cc (hold, gpt)) index (subst P gpt d.0) (rw gpt at through)
 
   way-kind : (k : CapKind) (c : Capability) (kind : Kind) (w : At) → c.kind ≡ k → at_kind o kind k c w ≡ Go next g i → Way o c w next g i
-  way-kind Page c kind w k goes = absurd (page_ends (nat_le 4096 w.address) (not (is_data kind)) (denied kind w.restr.0) (Fault (invalid kind) w.handler) (Fault CapAccessTypeError w.handler) (Fault AccessViolation w.handler) (Reach (place_of c w)) (λ e. cc) (λ e. cc) (λ e. cc) (λ e. cc) goes)
-  way-kind CapPage c kind w k goes = absurd (page_ends (nat_le 4096 w.address) (is_data kind) (denied kind w.restr.0) (Fault (invalid kind) w.handler) (Fault DataAccessTypeError w.handler) (Fault AccessViolation w.handler) (Reach (place_of c w)) (λ e. cc) (λ e. cc) (λ e. cc) (λ e. cc) goes)
+  way-kind Page c kind w k goes = absurd (page_ends (nat_le 4096 w.address) (not (is_data kind)) (denied kind w.restr.0) (Fault (invalid kind) w.handler) (Fault CapAccessTypeError w.handler) (Fault AccessViolation w.handler) (Reach (reached_place c w)) (λ e. cc) (λ e. cc) (λ e. cc) (λ e. cc) goes)
+  way-kind CapPage c kind w k goes = absurd (page_ends (nat_le 4096 w.address) (is_data kind) (denied kind w.restr.0) (Fault (invalid kind) w.handler) (Fault DataAccessTypeError w.handler) (Fault AccessViolation w.handler) (Reach (reached_place c w)) (λ e. cc) (λ e. cc) (λ e. cc) (λ e. cc) goes)
   way-kind Gpt c kind w k goes = way-gpt c kind w k goes
   way-kind Window c kind w k goes = way-window w.background c w k refl goes
   way-kind LocalWindow c kind w k goes = way-local w.holding c w k refl goes

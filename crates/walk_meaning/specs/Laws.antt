@@ -95,7 +95,7 @@ abbrev pub serving : Kind → CapKind
 serving kind = if is_data kind then Page else CapPage
 
 -- a place that a walk over the meanings of what is stored reaches
-pub record IsPlace (o : Items) (kind : Kind) (place : Place) : Type 0 where
+pub record IsReached (o : Items) (kind : Kind) (place : Place) : Type 0 where
   pub kind_is : place.kind ≡ serving kind
   pub there : place.number < size_of o place.kind
   pub within : place.offset < 4096
@@ -104,4 +104,4 @@ pub record IsPlace (o : Items) (kind : Kind) (place : Place) : Type 0 where
 -- reach a capability page.
 abbrev pub PlaceLaw : Type 0
 PlaceLaw = (o : Items) (space : Capability) (address : ℕ) (kind : Kind) (place : Place)
-    → access (map_of o) (meaning o space) address kind ≡ Ok place → IsPlace o kind place
+    → access (map_of o) (meaning o space) address kind ≡ Ok place → IsReached o kind place

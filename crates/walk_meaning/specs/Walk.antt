@@ -53,8 +53,8 @@ past c w = record w {
 }
 
 -- the end of a walk at the object that a capability names
-abbrev pub place_of : Capability → At → Place
-place_of c w = record { kind = c.kind; number = c.object; offset = w.address; restr = w.restr }
+abbrev pub reached_place : Capability → At → Place
+reached_place c w = record { kind = c.kind; number = c.object; offset = w.address; restr = w.restr }
 
 -- the rule of pages
 abbrev pub at_page : Kind → Capability → At → Step
@@ -62,7 +62,7 @@ at_page kind c w =
     if nat_le 4096 w.address then Fault (invalid kind) w.handler
     else (if not (is_data kind) then Fault CapAccessTypeError w.handler
     else (if denied kind w.restr.0 then Fault AccessViolation w.handler
-    else Reach (place_of c w)))
+    else Reach (reached_place c w)))
 
 -- the rule of capability pages
 abbrev pub at_cappage : Kind → Capability → At → Step
@@ -70,7 +70,7 @@ at_cappage kind c w =
     if nat_le 4096 w.address then Fault (invalid kind) w.handler
     else (if is_data kind then Fault DataAccessTypeError w.handler
     else (if denied kind w.restr.0 then Fault AccessViolation w.handler
-    else Reach (place_of c w)))
+    else Reach (reached_place c w)))
 
 -- slots 15 and 14 of a GPT are no way on where its flags make them its handler and its background
 abbrev pub is_reserved : HeaderValue → ℕ → Bool

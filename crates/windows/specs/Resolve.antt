@@ -33,6 +33,6 @@ resolution LocalWindow window r context = through_holding context.holding window
 resolution _ window r context = None
 
 -- an answer, without the name of the refusal
-abbrev pub next_of : {E : Type 0} → Result Next E → Option Next
-next_of (Ok next) = Some next
-next_of (Err e) = None
+abbrev pub next_if_any : {E : Type 0} → Result Next E → Option Next
+next_if_any (Ok next) = Some next
+next_if_any (Err e) = None

@@ -2,7 +2,7 @@
 
 ghost use Rattle.std.specs.Prelude.{◌≡◌, ◌<◌, ◌+◌, ◌^◌, true};
 ghost use Rattle.cap_format.specs.Kind.{is_window};
-ghost use Rattle.windows.specs.Resolve.{resolution, next_of, looks_through};
+ghost use Rattle.windows.specs.Resolve.{resolution, next_if_any, looks_through};
 
 use crate::context::{Context, Next};
 use cap_format::{Cap, CapKind};
@@ -16,7 +16,7 @@ pub struct Malformed;
 pub fn resolve(window: Cap, r: u32, context: Context) -> Result<Next, Malformed>
     requires window { is_window window.kind ≡ true }
     requires left { r < 2 ^ window.guard.l2g }
-    ensures { next_of result ≡ resolution window.kind window r context }
+    ensures { next_if_any result ≡ resolution window.kind window r context }
 {
     let address = beyond(window, r);
     if window.kind() == CapKind::Window {

@@ -19,19 +19,19 @@ use Rattle.walk_meaning.proofs.Ways.{step-map_of}
 use Rattle.walk_meaning.proofs.PageLaw.{page_law}
 use Rattle.walk_meaning.proofs.PlaceLaw.{place_law}
 use Rattle.walk_meaning.proofs.SlotsLaw.{slots_law}
-use Rattle.walk_engine.specs.OnWay.{EndsAt, EndsIn, IsOnWay}
+use Rattle.walk_engine.specs.OnWay.{WalkEndsAt, WalkEndsIn, IsOnWay}
 use Rattle.walk_engine.proofs.Onward.{on_way-go, on_way-reach, on_way-fault, on_way-end, on_way-unread}
 use Rattle.walk_engine.proofs.walking.walk.Goals as goal
 
 -- a walk that reaches ends at its place
 ends : (o : Items) (space c : Capability) (address : ℕ) (kind : Kind) (n : ℕ) (w : At) (reads : List Noted) (start count : ℕ) (place : Place) → 0 < n → Reach place ≡ step o kind c w
-    → IsOnWay (map_of o) (meaning o space) address kind n (bare c) w reads start count → EndsAt (map_of o) (meaning o space) address kind place (reads ++ header_noted (bare c) address w.l2) start count
+    → IsOnWay (map_of o) (meaning o space) address kind n (bare c) w reads start count → WalkEndsAt (map_of o) (meaning o space) address kind place (reads ++ header_noted (bare c) address w.l2) start count
 ends o space c address kind n w reads start count place some e way =
     on_way-reach (map_of o) (meaning o space) address kind (bare c) w reads start count n (n - 1) place (omega arith) (step-map_of o kind c w ∙ sym e) way
 
 -- one that faults ends in its fault
 ends_in : (o : Items) (space c : Capability) (address : ℕ) (kind : Kind) (n : ℕ) (w : At) (reads : List Noted) (start count : ℕ) (code : FaultCode) (handler : Option ℕ) → 0 < n → Fault code handler ≡ step o kind c w
-    → IsOnWay (map_of o) (meaning o space) address kind n (bare c) w reads start count → EndsIn (map_of o) (meaning o space) address kind code handler start count
+    → IsOnWay (map_of o) (meaning o space) address kind n (bare c) w reads start count → WalkEndsIn (map_of o) (meaning o space) address kind code handler start count
 ends_in o space c address kind n w reads start count code handler some e way =
     on_way-fault (map_of o) (meaning o space) address kind (bare c) w reads start count n (n - 1) code handler (omega arith) (step-map_of o kind c w ∙ sym e) way
 
