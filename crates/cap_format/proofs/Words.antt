@@ -10,13 +10,14 @@ use Rattle.cap_format.proofs.KindNumbers.{kind_of_number, number_small}
 use Rattle.cap_format.proofs.Ranges.{limits, matches_small}
 use Rattle.cap_format.specs.Spelling.{head_of, second_of, guard_number, spelling, type_of, HasNumbers, Spells}
 
--- the fields in the numbers 0 and 1
+-- the number 0, of the kind, the restrictions and the count, has 32 bits
 pub head_small : (c : Capability) → IsCapability c → head_of c < 2 ^ 32
 head_small c is =
     let most = limits c.kind in
     let kind = number_small c.kind in
     omega (arith, is.restr, is.count, most.restr, most.count, kind)
 
+-- so has the number 1, of the guard or the payload
 pub second_small : (c : Capability) → IsCapability c → second_of c < 2 ^ 32
 second_small c is = on (is_memory c.kind)
   where
@@ -50,6 +51,7 @@ words_of_spelling c is =
       slot = little_number-reads_back 4 c.slot [] slot;
     }
 
+-- bytes that spell a capability have its four numbers
 pub words_of : (bytes : List ℕ) (c : Capability) → Spells bytes c → Words bytes c
 words_of bytes c spells = subst (λ (xs : List ℕ). Words xs c) (sym spells.bytes_are) (words_of_spelling c spells.in_range)
 

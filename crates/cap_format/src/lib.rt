@@ -11,8 +11,8 @@ mod guard;
 mod item;
 mod kind;
 mod limits;
-mod memory;
-mod message;
+mod out_of_memory;
+mod request;
 mod restr;
 mod weakening;
 
@@ -27,7 +27,7 @@ pub use limits::{
     CAPPAGE_SLOTS, CAPPAGES, ENDPOINTS, GPT_SLOTS, GPTS, HARTS, LAST_COUNT, PAGE_BYTES, PAGES,
     PRIORITIES, PROCESSES,
 };
-pub use memory::OutOfMemory;
-pub use message::{Reply, Request};
+pub use out_of_memory::OutOfMemory;
+pub use request::{Reply, Request};
 pub use restr::Restr;
 pub use weakening::{is_harmless, reduce, weaken};

@@ -2,8 +2,8 @@
 use Rattle.std.proofs.Common.{◌≡◌, ◌≢◌, [], ◌∷◌, List, map, true, Option, Some, None, refl, sym, ap, ◌∙◌, subst}
 use Rattle.std.specs.Option.{IfSome}
 use Rattle.cap_format.specs.declared.code.Code.TheVariants.{Ok as OkCode}
-use Rattle.cap_format.specs.declared.message.Request.{Request}
-use Rattle.cap_format.specs.declared.message.Reply.{Reply}
+use Rattle.cap_format.specs.declared.request.Request.{Request}
+use Rattle.cap_format.specs.declared.request.Reply.{Reply}
 use Rattle.cap_format.specs.Capability.{Capability, bare}
 use Rattle.object_store.specs.Store.{Store, CountsValue}
 use Rattle.object_store.specs.Meaning.{is_live, meaning, map_of, state_map}

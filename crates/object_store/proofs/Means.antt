@@ -29,68 +29,84 @@ module _ (f : Capability → Capability) (null-is : f null ≡ null) where
   unfolding empty_process_slots
   map-empty_process_slots = map-replicate f 3 null ∙ ap (replicate 3) null-is
 
-  -- empty objects stay empty
+  -- the function leaves an empty GPT as it is
   pub gpt_map-empty : gpt_map f empty_gpt ≡ empty_gpt
   gpt_map-empty = rw map-empty_slots refl
 
+  -- it leaves an empty capability page
   pub cappage_map-empty : map f empty_cappage ≡ empty_cappage
   unfolding empty_cappage
   cappage_map-empty = map-replicate f 256 null ∙ ap (replicate 256) null-is
 
+  -- it leaves an empty process
   pub process_map-empty : process_map f empty_process ≡ empty_process
   process_map-empty = rw (map-empty_capregs, map-empty_process_slots) refl
 
+  -- it leaves an empty endpoint
   pub endpoint_map-empty : endpoint_map f empty_endpoint ≡ empty_endpoint
   endpoint_map-empty = rw null-is refl
 
-  -- what is read afterwards is what the function makes of what was read before
+  -- a GPT that is read afterwards is what the function makes of the one read before
   pub gpt_at-items_map : (o : Items) (g : ℕ) → gpt_at (items_map f o) g ≡ gpt_map f (gpt_at o g)
   gpt_at-items_map o g = ap (get_or (map (gpt_map f) o.gpts) g) (sym gpt_map-empty) ∙ get_or-map (gpt_map f) o.gpts g empty_gpt
 
+  -- its header is the one read before
   pub header_at-items_map : (o : Items) (g : ℕ) → header_at (items_map f o) g ≡ header_at o g
   header_at-items_map o g = ap (λ (gpt : GptValue). gpt.header) (gpt_at-items_map o g)
 
+  -- a slot of a GPT is what the function makes of the slot before
   pub slot_of-gpt_map : (gpt : GptValue) (i : ℕ) → slot_of (gpt_map f gpt) i ≡ f (slot_of gpt i)
   slot_of-gpt_map gpt i = ap (get_or (map f gpt.slots) i) (sym null-is) ∙ get_or-map f gpt.slots i null
 
+  -- so is a slot of a GPT by its number
   pub slot_at-items_map : (o : Items) (g i : ℕ) → slot_at (items_map f o) g i ≡ f (slot_at o g i)
   slot_at-items_map o g i = ap (λ gpt. slot_of gpt i) (gpt_at-items_map o g) ∙ slot_of-gpt_map (gpt_at o g) i
 
+  -- a capability page is what the function makes of each slot of the one before
   pub cappage_at-store_map : (s : Store) (n : ℕ) → cappage_at (store_map f s) n ≡ map f (cappage_at s n)
   cappage_at-store_map s n = ap (get_or (map (map f) s.contents.cappages) n) (sym cappage_map-empty) ∙ get_or-map (map f) s.contents.cappages n empty_cappage
 
+  -- a process is what the function makes of the one before
   pub process_at-store_map : (s : Store) (n : ℕ) → process_at (store_map f s) n ≡ process_map f (process_at s n)
   process_at-store_map s n = ap (get_or (map (process_map f) s.contents.processes) n) (sym process_map-empty) ∙ get_or-map (process_map f) s.contents.processes n empty_process
 
+  -- an endpoint is what the function makes of the one before
   pub endpoint_at-store_map : (s : Store) (n : ℕ) → endpoint_at (store_map f s) n ≡ endpoint_map f (endpoint_at s n)
   endpoint_at-store_map s n = ap (get_or (map (endpoint_map f) s.contents.endpoints) n) (sym endpoint_map-empty) ∙ get_or-map (endpoint_map f) s.contents.endpoints n empty_endpoint
 
+  -- a slot of a capability page is what the function makes of the slot before
   pub cap_at-map : (page : List Capability) (i : ℕ) → cap_at (map f page) i ≡ f (cap_at page i)
   cap_at-map page i = ap (get_or (map f page) i) (sym null-is) ∙ get_or-map f page i null
 
+  -- so is a capability register of a process
   pub capreg_of-process_map : (process : ProcessValue) (i : ℕ) → capreg_of (process_map f process) i ≡ f (capreg_of process i)
   capreg_of-process_map process i = cap_at-map process.capregs i
 
+  -- so is a slot of a process
   pub process_slot-process_map : (process : ProcessValue) (i : ℕ) → process_slot_of (process_map f process) i ≡ f (process_slot_of process i)
   process_slot-process_map process i = cap_at-map process.slots i
 
-  -- a write and then the function is the function and then the write of what it makes
+  -- a slot written and then the function is the function and then a write of what it makes
   pub gpt_map-with_slot : (gpt : GptValue) (i : ℕ) (c : Capability) → gpt_map f (with_slot gpt i c) ≡ with_slot (gpt_map f gpt) i (f c)
   gpt_map-with_slot gpt i c = ap (λ slots. let p : GptValue = record { header = gpt.header; slots = slots } in p) (map-set f gpt.slots i c)
 
+  -- so is a GPT written to the items
   pub items_map-set_gpt : (o : Items) (g : ℕ) (gpt : GptValue) → items_map f (set_gpt o g gpt) ≡ set_gpt (items_map f o) g (gpt_map f gpt)
   items_map-set_gpt o g gpt = ap (λ gpts. let p : Items = record { counts = o.counts; gpts = gpts } in p) (map-set (gpt_map f) o.gpts g gpt)
 
+  -- so is a slot written to the items
   pub items_map-set_slot : (o : Items) (g i : ℕ) (c : Capability) → items_map f (set_slot o g i c) ≡ set_slot (items_map f o) g i (f c)
   items_map-set_slot o g i c =
       items_map-set_gpt o g (with_slot (gpt_at o g) i c)
       ∙ ap (set_gpt (items_map f o) g) (gpt_map-with_slot (gpt_at o g) i c ∙ ap (λ gpt. with_slot gpt i (f c)) (sym (gpt_at-items_map o g)))
 
+  -- a header written stays as it is
   pub items_map-set_header : (o : Items) (g : ℕ) (h : HeaderValue) → items_map f (set_header o g h) ≡ set_header (items_map f o) g h
   items_map-set_header o g h =
       items_map-set_gpt o g (with_header (gpt_at o g) h)
       ∙ ap (λ gpt. set_gpt (items_map f o) g (with_header gpt h)) (sym (gpt_at-items_map o g))
 
+  -- a capability register written to a process, and then the function
   pub process_map-with_capreg : (process : ProcessValue) (i : ℕ) (c : Capability) → process_map f (with_capreg process i c) ≡ with_capreg (process_map f process) i (f c)
   process_map-with_capreg process i c = ap (λ capregs. let p : ProcessValue = record { pc = process.pc; regs = process.regs; capregs = capregs; slots = map f process.slots; state = process.state } in p) (by (i == 0))
     where
@@ -98,15 +114,19 @@ module _ (f : Capability → Capability) (null-is : f null ≡ null) where
       by true = refl
       by false = map-set f process.capregs i c
 
+  -- a slot written to a process, and then the function
   pub process_map-with_slot : (process : ProcessValue) (i : ℕ) (c : Capability) → process_map f (with_process_slot process i c) ≡ with_process_slot (process_map f process) i (f c)
   process_map-with_slot process i c = ap (λ slots. let p : ProcessValue = record { pc = process.pc; regs = process.regs; capregs = map f process.capregs; slots = slots; state = process.state } in p) (map-set f process.slots i c)
 
+  -- a capability page written to the store, and then the function
   pub store_map-with_cappage : (s : Store) (n : ℕ) (page : List Capability) → store_map f (with_cappage s n page) ≡ with_cappage (store_map f s) n (map f page)
   store_map-with_cappage s n page = rw (map-set (map f) s.contents.cappages n page) refl
 
+  -- a process written to the store, and then the function
   pub store_map-with_process : (s : Store) (n : ℕ) (process : ProcessValue) → store_map f (with_process s n process) ≡ with_process (store_map f s) n (process_map f process)
   store_map-with_process s n process = rw (map-set (process_map f) s.contents.processes n process) refl
 
+  -- an endpoint written to the store, and then the function
   pub store_map-with_endpoint : (s : Store) (n : ℕ) (endpoint : EndpointValue) → store_map f (with_endpoint s n endpoint) ≡ with_endpoint (store_map f s) n (endpoint_map f endpoint)
   store_map-with_endpoint s n endpoint = rw (map-set (endpoint_map f) s.contents.endpoints n endpoint) refl
 

@@ -5,7 +5,7 @@ use Rattle.std.proofs.lemmas.List.{map-set}
 use Rattle.cap_format.specs.declared.kind.CapKind.{CapKind}
 use Rattle.cap_format.specs.declared.kind.CapKind.TheVariants.{Null, Page, CapPage, Gpt, Window, LocalWindow, Endpoint, Entry, Process, Schedule, Range, Discrim, KernLog, SysCtl}
 use Rattle.cap_format.specs.declared.code.Code.TheVariants.{Ok as OkCode, UnknownRequest}
-use Rattle.cap_format.specs.declared.message.Request.{Request}
+use Rattle.cap_format.specs.declared.request.Request.{Request}
 use Rattle.cap_format.specs.Restr.{has}
 use Rattle.cap_format.specs.Guard.{guard_of}
 use Rattle.cap_format.specs.Capability.{Capability, bare, with_guard, local_window, window}

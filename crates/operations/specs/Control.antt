@@ -4,7 +4,7 @@ use Rattle.std.specs.Prelude.{ℕ, ◌%◌, ◌==◌, nat_lt, Bool, true, false,
 use Rattle.cap_format.specs.declared.kind.CapKind.{CapKind}
 use Rattle.cap_format.specs.declared.kind.CapKind.TheVariants.{Null, Endpoint, Process, Schedule, Range, Discrim}
 use Rattle.cap_format.specs.declared.code.Code.TheVariants.{InvalidCap}
-use Rattle.cap_format.specs.declared.message.Request.{Request}
+use Rattle.cap_format.specs.declared.request.Request.{Request}
 use Rattle.cap_format.specs.Kind.{number_of, kind_with, is_object}
 use Rattle.cap_format.specs.Codes.{fault_number}
 use Rattle.cap_format.specs.Capability.{Capability, entry, schedule, to_object}

@@ -1,6 +1,6 @@
 -- What changes, answers and replies mean: a function of each capability in them, as the meaning is one.
 use Rattle.std.specs.Prelude.{List, map, Option, Some, None}
-use Rattle.cap_format.specs.declared.message.Reply.{Reply}
+use Rattle.cap_format.specs.declared.request.Reply.{Reply}
 use Rattle.cap_format.specs.Capability.{Capability}
 use Rattle.object_store.specs.Meaning.{process_map, endpoint_map}
 use Rattle.operations.specs.Change.{Change, PageIs, CapPageIs, SlotIs, HeaderIs, EndpointIs, ProcessIs, Left, Readied, Woken, Destroyed}

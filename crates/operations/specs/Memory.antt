@@ -5,7 +5,7 @@ use Rattle.cap_format.specs.declared.kind.CapKind.{CapKind}
 use Rattle.cap_format.specs.declared.kind.CapKind.TheVariants.{Page, CapPage, Gpt}
 use Rattle.cap_format.specs.declared.code.Code.{Code}
 use Rattle.cap_format.specs.declared.code.Code.TheVariants.{Ok as OkCode}
-use Rattle.cap_format.specs.declared.message.Request.{Request}
+use Rattle.cap_format.specs.declared.request.Request.{Request}
 use Rattle.cap_format.specs.Kind.{number_of, is_window}
 use Rattle.cap_format.specs.Restr.{has}
 use Rattle.cap_format.specs.Guard.{GuardValue, guard_of}

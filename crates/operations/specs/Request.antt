@@ -1,6 +1,6 @@
 -- A request, by its words: w1 is its number.
 use Rattle.std.specs.Prelude.{ℕ, slice_index}
-use Rattle.cap_format.specs.declared.message.Request.{Request}
+use Rattle.cap_format.specs.declared.request.Request.{Request}
 use Rattle.cap_format.specs.Capability.{Capability}
 
 -- the request's number

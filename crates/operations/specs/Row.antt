@@ -2,7 +2,7 @@
 use Rattle.std.specs.Prelude.{ℕ, Bool, false, if◌then◌else◌, List, [], ◌∷◌, Option, Some, None}
 use Rattle.cap_format.specs.declared.code.Code.{Code}
 use Rattle.cap_format.specs.declared.code.Code.TheVariants.{Ok as OkCode, UnknownRequest, NoAccess, RequestError, CountSpent}
-use Rattle.cap_format.specs.declared.message.Reply.{Reply}
+use Rattle.cap_format.specs.declared.request.Reply.{Reply}
 use Rattle.cap_format.specs.Capability.{Capability}
 use Rattle.operations.specs.Change.{Change, item_in}
 
