@@ -1,8 +1,9 @@
 -- A delivery as it means, and what it leaves as it was.
-use Rattle.std.proofs.Common.{◌≡◌, ℕ, ◌<◌, Bool, true, false, if◌then◌else◌, length, map, min, inl, inr, refl, sym, ap, ◌∙◌, arith}
+use Rattle.std.proofs.Common.{◌≡◌, ℕ, ◌<◌, Bool, true, false, if◌then◌else◌, [], ◌∷◌, length, map, min, inl, inr, refl, sym, ap, ◌∙◌, arith}
 use Rattle.std.specs.List.{All}
 use Rattle.std.proofs.lemmas.Bool.{cases_lt, both_ways}
 use Rattle.std.proofs.lemmas.List.{length-map, length-take-le, get_or_past}
+use Rattle.cap_format.specs.declared.kind.CapKind.TheVariants.{Endpoint, Process}
 use Rattle.cap_format.specs.Capability.{Capability, null}
 use Rattle.process_objects.specs.Accept.{AcceptValue, IsAccept}
 use Rattle.process_objects.specs.Process.{ProcessValue, empty_process}
@@ -16,9 +17,11 @@ use Rattle.object_store.proofs.Each.{capregs-each, process_slots-each}
 use Rattle.object_store.proofs.Behind.{NoneAhead-with_process}
 use Rattle.object_store.proofs.Writes.{id_means, put_endpoint}
 use Rattle.object_store.proofs.WritesBehind.{null_behind, recipient_behind, put_endpoint_behind}
+use Rattle.object_store.specs.Object.{Stays, object_name}
+use Rattle.object_store.proofs.Stays.{stays_then, stays_more, stays_endpoint, stays_process}
 use Rattle.invocation.specs.declared.message.Message.{Message}
 use Rattle.invocation.specs.Target.{is_receiving}
-use Rattle.invocation.specs.Delivery.{accepted, accepting, number_given, given, told, received, passed, passed_at, delivered, message_map}
+use Rattle.invocation.specs.Delivery.{accepted, accepting, number_given, given, told, received, passed, passed_at, delivered, message_map, changed_by_message}
 use Rattle.invocation.proofs.Given.{given_map, given_each, given-slots, given-state, given-pc}
 
 -- ---- the receiver
@@ -137,6 +140,14 @@ delivered_behind s e q message new none =
     NoneAhead-with_process (passed_at s e) endpoint q (received (process_at s q) id message)
     (received_each P (null_behind s) (process_at s q) id message new (capregs-each P (null_behind s) s none q))
     (rw (received-slots (process_at s q) id message) (process_slots-each P (null_behind s) s none q))
+
+-- all but the endpoint and the receiver stay as they are stored
+pub delivered_stays : (s : Store) (e q : ℕ) (message : Message) → Stays (changed_by_message e q) s (delivered s e q message)
+unfolding delivered
+delivered_stays s e q message =
+    stays_then (changed_by_message e q) s (passed_at s e) (with_process (passed_at s e) q (received (process_at s q) (endpoint_at s e).id message))
+    (stays_endpoint (object_name Process q ∷ []) s e (passed (endpoint_at s e)))
+    (stays_more (object_name Endpoint e) (object_name Process q ∷ []) (passed_at s e) _ (stays_process [] (passed_at s e) q (received (process_at s q) (endpoint_at s e).id message)))
 
 -- no item changes, and the harts stay
 pub delivered-items : (s : Store) (e q : ℕ) (message : Message) → ((delivered s e q message).items ≡ s.items) × ((delivered s e q message).harts ≡ s.harts)

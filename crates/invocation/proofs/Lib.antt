@@ -2,4 +2,5 @@ mod WellFormed
 mod Entered
 mod Called
 mod Given
-mod Delivered
+pub mod Delivered
+mod Sent

@@ -1,20 +1,26 @@
 -- What a message makes of its endpoint and of its receiver. These are functions of the model's map and of what is
 -- stored alike. (Coyotos; the registers are this project's.)
 use Rattle.std.specs.Prelude.{ℕ, ◌+◌, ◌*◌, min, Bool, if◌then◌else◌, List, [], ◌∷◌, length, map, take, replicate, slice_index}
+use Rattle.cap_format.specs.declared.kind.CapKind.TheVariants.{Endpoint, Process}
 use Rattle.cap_format.specs.Capability.{Capability}
 use Rattle.process_objects.specs.declared.wait.Wait.TheVariants.{Open as OpenWait}
 use Rattle.process_objects.specs.declared.state.State.{State}
 use Rattle.process_objects.specs.declared.state.State.TheVariants.{Running, Receiving, Faulted}
 use Rattle.process_objects.specs.Accept.{AcceptValue, accept_of}
-use Rattle.process_objects.specs.Process.{ProcessValue, with_reg, with_capreg}
+use Rattle.process_objects.specs.Process.{ProcessValue, capreg_of, with_reg, with_capreg}
 use Rattle.endpoint_objects.specs.declared.endpoint.Endpoint.{Endpoint as EndpointValue}
 use Rattle.endpoint_objects.specs.Endpoint.{raised}
 use Rattle.object_store.specs.Store.{Store, process_at, endpoint_at, with_process, with_endpoint}
+use Rattle.object_store.specs.Object.{ObjectName, object_name}
 use Rattle.invocation.specs.declared.message.Message.{Message}
 
 -- the message with a function applied to each capability, as the meaning is one
 abbrev pub message_map : (Capability → Capability) → Message → Message
 message_map f message = record message { caps = map f message.caps }
+
+-- the capabilities in these registers of process `p`, in their order
+abbrev pub sent_by : Store → ℕ → List ℕ → List Capability
+sent_by s p registers = map (capreg_of (process_at s p)) registers
 
 -- ---- the endpoint
 
@@ -74,3 +80,7 @@ received process id message =
 -- a message to process `q` through endpoint `e`, but for its string and for making the receiver ready
 unfoldable pub delivered : Store → ℕ → ℕ → Message → Store
 delivered s e q message = with_process (passed_at s e) q (received (process_at s q) (endpoint_at s e).id message)
+
+-- the objects that a message changes: the endpoint, whether it matches payloads or not, and the receiver
+abbrev pub changed_by_message : ℕ → ℕ → List ObjectName
+changed_by_message e q = object_name Endpoint e ∷ object_name Process q ∷ []

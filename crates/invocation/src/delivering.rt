@@ -6,8 +6,9 @@ ghost use Rattle.process_objects.specs.Accept.{IsAccept};
 ghost use Rattle.object_store.specs.Store.{size_of, endpoint_at, process_at};
 ghost use Rattle.object_store.specs.Meaning.{meaning, state_map};
 ghost use Rattle.object_store.specs.Ahead.{IsBehind, NoneAhead};
+ghost use Rattle.object_store.specs.Object.{Stays};
 ghost use Rattle.invocation.specs.Target.{is_receiving};
-ghost use Rattle.invocation.specs.Delivery.{accepted, accepting, number_given, given, told, received, passed_at, delivered, message_map};
+ghost use Rattle.invocation.specs.Delivery.{accepted, accepting, number_given, given, told, received, passed_at, delivered, message_map, changed_by_message};
 
 use crate::message::Message;
 use cap_format::Cap;
@@ -22,6 +23,8 @@ pub fn deliver(objects: &mut Objects, endpoint: u16, process: u16, message: Mess
     ensures after { objects.new ≡ delivered objects.old endpoint process message }
     ensures items { objects.new.items ≡ objects.old.items }
     ensures harts { objects.new.harts ≡ objects.old.harts }
+    ensures stays { let names = changed_by_message endpoint process in
+        Stays names objects.old objects.new }
     ensures means { let items = objects.old.items in state_map objects.new ≡
         delivered (state_map objects.old) endpoint process (message_map (meaning items) message) }
     ensures none_ahead { All (IsBehind objects.old.items) message.caps →

@@ -13,6 +13,7 @@ mod malformed;
 mod message;
 mod parsing;
 mod register_list;
+mod sending;
 
 pub use answering::target;
 pub use callee::Callee;
@@ -23,3 +24,4 @@ pub use malformed::MalformedSyscall;
 pub use message::Message;
 pub use parsing::{LONGEST_STRING, parse};
 pub use register_list::RegisterList;
+pub use sending::sent_by;

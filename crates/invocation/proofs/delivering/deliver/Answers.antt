@@ -1,8 +1,9 @@
 use Rattle.std.proofs.Common.{refl, sym, ap, ◌∙◌, subst}
 use Rattle.object_store.specs.Meaning.{state_map}
 use Rattle.object_store.specs.Ahead.{NoneAhead}
-use Rattle.invocation.specs.Delivery.{delivered}
-use Rattle.invocation.proofs.Delivered.{delivered_means, delivered_behind}
+use Rattle.object_store.specs.Object.{Stays}
+use Rattle.invocation.specs.Delivery.{delivered, changed_by_message}
+use Rattle.invocation.proofs.Delivered.{delivered_means, delivered_behind, delivered_stays}
 use Rattle.invocation.proofs.delivering.deliver.Goals as goal
 
 pub returns-clause-after : goal.returns-clause-after
@@ -14,3 +15,6 @@ returns-clause-means c = ap state_map (returns-clause-after c) ∙ delivered_mea
 
 pub returns-clause-none_ahead : goal.returns-clause-none_ahead
 returns-clause-none_ahead c = λ new none. subst NoneAhead (sym (returns-clause-after c)) (delivered_behind c.args.objects.now c.args.endpoint c.args.process c.args.message new none)
+
+pub returns-clause-stays : goal.returns-clause-stays
+returns-clause-stays c = subst (Stays (changed_by_message c.args.endpoint c.args.process) c.args.objects.now) (sym (returns-clause-after c)) (delivered_stays c.args.objects.now c.args.endpoint c.args.process c.args.message)
