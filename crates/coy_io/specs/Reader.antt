@@ -55,10 +55,6 @@ taken_by reader = (INPUT_LIMIT - reader.room) + length reader.rest
 abbrev pub ends_by : Reader → ℕ
 ends_by reader = if reader.ended then 1 else 0
 
--- how many calls the reader has made at most, less those that failed: one for each byte, and one that told the end
-abbrev pub calls_by : Reader → ℕ
-calls_by reader = taken_by reader + ends_by reader
-
 -- the bytes to come, where they are known: those the reader holds, then those the source has left, of
 -- which there are none once it told its end
 abbrev pub bytes_ahead : Reader → Option (List ℕ) → Option (List ℕ)

@@ -69,7 +69,8 @@ impl<W: Write + Drop> WriteSink<BufWriter<W>> {
     /// out yet. A flush that fails is a fault of the sink.
     #[tactic(auto, using(crate::proofs::Buffers::keeps_empty))]
     pub fn flush(&mut self) -> Result<(), WriteFault>
-        ensures out { OnOk result (Keeps (taken_in W.contents self.old) (gone_out W.contents self.new)) }
+        ensures out { OnOk result
+            (Keeps (taken_in W.contents self.old) (gone_out W.contents self.new)) }
         ensures kept { Keeps (taken_in W.contents self.old) (taken_in W.contents self.new) }
         ensures cause { HasCause self.old.faults self.new.faults result }
         ensures faults { self.new.faults ≡ faults_after self.old.faults result }

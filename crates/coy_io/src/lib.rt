@@ -5,6 +5,7 @@
 #![tactic(auto)]
 
 mod adapters;
+mod in_memory;
 mod last_line;
 mod lines;
 mod mem_sink;
@@ -18,9 +19,8 @@ mod window;
 mod writing;
 
 pub use adapters::{ReadSource, WriteSink};
+pub use in_memory::{MemSink, MemSource};
 pub use lines::{LineFault, LineReader};
-pub use mem_sink::MemSink;
-pub use mem_source::MemSource;
 pub use sure::{SureSink, SureSource};
 pub use traits::{Failed, Sink, Source};
 pub use writing::{WriteFault, put_all};

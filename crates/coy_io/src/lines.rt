@@ -2,8 +2,9 @@
 ghost use Rattle.std.specs.Prelude.{◌≡◌, ◌≢◌, ◌+◌, ◌-◌, ◌<◌, ◌≤◌, ◌==◌, ℕ, if◌then◌else◌, length, take, drop, true, false, Ok, Err, Some, None, IfOk, IfSome, OnSome, is_err};
 ghost use Rattle.std.specs.Io.KnownBytes.{Keeps, IsAtEnd, prepend_known};
 ghost use Rattle.coy_io.specs.Causes.{Rose};
+ghost use Rattle.coy_io.specs.Pieces.{CountsIn};
 ghost use Rattle.coy_io.specs.Lines.{line_len, IsUnfinished};
-ghost use Rattle.coy_io.specs.Reader.{Reader, new_reader, taken_by, bytes_ahead, ahead, IsLine, IsNext, IsSpent, IsLeft, TellsEnd, lines_in, ends_by, calls_by, read_faults_in, giving, finished};
+ghost use Rattle.coy_io.specs.Reader.{Reader, new_reader, taken_by, bytes_ahead, ahead, IsLine, IsNext, IsSpent, IsLeft, TellsEnd, lines_in, ends_by, read_faults_in, giving, finished};
 
 use crate::last_line::LastLine;
 use crate::search::find_line;
@@ -127,16 +128,12 @@ impl LineReader {
         ensures ended { self.old.ended ≡ true → (result ≡ Ok None) × (source.new ≡ source.old) }
         ensures told { TellsEnd self.old (S.held source.old) →
             TellsEnd self.new (S.held source.new) }
-        ensures given { S.given source.new + taken_by self.old ≤
-            S.given source.old + taken_by self.new }
         ensures most { taken_by self.new ≤ INPUT_LIMIT + 1 }
 
-        // No more calls than bytes taken, but for one that told the end or failed: no other call
-        // moves nothing, so there is none behind it.
-        ensures calls { S.calls source.new + calls_by self.old ≤
-            S.calls source.old + calls_by self.new + read_faults_in result }
-        ensures idle { S.idle source.new + ends_by self.old ≤
-            S.idle source.old + ends_by self.new + read_faults_in result }
+        // Each call gave a byte, but for one that told the end or failed: there is none behind it.
+        ensures counts { CountsIn S.given S.calls S.idle source.old source.new
+            (taken_by self.old) (taken_by self.new)
+            (ends_by self.old) (ends_by self.new + read_faults_in result) }
     {
         if self.ended {
             return Ok(None);

@@ -1,7 +1,8 @@
 //! The search for the end of a line, through a window into a source.
-ghost use Rattle.std.specs.Prelude.{◌≡◌, ◌≢◌, ◌+◌, ◌<◌, ◌≤◌, length, Err};
+ghost use Rattle.std.specs.Prelude.{◌≡◌, ◌≢◌, ◌<◌, ◌≤◌, length, Err};
 ghost use Rattle.std.specs.Io.KnownBytes.{Keeps, prepend_known};
 ghost use Rattle.coy_io.specs.Causes.{Rose};
+ghost use Rattle.coy_io.specs.Pieces.{CountsIn};
 ghost use Rattle.coy_io.specs.Lines.{line_len};
 ghost use Rattle.coy_io.specs.Found.{IsFound, idle_in};
 
@@ -19,9 +20,8 @@ pub(crate) fn find_line<S: Source>(
     source: &mut S,
 ) -> Result<Option<usize>, LineFault>
     requires { length window.old ≤ room }
-    ensures calls { S.calls source.new + length window.old ≤
-        S.calls source.old + length window.new + idle_in result }
-    ensures idle { S.idle source.new ≤ S.idle source.old + idle_in result }
+    ensures counts { CountsIn S.given S.calls S.idle source.old source.new
+        (length window.old) (length window.new) 0 (idle_in result) }
     ensures found { IsFound result window.new room (S.held source.new) }
     ensures ahead { Keeps (prepend_known window.old (S.held source.old))
         (prepend_known window.new (S.held source.new)) }
@@ -29,8 +29,6 @@ pub(crate) fn find_line<S: Source>(
     ensures read { result ≡ Err LineFault.ReadFault →
         Rose (S.faults source.old) (S.faults source.new) }
     ensures quiet { result ≢ Err LineFault.ReadFault → S.faults source.new ≡ S.faults source.old }
-    ensures given { S.given source.new + length window.old ≤
-        S.given source.old + length window.new }
 {
     let mut read = 0;
     'reading: loop {

@@ -2,7 +2,7 @@
 ghost use Rattle.std.specs.Prelude.{◌≡◌, ◌+◌, ◌-◌, ◌≤◌, ◌⊎◌, Ok, None, Some, length, min, drop, vec_len, IfOk};
 ghost use Rattle.std.specs.Io.KnownBytes.{ReadConsumes, WriteAppends};
 ghost use Rattle.coy_io.specs.Causes.{HasCause};
-ghost use Rattle.coy_io.specs.Pieces.{moved};
+ghost use Rattle.coy_io.specs.Pieces.{moved, CountsOne};
 
 use crate::moving::move_front;
 use crate::{Failed, Sink, Source};
@@ -29,7 +29,7 @@ impl Source for SureSource {
         ensures bytes { ReadConsumes (Some (drop self.old.at self.old.bytes.items))
             (Some (drop self.new.at self.new.bytes.items)) result buf.new }
         ensures cause { HasCause 0 0 result }
-        ensures given { self.new.at ≤ self.old.at + moved result }
+        ensures counts { CountsOne self.old.at self.new.at 0 0 0 0 (moved result) }
         ensures count { result ≡ Ok (min (length buf.old) (vec_len self.old.bytes - self.old.at)) }
         ensures at { self.new.at ≡ self.old.at + moved result }
         ensures kept { self.new.bytes.items ≡ self.old.bytes.items }

@@ -2,7 +2,7 @@
 ghost use Rattle.std.specs.Prelude.{ℕ, List, Option, ◌+◌, ◌≤◌, ◌⊎◌, length, IfOk};
 ghost use Rattle.std.specs.Io.KnownBytes.{ReadConsumes, WriteAppends};
 ghost use Rattle.coy_io.specs.Causes.{HasCause};
-ghost use Rattle.coy_io.specs.Pieces.{moved, CountsIdle};
+ghost use Rattle.coy_io.specs.Pieces.{moved, CountsCall};
 
 use thiserror::Error;
 
@@ -36,9 +36,7 @@ pub trait Source {
         ensures bound { IfOk result (λ n. n ≤ length buf.new) }
         ensures bytes { ReadConsumes (held self.old) (held self.new) result buf.new }
         ensures cause { HasCause (faults self.old) (faults self.new) result }
-        ensures given { given self.new ≤ given self.old + moved result }
-        ensures calls { calls self.new ≤ calls self.old + 1 }
-        ensures idle { CountsIdle (idle self.old) (idle self.new) (moved result) };
+        ensures counts { CountsCall given calls idle self.old self.new (moved result) };
 }
 
 /// Where bytes go in pieces.

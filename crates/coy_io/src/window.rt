@@ -2,7 +2,7 @@
 ghost use Rattle.std.specs.Prelude.{◌≡◌, ℕ, ◌+◌, ◌-◌, ◌<◌, ◌≤◌, List, [], Ok, length, take, drop, IfOk};
 ghost use Rattle.std.specs.Io.KnownBytes.{Keeps, IsAtEnd, ReadConsumes, prepend_known};
 ghost use Rattle.coy_io.specs.Causes.{HasCause};
-ghost use Rattle.coy_io.specs.Pieces.{moved, CountsIdle};
+ghost use Rattle.coy_io.specs.Pieces.{moved, CountsCall};
 ghost use Rattle.coy_io.specs.declared.window.TheConstants.{WINDOW};
 
 use crate::{Failed, Source};
@@ -66,9 +66,7 @@ impl Window {
         ensures most { moved result ≤ most }
         ensures end { result ≡ Ok 0 → IsAtEnd (S.held source.new) }
         ensures cause { HasCause (S.faults source.old) (S.faults source.new) result }
-        ensures given { S.given source.new ≤ S.given source.old + moved result }
-        ensures calls { S.calls source.new ≤ S.calls source.old + 1 }
-        ensures idle { CountsIdle (S.idle source.old) (S.idle source.new) (moved result) }
+        ensures counts { CountsCall S.given S.calls S.idle source.old source.new (moved result) }
     {
         to_front(&mut self.bytes, self.from, self.end);
         self.end -= self.from;
@@ -103,9 +101,7 @@ fn take_behind<S: Source>(
         (drop at bytes.new) }
     ensures most { moved result ≤ most }
     ensures cause { HasCause (S.faults source.old) (S.faults source.new) result }
-    ensures given { S.given source.new ≤ S.given source.old + moved result }
-    ensures calls { S.calls source.new ≤ S.calls source.old + 1 }
-    ensures idle { CountsIdle (S.idle source.old) (S.idle source.new) (moved result) }
+    ensures counts { CountsCall S.given S.calls S.idle source.old source.new (moved result) }
 {
     source.take(&mut bytes[at..at + most])
 }

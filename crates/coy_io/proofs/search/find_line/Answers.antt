@@ -11,9 +11,7 @@ reading-init g c = record {
   ahead = Keeps-refl _;
   first = λ h. (refl, refl);
   faults = refl;
-  given = omega arith;
-  calls = omega arith;
-  idle = omega arith;
+  counts = record { bytes = omega arith; made = omega arith; vain = omega arith };
 }
 
 pub reading-preserved : goal.reading-preserved
@@ -30,7 +28,9 @@ reading-preserved g c =
       ahead = Keeps-trans _ _ _ before.ahead e.ahead;
       first = λ h. let same = (before.first h).1 in absurd (omega (arith, end, len, ap line_len same, ap length same));
       faults = cc (e.cause.quiet);
-      given = omega (arith, e.given, e.length);
-      calls = omega (arith, e.calls, e.length);
-      idle = omega (arith, e.idle.moving (omega arith));
+      counts = record {
+        bytes = omega (arith, before.counts.bytes, e.counts.bytes_given, e.length);
+        made = omega (arith, before.counts.made, e.counts.one, e.length);
+        vain = omega (arith, before.counts.vain, e.counts.moving (omega arith));
+      };
     }

@@ -1,6 +1,7 @@
 use Rattle.std.proofs.Common.{◌≡◌, ◌≤◌, ◌+◌, ◌-◌, ◌<◌, length}
 use Rattle.std.specs.Io.KnownBytes.{Keeps, prepend_known}
 use Rattle.coy_io.specs.Lines.{line_len}
+use Rattle.coy_io.specs.Pieces.{CountsIn}
 use Rattle.coy_io.specs.declared.window.TheConstants.{WINDOW}
 use Rattle.coy_io.proofs.search.find_line.Given as goal
 
@@ -12,9 +13,7 @@ invariant-reading g l = record {
   ahead : Keeps (prepend_known l.fn.window (g.S.Source.held l.fn.source)) (prepend_known l.window (g.S.Source.held l.source));
   first : line_len l.fn.window < length l.fn.window → (l.source ≡ l.fn.source) × (l.window ≡ l.fn.window);
   faults : g.S.Source.faults l.source ≡ g.S.Source.faults l.fn.source;
-  given : g.S.Source.given l.source + length l.fn.window ≤ g.S.Source.given l.fn.source + length l.window;
-  calls : g.S.Source.calls l.source + length l.fn.window ≤ g.S.Source.calls l.fn.source + length l.window;
-  idle : g.S.Source.idle l.source ≤ g.S.Source.idle l.fn.source;
+  counts : CountsIn g.S.Source.given g.S.Source.calls g.S.Source.idle l.fn.source l.source (length l.fn.window) (length l.window) 0 0;
 }
 
 abbrev pub decreases-reading : goal.decreases-reading
