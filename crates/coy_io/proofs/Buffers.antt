@@ -1,5 +1,5 @@
 -- What a writer got, where it took nothing and where a buffer in front of it is empty.
-use Rattle.std.proofs.Common.{◌≡◌, ℕ, List, [], ◌++◌, Option, Some, None, refl, ap, ◌∙◌, append-nil, sym}
+use Rattle.std.proofs.Common.{◌≡◌, ℕ, List, [], ◌++◌, Option, Some, None, ap, ◌∙◌, append-nil, sym}
 use Rattle.std.specs.Io.KnownBytes.{Keeps, Appends, append_known}
 
 -- where nothing was appended the bytes are as they were

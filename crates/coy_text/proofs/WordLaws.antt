@@ -1,6 +1,6 @@
 -- Laws of words, for the crates that show that what they write is read again: how a text that was put together falls
 -- into its words, and a word into its parts.
-use Rattle.std.specs.Prelude.{ℕ, zero, suc, ◌≡◌, ◌+◌, ◌/◌, ◌%◌, ◌^◌, ◌<◌, ◌==◌, ◌⊎◌, ◌&&◌, not, Bool, true, false, List, [], ◌∷◌, ◌++◌, Some, decimal, refl}
+use Rattle.std.specs.Prelude.{ℕ, zero, suc, ◌≡◌, ◌+◌, ◌/◌, ◌%◌, ◌^◌, ◌<◌, ◌==◌, ◌⊎◌, not, true, List, [], ◌∷◌, ◌++◌, Some, decimal, refl}
 use Rattle.std.specs.List.{list_all, join_with_byte}
 use Rattle.std.proofs.Common.{arith, sym, ◌∙◌, ap, append_assoc, inl, inr}
 use Rattle.std.proofs.lemmas.List.{append-nil}

@@ -1,2 +1,3 @@
 pub mod Numeral
 pub mod Words
+pub mod Reading

@@ -1,6 +1,6 @@
 -- The words of a line, as the listing, the schedule and the assembler cut them: what stands between one or more
 -- spaces, where spaces in front and behind count for nothing. And the parts of a word that a mark stands between.
-use Rattle.std.specs.Prelude.{ℕ, ◌==◌, ◌&&◌, not, Bool, true, false, if◌then◌else◌, List, [], ◌∷◌, ◌++◌, length, Option, Some, None, option_map}
+use Rattle.std.specs.Prelude.{ℕ, ◌==◌, ◌&&◌, not, Bool, true, false, if◌then◌else◌, List, [], ◌∷◌, ◌++◌, length, slice_index_or, Option, Some, None, option_map}
 
 -- the word that ends here, which is none where no byte stands in it
 abbrev pub ended : List ℕ → List (List ℕ)
@@ -16,6 +16,10 @@ words_on word (byte ∷ bytes) =
 -- the words of a line
 abbrev pub words_of : List ℕ → List (List ℕ)
 words_of line = words_on [] line
+
+-- word `n` of a line, from 0, which is empty where the line has no more
+abbrev pub field : List (List ℕ) → ℕ → List ℕ
+field words n = slice_index_or words n []
 
 -- how many words a line has
 abbrev pub count_of : List ℕ → ℕ

@@ -9,5 +9,5 @@ mod numeral;
 mod words;
 
 pub use line_buf::LineBuf;
-pub use numeral::{BadNumber, numbers_read_back, read_dec, read_hex};
+pub use numeral::{BadNumber, hex_value, numbers_read_back, read_dec, read_hex};
 pub use words::{cut, word, word_count, words_from};

@@ -79,6 +79,17 @@ impl LineBuf {
         self.push_byte(b'0' + (value % 10) as u8);
     }
 
+    /// Appends a text as it is, and a number in decimal behind it.
+    #[tactic(auto, using(crate::proofs::NumeralLaws::length_decimal_32))]
+    pub fn push_numbered(&mut self, word: &str, number: u32)
+        requires { length self.old + length word.now + 10 ≤ 1024 }
+        ensures text { self.new ≡ self.old ++ word.now ++ decimal number }
+        ensures len { length self.new ≤ length self.old + length word.now + 10 }
+    {
+        self.push_word(word);
+        self.push_dec(u64::from(number));
+    }
+
     /// Appends a number in exactly `digits` hexadecimal digits, in lower case and with leading zeros.
     #[tactic(auto, unfolding(crate::specs::Numeral::hex_text))]
     pub fn push_hex(&mut self, value: u32, digits: u8)

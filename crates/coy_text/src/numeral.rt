@@ -21,8 +21,8 @@ fn dec_value(byte: u8) -> Option<u8>
     }
 }
 
-/// The digit that the byte stands for in hexadecimal.
-fn hex_value(byte: u8) -> Option<u8>
+/// The digit that the byte stands for in hexadecimal, in either case.
+pub fn hex_value(byte: u8) -> Option<u8>
     ensures value { result ≡ hex_digit byte }
     ensures below { IfSome result (λ digit. digit < 16) }
 {

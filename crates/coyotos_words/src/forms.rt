@@ -34,7 +34,8 @@ fn with_bare<'a>(
     top: clap::Command<'a>,
     table: &[(&'static str, Command)],
 ) -> Result<clap::Command<'a>, AllocError>
-    ensures { IfOk result (λ r. app_of r ≡ with_bare (app_of top.entry) (map (λ e. e.0.now) table.now)) }
+    ensures { IfOk result (λ r.
+        app_of r ≡ with_bare (app_of top.entry) (map (λ e. e.0.now) table.now)) }
 {
     let mut top = top;
     for entry in table {
@@ -48,7 +49,8 @@ fn with_form<'a>(
     form: clap::Command<'a>,
 ) -> Result<clap::Command<'a>, AllocError>
     requires { (fields_of form).has_globals ≡ false }
-    ensures { IfOk result (λ r. app_of r ≡ with_subcommand (app_of top.entry) (app_of form.entry).top) }
+    ensures { IfOk result (λ r.
+        app_of r ≡ with_subcommand (app_of top.entry) (app_of form.entry).top) }
 {
     top.subcommand(form)
 }

@@ -16,7 +16,8 @@ use std::alloc::Global;
 #[tactic(auto, using(crate::proofs::Dashed::help_first, crate::proofs::Dashed::refused_first, crate::proofs::Dashed::left_to_forms))]
 pub fn read_command(alloc: Global, words: &[String]) -> Result<Option<Command>, OutOfMemory>
     ensures asked { IfOk result (λ command. command ≡ command_of (map string_bytes words.now)) }
-    ensures early { list_any (λ word. is_dashed (string_bytes word)) words.now ≡ true → IsOk result }
+    ensures early { list_any (λ word. is_dashed (string_bytes word)) words.now ≡ true →
+        IsOk result }
 {
     if asks_help(words) {
         return Ok(Some(Command::Help));

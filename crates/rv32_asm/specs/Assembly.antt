@@ -2,7 +2,8 @@
 use Rattle.std.specs.Prelude.{ℕ, List, Option, Some, None, ok_or, Result, Ok, Err}
 use Rattle.rv32_decode.specs.declared.insn.Insn.{Insn}
 use Rattle.rv32_decode.specs.Word.{word_of}
-use Rattle.rv32_asm.specs.Forms.{Form, form_of, field, line_of}
+use Rattle.coy_text.specs.Words.{field}
+use Rattle.rv32_asm.specs.Forms.{Form, form_of, line_of}
 use Rattle.rv32_asm.specs.declared.assembly.AsmFault.{AsmFault}
 use Rattle.rv32_asm.specs.declared.assembly.AsmFault.TheVariants.{BadMnemonic, BadOperand}
 

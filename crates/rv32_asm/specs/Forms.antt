@@ -1,9 +1,11 @@
 -- The mnemonics of RV32I, each with the form of its line: which operands follow it, and the instruction that they make.
-use Rattle.std.specs.Prelude.{ℕ, ◌+◌, ◌==◌, if◌then◌else◌, ℤ, pos, negsuc, List, [], ◌∷◌, length, Option, Some, None, option_map, slice_index_or, bytes_eq, codes}
+use Rattle.std.specs.Prelude.{ℕ, ◌+◌, ◌==◌, if◌then◌else◌, ℤ, pos, negsuc, List, [], ◌∷◌, length, Option, Some, None, option_map, bytes_eq, codes}
 use Rattle.std.specs.Option.{option_or}
 use Rattle.rv32_decode.specs.declared.insn.Insn.{Insn}
 use Rattle.rv32_decode.specs.declared.insn.Insn.TheVariants.{Add, Sub, Sll, Slt, Sltu, Xor, Srl, Sra, Or, And, Addi, Slti, Sltiu, Xori, Ori, Andi, Slli, Srli, Srai, Lb, Lh, Lw, Lbu, Lhu, Jalr, Sb, Sh, Sw, Beq, Bne, Blt, Bge, Bltu, Bgeu, Jal, Lui, Auipc, Fence, Ecall, Ebreak}
-use Rattle.rv32_asm.specs.Operands.{◌>>=◌, given, register_of, offset_of, natural_of, immediate_12, address_of}
+use Rattle.coy_text.specs.Reading.{◌>>=◌, given}
+use Rattle.coy_text.specs.Words.{field}
+use Rattle.rv32_asm.specs.Operands.{register_of, offset_of, natural_of, immediate_12, address_of}
 
 -- `m rd rs1 rs2`
 abbrev pub registers : List (List ℕ × (ℕ → ℕ → ℕ → Insn))
@@ -78,10 +80,6 @@ form_of word =
     (option_or (option_map Upper (named uppers word))
     (option_or (option_map Jump (named jumps word))
     (option_map Bare (named bares word)))))))))
-
--- word `n` of a line, from 0
-abbrev pub field : List (List ℕ) → ℕ → List ℕ
-field words n = slice_index_or words n []
 
 -- the mnemonic and `n` operands
 abbrev pub has_operands : ℕ → List (List ℕ) → Option (Unit {0})

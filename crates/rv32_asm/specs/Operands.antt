@@ -1,18 +1,8 @@
 -- The operands of an assembler line, as this project spells them: registers, immediates, and addresses.
-use Rattle.std.specs.Prelude.{ℕ, ◌%◌, ◌==◌, ◌&&◌, ◌||◌, not, Bool, true, false, nat_lt, nat_le, if◌then◌else◌, ℤ, pos, negsuc, neg_ℤ, int_le, unsigned_abs, List, length, take, drop, slice_index, Option, Some, None, option_map, bytes_eq, codes}
+use Rattle.std.specs.Prelude.{ℕ, ◌%◌, ◌==◌, ◌&&◌, ◌||◌, not, nat_lt, nat_le, if◌then◌else◌, ℤ, pos, negsuc, neg_ℤ, int_le, unsigned_abs, List, length, take, drop, slice_index, Option, Some, option_map, bytes_eq, codes}
 use Rattle.coy_text.specs.Numeral.{dec_of, hex_of}
+use Rattle.coy_text.specs.Reading.{◌>>=◌, given}
 use Rattle.coy_text.specs.Words.{cut_at}
-
-infixl 10 ◌>>=◌
--- what is read after something else was, where that could be read
-abbrev pub ◌>>=◌ : {A B : Type 0} → Option A → (A → Option B) → Option B
-None >>= next = None
-(Some x) >>= next = next x
-
--- goes on where the test holds
-abbrev pub given : Bool → Option (Unit {0})
-given true = Some tt
-given false = None
 
 -- a register: `x` and its number, which is below 32 and has no leading zero
 unfoldable pub register_of : List ℕ → Option ℕ
