@@ -17,7 +17,7 @@ use Rattle.operations.specs.Weak.{read_through}
 use Rattle.walk_meaning.specs.declared.kind.Kind.{Kind}
 use Rattle.walk_meaning.specs.declared.place.Place.{Place}
 use Rattle.walk_meaning.specs.Walk.{is_data}
-use Rattle.walk_meaning.specs.Laws.{IsPlace}
+use Rattle.walk_meaning.specs.Laws.{IsReached}
 use Rattle.object_store.specs.Object.{ObjectName}
 use Rattle.kernel_core.specs.State.{State}
 use Rattle.kernel_core.specs.Machine.{MachineValue}
@@ -57,7 +57,7 @@ pub found_behind : (s : Store) (place : Place) → NoneAhead s → IsBehind s.it
 found_behind s place none = read_behind s.items place.restr.0 (cap_at (cappage_at s place.number) (slot_in place)) (cap_behind s none place.number (slot_in place))
 
 -- an access of a capability that reaches is over at a capability page that is there
-pub cap_page : (o : Items) (kind : Kind) (place : Place) → is_data kind ≡ false → IsPlace o kind place → place.number < size_of o CapPage
+pub cap_page : (o : Items) (kind : Kind) (place : Place) → is_data kind ≡ false → IsReached o kind place → place.number < size_of o CapPage
 cap_page o kind place capability is =
     let served : place.kind ≡ CapPage = is.kind_is ∙ rw capability refl in
     subst (λ (k : CapKind). place.number < size_of o k) served is.there

@@ -1,4 +1,4 @@
-use Rattle.kernel_core.proofs.Changed.{slot_means}
+use Rattle.object_store.proofs.Writes.{slot_means}
 use Rattle.coyotos_cli.proofs.finishing.space_of.Goals as goal
 
 pub returns : goal.returns
