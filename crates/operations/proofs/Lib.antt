@@ -3,3 +3,6 @@ pub mod Settled
 pub mod Applied
 pub mod Fits
 pub mod Memory
+pub mod Placed
+pub mod Sound
+pub mod Control

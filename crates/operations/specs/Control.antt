@@ -127,11 +127,13 @@ getstate_row s c = always (tells_state (process_of s c).state)
 unfoldable pub resume_row : Store → Capability → Row
 resume_row s c = unless_error (not (is_faulted (process_of s c).state)) (does (Readied c.object ∷ []))
 
--- 16 stop: the process leaves its place and is stopped; its sleepers sleep on
+-- a process is stopped: it leaves its place
+abbrev pub stopping : Store → ℕ → List Change
+stopping s p = Left p ∷ ProcessIs p (with_state (process_at s p) stopped) ∷ []
+
+-- 16 stop: the process is stopped; its sleepers sleep on
 unfoldable pub stop_row : Store → Capability → Row
-stop_row s c =
-    unless_error (is_faulted (process_of s c).state)
-    (does (Left c.object ∷ ProcessIs c.object (with_state (process_of s c) stopped) ∷ []))
+stop_row s c = unless_error (is_faulted (process_of s c).state) (does (stopping s c.object))
 
 unfoldable pub process_table : Store → Capability → Request → ℕ → Option Row
 process_table s c r number =
@@ -174,10 +176,15 @@ obtained reading s (Some kind) number =
 unfoldable pub getcap_row : Reading → Store → Request → Row
 getcap_row reading s r = obtained reading s (kind_with (w2 r)) (w3 r)
 
--- what a destruction changes: a process leaves its place first, and its sleepers are woken
-unfoldable pub destruction_of : CapKind → ℕ → List Change
-destruction_of Process p = Left p ∷ Woken p ∷ Destroyed Process p ∷ []
-destruction_of kind n = Destroyed kind n ∷ []
+abbrev pub is_process : CapKind → Bool
+is_process Process = true
+is_process _ = false
+
+-- what a destruction changes: a process is stopped first, and its sleepers are woken
+unfoldable pub destruction_of : Store → CapKind → ℕ → List Change
+destruction_of s kind n =
+    if is_process kind then Left n ∷ ProcessIs n (with_state (process_at s n) stopped) ∷ Woken n ∷ Destroyed kind n ∷ []
+    else Destroyed kind n ∷ []
 
 -- 9 destroy: the object of what was sent
 unfoldable pub destroy_row : Store → Capability → Row
@@ -185,7 +192,7 @@ destroy_row s sent = record {
   no_access = false;
   request_error = not (is_object sent.kind);
   count_spent = (count_of s.items sent.kind sent.object == 1048575);
-  answer = does (destruction_of sent.kind sent.object);
+  answer = does (destruction_of s sent.kind sent.object);
 }
 
 unfoldable pub range_table : Reading → Store → Request → ℕ → Option Row
@@ -220,11 +227,12 @@ control_table reading s c r kind number =
     if number == 0 then Some (kind_row c)
     else own_table reading s c r kind number
 
--- a request to a capability of a kind; Null answers none
-unfoldable pub asked : Reading → Store → Capability → Request → CapKind → Settled
-asked reading s c r Null = refused InvalidCap
-asked reading s c r kind = settled_row (control_table reading s c r kind (w1 r))
+abbrev pub is_null : CapKind → Bool
+is_null Null = true
+is_null _ = false
 
--- a request to a capability of one of these kinds
+-- a request to a capability of one of these kinds; Null answers none
 unfoldable pub control_operation : Reading → Store → Capability → Request → Settled
-control_operation reading s c r = asked reading s c r c.kind
+control_operation reading s c r =
+    if is_null c.kind then refused InvalidCap
+    else settled_row (control_table reading s c r c.kind (w1 r))
