@@ -1,9 +1,8 @@
 -- What `clap` makes of the words behind the first, form by form: which place each word takes, and what is refused.
-use Rattle.std.proofs.Common.{ℕ, ◌≡◌, ◌∙◌, List, [], ◌∷◌, map, Bool, true, false, Option, Some, None, refl, ap}
-use Rattle.std.specs.Prelude.{codes}
-use Rattle.clap.specs.Walk.{Held, Row, Rule, Text, Walk, arg_by_index, finished, nothing_held, rows_after, settled, to_positional, walk, walk_from, walked}
+use Rattle.std.proofs.Common.{ℕ, ◌≡◌, ◌∙◌, List, [], ◌∷◌, false, Some, None, refl, ap}
+use Rattle.clap.specs.Walk.{Held, Row, Rule, Text, Walk, arg_by_index, finished, nothing_held, rows_after, to_positional, walk, walk_from, walked}
 use Rattle.clap.specs.Simple.{Shape, built_leaf, inherited, marked_built, new_shape, with_leaf_noted}
-use Rattle.clap.specs.Kinds.{Kinds, or_else}
+use Rattle.clap.specs.Kinds.{Kinds}
 use Rattle.clap.specs.Faults.{defaults_fault, level_fault, walk_fault}
 use Rattle.clap.specs.declared.error.kind.ErrorKind.TheVariants.{MissingRequiredArgument, UnknownArgument}
 use Rattle.coyotos_words.specs.Command.{is_dashed}

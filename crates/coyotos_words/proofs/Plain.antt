@@ -1,5 +1,5 @@
 -- What `clap` makes of a word that begins with no `-` and names no form: it goes to the next place.
-use Rattle.std.proofs.Common.{ℕ, ◌≡◌, ◌∙◌, List, [], ◌∷◌, Bool, true, false, Option, Some, None, refl, ap, ap₂, if◌then◌else◌}
+use Rattle.std.proofs.Common.{ℕ, ◌≡◌, ◌∙◌, List, [], ◌∷◌, Bool, false, None, refl, ap, ap₂, if◌then◌else◌}
 use Rattle.std.specs.Option.{option_map_or}
 use Rattle.std.specs.Prelude.{option_and_then}
 use Rattle.std.specs.Str.{bytes_eq}
@@ -7,7 +7,7 @@ use Rattle.clap.specs.Lexer.{strip_byte, long_of_rest, long_of, short_of_rest, s
 use Rattle.clap.specs.Walk.{Held, Names, Rule, Step, Text, Walk, idle, value, trailing, after_step, arg_by_index, long_or_other, short_or_plain, subcommand_met, subcommand_or_other, to_positional, walked, word_met, walk, walk_from, nothing_held, settled, finished}
 use Rattle.clap.specs.Simple.{Shape}
 use Rattle.clap.specs.Kinds.{Kinds, or_else}
-use Rattle.clap.specs.Faults.{bundle_fault, check_fault, defaults_fault, flag_word_fault, level_fault, settle_fault, other_fault, step_fault, turn_fault, walk_fault, word_fault}
+use Rattle.clap.specs.Faults.{bundle_fault, check_fault, defaults_fault, flag_word_fault, level_fault, settle_fault, other_fault, step_fault, walk_fault, word_fault}
 use Rattle.coyotos_words.specs.Command.{is_dashed}
 
 -- a walk that waits for nothing
