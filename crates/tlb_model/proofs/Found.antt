@@ -6,7 +6,7 @@ use Rattle.tlb_model.specs.declared.entry.Entry.{Entry}
 use Rattle.tlb_model.specs.Entry.{entry_of, is_of}
 use Rattle.tlb_model.specs.Tlb.{IsSingle, look, room, without_page}
 use Rattle.tlb_model.specs.Laws.{DropLaw, FillLaw}
-use Rattle.tlb_model.specs.Looks.{IsSingle-filter, is_of_itself, look-behind, look-filter, look_push_cases, look_push_new, of_tells}
+use Rattle.tlb_model.proofs.Looks.{IsSingle-filter, is_of_itself, look-behind, look-filter, look_push_cases, look_push_new, of_tells}
 use Rattle.tlb_model.proofs.Kept.{room_none}
 
 pub drop_law : DropLaw

@@ -5,7 +5,7 @@ use Rattle.std.proofs.lemmas.List.Sums.{count_by-le-length, length-filter}
 use Rattle.guard_math.specs.Block.{BlockValue, holds}
 use Rattle.tlb_model.specs.declared.entry.Entry.{Entry}
 use Rattle.tlb_model.specs.Tlb.{IsTlb, look, room, without_block, without_page}
-use Rattle.tlb_model.specs.Looks.{IsSingle-filter, IsSingle_push, look-filter, look-behind_none}
+use Rattle.tlb_model.proofs.Looks.{IsSingle-filter, IsSingle_push, look-filter, look-behind_none}
 
 -- entries that are kept by their root and page
 IsTlb-filter : (keep : ℕ → ℕ → Bool) (es : List Entry) → IsTlb es → IsTlb (filter (λ e. keep e.root e.page) es)

@@ -1,3 +1,4 @@
+pub mod Looks
 mod Kept
 mod Removed
 mod Found

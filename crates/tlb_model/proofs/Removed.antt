@@ -5,7 +5,7 @@ use Rattle.std.proofs.lemmas.Bool.Decides.{nat_tests}
 use Rattle.tlb_model.specs.declared.entry.Entry.{Entry}
 use Rattle.tlb_model.specs.Entry.{is_of}
 use Rattle.tlb_model.specs.Tlb.{IsSingle, look, without_page}
-use Rattle.tlb_model.specs.Looks.{of_tells}
+use Rattle.tlb_model.proofs.Looks.{of_tells}
 
 -- where no entry is of the page, all are kept
 pub without_page_none : (r p : ℕ) (es : List Entry) → look es r p ≡ None → es ≡ without_page es r p

@@ -1,4 +1,3 @@
 pub mod Entry
 pub mod Tlb
-pub mod Looks
 pub mod Laws

@@ -1,6 +1,6 @@
 //! The cache as a list of entries.
 
-ghost use Rattle.std.specs.Prelude.{◌≡◌, ◌≤◌, ◌<◌, ◌/◌, ◌++◌, [], ◌∷◌, length, IfSome, None};
+ghost use Rattle.std.specs.Prelude.{◌≡◌, ◌≤◌, ◌<◌, ◌/◌, ◌++◌, [], ◌∷◌, length, IfSome, None, Some};
 ghost use Rattle.std.specs.List.{position};
 ghost use Rattle.tlb_model.specs.Entry.{is_of};
 ghost use Rattle.tlb_model.specs.Tlb.{IsTlb, filled, look, room, without_block, without_page};
@@ -13,10 +13,12 @@ use sv32_tables::Leaf;
 
 /// The entries of one hart, oldest first. No two are of the same root and page.
 ///
-/// Each call goes over the entries at most twice.
+/// Each call goes over the entries at most twice, and `seek` mostly over one.
 #[derive(Drop)]
 pub struct Tlb {
     entries: ArrayVec<Entry, 64>,
+    /// Where the entry of a page may stand, by the page modulo 64: a guess, which is tested when it is used.
+    places: [u8; 64],
 }
 
 impl Model for Tlb {
@@ -37,6 +39,7 @@ impl Tlb {
     {
         Tlb {
             entries: ArrayVec::new(),
+            places: [0; 64],
         }
     }
 
@@ -54,12 +57,32 @@ impl Tlb {
         None
     }
 
+    /// The leaf that is held for the page of an address, as `look` finds it. It tries first where it
+    /// found or put the entry last.
+    pub fn seek(&mut self, root: u16, va: u32) -> Option<Leaf>
+        ensures leaf { result ≡ look self.old root (va / 4096) }
+        ensures same { self.new ≡ self.old }
+        ensures kept { IsTlb self.new }
+    {
+        let page = va / 4096;
+        let guess = self.places[(page % 64) as usize];
+        if let Some(leaf) = held_at(&self.entries, guess, root, page) {
+            return Some(leaf);
+        }
+        if let Some(place) = self.place_of(root, page) {
+            self.places[(page % 64) as usize] = place as u8;
+        }
+        self.look(root, va)
+    }
+
     /// Holds this leaf for the page of an address, in place of what was held for it. Where 64 others
     /// are held the oldest goes.
     pub fn fill(&mut self, root: u16, va: u32, leaf: Leaf)
         ensures entries { self.new ≡ filled self.old root (va / 4096) leaf }
         ensures kept { IsTlb self.new }
+        ensures was { IsTlb self.old }
     {
+        let _entries = &self.entries;
         let page = va / 4096;
         self.drop_page(root, page);
         self.make_room();
@@ -121,6 +144,22 @@ impl Tlb {
         ensures entries { self.new ≡ self.old ++ entry ∷ [] }
         ensures kept { IsTlb self.new }
     {
+        self.places[(entry.page % 64) as usize] = self.entries.len() as u8;
         self.entries.push(entry);
     }
+}
+
+/// The leaf of the entry at a place, where it is that of the page.
+fn held_at(entries: &ArrayVec<Entry, 64>, place: u8, root: u16, page: u32) -> Option<Leaf>
+    requires { IsTlb entries.now.items }
+    ensures { IfSome result (λ leaf. look entries.now.items root page ≡ Some leaf) }
+{
+    if place as usize >= entries.len() {
+        return None;
+    }
+    let entry = entries[place as usize];
+    if !entry.is_of(root, page) {
+        return None;
+    }
+    Some(entry.leaf)
 }

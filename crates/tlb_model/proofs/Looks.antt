@@ -1,5 +1,6 @@
 -- What looking finds in entries that were kept, pushed or left, and which lists of entries are single.
-use Rattle.std.proofs.Common.{◌≡◌, ◌⊎◌, inl, inr, ℕ, Bool, true, false, cond, if◌then◌else◌, List, [], ◌∷◌, ◌++◌, filter, Option, Some, None, refl, ◌∙◌, arith}
+use Rattle.std.proofs.Common.{◌≡◌, ◌⊎◌, inl, inr, ℕ, zero, suc, Bool, true, false, cond, if◌then◌else◌, List, [], ◌∷◌, ◌++◌, filter, Option, Some, None, refl, ap, ◌∙◌, arith}
+use Rattle.std.specs.Prelude.{slice_get}
 use Rattle.std.proofs.lemmas.Bool.Decides.{nat_tests}
 use Rattle.sv32_tables.specs.declared.leaf.Leaf.{Leaf}
 use Rattle.tlb_model.specs.declared.entry.Entry.{Entry}
@@ -98,3 +99,12 @@ IsSingle_push (x ∷ es) e single none =
         let found : (if true then Some x.leaf else look es e.root e.page) ≡ None = rw itself at none in
         absurd (cc)
     other false is = refl
+
+-- among single entries one that stands at a place is found
+pub look-placed : (es : List Entry) (i r p : ℕ) (e : Entry) → IsSingle es → slice_get es i ≡ Some e → is_of r p e ≡ true → look es r p ≡ Some e.leaf
+look-placed [] i r p e single at is = absurd (cc)
+look-placed (x ∷ es) zero r p e single at is =
+    let here : x ≡ e = cc in
+    let own : is_of r p x ≡ true = ap (is_of r p) here ∙ is in
+    ap (λ (b : Bool). if b then Some x.leaf else look es r p) own ∙ ap (λ (y : Entry). Some y.leaf) here
+look-placed (x ∷ es) (suc i) r p e single at is = look-behind x es r p e.leaf single (look-placed es i r p e single.1 at is)
