@@ -1,3 +1,4 @@
+pub mod Members
 mod Places
 mod Listed
 mod Linked

@@ -3,7 +3,7 @@ use Rattle.std.proofs.Common.{◌≡◌, ◌≢◌, ◌⊎◌, inl, inr, ℕ, ze
 use Rattle.std.proofs.lemmas.List.Sums.{sum_by-cons}
 use Rattle.depend_table.specs.declared.chain.Node.{Node}
 use Rattle.depend_table.specs.Depend.{Depend, has, same}
-use Rattle.depend_table.specs.Members.{same_itself, same_tells}
+use Rattle.depend_table.proofs.Members.{same_itself, same_tells}
 use Rattle.depend_table.specs.Chain.{record_of, records_of}
 
 -- there are as many records as nodes

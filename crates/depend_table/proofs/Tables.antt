@@ -9,7 +9,7 @@ use Rattle.cap_format.specs.Item.{IsItem}
 use Rattle.depend_table.specs.declared.chain.Chain.{Chain}
 use Rattle.depend_table.specs.declared.chain.Node.{Node}
 use Rattle.depend_table.specs.Depend.{Adds, Depend, Takes, has, same}
-use Rattle.depend_table.specs.Members.{same_itself, same_tells}
+use Rattle.depend_table.proofs.Members.{same_itself, same_tells}
 use Rattle.depend_table.specs.Place.{place_of}
 use Rattle.depend_table.specs.Chain.{IsTable, chain_at, no_chain, record_of, records_of}
 use Rattle.depend_table.proofs.Listed.{Noted, equal_tests, has-noted, length-records, noted-has}

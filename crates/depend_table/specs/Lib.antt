@@ -1,4 +1,3 @@
 pub mod Depend
-pub mod Members
 pub mod Place
 pub mod Chain

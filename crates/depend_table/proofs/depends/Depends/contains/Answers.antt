@@ -2,7 +2,7 @@ use Rattle.std.proofs.Common.{◌≡◌, ℕ, List, sym, ap, ◌∙◌, subst}
 use Rattle.slab.specs.Slab.{get}
 use Rattle.depend_table.specs.declared.chain.Node.{Node}
 use Rattle.depend_table.specs.Depend.{Depend, depend, has}
-use Rattle.depend_table.specs.Members.{same_block_tells}
+use Rattle.depend_table.proofs.Members.{same_block_tells}
 use Rattle.depend_table.specs.Place.{place_of}
 use Rattle.depend_table.specs.Chain.{chain_at}
 use Rattle.depend_table.proofs.Linked.{first_of, none_left}
