@@ -1,0 +1,15 @@
+mod Codes
+mod Records
+mod Keyed
+mod Notes
+mod Invariant
+mod Leaves
+mod Coherence
+mod Economy
+mod Installing
+pub mod Blank
+mod Forgotten
+mod Accesses
+mod Listed
+mod Entries
+mod Translated

@@ -1,0 +1,18 @@
+use Rattle.std.proofs.Common.{ℕ, ◌≡◌, false, rules}
+use Rattle.guard_math.specs.Block.{BlockValue}
+use Rattle.depend_table.specs.Depend.{depend, has}
+use Rattle.map_cache.specs.Effects.{Forgets, value_of}
+use Rattle.map_cache.proofs.Coherence.{coherent-differs}
+use Rattle.map_cache.proofs.Forgotten.{forgets-more, forgotten}
+use Rattle.map_cache.proofs.mappings.Mappings.forget_item.Goals as goal
+
+pub returns-clause-without : goal.returns-clause-without
+returns-clause-without c =
+    let forgets = forgets-more (value_of c.args.self.now) (value_of c.records.self) (value_of c.clear_one.new.self) c.args.item c.records.invariant.forgets c.clear_one.ensures.forgets in
+    forgotten (value_of c.args.self.now) (value_of c.clear_one.new.self) c.args.item forgets (c.clear_one.ensures.none (search rules))
+
+pub returns-clause-coherent : goal.returns-clause-coherent
+returns-clause-coherent c = λ o p differ coherent.
+    let w = c.clear_one.new.self in
+    let forgets = forgets-more (value_of c.args.self.now) (value_of c.records.self) (value_of c.clear_one.new.self) c.args.item c.records.invariant.forgets c.clear_one.ensures.forgets in
+    coherent-differs w.tables w.keys.items w.tlbs.items w.records c.space_frame_law.ensures c.args.item o p differ (c.clear_one.ensures.none (search rules)) (forgets.coherent o coherent)

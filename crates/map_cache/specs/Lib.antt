@@ -1,0 +1,6 @@
+pub mod Key
+pub mod Kept
+pub mod Cache
+pub mod Coherent
+pub mod Mappings
+pub mod Effects
