@@ -66,14 +66,14 @@ fn get_slot<L: Ledger>(
     ensures quiet { (settled (getslot_row objects.now cap request)).answer.changes ≡ [] }
     ensures counted { fetches.new ≡ fetches.old + reads Gpt 8 result.code }
 {
-    let slot = request.words[1];
+    let wanted = request.words[1];
     if cap.restr().contains(Restr::OP) {
         return refuse(Code::NoAccess);
     }
-    if 15 < slot {
+    if 15 < wanted {
         return refuse(Code::RequestError);
     }
-    let held = objects.gpt_slot(cap.object() as u16, slot as u8, fetches);
+    let held = objects.gpt_slot(cap.object() as u16, wanted as u8, fetches);
     hand_over(read_through(cap.restr(), held))
 }
 
