@@ -11,6 +11,8 @@ mod capabilities;
 #[cfg(test)]
 mod command_words;
 #[cfg(test)]
+mod control_caps;
+#[cfg(test)]
 mod instructions;
 #[cfg(test)]
 mod lines;
@@ -19,9 +21,13 @@ mod listings;
 #[cfg(test)]
 mod machine;
 #[cfg(test)]
+mod memory_caps;
+#[cfg(test)]
 mod numbers;
 #[cfg(test)]
 mod objects;
+#[cfg(test)]
+mod requests;
 #[cfg(test)]
 mod rows;
 #[cfg(test)]
