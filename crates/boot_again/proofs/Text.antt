@@ -14,12 +14,12 @@ use Rattle.object_store.specs.Store.{sizes_of}
 use Rattle.object_store.specs.Ranges.{IsWithinLimits}
 use Rattle.listing_read.specs.Line.{says_nothing}
 use Rattle.listing_read.specs.Machine.{machine_of}
-use Rattle.listing_read.specs.Spelling.{dec_to}
+use Rattle.cap_words.specs.Spelling.{dec_to}
 use Rattle.listing_read.specs.Statement.{ListingValue}
 use Rattle.listing_read.specs.declared.place.Place.{Place}
 use Rattle.listing_read.specs.declared.place.Place.TheVariants.{Header, Machine, Statements}
 use Rattle.listing_read.specs.declared.place.Said.TheVariants.{Opens, Ends}
-use Rattle.listing_read.specs.Listing.{Good, listing_of, with_front, judged, said_by, header_line, machine_line, further_line, end_line}
+use Rattle.listing_read.specs.Listing.{Good, listing_of, with_front, judged, said_by, header_line, machine_line, further_line, end_line, terms_of}
 use Rattle.run_text.specs.Each.{line_feed}
 use Rattle.run_text.specs.State.{objects_text}
 use Rattle.read_back.specs.Printed.{statements_of}
@@ -66,10 +66,10 @@ unfolding dec_to
 dec_to-decimal most n fits below = rw (dec_of-decimal n (omega arith), le-leb n most below) refl
 
 -- the sizes
-machine_opens : (sizes : Sizes) → IsWithinLimits sizes → (rest : List ℕ) (n room : ℕ) → length (machine_text sizes) ≤ room → listing_of Machine n (parts [] room (machine_text sizes ++ rest)) ≡ listing_of (Statements sizes) (n + 1) (parts [] (room - length (machine_text sizes)) rest)
+machine_opens : (sizes : Sizes) → IsWithinLimits sizes → (rest : List ℕ) (n room : ℕ) → length (machine_text sizes) ≤ room → listing_of Machine n (parts [] room (machine_text sizes ++ rest)) ≡ listing_of (Statements (terms_of sizes)) (n + 1) (parts [] (room - length (machine_text sizes)) rest)
 unfolding machine_line machine_of
 machine_opens sizes is rest n room fits =
-    words_open Machine (Statements sizes) (codes "machine") refl
+    words_open Machine (Statements (terms_of sizes)) (codes "machine") refl
     (decimal sizes.harts ∷ decimal sizes.pages ∷ decimal sizes.cappages ∷ decimal sizes.gpts ∷ decimal sizes.processes ∷ decimal sizes.endpoints ∷ []) (omega arith)
     (printed-decimal sizes.harts (omega (arith, is.harts)), (printed-decimal sizes.pages (omega (arith, is.pages)), (printed-decimal sizes.cappages (omega (arith, is.cappages)), (printed-decimal sizes.gpts (omega (arith, is.gpts)), (printed-decimal sizes.processes (omega (arith, is.processes)), (printed-decimal sizes.endpoints (omega (arith, is.endpoints)), tt))))))
     (rw (
@@ -86,11 +86,11 @@ machine_opens sizes is rest n room fits =
 
 -- ---- the last line
 
-end_ends : (sizes : Sizes) → judged (Statements sizes) (codes "end") ≡ Ok (Ends sizes)
+end_ends : (sizes : Sizes) → judged (Statements (terms_of sizes)) (codes "end") ≡ Ok (Ends (terms_of sizes))
 unfolding judged further_line end_line
 end_ends sizes = rw (words_of-join (codes "end" ∷ []) refl) refl
 
-ends : (sizes : Sizes) (n room : ℕ) → 4 ≤ room → listing_of (Statements sizes) n (parts [] room (codes "end" ++ line_feed)) ≡ Good (record { sizes = sizes; statements = [] }) n []
+ends : (sizes : Sizes) (n room : ℕ) → 4 ≤ room → listing_of (Statements (terms_of sizes)) n (parts [] room (codes "end" ++ line_feed)) ≡ Good (record { sizes = sizes; statements = [] }) n []
 unfolding listing_of parts
 ends sizes n room fits = rw (parts-line_in_front (codes "end") [] room refl (omega arith) (omega arith), end_ends sizes) refl
 

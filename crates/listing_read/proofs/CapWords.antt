@@ -5,8 +5,9 @@ use Rattle.cap_format.proofs.Ranges.{limits}
 use Rattle.cap_format.specs.Kind.{is_window, object_limit}
 use Rattle.cap_format.specs.Guard.{IsGuard, guard_of}
 use Rattle.cap_format.specs.Capability.{IsCapability}
-use Rattle.listing_read.specs.declared.spelling.Spelled.{Spelled}
-use Rattle.listing_read.specs.CapWord.{IsSpelled, has_guard, is_aligned, meant}
+use Rattle.cap_words.specs.declared.spelling.Spelled.{Spelled}
+use Rattle.cap_words.specs.Spelling.{IsSpelled}
+use Rattle.listing_read.specs.CapWord.{has_guard, is_aligned, meant}
 
 -- a guard in its range passes the test
 pub guard_tested : (spelled : Spelled) → IsGuard (guard_of spelled.l2g spelled.matches) → has_guard spelled ≡ true

@@ -1,4 +1,3 @@
-mod Spellings
 mod CapWords
 mod Pairs
 mod Causes

@@ -1,16 +1,16 @@
 -- The capability that a word gives on a machine of some sizes, and its faults: that the word spells none, then that its
 -- object is not there, then its guard.
 use Rattle.std.specs.Prelude.{◌≡◌, ℕ, ◌-◌, ◌%◌, ◌^◌, ◌<◌, ◌==◌, ◌&&◌, ◌||◌, not, nat_lt, nat_le, Bool, true, false, List, ok_or, Result, Ok}
-use Rattle.cap_format.specs.Kind.{is_counted, is_memory, is_window, object_kind, object_limit, payload_limit, restr_limit, slot_limit}
-use Rattle.cap_format.specs.Guard.{guard_of, no_guard}
+use Rattle.cap_format.specs.Kind.{is_counted, is_window, object_kind}
+use Rattle.cap_format.specs.Guard.{guard_of}
 use Rattle.cap_format.specs.Capability.{Capability, capability}
 use Rattle.object_store.specs.declared.sizes.Sizes.{Sizes}
 use Rattle.object_store.specs.Sizes.{size_in}
 use Rattle.listing_read.specs.Faults.{◌>>=◌, ensured}
-use Rattle.listing_read.specs.Spelling.{spelled_of}
+use Rattle.cap_words.specs.Spelling.{spelled_of}
 use Rattle.listing_read.specs.declared.fault.Fault.{Fault}
 use Rattle.listing_read.specs.declared.fault.Fault.TheVariants.{BadCap, NoObject, BadGuard}
-use Rattle.listing_read.specs.declared.spelling.Spelled.{Spelled}
+use Rattle.cap_words.specs.declared.spelling.Spelled.{Spelled}
 
 -- the machine has the object that is named, if one is
 abbrev pub is_there : Sizes → Spelled → Bool
@@ -38,14 +38,6 @@ cap_of sizes word = do
   _ ← ensured (is_there sizes spelled) NoObject
   _ ← ensured (has_guard spelled && is_aligned spelled) BadGuard
   Ok (meant spelled)
-
--- what every spelling keeps: what its kind has not is 0 or 12/0, and what stands in it alone is in its range
-pub record IsSpelled (spelled : Spelled) : Type 0 where
-  pub restr : spelled.restr < restr_limit spelled.kind
-  pub unguarded : is_memory spelled.kind ≡ false → guard_of spelled.l2g spelled.matches ≡ no_guard
-  pub object : is_counted spelled.kind ≡ false → spelled.object < object_limit spelled.kind
-  pub payload : spelled.payload < payload_limit spelled.kind
-  pub slot : spelled.slot < slot_limit spelled.kind
 
 -- a capability of count 0, to an object that the machine has if it is to one
 pub record IsStated (sizes : Sizes) (cap : Capability) : Type 0 where

@@ -1,7 +1,6 @@
 pub mod Faults
 pub mod Fields
 pub mod Line
-pub mod Spelling
 pub mod CapWord
 pub mod Bytes
 pub mod Statement

@@ -17,9 +17,14 @@ use Rattle.listing_read.specs.declared.fault.ListingFault.{ListingFault}
 use Rattle.listing_read.specs.declared.fault.ListingFault.TheVariants as faults
 use Rattle.listing_read.specs.declared.place.Place.{Place}
 use Rattle.listing_read.specs.declared.place.Place.TheVariants.{Header, Machine, Statements}
+use Rattle.listing_read.specs.declared.place.Terms.{Terms}
 use Rattle.listing_read.specs.declared.place.Said.{Said}
 use Rattle.listing_read.specs.declared.place.Said.TheVariants.{Nothing, Opens, Says, Ends}
 use Rattle.listing_read.specs.declared.statement.Statement.{Statement}
+
+-- what the statements on a machine of these sizes are judged by
+abbrev pub terms_of : Sizes → Terms
+terms_of sizes = record { sizes = sizes }
 
 -- the first line
 unfoldable pub header_line : List (List ℕ) → Result Said Fault
@@ -31,30 +36,30 @@ header_line words = do
 unfoldable pub machine_line : List (List ℕ) → Result Said Fault
 machine_line words = do
   sizes ← ok_or (machine_of words) BadMachine
-  Ok (Opens (Statements sizes))
+  Ok (Opens (Statements (terms_of sizes)))
 
 -- `end`
-unfoldable pub end_line : Sizes → List (List ℕ) → Result Said Fault
-end_line sizes words = do
+unfoldable pub end_line : Terms → List (List ℕ) → Result Said Fault
+end_line terms words = do
   _ ← ensured (length words == 1) WrongWords
-  Ok (Ends sizes)
+  Ok (Ends terms)
 
 -- a statement
-unfoldable pub says_line : Sizes → List (List ℕ) → Result Said Fault
-says_line sizes words = do
-  statement ← statement_of sizes words
+unfoldable pub says_line : Terms → List (List ℕ) → Result Said Fault
+says_line terms words = do
+  statement ← statement_of terms.sizes words
   Ok (Says statement)
 
 -- every further line
-unfoldable pub further_line : Sizes → List (List ℕ) → Result Said Fault
-further_line sizes words =
-    if bytes_eq (field words 0) (codes "end") then end_line sizes words else says_line sizes words
+unfoldable pub further_line : Terms → List (List ℕ) → Result Said Fault
+further_line terms words =
+    if bytes_eq (field words 0) (codes "end") then end_line terms words else says_line terms words
 
 -- a line that is not skipped
 abbrev pub said_by : Place → List (List ℕ) → Result Said Fault
 said_by Header words = header_line words
 said_by Machine words = machine_line words
-said_by (Statements sizes) words = further_line sizes words
+said_by (Statements terms) words = further_line terms words
 
 -- a line by its words
 abbrev pub judged_words : Place → List (List ℕ) → Result Said Fault
@@ -84,14 +89,14 @@ with_front statements Past = Past
 abbrev pub fault_at_end : Place → Fault
 fault_at_end Header = BadHeader
 fault_at_end Machine = BadMachine
-fault_at_end (Statements sizes) = NoEnd
+fault_at_end (Statements terms) = NoEnd
 
 -- the place of the next line
 abbrev pub place_behind : Place → Result Said Fault → Place
 place_behind place (Ok (Opens next)) = next
 place_behind place (Ok Nothing) = place
 place_behind place (Ok (Says statement)) = place
-place_behind place (Ok (Ends sizes)) = place
+place_behind place (Ok (Ends terms)) = place
 place_behind place (Err fault) = place
 
 -- what line n makes, given the lines behind it and what they make
@@ -99,7 +104,7 @@ abbrev pub listed_by : ℕ → List Part → Result Said Fault → Listed → Li
 listed_by n rest (Ok Nothing) behind = behind
 listed_by n rest (Ok (Opens next)) behind = behind
 listed_by n rest (Ok (Says statement)) behind = with_front (statement ∷ []) behind
-listed_by n rest (Ok (Ends sizes)) behind = Good (record { sizes = sizes; statements = [] }) n rest
+listed_by n rest (Ok (Ends terms)) behind = Good (record { sizes = terms.sizes; statements = [] }) n rest
 listed_by n rest (Err fault) behind = Refused n fault
 
 -- what the lines from line n on make, the first of them in this place
@@ -130,7 +135,7 @@ is_end words = (length words == 1) && bytes_eq (field words 0) (codes "end")
 
 -- what ends a listing has these words
 abbrev pub EndsAt : Result Said Fault → List (List ℕ) → Type 0
-EndsAt (Ok (Ends sizes)) words = is_end words ≡ true
+EndsAt (Ok (Ends terms)) words = is_end words ≡ true
 EndsAt (Ok Nothing) words = ⊤
 EndsAt (Ok (Opens next)) words = ⊤
 EndsAt (Ok (Says statement)) words = ⊤
@@ -140,13 +145,13 @@ EndsAt (Err fault) words = ⊤
 abbrev pub IsPlace : Place → Type 0
 IsPlace Header = ⊤
 IsPlace Machine = ⊤
-IsPlace (Statements sizes) = IsWithinLimits sizes
+IsPlace (Statements terms) = IsWithinLimits terms.sizes
 
 -- what may be said in a place
 abbrev pub IsSaid : Place → Said → Type 0
 IsSaid place Nothing = ⊤
 IsSaid Header (Opens Machine) = ⊤
-IsSaid Machine (Opens (Statements sizes)) = IsWithinLimits sizes
-IsSaid (Statements sizes) (Says statement) = IsStatement sizes statement
-IsSaid (Statements sizes) (Ends same) = same ≡ sizes
+IsSaid Machine (Opens (Statements terms)) = IsWithinLimits terms.sizes
+IsSaid (Statements terms) (Says statement) = IsStatement terms.sizes statement
+IsSaid (Statements terms) (Ends same) = same ≡ terms
 IsSaid _ _ = ⊥

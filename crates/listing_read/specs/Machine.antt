@@ -2,7 +2,7 @@
 use Rattle.std.specs.Prelude.{ℕ, ◌==◌, ◌&&◌, nat_le, Bool, List, length, bytes_eq, codes, Option, Some}
 use Rattle.object_store.specs.declared.sizes.Sizes.{Sizes}
 use Rattle.listing_read.specs.Fields.{field}
-use Rattle.listing_read.specs.Spelling.{◌>>=◌, given, dec_to}
+use Rattle.cap_words.specs.Spelling.{◌>>=◌, given, dec_to}
 
 -- `coyotos 1`
 abbrev pub is_header : List (List ℕ) → Bool

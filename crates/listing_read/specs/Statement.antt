@@ -1,5 +1,5 @@
 -- What a listing may say of a machine of some sizes.
-use Rattle.std.specs.Prelude.{◌≡◌, ◌+◌, ◌%◌, ◌^◌, ◌<◌, ◌≤◌, Bool, true, false, List, length}
+use Rattle.std.specs.Prelude.{◌≡◌, ◌+◌, ◌%◌, ◌^◌, ◌<◌, ◌≤◌, Bool, true, false, List, [], ◌∷◌, ◌++◌, length}
 use Rattle.std.specs.List.{All}
 use Rattle.cap_format.specs.Kind.{is_object}
 use Rattle.cap_format.specs.declared.kind.CapKind.{CapKind}
@@ -38,6 +38,14 @@ IsStatement sizes (Count kind number count) = (number < size_in sizes kind) × (
 pub record ListingValue : Type 0 where
   pub sizes : Sizes
   pub statements : List Statement
+
+-- a listing that says nothing
+abbrev pub silent : Sizes → ListingValue
+silent sizes = record { sizes = sizes; statements = [] }
+
+-- a listing with one statement more behind the others
+abbrev pub saying : ListingValue → Statement → ListingValue
+saying listing statement = record listing { statements = listing.statements ++ statement ∷ [] }
 
 -- what every listing keeps
 pub record IsListing (listing : ListingValue) : Type 0 where

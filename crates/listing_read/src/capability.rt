@@ -6,12 +6,13 @@ ghost use Rattle.listing_read.specs.declared.fault.Fault.TheVariants.{NoObject, 
 ghost use Rattle.object_store.specs.Ranges.{IsWithinLimits};
 ghost use Rattle.object_store.specs.Sizes.{size_in};
 ghost use Rattle.listing_read.specs.Faults.{ensured};
-ghost use Rattle.listing_read.specs.CapWord.{is_there, has_guard, is_aligned, meant, cap_of, IsSpelled, IsStated};
+ghost use Rattle.listing_read.specs.CapWord.{is_there, has_guard, is_aligned, meant, cap_of, IsStated};
+ghost use Rattle.cap_words.specs.Spelling.{IsSpelled};
 
 use crate::fault::Fault;
-use crate::spelling::{Spelled, read_spelled};
 use bitflags::Flags;
 use cap_format::{Cap, CapKind, Guard, Restr};
+use cap_words::{Spelled, read_spelled};
 use object_store::Sizes;
 
 /// The capability, with count 0, that a word spells on a machine of these sizes.

@@ -14,7 +14,6 @@ mod listing;
 mod page_bytes;
 mod place;
 mod schedule;
-mod spelling;
 mod statement;
 mod statements;
 

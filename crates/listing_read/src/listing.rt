@@ -1,18 +1,19 @@
 //! A listing whole.
-ghost use Rattle.std.specs.Prelude.{◌≡◌, ◌≢◌, ◌≤◌, ◌<◌, ◌+◌, ◌^◌, ◌∷◌, [], length, true, false, OnOk, IfOk, IfErr};
+ghost use Rattle.std.specs.Prelude.{◌≡◌, ◌≢◌, ◌≤◌, ◌<◌, ◌+◌, ◌^◌, ◌∷◌, [], length, true, false, OnOk, OnErr, IfOk, IfErr};
 ghost use Rattle.std.specs.List.{All};
 ghost use Rattle.coy_text.specs.Words.{words_of};
 ghost use Rattle.coy_io.specs.Causes.{Rose};
 ghost use Rattle.coy_io.specs.Reader.{ahead, TellsEnd};
 ghost use Rattle.object_store.specs.Ranges.{IsWithinLimits};
 ghost use Rattle.listing_read.specs.declared.place.Place.TheVariants.{Header};
-ghost use Rattle.listing_read.specs.Statement.{IsStatement};
+ghost use Rattle.listing_read.specs.Statement.{IsStatement, saying, silent};
 ghost use Rattle.listing_read.specs.Listing.{IsListed, IsCause, is_end};
 ghost use Rattle.listing_read.specs.Reads.{ReadsLine, IsStopped, GivesListing, GivesFront};
 
 use crate::fault::{Fault, ListingFault};
 use crate::place::{Place, Said, judge};
 use crate::statement::Statement;
+use cap_format::OutOfMemory;
 use coy_io::{LineFault, LineReader, Source};
 use object_store::Sizes;
 use std::alloc::Global;
@@ -36,6 +37,28 @@ impl Model for Listing {
 }
 
 impl Listing {
+    /// A listing that says nothing of a machine of these sizes.
+    pub fn new(alloc: Global, sizes: Sizes) -> Listing
+        requires { IsWithinLimits sizes }
+        ensures { result ≡ silent sizes }
+    {
+        Listing {
+            sizes,
+            statements: Vec::new(alloc),
+        }
+    }
+
+    /// Adds a statement behind the others.
+    pub fn push(&mut self, statement: Statement) -> Result<(), OutOfMemory>
+        requires said { IsStatement self.old.sizes statement }
+        requires few { length self.old.statements + 1 < 2 ^ 32 }
+        ensures ok { OnOk result (self.new ≡ saying self.old statement) }
+        ensures err { OnErr result (self.new ≡ self.old) }
+    {
+        self.statements.push(statement)?;
+        Ok(())
+    }
+
     pub fn sizes(&self) -> Sizes
         ensures value { result ≡ self.now.sizes }
         ensures limits { IsWithinLimits result }
@@ -91,7 +114,12 @@ pub fn read_listing<S: Source>(
             Ok(Said::Nothing) => {}
             Ok(Said::Opens(next)) => place = next,
             Ok(Said::Says(statement)) => statements.push(statement)?,
-            Ok(Said::Ends(sizes)) => return Ok(Listing { sizes, statements }),
+            Ok(Said::Ends(terms)) => {
+                return Ok(Listing {
+                    sizes: terms.sizes,
+                    statements,
+                });
+            }
             Err(fault) => return Err(refused(number, fault)),
         }
     }

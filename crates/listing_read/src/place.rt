@@ -10,11 +10,18 @@ ghost use Rattle.listing_read.specs.Listing.{header_line, machine_line, end_line
 use crate::fault::Fault;
 use crate::fields::has_words;
 use crate::line::{is_skipped, is_visible};
-use crate::spelling::number_to;
 use crate::statement::Statement;
 use crate::statements::statement;
+use cap_words::number_to;
 use coy_text::{word, word_count};
 use object_store::Sizes;
+
+/// What the statements of a listing are judged by, as the lines before them said it.
+#[derive(Clone, Copy)]
+pub struct Terms {
+    /// How many objects of each kind the machine has.
+    pub sizes: Sizes,
+}
 
 /// What the next line that is not skipped has to be.
 #[derive(Clone, Copy)]
@@ -23,8 +30,8 @@ pub enum Place {
     Header,
     /// The second.
     Machine,
-    /// A statement or the end, on a machine of these sizes.
-    Statements(Sizes),
+    /// A statement or the end, judged by these terms.
+    Statements(Terms),
 }
 
 /// What a line says.
@@ -36,8 +43,8 @@ pub enum Said {
     Opens(Place),
     /// A statement.
     Says(Statement),
-    /// The listing ends, on a machine of these sizes.
-    Ends(Sizes),
+    /// The listing ends, whose statements were judged by these terms.
+    Ends(Terms),
 }
 
 impl Place {
@@ -70,7 +77,7 @@ pub(crate) fn judge(place: Place, line: &[u8]) -> Result<Said, Fault>
     match place {
         Place::Header => header(line),
         Place::Machine => opened(line),
-        Place::Statements(sizes) => further(sizes, line),
+        Place::Statements(terms) => further(terms, line),
     }
 }
 
@@ -101,7 +108,7 @@ fn opened(line: &[u8]) -> Result<Said, Fault>
     ensures end { EndsAt result (words_of line.now) }
 {
     match machine_sizes(line) {
-        Some(sizes) => Ok(Said::Opens(Place::Statements(sizes))),
+        Some(sizes) => Ok(Said::Opens(Place::Statements(Terms { sizes }))),
         None => Err(Fault::BadMachine),
     }
 }
@@ -130,35 +137,35 @@ fn machine_sizes(line: &[u8]) -> Option<Sizes>
 }
 
 #[tactic(auto, unfolding(crate::specs::Listing::further_line))]
-fn further(sizes: Sizes, line: &[u8]) -> Result<Said, Fault>
-    requires { IsWithinLimits sizes }
-    ensures value { result ≡ further_line sizes (words_of line.now) }
-    ensures range { IfOk result (IsSaid (Statements sizes)) }
+fn further(terms: Terms, line: &[u8]) -> Result<Said, Fault>
+    requires { IsWithinLimits terms.sizes }
+    ensures value { result ≡ further_line terms (words_of line.now) }
+    ensures range { IfOk result (IsSaid (Statements terms)) }
     ensures end { EndsAt result (words_of line.now) }
 {
     if word(line, 0) == b"end".as_slice() {
-        return ended(sizes, line);
+        return ended(terms, line);
     }
-    stated(sizes, line)
+    stated(terms, line)
 }
 
 #[tactic(auto, unfolding(crate::specs::Listing::end_line))]
-fn ended(sizes: Sizes, line: &[u8]) -> Result<Said, Fault>
+fn ended(terms: Terms, line: &[u8]) -> Result<Said, Fault>
     requires { bytes_eq (field (words_of line.now) 0) (codes "end") ≡ true }
-    ensures value { result ≡ end_line sizes (words_of line.now) }
-    ensures range { IfOk result (IsSaid (Statements sizes)) }
+    ensures value { result ≡ end_line terms (words_of line.now) }
+    ensures range { IfOk result (IsSaid (Statements terms)) }
     ensures end { EndsAt result (words_of line.now) }
 {
     has_words(line, 1)?;
-    Ok(Said::Ends(sizes))
+    Ok(Said::Ends(terms))
 }
 
 #[tactic(auto, unfolding(crate::specs::Listing::says_line))]
-fn stated(sizes: Sizes, line: &[u8]) -> Result<Said, Fault>
-    requires { IsWithinLimits sizes }
-    ensures value { result ≡ says_line sizes (words_of line.now) }
-    ensures range { IfOk result (IsSaid (Statements sizes)) }
+fn stated(terms: Terms, line: &[u8]) -> Result<Said, Fault>
+    requires { IsWithinLimits terms.sizes }
+    ensures value { result ≡ says_line terms (words_of line.now) }
+    ensures range { IfOk result (IsSaid (Statements terms)) }
     ensures end { EndsAt result (words_of line.now) }
 {
-    Ok(Said::Says(statement(sizes, line)?))
+    Ok(Said::Says(statement(terms.sizes, line)?))
 }

@@ -15,11 +15,11 @@ use Rattle.cap_format.specs.Kind.{is_counted, is_window, object_kind}
 use Rattle.cap_format.specs.Capability.{Capability, capability, bare, IsCapability}
 use Rattle.cap_format.proofs.Ranges.{matches_small, IsCapability-bare}
 use Rattle.object_store.specs.declared.sizes.Sizes.{Sizes}
-use Rattle.listing_read.specs.declared.spelling.Spelled.{Spelled}
-use Rattle.listing_read.specs.Spelling.{restr_of, match_of, guarded_of, memory_of, window_of, spelled_of, headed, schedule_of, named_of, entry_of, local_of, dec_to, plain_kind_of}
+use Rattle.cap_words.specs.declared.spelling.Spelled.{Spelled}
+use Rattle.cap_words.specs.Spelling.{restr_of, match_of, guarded_of, memory_of, window_of, spelled_of, headed, schedule_of, named_of, entry_of, local_of, dec_to, plain_kind_of}
 use Rattle.object_store.specs.Sizes.{size_in}
 use Rattle.listing_read.specs.CapWord.{cap_of}
-use Rattle.run_text.specs.Capability.{letters, restr_text, guard_text, cap_word, cap_text}
+use Rattle.cap_words.specs.Text.{letters, restr_text, guard_text, cap_word, cap_text}
 use Rattle.read_back.proofs.Printed.{is_glyph, IsPiece, IsPrinted, piece, joined, printed, piece-decimal, piece-hex_text}
 
 -- a text that lacks a mark is not cut at it

@@ -12,7 +12,7 @@ use Rattle.object_store.specs.declared.sizes.Sizes.{Sizes}
 use Rattle.object_store.specs.Sizes.{size_in}
 use Rattle.listing_read.specs.Fields.{hex_number_of, object_of, between_of}
 use Rattle.listing_read.specs.StatementLines.{kind_of, hex_bytes_of}
-use Rattle.listing_read.specs.Spelling.{◌>>=◌}
+use Rattle.cap_words.specs.Spelling.{◌>>=◌}
 use Rattle.listing_read.specs.Bytes.{byte_of, bytes_of}
 use Rattle.run_text.specs.Names.{object_name}
 use Rattle.run_text.specs.Record.{bytes_text}

@@ -16,7 +16,7 @@ use Rattle.listing_read.specs.Line.{says_nothing}
 use Rattle.listing_read.specs.StatementLines.{statement_of}
 use Rattle.listing_read.specs.declared.place.Place.TheVariants.{Statements}
 use Rattle.listing_read.specs.declared.place.Said.TheVariants.{Says}
-use Rattle.listing_read.specs.Listing.{listing_of, with_front, judged, further_line, says_line}
+use Rattle.listing_read.specs.Listing.{listing_of, with_front, judged, further_line, says_line, terms_of}
 use Rattle.run_text.specs.Each.{line_feed}
 use Rattle.read_back.specs.Laws.{TextsAreListed}
 use Rattle.read_back.specs.ReadsBack.{ReadsBack}
@@ -74,7 +74,7 @@ line_reads first opening words few text_is each says =
     }
 
 -- the line in front of other lines
-line_in_front : (sizes : Sizes) (line rest : List ℕ) (statement : Statement) (n room : ℕ) → IsUnfinished line → length line ≤ LINE_LIMIT → judged (Statements sizes) line ≡ Ok (Says statement) → length line < room → listing_of (Statements sizes) n (parts [] room (line ++ (10 ∷ rest))) ≡ with_front (statement ∷ []) (listing_of (Statements sizes) (n + 1) (parts [] (room - (length line + 1)) rest))
+line_in_front : (sizes : Sizes) (line rest : List ℕ) (statement : Statement) (n room : ℕ) → IsUnfinished line → length line ≤ LINE_LIMIT → judged (Statements (terms_of sizes)) line ≡ Ok (Says statement) → length line < room → listing_of (Statements (terms_of sizes)) n (parts [] room (line ++ (10 ∷ rest))) ≡ with_front (statement ∷ []) (listing_of (Statements (terms_of sizes)) (n + 1) (parts [] (room - (length line + 1)) rest))
 unfolding listing_of
 line_in_front sizes line rest statement n room whole short said fits =
     rw (parts-line_in_front line rest room whole short fits, said) refl

@@ -5,7 +5,7 @@ use Rattle.object_store.specs.declared.sizes.Sizes.{Sizes}
 use Rattle.listing_read.specs.declared.place.Place.TheVariants.{Statements}
 use Rattle.listing_read.specs.declared.statement.Statement.{Statement}
 use Rattle.listing_read.specs.Statement.{ListingValue}
-use Rattle.listing_read.specs.Listing.{Listed, Good, Refused, Past, listing_of, with_front}
+use Rattle.listing_read.specs.Listing.{Listed, Good, Refused, Past, listing_of, with_front, terms_of}
 use Rattle.run_text.specs.Each.{each_below}
 use Rattle.read_back.specs.ReadsBack.{ReadsBack}
 use Rattle.read_back.specs.Lists.{Lists}
@@ -28,7 +28,7 @@ with_front-both xs ys Past = refl
 
 -- what stands behind a text
 abbrev behind : Sizes → ℕ → ℕ → List ℕ → Listed
-behind sizes n room rest = listing_of (Statements sizes) n (parts [] room rest)
+behind sizes n room rest = listing_of (Statements (terms_of sizes)) n (parts [] room rest)
 
 pub nothing : NothingIsListed
 nothing sizes = record {
@@ -48,7 +48,7 @@ both sizes first second xs ys a b = record {
       let count = length-append xs ys in
       let line : (n + length xs) + length ys ≡ n + length (xs ++ ys) = omega arith in
       let left : (room - length first) - length second ≡ room - length (first ++ second) = omega arith in
-      ap (λ text. listing_of (Statements sizes) n (parts [] room text)) (append_assoc first second rest)
+      ap (λ text. listing_of (Statements (terms_of sizes)) n (parts [] room text)) (append_assoc first second rest)
       ∙ a.listed n room (second ++ rest) (omega arith)
       ∙ ap (with_front xs) (b.listed (n + length xs) (room - length first) rest (omega arith))
       ∙ with_front-both xs ys (behind sizes ((n + length xs) + length ys) ((room - length first) - length second) rest)

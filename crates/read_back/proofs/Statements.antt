@@ -21,7 +21,7 @@ use Rattle.listing_read.specs.StatementLines.{statement_of, count_line, page_lin
 use Rattle.run_text.specs.Each.{line_feed}
 use Rattle.run_text.specs.Names.{object_name}
 use Rattle.run_text.specs.Record.{bytes_text}
-use Rattle.run_text.specs.Capability.{cap_text}
+use Rattle.cap_words.specs.Text.{cap_text}
 use Rattle.run_text.specs.Objects.{count_text, row_text, slot_text, header_text, endpoint_text, process_text, register_text, state_word}
 use Rattle.read_back.specs.Laws.{CountsReadBack, RowsReadBack, CapPageSlotsReadBack, HeadersReadBack, GptSlotsReadBack, EndpointsReadBack, runs_of, ProcessesReadBack, RegistersReadBack, CapRegistersReadBack}
 use Rattle.read_back.proofs.Printed.{IsPrinted, ArePrinted, printed}

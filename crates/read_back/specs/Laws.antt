@@ -19,8 +19,8 @@ use Rattle.listing_read.specs.declared.statement.Statement.{Statement}
 use Rattle.listing_read.specs.declared.statement.Statement.TheVariants as says
 use Rattle.listing_read.specs.CapWord.{cap_of, IsStated}
 use Rattle.listing_read.specs.Statement.{IsStatement}
-use Rattle.listing_read.specs.Listing.{listing_of, with_front}
-use Rattle.run_text.specs.Capability.{cap_text}
+use Rattle.listing_read.specs.Listing.{listing_of, with_front, terms_of}
+use Rattle.cap_words.specs.Text.{cap_text}
 use Rattle.run_text.specs.Objects.{is_null, is_empty_header, is_empty_endpoint, is_empty_process, count_text, row_text, slot_text, header_text, endpoint_text, process_text, register_text}
 use Rattle.read_back.specs.ReadsBack.{ReadsBack}
 
@@ -107,5 +107,5 @@ abbrev pub TextsAreListed : Type 0
 TextsAreListed =
     (sizes : Sizes) (text rest : List ℕ) (statement : Statement) (n room : ℕ) → ReadsBack sizes text statement →
     length text ≤ room →
-    listing_of (Statements sizes) n (parts [] room (text ++ rest)) ≡
-    with_front (statement ∷ []) (listing_of (Statements sizes) (n + 1) (parts [] (room - length text) rest))
+    listing_of (Statements (terms_of sizes)) n (parts [] room (text ++ rest)) ≡
+    with_front (statement ∷ []) (listing_of (Statements (terms_of sizes)) (n + 1) (parts [] (room - length text) rest))

@@ -4,11 +4,11 @@ use Rattle.coy_io.specs.Lines.{parts}
 use Rattle.object_store.specs.declared.sizes.Sizes.{Sizes}
 use Rattle.listing_read.specs.declared.place.Place.TheVariants.{Statements}
 use Rattle.listing_read.specs.declared.statement.Statement.{Statement}
-use Rattle.listing_read.specs.Listing.{listing_of, with_front}
+use Rattle.listing_read.specs.Listing.{listing_of, with_front, terms_of}
 
 -- wherever the text stands among the statements of a listing, and whatever bytes stand behind it, of which a reader may
 -- take so many: it lists these statements, and goes on with what stands behind it, a line further for each of them
 pub record Lists (sizes : Sizes) (text : List ℕ) (statements : List Statement) : Type 0 where
   pub listed : (n room : ℕ) (rest : List ℕ) → length text ≤ room →
-      listing_of (Statements sizes) n (parts [] room (text ++ rest)) ≡
-      with_front statements (listing_of (Statements sizes) (n + length statements) (parts [] (room - length text) rest))
+      listing_of (Statements (terms_of sizes)) n (parts [] room (text ++ rest)) ≡
+      with_front statements (listing_of (Statements (terms_of sizes)) (n + length statements) (parts [] (room - length text) rest))

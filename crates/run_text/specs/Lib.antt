@@ -1,6 +1,5 @@
 pub mod Each
 pub mod Names
-pub mod Capability
 pub mod Record
 pub mod Walk
 pub mod Objects

@@ -22,7 +22,7 @@ use Rattle.run_text.specs.declared.parts.Part.{Part}
 use Rattle.run_text.specs.declared.parts.Part.TheVariants.{Row, PageSlot, GptSlot, Register, CapRegister}
 use Rattle.run_text.specs.Each.{line_feed, each_below}
 use Rattle.run_text.specs.Names.{fault_name, object_name}
-use Rattle.run_text.specs.Capability.{cap_text}
+use Rattle.cap_words.specs.Text.{cap_text}
 use Rattle.run_text.specs.Record.{bytes_text}
 
 -- a number that is 0

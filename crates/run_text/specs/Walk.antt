@@ -6,7 +6,7 @@ use Rattle.walk_meaning.specs.declared.place.Place.{Place}
 use Rattle.walk_meaning.specs.declared.place.WalkFault.{WalkFault}
 use Rattle.run_text.specs.Each.{line_feed}
 use Rattle.run_text.specs.Names.{fault_name, object_name}
-use Rattle.run_text.specs.Capability.{letters, cap_text}
+use Rattle.cap_words.specs.Text.{letters, cap_text}
 
 -- all restrictions that were met, by their letters
 abbrev pub met_text : ℕ → List ℕ

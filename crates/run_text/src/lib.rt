@@ -3,7 +3,6 @@
 //! Nothing here knows where the text goes.
 #![tactic(auto)]
 
-mod capability;
 mod names;
 mod objects;
 mod parts;

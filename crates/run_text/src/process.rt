@@ -3,12 +3,12 @@ ghost use Rattle.std.specs.Prelude.{◌≡◌, ◌≤◌, ◌<◌, ◌+◌, ◌+
 ghost use Rattle.std.specs.List.{list_all};
 ghost use Rattle.process_objects.specs.Process.{IsProcess, slot_of};
 ghost use Rattle.object_store.specs.Meaning.{meaning, process_map};
-ghost use Rattle.run_text.specs.Capability.{cap_text};
+ghost use Rattle.cap_words.specs.Text.{cap_text};
 ghost use Rattle.run_text.specs.Objects.{is_null, is_stopped, is_still, wait_text, registers_text, accept_text, state_word, is_empty_process, process_text};
 
-use crate::capability::{push_capability, push_number, push_numbered, push_value};
 use crate::names::fault_name;
 use crate::statements::is_null;
+use cap_words::{push_capability, push_number, push_numbered, push_value};
 use coy_text::LineBuf;
 use object_store::Objects;
 use process_objects::{Accept, Process, State, Wait};

@@ -5,9 +5,9 @@ ghost use Rattle.rv32_decode.specs.InRange.{InRange};
 ghost use Rattle.run_text.specs.Record.{place_text, words_text, bytes_text, hearer_text};
 ghost use Rattle.run_text.specs.Record.{access_said, insn_said, envelope_said, fault_said, said, record_text};
 
-use crate::capability::{push_number, push_numbered, push_value};
 use crate::names::{access_name, fault_name, object_name, target_name};
 use cap_format::FaultCode;
+use cap_words::{push_number, push_numbered, push_value};
 use coy_text::LineBuf;
 use kernel_core::Record;
 use rv32_asm::disassemble;

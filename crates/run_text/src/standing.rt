@@ -6,8 +6,8 @@ ghost use Rattle.run_text.specs.Standing.{occupant_text, hart_text, member_text,
 ghost use Rattle.run_text.specs.State.{queue_line, harts_text, ready_text, sleepers_text};
 ghost use Rattle.run_text.specs.Written.{WroteTo};
 
-use crate::capability::push_numbered;
 use crate::writing::{put_line, put_text};
+use cap_words::push_numbered;
 use coy_io::{Sink, WriteFault};
 use coy_text::LineBuf;
 use schedules::Queues;

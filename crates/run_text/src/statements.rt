@@ -5,10 +5,10 @@ ghost use Rattle.cap_format.specs.Capability.{bare};
 ghost use Rattle.object_store.specs.Meaning.{endpoint_map};
 ghost use Rattle.run_text.specs.Objects.{is_null_kind, is_empty_header, is_empty_endpoint, count_text, row_text, slot_text, header_text, endpoint_text, register_text};
 
-use crate::capability::{push_capability, push_numbered, push_value};
 use crate::names::object_name;
 use crate::record::push_bytes;
 use cap_format::{Cap, CapKind};
+use cap_words::{push_capability, push_numbered, push_value};
 use coy_text::LineBuf;
 use endpoint_objects::Endpoint;
 use gpt_objects::GptHeader;

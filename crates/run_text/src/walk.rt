@@ -3,10 +3,10 @@ ghost use Rattle.std.specs.Prelude.{◌≡◌, ◌≤◌, ◌<◌, ◌+◌, ◌+
 ghost use Rattle.walk_engine.specs.Answer.{bare_handler, fault_meaning, answer_meaning};
 ghost use Rattle.run_text.specs.Walk.{met_text, reach_text, handler_text, unreached_text, walk_text};
 
-use crate::capability::{push_capability, push_letters, push_numbered};
 use crate::names::{fault_name, object_name};
 use bitflags::Flags;
 use cap_format::Cap;
+use cap_words::{push_capability, push_letters, push_numbered};
 use coy_text::LineBuf;
 use walk_meaning::{Place, WalkFault};
 

@@ -5,7 +5,8 @@ ghost use Rattle.std.specs.Prelude.{◌≡◌};
 use coy_io::{LineReader, MemSource, Source};
 use generated_text::MakeSource;
 use image_builder::boot;
-use listing_read::read_listing;
+use listing_read::{Listing, Statement, read_listing};
+use object_store::Sizes;
 use process_objects::State;
 use std::test::Fail;
 use walk_engine::Plain;
@@ -88,5 +89,33 @@ fn a_machine_starts_as_its_listing_says(rt: HostRuntime) -> Result<(), Fail> {
     assert_eq!(rt; queues.ready_at(3, 0), Some(0));
     assert_eq!(rt; queues.ready_at(3, 1), Some(2));
     assert_eq!(rt; queues.ready_at(3, 2), None);
+    Ok(())
+}
+
+#[test]
+fn a_listing_is_made_statement_by_statement(rt: HostRuntime) -> Result<(), Fail> {
+    let sizes = Sizes {
+        harts: 1,
+        pages: 0,
+        cappages: 0,
+        gpts: 0,
+        processes: 1,
+        endpoints: 0,
+    };
+    let mut listing = Listing::new(rt.alloc(), sizes);
+    let register = Statement::Reg {
+        number: 0,
+        index: 5,
+        value: 7,
+    };
+    let Ok(()) = listing.push(register) else {
+        return Err(Fail::from("no memory for a statement"));
+    };
+    let Ok(machine) = boot(rt.alloc(), &listing, Plain::new()) else {
+        return Err(Fail::from("the machine did not start"));
+    };
+    let objects = machine.objects();
+    assert!(rt; objects.sizes().processes == 1);
+    assert_eq!(rt; objects.process(0).reg(5), 7);
     Ok(())
 }

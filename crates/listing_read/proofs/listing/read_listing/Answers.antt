@@ -64,16 +64,16 @@ lines-preserved g c =
 pub returns-in-Ok-Ends-clause-listed : goal.returns-in-Ok-Ends-clause-listed
 returns-in-Ok-Ends-clause-listed g c =
     let e = rw c.in-Ok-Ends.field-0-is at c.in-Ok-Ends.ensures in
-    let said = says c.lines.place c.line.result.now c.next_line.new.lines.line (Ok (Ends c.in-Ok-Ends.sizes)) c.line.ensures.value e.value in
+    let said = says c.lines.place c.line.result.now c.next_line.new.lines.line (Ok (Ends c.in-Ok-Ends.terms)) c.line.ensures.value e.value in
     let next = c.in_ok-number.ensures in
-    listed_end _ c.lines.lines c.next_line.new.lines _ _ _ c.lines.statements.items c.lines.place c.in-Ok-Ends.sizes c.lines.invariant.follows next.reads said
+    listed_end _ c.lines.lines c.next_line.new.lines _ _ _ c.lines.statements.items c.lines.place c.in-Ok-Ends.terms c.lines.invariant.follows next.reads said
 
 pub returns-in-Ok-Ends-clause-given : goal.returns-in-Ok-Ends-clause-given
 returns-in-Ok-Ends-clause-given g c =
     let e = rw c.in-Ok-Ends.field-0-is at c.in-Ok-Ends.ensures in
-    let said = says c.lines.place c.line.result.now c.next_line.new.lines.line (Ok (Ends c.in-Ok-Ends.sizes)) c.line.ensures.value e.value in
+    let said = says c.lines.place c.line.result.now c.next_line.new.lines.line (Ok (Ends c.in-Ok-Ends.terms)) c.line.ensures.value e.value in
     let next = c.in_ok-number.ensures in
-    gives_end _ c.lines.lines c.next_line.new.lines _ _ _ c.lines.statements.items c.lines.place c.in-Ok-Ends.sizes c.lines.invariant.follows next.reads said
+    gives_end _ c.lines.lines c.next_line.new.lines _ _ _ c.lines.statements.items c.lines.place c.in-Ok-Ends.terms c.lines.invariant.follows next.reads said
 
 pub returns-in-Err-clause-fault : goal.returns-in-Err-clause-fault
 returns-in-Err-clause-fault g c =

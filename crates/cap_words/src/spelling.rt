@@ -1,9 +1,8 @@
-//! Capabilities as words, without regard to what the machine has.
+//! A capability as it is read, without regard to what a machine has.
 ghost use Rattle.std.specs.Prelude.{◌≡◌, ◌≤◌, ◌<◌, ◌^◌, true, false, IfSome};
 ghost use Rattle.coy_text.specs.Numeral.{dec_of, hex_of};
 ghost use Rattle.cap_format.specs.Kind.{is_memory, is_window, is_counted, object_limit, payload_limit, slot_limit};
-ghost use Rattle.listing_read.specs.Spelling.{dec_to, named, behind, plain_kind_of, letter_at, restr_of, match_of, guarded_of, schedule_of, named_of, entry_of, memory_of, window_of, local_of, headed, spelled_of};
-ghost use Rattle.listing_read.specs.CapWord.{IsSpelled};
+ghost use Rattle.cap_words.specs.Spelling.{dec_to, named, behind, plain_kind_of, letter_at, restr_of, match_of, guarded_of, schedule_of, named_of, entry_of, memory_of, window_of, local_of, headed, spelled_of, IsSpelled};
 
 use cap_format::CapKind;
 use coy_text::{cut, read_dec, read_hex};
@@ -31,7 +30,7 @@ pub struct Guarded {
 
 /// What a word spells. `None` where it spells no capability.
 #[tactic(auto, unfolding(crate::specs::Spelling::spelled_of))]
-pub(crate) fn read_spelled(word: &[u8]) -> Option<Spelled>
+pub fn read_spelled(word: &[u8]) -> Option<Spelled>
     ensures value { result ≡ spelled_of word.now }
     ensures range { IfSome result IsSpelled }
 {
@@ -274,7 +273,7 @@ fn number(word: &[u8]) -> Option<u32>
 }
 
 #[tactic(auto, unfolding(crate::specs::Spelling::dec_to))]
-pub(crate) fn number_to(most: u32, word: &[u8]) -> Option<u32>
+pub fn number_to(most: u32, word: &[u8]) -> Option<u32>
     ensures value { result ≡ dec_to most word.now }
     ensures most { IfSome result (λ n. n ≤ most) }
 {

@@ -1,14 +1,15 @@
-//! A capability as one word.
+//! A capability as it is written.
 ghost use Rattle.std.specs.Prelude.{◌≡◌, ◌≤◌, ◌+◌, ◌++◌, codes, decimal, length};
 ghost use Rattle.coy_text.specs.Numeral.{hex_text};
-ghost use Rattle.run_text.specs.Capability.{letter, letters, restr_text, guard_text, cap_word, cap_text};
+ghost use Rattle.cap_words.specs.Text.{letter, letters, restr_text, guard_text, cap_word, cap_text};
 
 use bitflags::Flags;
+use crate::numbers::push_numbered;
 use cap_format::{Cap, CapKind, Guard};
 use coy_text::LineBuf;
 
 /// Appends the word of a capability.
-pub(crate) fn push_capability(line: &mut LineBuf, cap: Cap)
+pub fn push_capability(line: &mut LineBuf, cap: Cap)
     requires { length line.old ≤ 900 }
     ensures text { line.new ≡ line.old ++ cap_text cap }
     ensures len { length line.new ≤ length line.old + 80 }
@@ -17,7 +18,7 @@ pub(crate) fn push_capability(line: &mut LineBuf, cap: Cap)
 }
 
 /// Appends the word of a capability of this kind.
-#[tactic(auto, unfolding(crate::specs::Capability::cap_word))]
+#[tactic(auto, unfolding(crate::specs::Text::cap_word))]
 fn push_spelling(line: &mut LineBuf, kind: CapKind, cap: Cap)
     requires { length line.old ≤ 900 }
     ensures text { line.new ≡ line.old ++
@@ -64,38 +65,8 @@ fn push_spelling(line: &mut LineBuf, kind: CapKind, cap: Cap)
     }
 }
 
-/// Appends a word and a decimal number.
-pub(crate) fn push_numbered(line: &mut LineBuf, word: &str, number: u32)
-    requires { length line.old + length word.now ≤ 1010 }
-    ensures text { line.new ≡ line.old ++ word.now ++ decimal number }
-    ensures len { length line.new ≤ length line.old + length word.now + 10 }
-{
-    line.push_word(word);
-    push_number(line, number);
-}
-
-/// Appends a decimal number, which has at most 10 digits.
-#[tactic(auto, using(coy_text::proofs::NumeralLaws::length_decimal_32))]
-pub(crate) fn push_number(line: &mut LineBuf, number: u32)
-    requires { length line.old ≤ 1010 }
-    ensures text { line.new ≡ line.old ++ decimal number }
-    ensures len { length line.new ≤ length line.old + 10 }
-{
-    line.push_dec(number as u64);
-}
-
-/// Appends a space and an address or a value.
-pub(crate) fn push_value(line: &mut LineBuf, value: u32)
-    requires { length line.old ≤ 1000 }
-    ensures text { line.new ≡ line.old ++ codes " " ++ hex_text 8 value }
-    ensures len { length line.new ≡ length line.old + 9 }
-{
-    line.push_word(" ");
-    line.push_hex(value, 8);
-}
-
 /// Appends the guard and the restrictions of a memory capability.
-#[tactic(auto, unfolding(crate::specs::Capability::guard_text))]
+#[tactic(auto, unfolding(crate::specs::Text::guard_text))]
 fn push_guard(line: &mut LineBuf, cap: Cap)
     requires { length line.old ≤ 960 }
     ensures text { line.new ≡ line.old ++ guard_text cap.guard cap.restr }
@@ -131,7 +102,8 @@ fn push_restrictions(line: &mut LineBuf, restr: u8)
     push_letters(line, restr);
 }
 
-pub(crate) fn push_letters(line: &mut LineBuf, restr: u8)
+/// Appends the letters of restrictions, by the bits of these.
+pub fn push_letters(line: &mut LineBuf, restr: u8)
     requires { length line.old ≤ 1010 }
     ensures text { line.new ≡ line.old ++ letters restr }
     ensures len { length line.new ≤ length line.old + 5 }

@@ -4,10 +4,9 @@ use Rattle.std.proofs.lemmas.Bool.{true≢false}
 use Rattle.cap_format.specs.declared.kind.CapKind.{CapKind}
 use Rattle.cap_format.specs.declared.kind.CapKind.TheVariants.{LocalWindow, Entry}
 use Rattle.cap_format.specs.Kind.{is_counted, is_memory, object_limit, payload_limit, restr_limit, slot_limit}
-use Rattle.listing_read.specs.declared.spelling.Spelled.{Spelled}
-use Rattle.listing_read.specs.declared.spelling.Guarded.{Guarded}
-use Rattle.listing_read.specs.Spelling.{named, behind}
-use Rattle.listing_read.specs.CapWord.{IsSpelled}
+use Rattle.cap_words.specs.declared.spelling.Spelled.{Spelled}
+use Rattle.cap_words.specs.declared.spelling.Guarded.{Guarded}
+use Rattle.cap_words.specs.Spelling.{named, behind, IsSpelled}
 
 -- every kind may have no restriction
 positive_restr : (kind : CapKind) → 0 < restr_limit kind

@@ -1,12 +1,14 @@
 -- Which words spell a capability, and what they spell: one function for each form of the words. What a kind has not is
 -- 0, and its guard is 12/0.
-use Rattle.std.specs.Prelude.{ℕ, ◌+◌, ◌*◌, ◌==◌, ◌||◌, not, nat_le, Bool, true, false, if◌then◌else◌, List, [], ◌∷◌, length, Option, Some, None, option_map, bytes_eq, codes}
+use Rattle.std.specs.Prelude.{ℕ, ◌≡◌, ◌<◌, ◌+◌, ◌*◌, ◌==◌, ◌||◌, not, nat_le, Bool, true, false, if◌then◌else◌, List, [], ◌∷◌, length, Option, Some, None, option_map, bytes_eq, codes}
 use Rattle.coy_text.specs.Numeral.{dec_of, hex_of}
 use Rattle.coy_text.specs.Words.{cut_at}
 use Rattle.cap_format.specs.declared.kind.CapKind.{CapKind}
 use Rattle.cap_format.specs.declared.kind.CapKind.TheVariants.{Null, Page, CapPage, Gpt, Window, LocalWindow, Endpoint, Entry, Process, Schedule, Range, Discrim, KernLog, SysCtl}
-use Rattle.listing_read.specs.declared.spelling.Spelled.{Spelled}
-use Rattle.listing_read.specs.declared.spelling.Guarded.{Guarded}
+use Rattle.cap_format.specs.Guard.{guard_of, no_guard}
+use Rattle.cap_format.specs.Kind.{is_counted, is_memory, object_limit, payload_limit, restr_limit, slot_limit}
+use Rattle.cap_words.specs.declared.spelling.Spelled.{Spelled}
+use Rattle.cap_words.specs.declared.spelling.Guarded.{Guarded}
 
 infixl 10 ◌>>=◌
 -- what is read after something else was, where that could be read
@@ -142,3 +144,11 @@ spelled_by word (Some (head, rest)) = headed head rest
 -- what a word spells, if it spells a capability
 unfoldable pub spelled_of : List ℕ → Option Spelled
 spelled_of word = spelled_by word (cut_at 58 word)
+
+-- what every spelling keeps: what its kind has not is 0 or 12/0, and what stands in it alone is in its range
+pub record IsSpelled (spelled : Spelled) : Type 0 where
+  pub restr : spelled.restr < restr_limit spelled.kind
+  pub unguarded : is_memory spelled.kind ≡ false → guard_of spelled.l2g spelled.matches ≡ no_guard
+  pub object : is_counted spelled.kind ≡ false → spelled.object < object_limit spelled.kind
+  pub payload : spelled.payload < payload_limit spelled.kind
+  pub slot : spelled.slot < slot_limit spelled.kind

@@ -1,0 +1,12 @@
+//! A capability as one word of a text: as it is written, and as it is read.
+//!
+//! Nothing here knows which objects a machine has.
+#![tactic(auto)]
+
+mod numbers;
+mod spelling;
+mod text;
+
+pub use numbers::{push_number, push_numbered, push_value};
+pub use spelling::{Guarded, Spelled, number_to, read_spelled};
+pub use text::{push_capability, push_letters};
