@@ -3,8 +3,8 @@ ghost use Rattle.std.specs.Prelude.{◌≡◌, ◌≤◌, ◌+◌, ◌++◌, cod
 ghost use Rattle.coy_text.specs.Numeral.{hex_text};
 ghost use Rattle.cap_words.specs.Text.{letter, letters, restr_text, guard_text, cap_word, cap_text};
 
-use bitflags::Flags;
 use crate::numbers::push_numbered;
+use bitflags::Flags;
 use cap_format::{Cap, CapKind, Guard};
 use coy_text::LineBuf;
 
