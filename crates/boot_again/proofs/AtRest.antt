@@ -24,7 +24,7 @@ use Rattle.object_store.specs.Meaning.{meaning, gpt_map, process_map, endpoint_m
 use Rattle.listing_read.specs.CapWord.{IsStated}
 use Rattle.listing_read.specs.Statement.{ListingValue, IsListing, IsStatement, is_recipient}
 use Rattle.listing_read.specs.declared.statement.Statement.{Statement}
-use Rattle.image_builder.specs.Given.{last_given, listed, counted, count_given, byte_given, cap_given, header_given, slot_given, endpoint_given, pc_given, place_given, reg_given, capreg_given, final_cap, final_gpt, final_endpoint, final_process}
+use Rattle.image_builder.specs.Given.{last_given, listed, with_object_count, count_given, byte_given, cap_given, header_given, slot_given, endpoint_given, pc_given, place_given, reg_given, capreg_given, final_cap, final_gpt, final_endpoint, final_process}
 use Rattle.image_builder.specs.Boot.{objects_of}
 use Rattle.read_back.specs.Laws.{runs_of}
 use Rattle.read_back.specs.Listable.{IsListable}
@@ -73,7 +73,7 @@ module _ (listing : ListingValue) (is : IsListing listing) (typed : All IsTyped 
       (subst (λ (sizes : Sizes). IsStatement sizes (get_or listing.statements k x)) (sym (sizes-objects_of listing)) (is.statements k x there), typed k x there)
 
   -- a capability with the count of its object means what was stated
-  meant : (c : Capability) → IsKept (sizes_of o) c → IsKept (sizes_of o) (meaning o.items (counted o.items.counts c))
+  meant : (c : Capability) → IsKept (sizes_of o) c → IsKept (sizes_of o) (meaning o.items (with_object_count o.items.counts c))
   meant c kept = subst (IsKept (sizes_of o)) (sym (returned o c kept.1)) kept
 
   cap_again : (given : Statement → Option Capability) → ((x : Statement) → Holds (sizes_of o) x → IfSome (given x) (IsKept (sizes_of o))) → IsKept (sizes_of o) (meaning o.items (final_cap o.items.counts xs given))
@@ -147,7 +147,7 @@ module _ (listing : ListingValue) (is : IsListing listing) (typed : All IsTyped 
     cap_registers = length-mapped (meaning o.items) 32 _;
     c0 = get_or-map (meaning o.items) (listed 32 (λ i. final_cap o.items.counts xs (capreg_given p i))) 0 null
         ∙ ap (meaning o.items) (get_or-listed 32 (λ i. final_cap o.items.counts xs (capreg_given p i)) 0 null (omega arith))
-        ∙ ap (λ c. meaning o.items (counted o.items.counts c)) (c0_again p);
+        ∙ ap (λ c. meaning o.items (with_object_count o.items.counts c)) (c0_again p);
     capregs = mapped_each IsCapability (meaning o.items) 32 _ (λ i. (capregs_again p i).0);
     three = length-mapped (meaning o.items) 3 _;
     slots = mapped_each IsCapability (meaning o.items) 3 _ (λ i. (places_again p i).0);

@@ -25,7 +25,7 @@ use Rattle.object_store.specs.Meaning.{meaning, gpt_map, process_map, endpoint_m
 use Rattle.object_store.proofs.Lists.{map-map}
 use Rattle.listing_read.specs.CapWord.{IsStated}
 use Rattle.listing_read.specs.declared.statement.Statement.{Statement}
-use Rattle.image_builder.specs.Given.{last_given, listed, counted, count_given, byte_given, reg_given, cap_given, slot_given, capreg_given, place_given, final_counts, final_cap, final_page, final_cappage, final_gpt, final_endpoint, final_process, final_objects}
+use Rattle.image_builder.specs.Given.{last_given, listed, with_object_count, count_given, byte_given, reg_given, cap_given, slot_given, capreg_given, place_given, final_counts, final_cap, final_page, final_cappage, final_gpt, final_endpoint, final_process, final_objects}
 use Rattle.read_back.specs.Laws.{runs_of}
 use Rattle.read_back.specs.Printed.{statements_of}
 use Rattle.read_back.specs.Listable.{IsListable}
@@ -59,7 +59,7 @@ same_store harts counts g g' p p' c c' r r' e e' e1 e2 e3 e4 e5 = rw (e1, e2, e3
 module _ (s : Store) (is : IsListable s) where
   -- a capability that stands there, with the count of its object
   again : (given : Statement → Option Capability) (c : Capability) → last_given given null (statements_of s) ≡ c → IsStated (sizes_of s) c → meaning s.items (final_cap s.items.counts (statements_of s) given) ≡ c
-  again given c stands stated = ap (λ x. meaning s.items (counted s.items.counts x)) stands ∙ returned s c stated
+  again given c stands stated = ap (λ x. meaning s.items (with_object_count s.items.counts x)) stands ∙ returned s c stated
 
   -- the counts of a kind
   counts_again : (kind : CapKind) → is_object kind ≡ true → listed (size_of s.items kind) (λ n. last_given (count_given kind n) 0 (statements_of s)) ≡ counts_of s.items.counts kind
@@ -114,7 +114,7 @@ module _ (s : Store) (is : IsListable s) where
   endpoint_again n there =
       let stored = endpoint_is s is n there in
       let stated : IsStated (sizes_of s) (endpoint_at s n).recipient = is.stated.recipients n empty_endpoint stored in
-      ap (λ given. endpoint_map (meaning s.items) (let e : Endpoint = record given { recipient = counted s.items.counts given.recipient } in e)) (endpoint_stands s n there (is.recipients n empty_endpoint stored) stated.uncounted)
+      ap (λ given. endpoint_map (meaning s.items) (let e : Endpoint = record given { recipient = with_object_count s.items.counts given.recipient } in e)) (endpoint_stands s n there (is.recipients n empty_endpoint stored) stated.uncounted)
       ∙ ap (λ recipient. let e : Endpoint = record (endpoint_at s n) { recipient = recipient } in e) (returned s (endpoint_at s n).recipient stated)
 
   endpoints_again : map (endpoint_map (meaning s.items)) (listed (size_of s.items kinds.Endpoint) (λ n. final_endpoint s.items.counts (statements_of s) n)) ≡ s.contents.endpoints

@@ -30,7 +30,7 @@ use Rattle.object_store.specs.Sizes.{size_in}
 use Rattle.listing_read.specs.CapWord.{IsStated}
 use Rattle.listing_read.specs.declared.statement.Statement.{Statement}
 use Rattle.listing_read.specs.declared.statement.Statement.TheVariants as says
-use Rattle.image_builder.specs.Given.{last_given, count_given, byte_given, cap_given, header_given, slot_given, endpoint_given, pc_given, run_given, slot_among, place_given, reg_given, capreg_given, counted}
+use Rattle.image_builder.specs.Given.{last_given, count_given, byte_given, cap_given, header_given, slot_given, endpoint_given, pc_given, run_given, slot_among, place_given, reg_given, capreg_given, with_object_count}
 use Rattle.run_text.specs.Objects.{is_zero, is_null_kind, is_null, is_empty_header, is_empty_endpoint, is_stopped, is_still, is_empty_process}
 use Rattle.read_back.specs.Laws.{runs_of}
 use Rattle.read_back.specs.Printed.{unless_empty, count_said, row_said, cap_said, slot_said, register_said, capreg_said, running_said, rows_said, caps_said, slots_said, registers_said, capregs_said, itself_said, contents_said, statements_of}
@@ -345,7 +345,7 @@ module _ (s : Store) where
   size_is kinds.Process = refl
   size_is _ = refl
 
-  pub returned : (c : Capability) → IsStated (sizes_of s) c → meaning s.items (counted s.items.counts c) ≡ c
+  pub returned : (c : Capability) → IsStated (sizes_of s) c → meaning s.items (with_object_count s.items.counts c) ≡ c
   returned c stated = on (is_counted c.kind) refl
     where
       count : ℕ

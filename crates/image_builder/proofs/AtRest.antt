@@ -13,7 +13,7 @@ use Rattle.object_store.proofs.Lists.{All-at}
 use Rattle.std.specs.List.{All}
 use Rattle.schedules.specs.Ready.{places_due}
 use Rattle.listing_read.specs.Statement.{ListingValue}
-use Rattle.image_builder.specs.Given.{counted}
+use Rattle.image_builder.specs.Given.{with_object_count}
 use Rattle.image_builder.specs.Boot.{objects_of, StoppedFrom}
 use Rattle.image_builder.proofs.Listed.{All-listed}
 use Rattle.image_builder.proofs.Finals.{sizes-final_objects}
@@ -29,8 +29,8 @@ no_objects counts ProcessKind e = cc
 no_objects counts _ e = refl
 
 -- a capability names no object, or has its object's count
-counted-behind : (o : Items) (c : Capability) → IsBehind o (counted o.counts c)
-counted-behind o c = on (is_counted c.kind) refl
+with_object_count-behind : (o : Items) (c : Capability) → IsBehind o (with_object_count o.counts c)
+with_object_count-behind o c = on (is_counted c.kind) refl
   where
     on : (b : Bool) → is_counted c.kind ≡ b → IsBehind o (if b then with_count c (count_of o (object_kind c.kind) c.object) else c)
     on true e there = omega arith
@@ -45,11 +45,11 @@ module _ (listing : ListingValue) where
   -- none is ahead of its object
   pub behind-objects_of : NoneAhead s
   behind-objects_of = record {
-    slots = All-listed (λ (gpt : GptValue). All (IsBehind s.items) gpt.slots) _ _ (λ g. All-listed (IsBehind s.items) 16 _ (λ i. counted-behind s.items _));
-    cappages = All-listed (All (IsBehind s.items)) _ _ (λ n. All-listed (IsBehind s.items) 256 _ (λ i. counted-behind s.items _));
-    capregs = All-listed (λ (p : ProcessValue). All (IsBehind s.items) p.capregs) _ _ (λ p. All-listed (IsBehind s.items) 32 _ (λ i. counted-behind s.items _));
-    process_slots = All-listed (λ (p : ProcessValue). All (IsBehind s.items) p.slots) _ _ (λ p. All-listed (IsBehind s.items) 3 _ (λ i. counted-behind s.items _));
-    recipients = All-listed (λ (e : EndpointValue). IsBehind s.items e.recipient) _ _ (λ n. counted-behind s.items _);
+    slots = All-listed (λ (gpt : GptValue). All (IsBehind s.items) gpt.slots) _ _ (λ g. All-listed (IsBehind s.items) 16 _ (λ i. with_object_count-behind s.items _));
+    cappages = All-listed (All (IsBehind s.items)) _ _ (λ n. All-listed (IsBehind s.items) 256 _ (λ i. with_object_count-behind s.items _));
+    capregs = All-listed (λ (p : ProcessValue). All (IsBehind s.items) p.capregs) _ _ (λ p. All-listed (IsBehind s.items) 32 _ (λ i. with_object_count-behind s.items _));
+    process_slots = All-listed (λ (p : ProcessValue). All (IsBehind s.items) p.slots) _ _ (λ p. All-listed (IsBehind s.items) 3 _ (λ i. with_object_count-behind s.items _));
+    recipients = All-listed (λ (e : EndpointValue). IsBehind s.items e.recipient) _ _ (λ n. with_object_count-behind s.items _);
   }
 
   -- no process runs

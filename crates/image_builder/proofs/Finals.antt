@@ -14,7 +14,7 @@ use Rattle.object_store.specs.Store.{CountsValue, Store, sizes_of, with_items, w
 use Rattle.listing_read.specs.declared.statement.Statement.{Statement}
 use Rattle.listing_read.specs.declared.statement.Statement.TheVariants.{Page, Code, CapSlot, Gpt, GptSlot, Endpoint, Process, Reg, CapReg, Count}
 use Rattle.listing_read.specs.Statement.{IsStatement}
-use Rattle.image_builder.specs.Given.{last_given, listed, run_given, instruction_bytes, counted, slot_among, final_counts, final_page, final_cappage, final_gpt, final_endpoint, final_process, final_objects}
+use Rattle.image_builder.specs.Given.{last_given, listed, run_given, instruction_bytes, with_object_count, slot_among, final_counts, final_page, final_cappage, final_gpt, final_endpoint, final_process, final_objects}
 use Rattle.image_builder.specs.Assigned.{empty_with, process_with, endpoint_of, with_count_of, assigned, flagged}
 use Rattle.image_builder.proofs.Listed.{last_given-nil, last_given-snoc, length-listed, replicate-listed, changed, put-listed, bytes-listed}
 
@@ -55,9 +55,9 @@ module _ (sizes : Sizes) (counts : CountsValue) (xs : List Statement) where
   abbrev s : Store
   s = final_objects counts xs sizes
 
-  places-listed : (f : ℕ → Capability) (space schedule handler : Capability) → set (set (set (listed 3 f) 0 (counted counts space)) 1 (counted counts schedule)) 2 (counted counts handler) ≡ listed 3 (λ i. counted counts (slot_among i space schedule handler))
+  places-listed : (f : ℕ → Capability) (space schedule handler : Capability) → set (set (set (listed 3 f) 0 (with_object_count counts space)) 1 (with_object_count counts schedule)) 2 (with_object_count counts handler) ≡ listed 3 (λ i. with_object_count counts (slot_among i space schedule handler))
   unfolding listed
-  places-listed f space schedule handler = three (listed 3 f) (counted counts space) (counted counts schedule) (counted counts handler) (length-listed 3 f)
+  places-listed f space schedule handler = three (listed 3 f) (with_object_count counts space) (with_object_count counts schedule) (with_object_count counts handler) (length-listed 3 f)
 
   pub assigned-last : (x : Statement) → IsStatement sizes x → assigned s x ≡ final_objects counts (xs ++ x ∷ []) sizes
   assigned-last (Page number at bytes) is =
@@ -68,19 +68,19 @@ module _ (sizes : Sizes) (counts : CountsValue) (xs : List Statement) where
       (changed sizes.pages (final_page counts xs) _ number empty_page (λ page. with_bytes page at (instruction_bytes insn)) (λ same. rw same (bytes-listed 4096 at _ (instruction_bytes insn) is.1)) (λ k other. rw other refl)))
   assigned-last (CapSlot number slot held) is =
       simp last_given-snoc (ap (λ l. with_contents s (record s.contents { cappages = l }))
-      (changed sizes.cappages (final_cappage counts xs) _ number empty_cappage (λ page. with_cap page slot (counted counts held)) (λ same. rw same (put-listed (counted counts) 256 _ slot held)) (λ k other. rw other refl)))
+      (changed sizes.cappages (final_cappage counts xs) _ number empty_cappage (λ page. with_cap page slot (with_object_count counts held)) (λ same. rw same (put-listed (with_object_count counts) 256 _ slot held)) (λ k other. rw other refl)))
   assigned-last (Gpt number header) is =
       simp last_given-snoc (ap (λ l. with_items s (record s.items { gpts = l }))
       (changed sizes.gpts (final_gpt counts xs) _ number empty_gpt (λ gpt. with_header gpt header) (λ same. rw same refl) (λ k other. rw other refl)))
   assigned-last (GptSlot number slot held) is =
       simp last_given-snoc (ap (λ l. with_items s (record s.items { gpts = l }))
-      (changed sizes.gpts (final_gpt counts xs) _ number empty_gpt (λ gpt. with_gpt_slot gpt slot (counted counts held)) (λ same. rw same (ap (λ slots. record (final_gpt counts xs number) { slots = slots }) (put-listed (counted counts) 16 _ slot held))) (λ k other. rw other refl)))
+      (changed sizes.gpts (final_gpt counts xs) _ number empty_gpt (λ gpt. with_gpt_slot gpt slot (with_object_count counts held)) (λ same. rw same (ap (λ slots. record (final_gpt counts xs number) { slots = slots }) (put-listed (with_object_count counts) 16 _ slot held))) (λ k other. rw other refl)))
   assigned-last (Endpoint number recipient id payload matching) is =
       simp last_given-snoc (ap (λ l. with_contents s (record s.contents { endpoints = l }))
-      (changed sizes.endpoints (final_endpoint counts xs) _ number empty_endpoint (λ _. endpoint_of (counted counts recipient) id payload matching) (λ same. rw same refl) (λ k other. rw other refl)))
+      (changed sizes.endpoints (final_endpoint counts xs) _ number empty_endpoint (λ _. endpoint_of (with_object_count counts recipient) id payload matching) (λ same. rw same refl) (λ k other. rw other refl)))
   assigned-last (Process number pc space schedule handler runs) is =
       simp last_given-snoc (ap (λ l. with_contents s (record s.contents { processes = l }))
-      (changed sizes.processes (final_process counts xs) _ number empty_process (λ p. process_with p pc (counted counts space) (counted counts schedule) (counted counts handler))
+      (changed sizes.processes (final_process counts xs) _ number empty_process (λ p. process_with p pc (with_object_count counts space) (with_object_count counts schedule) (with_object_count counts handler))
       (λ same. rw same (ap (λ slots. record (final_process counts xs number) { pc = pc; slots = slots }) (places-listed _ space schedule handler))) (λ k other. rw other refl)))
   assigned-last (Reg number index value) is =
       simp last_given-snoc (ap (λ l. with_contents s (record s.contents { processes = l }))
@@ -88,8 +88,8 @@ module _ (sizes : Sizes) (counts : CountsValue) (xs : List Statement) where
       (λ same. rw (same, other_than_0 index is.2) (ap (λ regs. record (final_process counts xs number) { regs = regs }) (put 32 _ index value))) (λ k other. rw other refl)))
   assigned-last (CapReg number index held) is =
       simp last_given-snoc (ap (λ l. with_contents s (record s.contents { processes = l }))
-      (changed sizes.processes (final_process counts xs) _ number empty_process (λ p. with_capreg p index (counted counts held))
-      (λ same. rw (same, other_than_0 index is.2) (ap (λ capregs. record (final_process counts xs number) { capregs = capregs }) (put-listed (counted counts) 32 _ index held))) (λ k other. rw other refl)))
+      (changed sizes.processes (final_process counts xs) _ number empty_process (λ p. with_capreg p index (with_object_count counts held))
+      (λ same. rw (same, other_than_0 index is.2) (ap (λ capregs. record (final_process counts xs number) { capregs = capregs }) (put-listed (with_object_count counts) 32 _ index held))) (λ k other. rw other refl)))
   assigned-last (Count kind number count) is = simp last_given-snoc
 
 -- ---- new objects

@@ -9,7 +9,7 @@ use Rattle.object_store.specs.declared.sizes.Sizes.{Sizes}
 use Rattle.object_store.specs.Store.{CountsValue, Store, page_at, cappage_at, process_at, set_count, set_slot, set_header, with_items, with_page, with_cappage, with_process, with_endpoint, empty_store}
 use Rattle.listing_read.specs.declared.statement.Statement.{Statement}
 use Rattle.listing_read.specs.declared.statement.Statement.TheVariants.{Page, Code, CapSlot, Gpt, GptSlot, Endpoint, Process, Reg, CapReg, Count}
-use Rattle.image_builder.specs.Given.{counted, instruction_bytes}
+use Rattle.image_builder.specs.Given.{with_object_count, instruction_bytes}
 
 -- empty objects with these counts
 abbrev pub empty_with : Sizes → CountsValue → Store
@@ -32,14 +32,14 @@ with_count_of s statement = s
 abbrev pub assigned : Store → Statement → Store
 assigned s (Page number at bytes) = with_page s number (with_bytes (page_at s number) at bytes)
 assigned s (Code number at insn) = with_page s number (with_bytes (page_at s number) at (instruction_bytes insn))
-assigned s (CapSlot number slot cap) = with_cappage s number (with_cap (cappage_at s number) slot (counted s.items.counts cap))
+assigned s (CapSlot number slot cap) = with_cappage s number (with_cap (cappage_at s number) slot (with_object_count s.items.counts cap))
 assigned s (Gpt number header) = with_items s (set_header s.items number header)
-assigned s (GptSlot number slot cap) = with_items s (set_slot s.items number slot (counted s.items.counts cap))
-assigned s (Endpoint number recipient id payload matching) = with_endpoint s number (endpoint_of (counted s.items.counts recipient) id payload matching)
+assigned s (GptSlot number slot cap) = with_items s (set_slot s.items number slot (with_object_count s.items.counts cap))
+assigned s (Endpoint number recipient id payload matching) = with_endpoint s number (endpoint_of (with_object_count s.items.counts recipient) id payload matching)
 assigned s (Process number pc space schedule handler runs) =
-    with_process s number (process_with (process_at s number) pc (counted s.items.counts space) (counted s.items.counts schedule) (counted s.items.counts handler))
+    with_process s number (process_with (process_at s number) pc (with_object_count s.items.counts space) (with_object_count s.items.counts schedule) (with_object_count s.items.counts handler))
 assigned s (Reg number index value) = with_process s number (with_reg (process_at s number) index value)
-assigned s (CapReg number index cap) = with_process s number (with_capreg (process_at s number) index (counted s.items.counts cap))
+assigned s (CapReg number index cap) = with_process s number (with_capreg (process_at s number) index (with_object_count s.items.counts cap))
 assigned s (Count kind number count) = s
 
 -- which processes run, with what a statement says of one

@@ -112,14 +112,14 @@ final_counts sizes xs = record {
 }
 
 -- the capability with the count of its object, and 0 where there is no such object
-abbrev pub counted : CountsValue → Capability → Capability
-counted counts c = if is_counted c.kind then with_count c (slice_index (counts_of counts (object_kind c.kind)) c.object) else c
+abbrev pub with_object_count : CountsValue → Capability → Capability
+with_object_count counts c = if is_counted c.kind then with_count c (slice_index (counts_of counts (object_kind c.kind)) c.object) else c
 
 -- the objects by their numbers, where these are their counts
 module _ (counts : CountsValue) (xs : List Statement) where
   -- the capability that is given last, with the count of its object
   abbrev pub final_cap : (Statement → Option Capability) → Capability
-  final_cap given = counted counts (last_given given null xs)
+  final_cap given = with_object_count counts (last_given given null xs)
 
   -- the bytes of page `n`
   abbrev pub final_page : ℕ → List ℕ
@@ -135,7 +135,7 @@ module _ (counts : CountsValue) (xs : List Statement) where
 
   -- endpoint `n`
   abbrev pub final_endpoint : ℕ → EndpointValue
-  final_endpoint n = let given = last_given (endpoint_given n) empty_endpoint xs in record given { recipient = counted counts given.recipient }
+  final_endpoint n = let given = last_given (endpoint_given n) empty_endpoint xs in record given { recipient = with_object_count counts given.recipient }
 
   -- process `p`, which is stopped
   abbrev pub final_process : ℕ → ProcessValue

@@ -4,7 +4,7 @@ ghost use Rattle.cap_format.specs.declared.kind.CapKind.TheVariants.{Page, CapPa
 ghost use Rattle.rv32_decode.specs.InRange.{InRange};
 ghost use Rattle.object_store.specs.Store.{sizes_of, size_of, process_at, with_process};
 ghost use Rattle.listing_read.specs.Statement.{IsStatement};
-ghost use Rattle.image_builder.specs.Given.{counted};
+ghost use Rattle.image_builder.specs.Given.{with_object_count};
 ghost use Rattle.image_builder.specs.Assigned.{process_with, with_count_of, assigned, flagged, NamesProcess};
 
 use cap_format::Cap;
@@ -39,8 +39,8 @@ pub(crate) fn note_running(running: &mut Vec<bool>, statement: &Statement)
 }
 
 /// The capability with its object's count, and 0 where there is no such object.
-fn counted(objects: &Objects, cap: Cap) -> Cap
-    ensures { result ≡ counted objects.now.items.counts cap }
+fn with_object_count(objects: &Objects, cap: Cap) -> Cap
+    ensures { result ≡ with_object_count objects.now.items.counts cap }
 {
     let kind = cap.kind();
     if !kind.is_counted() {
@@ -116,7 +116,7 @@ fn assign_cap(objects: &mut Objects, number: u16, slot: u8, cap: Cap)
     requires { number < size_of objects.old.items CapPage }
     ensures { objects.new ≡ assigned objects.old (Statement.CapSlot number slot cap) }
 {
-    let cap = counted(objects, cap);
+    let cap = with_object_count(objects, cap);
     objects.cappage_mut(number).set(slot, cap);
 }
 
@@ -125,7 +125,7 @@ fn assign_slot(objects: &mut Objects, number: u16, slot: u8, cap: Cap)
     requires slot { slot < 16 }
     ensures { objects.new ≡ assigned objects.old (Statement.GptSlot number slot cap) }
 {
-    let cap = counted(objects, cap);
+    let cap = with_object_count(objects, cap);
     let _item = objects.set_gpt_slot(number, slot, cap);
 }
 
@@ -141,7 +141,7 @@ fn assign_endpoint(
     ensures { let statement = Statement.Endpoint number recipient id payload matching in
         objects.new ≡ assigned objects.old statement }
 {
-    let recipient = counted(objects, recipient);
+    let recipient = with_object_count(objects, recipient);
     *objects.endpoint_mut(number) = Endpoint {
         recipient,
         id,
@@ -160,14 +160,14 @@ fn assign_process(
 )
     requires there { number < size_of objects.old.items Process }
     requires aligned { pc % 4 ≡ 0 }
-    ensures { let whole = counted objects.old.items.counts in
+    ensures { let whole = with_object_count objects.old.items.counts in
         let old = process_at objects.old number in
         let new = process_with old pc (whole space) (whole schedule) (whole handler) in
         objects.new ≡ with_process objects.old number new }
 {
-    let space = counted(objects, space);
-    let schedule = counted(objects, schedule);
-    let handler = counted(objects, handler);
+    let space = with_object_count(objects, space);
+    let schedule = with_object_count(objects, schedule);
+    let handler = with_object_count(objects, handler);
     let process = objects.process_mut(number);
     process.set_pc(pc);
     process.set_slot(0, space);
@@ -180,6 +180,6 @@ fn assign_capreg(objects: &mut Objects, number: u16, index: u8, cap: Cap)
     requires index { index < 32 }
     ensures { objects.new ≡ assigned objects.old (Statement.CapReg number index cap) }
 {
-    let cap = counted(objects, cap);
+    let cap = with_object_count(objects, cap);
     objects.process_mut(number).set_capreg(index, cap);
 }
