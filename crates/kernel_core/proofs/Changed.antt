@@ -1,5 +1,5 @@
 -- What a change of the objects makes of a state.
-use Rattle.std.proofs.Common.{◌≡◌, ℕ, ◌<◌, List, Bool, true, false, if◌then◌else◌, refl, ap, ◌∙◌, subst}
+use Rattle.std.proofs.Common.{◌≡◌, ℕ, ◌<◌, List, [], ◌∷◌, Bool, true, false, if◌then◌else◌, refl, ap, ◌∙◌, subst}
 use Rattle.cap_format.specs.declared.kind.CapKind.{CapKind}
 use Rattle.cap_format.specs.declared.kind.CapKind.TheVariants.{CapPage}
 use Rattle.cap_format.specs.Restr.{has}
@@ -18,7 +18,8 @@ use Rattle.walk_meaning.specs.declared.kind.Kind.{Kind}
 use Rattle.walk_meaning.specs.declared.place.Place.{Place}
 use Rattle.walk_meaning.specs.Walk.{is_data}
 use Rattle.walk_meaning.specs.Laws.{IsReached}
-use Rattle.object_store.specs.Object.{ObjectName}
+use Rattle.object_store.specs.Object.{ObjectName, Stays}
+use Rattle.object_store.proofs.Stays.{stays_then, stays_more, stays_after}
 use Rattle.kernel_core.specs.State.{State}
 use Rattle.kernel_core.specs.Machine.{MachineValue}
 use Rattle.kernel_core.specs.Came.{Leaves}
@@ -65,3 +66,10 @@ cap_page o kind place capability is =
 -- where a part leaves as many objects of each kind and as many harts, the sizes are as before
 pub sizes_left : {T : Type 0} (names : List ObjectName) (m n : MachineValue T) → Leaves names m n → sizes_of n.objects ≡ sizes_of m.objects
 sizes_left names m n l = rw (l.harts, l.pages, l.cappages, l.gpts, l.processes, l.endpoints) refl
+
+-- one object changed, another, and the first again
+pub stays_around : (first second : ObjectName) (s t u v : Store) → Stays (first ∷ []) s t → Stays (second ∷ []) t u → Stays (first ∷ []) u v → Stays (first ∷ second ∷ []) s v
+stays_around first second s t u v one two three =
+    let names = first ∷ second ∷ [] in
+    stays_then names s t v (stays_after first second [] s t one)
+    (stays_then names t u v (stays_more first (second ∷ []) t u two) (stays_after first second [] u v three))

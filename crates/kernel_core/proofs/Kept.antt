@@ -1,6 +1,6 @@
 -- Each change of a machine keeps what a machine keeps.
-use Rattle.std.proofs.Common.{◌≡◌, ◌≢◌, ◌⊎◌, inl, inr, ℕ, zero, suc, ◌<◌, eqb, true, false, List, [], replicate, length, get_or, set, refl, sym, ap, ◌∙◌, subst, arith, None}
-use Rattle.std.specs.List.{sum_by}
+use Rattle.std.proofs.Common.{◌≡◌, ◌≢◌, ◌⊎◌, inl, inr, ℕ, zero, suc, ◌<◌, eqb, true, false, List, [], replicate, length, get_or, set, refl, sym, ap, ◌∙◌, subst, arith, None, IfSome}
+use Rattle.std.specs.List.{All, sum_by}
 use Rattle.std.proofs.Math.ListN.{length-set}
 use Rattle.std.proofs.lemmas.List.{get_or-set_same, get_or-set_other, length-replicate}
 use Rattle.std.proofs.lemmas.Bool.Decides.{eqb_tells}
@@ -11,11 +11,17 @@ use Rattle.process_objects.specs.Process.{ProcessValue, with_capreg, empty_proce
 use Rattle.object_store.specs.Store.{Store, with_process, with_page, with_cappage, process_at, cappage_at, size_of}
 use Rattle.object_store.specs.Ahead.{IsBehind, NoneAhead}
 use Rattle.object_store.proofs.Lists.{get_or-set}
-use Rattle.object_store.proofs.WritesBehind.{put_process_behind, put_capreg_behind, put_cap_behind, put_page_behind}
+use Rattle.object_store.proofs.Each.{capregs-each, process_slots-each}
+use Rattle.object_store.proofs.Behind.{NoneAhead-with_process}
+use Rattle.object_store.proofs.WritesBehind.{null_behind, put_process_behind, put_capreg_behind, put_cap_behind, put_page_behind}
 use Rattle.schedules.specs.Queues.{QueuesValue}
 use Rattle.schedules.specs.Standing.{standing, times_in, times_on, empty_queues}
 use Rattle.schedules.specs.Ready.{runs, runs_of, places_due, Agrees, AgreesBut}
+use Rattle.cap_format.specs.declared.message.Reply.{Reply}
+use Rattle.process_objects.specs.Accept.{AcceptValue}
 use Rattle.kernel_core.specs.Machine.{IsMachine, NoneRuns}
+use Rattle.kernel_core.specs.Reply.{replied}
+use Rattle.kernel_core.proofs.Replied.{replied_keeps}
 
 -- another process with the state of the one before
 state_same : (ps : List ProcessValue) (p x : ℕ) (v : ProcessValue) → v.state ≡ (get_or ps p empty_process).state → (get_or (set ps p v) x empty_process).state ≡ (get_or ps x empty_process).state
@@ -115,3 +121,14 @@ kept_new o stopped behind sizes = record {
         let asleep = none_in p (size_of o.items Process) in
         let harts = none_on p o.harts in
         omega (arith, ready, asleep, harts)
+
+-- a process with a reply
+pub kept_reply : (o : Store) (q : QueuesValue) (p : ℕ) (accept : AcceptValue) (reply : Reply) → IfSome reply.cap (IsBehind o.items) → IsMachine o q → IsMachine (with_process o p (replied (process_at o p) accept reply)) q
+kept_reply o q p accept reply given is =
+    let P = IsBehind o.items in
+    let keeps = replied_keeps P (null_behind o) (process_at o p) accept reply (capregs-each P (null_behind o) o is.behind p) given in
+    record {
+      fits = record { processes = is.fits.processes; harts = is.fits.harts };
+      agrees = agrees_same o.contents.processes q p _ keeps.state is.agrees;
+      behind = NoneAhead-with_process o is.behind p _ keeps.capregs (subst (All P) (sym keeps.slots) (process_slots-each P (null_behind o) o is.behind p));
+    }

@@ -6,6 +6,8 @@ pub mod Came
 pub mod Fault
 pub mod Access
 pub mod CapAccess
+pub mod Reply
+pub mod Operation
 pub mod SystemCall
 pub mod Instruction
 pub mod Event

@@ -1,7 +1,14 @@
 -- System calls, by the number in x17. (Coyotos; the numbers are this project's.)
-use Rattle.std.specs.Prelude.{ℕ, ◌/◌, ◌%◌, ◌==◌, ◌&&◌, nat_le, if◌then◌else◌, Option, Some, None}
-use Rattle.cap_format.specs.Capability.{Capability}
+use Rattle.std.specs.Prelude.{ℕ, ◌==◌, ◌&&◌, nat_le, if◌then◌else◌, Option, Some, None, Result, Ok, Err}
+use Rattle.cap_format.specs.declared.code.Code.{Code}
+use Rattle.cap_format.specs.declared.code.Code.TheVariants.{InvalidCap, WouldBlock}
 use Rattle.process_objects.specs.Process.{capreg_of}
+use Rattle.operations.specs.Row.{reply_of, refused}
+use Rattle.invocation.specs.declared.callee.Callee.{Callee}
+use Rattle.invocation.specs.declared.callee.Callee.TheVariants.{Kernel, Open, Busy, Dead}
+use Rattle.invocation.specs.declared.malformed.MalformedSyscall.{MalformedSyscall}
+use Rattle.invocation.specs.Invocation.{InvocationValue, parsed}
+use Rattle.invocation.specs.Target.{callee}
 use Rattle.kernel_core.specs.declared.system_call.SystemCall.{SystemCall}
 use Rattle.kernel_core.specs.declared.system_call.SystemCall.TheVariants.{Invoke, LoadCap, StoreCap, CopyCap, Yield}
 use Rattle.kernel_core.specs.State.{State, process, register_of}
@@ -9,6 +16,8 @@ use Rattle.kernel_core.specs.Setters.{set_capreg, advance, leave, ready}
 use Rattle.kernel_core.specs.Outcome.{Outcome, done}
 use Rattle.kernel_core.specs.Fault.{malformed}
 use Rattle.kernel_core.specs.CapAccess.{load_cap, store_cap}
+use Rattle.kernel_core.specs.Reply.{set_reply}
+use Rattle.kernel_core.specs.Operation.{kernel_op}
 
 -- the system call with this number
 abbrev pub call_with : ℕ → Option SystemCall
@@ -40,29 +49,33 @@ moved s p _ = malformed s p
 unfoldable pub move_cap : State → ℕ → Outcome
 move_cap s p = moved s p (call_with (register_of s p 17))
 
--- an operation of the kernel on the capability that is invoked, which is not built (fewer cases than Coyotos)
-unfoldable pub kernel_op : State → ℕ → Capability → Outcome
-kernel_op s p cap = malformed s p
+-- a send phase that is over with a code: the process goes on behind its instruction, with a reply
+abbrev pub refused_call : State → ℕ → InvocationValue → Code → Outcome
+refused_call s p inv code = done (set_reply (advance s p) p inv.accept (reply_of (refused code)))
 
--- the capability register that is invoked
-abbrev pub invoked : State → ℕ → ℕ
-invoked s p = register_of s p 10 % 32
+-- a send phase by who answers: a message that is taken, and a wait, are not built (fewer cases than Coyotos)
+abbrev pub sent_to : State → ℕ → InvocationValue → Callee → Outcome
+sent_to s p inv (Kernel cap) = kernel_op s p inv cap
+sent_to s p inv Dead = refused_call s p inv InvalidCap
+sent_to s p inv (Busy q) = if inv.nonblocking then refused_call s p inv WouldBlock else malformed s p
+sent_to s p inv (Open e q) = malformed s p
 
--- a message's send phase: so far every capability is asked as one of the kernel's (fewer cases than Coyotos)
-unfoldable pub send : State → ℕ → Outcome
-send s p = kernel_op s p (capreg_of (process s p) (invoked s p))
+-- the send phase of an invocation
+unfoldable pub send : State → ℕ → InvocationValue → Outcome
+send s p inv = sent_to s p inv (callee s.store (capreg_of (process s p) inv.capreg))
 
--- a message's receive phase, which is not built (fewer cases than Coyotos)
-unfoldable pub receive : State → ℕ → Outcome
-receive s p = malformed s p
+-- the receive phase of an invocation, which is not built (fewer cases than Coyotos)
+unfoldable pub receive : State → ℕ → InvocationValue → Outcome
+receive s p inv = malformed s p
 
--- whether the invocation has a send phase: bit 5 of x10
-abbrev pub sends : State → ℕ → ℕ
-sends s p = register_of s p 10 / 32 % 2
+-- an invocation, or registers that are none: the receive phase without a send phase comes at once
+abbrev pub invoked : State → ℕ → Result InvocationValue MalformedSyscall → Outcome
+invoked s p (Err malformed_is) = malformed s p
+invoked s p (Ok inv) = if inv.send then send s p inv else receive s p inv
 
--- call 0, an invocation: its send phase, where it has one, and else its receive phase
+-- call 0
 unfoldable pub invoke : State → ℕ → Outcome
-invoke s p = if sends s p == 1 then send s p else receive s p
+invoke s p = invoked s p (parsed (process s p).regs)
 
 -- call 4: the process goes on behind its instruction, and to the end of its queue
 abbrev pub yielded : State → ℕ → State

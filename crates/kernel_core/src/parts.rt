@@ -4,4 +4,5 @@
 
 pub use crate::faults::fault;
 pub use crate::instructions::perform;
-pub use crate::system_calls::{kernel_op, move_cap, receive, send};
+pub use crate::operating::kernel_op;
+pub use crate::system_calls::{move_cap, receive, send};

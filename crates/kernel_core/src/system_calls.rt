@@ -1,19 +1,24 @@
-//! System calls. Messages and operations of the kernel are not built: they are malformed.
-ghost use Rattle.std.specs.Prelude.{◌≡◌, ◌<◌, ◌∷◌, false};
+//! System calls. Of messages nothing is built but refusals: the rest is malformed.
+ghost use Rattle.std.specs.Prelude.{◌≡◌, ◌<◌, ◌≤◌, ◌∷◌, false, Ok};
 ghost use Rattle.cap_format.specs.declared.kind.CapKind.TheVariants.{Process};
 ghost use Rattle.object_store.specs.Store.{size_of};
-ghost use Rattle.object_store.specs.Meaning.{meaning};
-ghost use Rattle.kernel_core.specs.State.{state_of, IsOnHart};
+ghost use Rattle.process_objects.specs.Process.{capreg_of};
+ghost use Rattle.invocation.specs.Invocation.{parsed};
+ghost use Rattle.invocation.specs.Target.{callee, bare_callee, IsReached};
+ghost use Rattle.kernel_core.specs.State.{state_of, process, IsOnHart};
 ghost use Rattle.kernel_core.specs.Outcome.{process_name};
 ghost use Rattle.kernel_core.specs.Came.{Came, Leaves, HasRoom};
-ghost use Rattle.kernel_core.specs.SystemCall.{copy_cap, move_cap, invoke, send, receive, kernel_op, system_call};
+ghost use Rattle.kernel_core.specs.SystemCall.{copy_cap, move_cap, invoke, refused_call, send, receive, system_call};
 
 use crate::cap_accesses::{load_cap, store_cap};
 use crate::faults::malformed;
 use crate::machine::Machine;
+use crate::operating::kernel_op;
 use crate::records::Records;
 use crate::system_call::SystemCall;
-use cap_format::Cap;
+use cap_format::Code;
+use invocation::{Callee, Invocation, parse, target};
+use operations::refuse;
 use std::sync::ledger::Ledger;
 use steps::Steps;
 use walk_engine::Translator;
@@ -120,77 +125,108 @@ fn invoke<T: Translator, L: Ledger>(
     ensures leaves { let outcome = invoke (state_of machine.old) p in
         Leaves (process_name p ∷ outcome.changed) machine.old machine.new }
 {
-    let sends = machine.registers(p)[10] / 32 % 2;
-    if sends == 1 {
-        let _delivered = send(machine, p, records, fetches);
-    } else {
-        receive(machine, p, records, fetches);
+    match parse(&machine.registers(p)) {
+        Err(_) => malformed(machine, p, records, fetches),
+        Ok(inv) => {
+            if inv.send() {
+                let _delivered = send(machine, p, records, &inv, fetches);
+            } else {
+                receive(machine, p, records, &inv, fetches);
+            }
+        }
     }
 }
 
-/// The send phase of a message: so far every capability is asked as one of the kernel's. Whether a message was
-/// delivered.
+/// The send phase of an invocation. Whether a message was delivered: none is so far.
 #[tactic(auto, unfolding(crate::specs::SystemCall::send))]
 pub fn send<T: Translator, L: Ledger>(
     machine: &mut Machine<T>,
     p: u16,
     records: &mut Records,
+    inv: &Invocation,
     fetches: &mut Steps<L>,
 ) -> bool
     requires there { p < size_of machine.old.objects.items Process }
     requires on_hart { IsOnHart machine.old.queues p }
     requires room { HasRoom 40 records.old }
+    requires inv { parsed (process (state_of machine.old) p).regs ≡ Ok inv.now }
     ensures delivered { result ≡ false }
-    ensures came { let outcome = send (state_of machine.old) p in
+    ensures came { let outcome = send (state_of machine.old) p inv.now in
         Came T.kept T.cost T.after T.without
         outcome machine.old records.old fetches.old machine.new records.new fetches.new }
-    ensures leaves { let outcome = send (state_of machine.old) p in
+    ensures leaves { let outcome = send (state_of machine.old) p inv.now in
         Leaves (process_name p ∷ outcome.changed) machine.old machine.new }
 {
-    let register = machine.registers(p)[10] % 32;
-    let cap = machine.capability(p, register as u8);
-    kernel_op(machine, p, records, cap, fetches);
+    match machine.callee(p, inv.capreg()) {
+        Callee::Kernel(cap) => kernel_op(machine, p, records, cap, inv, fetches),
+        Callee::Dead => refuse_call(machine, p, records, inv, Code::InvalidCap, fetches),
+        Callee::Busy(_) => {
+            if inv.nonblocking() {
+                refuse_call(machine, p, records, inv, Code::WouldBlock, fetches);
+            } else {
+                malformed(machine, p, records, fetches);
+            }
+        }
+        Callee::Open { .. } => malformed(machine, p, records, fetches),
+    }
     false
 }
 
-/// The receive phase of a message, which is not built.
+/// A send phase that is over with a code.
+#[tactic(auto, using(object_store::proofs::Stays::stays_then))]
+fn refuse_call<T: Translator, L: Ledger>(
+    machine: &mut Machine<T>,
+    p: u16,
+    records: &mut Records,
+    inv: &Invocation,
+    code: Code,
+    fetches: &mut Steps<L>,
+)
+    requires there { p < size_of machine.old.objects.items Process }
+    ensures came { let outcome = refused_call (state_of machine.old) p inv.now code in
+        Came T.kept T.cost T.after T.without
+        outcome machine.old records.old fetches.old machine.new records.new fetches.new }
+    ensures leaves { let outcome = refused_call (state_of machine.old) p inv.now code in
+        Leaves (process_name p ∷ outcome.changed) machine.old machine.new }
+{
+    let _ = records;
+    let _ = fetches;
+    machine.advance(p);
+    machine.reply(p, inv.accept(), refuse(code));
+}
+
+/// The receive phase of an invocation, which is not built.
 #[tactic(auto, unfolding(crate::specs::SystemCall::receive))]
 pub fn receive<T: Translator, L: Ledger>(
     machine: &mut Machine<T>,
     p: u16,
     records: &mut Records,
+    inv: &Invocation,
     fetches: &mut Steps<L>,
 )
     requires there { p < size_of machine.old.objects.items Process }
     requires on_hart { IsOnHart machine.old.queues p }
     requires room { HasRoom 40 records.old }
-    ensures came { let outcome = receive (state_of machine.old) p in
+    requires inv { parsed (process (state_of machine.old) p).regs ≡ Ok inv.now }
+    ensures came { let outcome = receive (state_of machine.old) p inv.now in
         Came T.kept T.cost T.after T.without
         outcome machine.old records.old fetches.old machine.new records.new fetches.new }
-    ensures leaves { let outcome = receive (state_of machine.old) p in
+    ensures leaves { let outcome = receive (state_of machine.old) p inv.now in
         Leaves (process_name p ∷ outcome.changed) machine.old machine.new }
 {
+    let _ = inv;
     malformed(machine, p, records, fetches);
 }
 
-/// An operation of the kernel on a capability, which is not built.
-#[tactic(auto, unfolding(crate::specs::SystemCall::kernel_op))]
-pub fn kernel_op<T: Translator, L: Ledger>(
-    machine: &mut Machine<T>,
-    p: u16,
-    records: &mut Records,
-    cap: Cap,
-    fetches: &mut Steps<L>,
-)
-    requires there { p < size_of machine.old.objects.items Process }
-    requires on_hart { IsOnHart machine.old.queues p }
-    requires room { HasRoom 40 records.old }
-    ensures came { let outcome = kernel_op (state_of machine.old) p (meaning machine.old.objects.items cap) in
-        Came T.kept T.cost T.after T.without
-        outcome machine.old records.old fetches.old machine.new records.new fetches.new }
-    ensures leaves { let outcome = kernel_op (state_of machine.old) p (meaning machine.old.objects.items cap) in
-        Leaves (process_name p ∷ outcome.changed) machine.old machine.new }
-{
-    let _ = cap;
-    malformed(machine, p, records, fetches);
+impl<T: Translator> Machine<T> {
+    /// Who answers an invocation of what a capability register holds.
+    fn callee(&self, p: u16, register: u8) -> Callee
+        requires there { p < size_of self.now.objects.items Process }
+        requires register { register ≤ 31 }
+        ensures means { let s = state_of self.now in
+            bare_callee result ≡ callee s.store (capreg_of (process s p) register) }
+        ensures there { IsReached self.now.objects result }
+    {
+        target(&self.objects, self.capability(p, register))
+    }
 }
