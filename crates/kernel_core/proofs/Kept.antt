@@ -17,7 +17,7 @@ use Rattle.object_store.proofs.WritesBehind.{null_behind, put_process_behind, pu
 use Rattle.schedules.specs.Queues.{QueuesValue}
 use Rattle.schedules.specs.Standing.{standing, times_in, times_on, empty_queues}
 use Rattle.schedules.specs.Ready.{runs, runs_of, places_due, Agrees, AgreesBut}
-use Rattle.cap_format.specs.declared.message.Reply.{Reply}
+use Rattle.cap_format.specs.declared.request.Reply.{Reply}
 use Rattle.process_objects.specs.Accept.{AcceptValue}
 use Rattle.kernel_core.specs.Machine.{IsMachine, NoneRuns}
 use Rattle.kernel_core.specs.Reply.{replied}

@@ -1,7 +1,7 @@
 -- A reply to a process, as it means, and what it leaves.
 use Rattle.std.proofs.Common.{◌≡◌, ℕ, ◌==◌, Bool, true, false, if◌then◌else◌, refl, ap, ◌∙◌, slice_index, Option, Some, None, IfSome}
 use Rattle.std.specs.List.{All}
-use Rattle.cap_format.specs.declared.message.Reply.{Reply}
+use Rattle.cap_format.specs.declared.request.Reply.{Reply}
 use Rattle.cap_format.specs.Capability.{Capability, null}
 use Rattle.process_objects.specs.Accept.{AcceptValue}
 use Rattle.process_objects.specs.Process.{ProcessValue, with_capreg}

@@ -2,7 +2,7 @@
 use Rattle.std.specs.Prelude.{ℕ, zero, suc, List, [], ◌∷◌, ◌++◌, if◌then◌else◌, slice_get, Option, Some, None}
 use Rattle.cap_format.specs.declared.code.Code.{Code}
 use Rattle.cap_format.specs.declared.item.Item.{Item}
-use Rattle.cap_format.specs.declared.message.Request.{Request}
+use Rattle.cap_format.specs.declared.request.Request.{Request}
 use Rattle.cap_format.specs.Kind.{is_memory}
 use Rattle.cap_format.specs.Capability.{Capability, null}
 use Rattle.process_objects.specs.Process.{ProcessValue, capreg_of}

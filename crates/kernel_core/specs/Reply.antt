@@ -1,6 +1,6 @@
 -- Replies of the kernel, in the registers of the process that asked. (Coyotos; the registers are this project's.)
 use Rattle.std.specs.Prelude.{ℕ, ◌+◌, ◌*◌, ◌==◌, if◌then◌else◌, slice_index, Option, Some, None}
-use Rattle.cap_format.specs.declared.message.Reply.{Reply}
+use Rattle.cap_format.specs.declared.request.Reply.{Reply}
 use Rattle.cap_format.specs.Capability.{Capability}
 use Rattle.cap_format.specs.Codes.{reply_number}
 use Rattle.process_objects.specs.Accept.{AcceptValue}

@@ -1,7 +1,7 @@
 use Rattle.std.proofs.Common.{◌≡◌, ◌≤◌, ◌+◌, ℕ, List, [], ◌∷◌, Option, sym, ap, ◌∙◌, subst, arith}
 use Rattle.cap_format.specs.declared.code.Code.{Code}
 use Rattle.cap_format.specs.declared.item.Item.{Item}
-use Rattle.cap_format.specs.declared.message.Reply.{Reply}
+use Rattle.cap_format.specs.declared.request.Reply.{Reply}
 use Rattle.cap_format.specs.Capability.{bare}
 use Rattle.object_store.specs.Meaning.{state_map}
 use Rattle.object_store.specs.Object.{object_name}
