@@ -28,7 +28,7 @@ use Rattle.map_cache.specs.declared.key.Key.{Key}
 use Rattle.map_cache.specs.Kept.{KeptValue, added, added_to, cost_of, counted, fits, is_new, is_reached, is_spared, kept_after, overflows, tlb_after}
 use Rattle.map_cache.specs.Cache.{CacheValue, kept_of, leaf_for, leaf_in, notes_of, root_at}
 use Rattle.map_cache.specs.Coherent.{IsCoherent, IsFresh}
-use Rattle.map_cache.specs.Effects.{ChangesHart, IsWalked, allows, leaf_of}
+use Rattle.map_cache.specs.Effects.{ChangesHart, IsWalked, allows, reached_leaf}
 use Rattle.map_cache.proofs.Codes.{both, same_numbers}
 use Rattle.map_cache.proofs.Coherence.{each_map}
 
@@ -93,7 +93,7 @@ module _ (page_law : PageLaw) (kind_law : KindLaw) (o : Items) (space : Capabili
 
   -- an access that reached makes a fresh leaf
   pub walked-fresh : ReadsLaw → (place : Place) → address < 2 ^ 32 → access o (meaning o space) address kind ≡ Ok place
-      → IsWalked o space (address / 4096) (leaf_of place) (trail o (meaning o space) address kind)
+      → IsWalked o space (address / 4096) (reached_leaf place) (trail o (meaning o space) address kind)
   walked-fresh reads_law place low reached =
       let pages : address / 4096 * 4096 / 4096 ≡ address / 4096 = omega arith in
       let agree = kind_law o (meaning o space) address kind Load place data' reached in

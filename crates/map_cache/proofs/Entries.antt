@@ -10,7 +10,7 @@ use Rattle.map_cache.specs.declared.key.Key.{Key}
 use Rattle.map_cache.specs.declared.mapping.Mapping.{Mapping}
 use Rattle.map_cache.specs.Key.{root_key}
 use Rattle.map_cache.specs.Cache.{AreApart, CacheValue, leaf_for, leaf_in, root_at}
-use Rattle.map_cache.specs.Mappings.{AreMappings, entries_from, entries_in, entries_under, entry_of, mapping_of, mappings_of}
+use Rattle.map_cache.specs.Mappings.{AreMappings, entries_from, entries_in, entries_under, page_entries, mapping_of, mappings_of}
 use Rattle.map_cache.proofs.Codes.{one_or_not}
 use Rattle.map_cache.proofs.Keyed.{root_at-is, root_at-some}
 use Rattle.map_cache.proofs.Listed.{entries_from-suc, entries_from-zero}
@@ -53,7 +53,7 @@ module _ (t : PoolValue) (root : ℕ) (space : Capability) where
       later : IsEntry t root space (suc first) n m → IsEntry t root space first (suc n) m
       later e = let from = e.from in let before = e.before in record { page = e.page; leaf = e.leaf; from = omega (arith, from); before = omega (arith, before); there = e.there; is = e.is }
 
-      on : (l : Option Leaf) → leaf_at t root first ≡ l → (i : ℕ) → slice_get (entry_of space first l ++ entries_from t root space (suc first) n) i ≡ Some m
+      on : (l : Option Leaf) → leaf_at t root first ≡ l → (i : ℕ) → slice_get (page_entries space first l ++ entries_from t root space (suc first) n) i ≡ Some m
           → ((i : ℕ) (m : Mapping) → slice_get (entries_from t root space (suc first) n) i ≡ Some m → IsEntry t root space (suc first) n m) → IsEntry t root space first (suc n) m
       on None is i at next = later (next i m at)
       on (Some leaf) is zero at next = record { page = first; leaf = leaf; from = omega arith; before = omega arith; there = is; is = cc }
@@ -65,14 +65,14 @@ module _ (t : PoolValue) (root : ℕ) (space : Capability) where
     | inl same ↦
         let here : leaf_at t root first ≡ Some leaf = ap (leaf_at t root) (sym same) ∙ there in (
           0,
-          ap (λ (ms : List Mapping). slice_get ms 0) (entries_from-suc t root space first n ∙ ap (λ (l : Option Leaf). entry_of space first l ++ entries_from t root space (suc first) n) here)
+          ap (λ (ms : List Mapping). slice_get ms 0) (entries_from-suc t root space first n ∙ ap (λ (l : Option Leaf). page_entries space first l ++ entries_from t root space (suc first) n) here)
               ∙ ap (λ (p : ℕ). Some (mapping_of space p leaf)) (sym same),
         )
     | inr other ↦
         let next = from-each n (suc first) page leaf (omega (arith, from, other)) (omega (arith, before)) there in (
-          length (entry_of space first (leaf_at t root first)) + next.0,
-          ap (λ (ms : List Mapping). slice_get ms (length (entry_of space first (leaf_at t root first)) + next.0)) (entries_from-suc t root space first n)
-              ∙ get-right (entry_of space first (leaf_at t root first)) (entries_from t root space (suc first) n) next.0 (mapping_of space page leaf) next.1,
+          length (page_entries space first (leaf_at t root first)) + next.0,
+          ap (λ (ms : List Mapping). slice_get ms (length (page_entries space first (leaf_at t root first)) + next.0)) (entries_from-suc t root space first n)
+              ∙ get-right (page_entries space first (leaf_at t root first)) (entries_from t root space (suc first) n) next.0 (mapping_of space page leaf) next.1,
         )
   ]
 
@@ -81,7 +81,7 @@ module _ (t : PoolValue) (root : ℕ) (space : Capability) where
   from-order (suc n) first i j m k less ati atj =
       on (leaf_at t root first) i j less (sym (ap (λ (ms : List Mapping). slice_get ms i) (entries_from-suc t root space first n)) ∙ ati) (sym (ap (λ (ms : List Mapping). slice_get ms j) (entries_from-suc t root space first n)) ∙ atj) (from-order n (suc first))
     where
-      on : (l : Option Leaf) (i j : ℕ) → i < j → slice_get (entry_of space first l ++ entries_from t root space (suc first) n) i ≡ Some m → slice_get (entry_of space first l ++ entries_from t root space (suc first) n) j ≡ Some k
+      on : (l : Option Leaf) (i j : ℕ) → i < j → slice_get (page_entries space first l ++ entries_from t root space (suc first) n) i ≡ Some m → slice_get (page_entries space first l ++ entries_from t root space (suc first) n) j ≡ Some k
           → ((i j : ℕ) (m k : Mapping) → i < j → slice_get (entries_from t root space (suc first) n) i ≡ Some m → slice_get (entries_from t root space (suc first) n) j ≡ Some k → m.va < k.va) → m.va < k.va
       on None i j less ati atj next = next i j m k less ati atj
       on (Some leaf) i zero less ati atj next = absurd (omega (arith, less))

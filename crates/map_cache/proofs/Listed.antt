@@ -12,7 +12,7 @@ use Rattle.map_cache.specs.declared.mapping.Mapping.{Mapping}
 use Rattle.map_cache.specs.declared.mapping.MappingPlace.{MappingPlace}
 use Rattle.map_cache.specs.Cache.{CacheValue}
 use Rattle.map_cache.proofs.Codes.{one_or_not}
-use Rattle.map_cache.specs.Mappings.{HasNext, entries_at, entries_from, entries_in, entries_under, entry_of, mapping_of, mappings_left, mappings_of, place_at, start}
+use Rattle.map_cache.specs.Mappings.{HasNext, entries_at, entries_from, entries_in, entries_under, page_entries, mapping_of, mappings_left, mappings_of, place_at, start}
 
 -- no page
 pub entries_from-zero : (t : PoolValue) (root : ℕ) (space : Capability) (page : ℕ) → entries_from t root space page zero ≡ []
@@ -20,7 +20,7 @@ unfolding entries_from
 entries_from-zero t root space page = refl
 
 -- one page and the rest
-pub entries_from-suc : (t : PoolValue) (root : ℕ) (space : Capability) (page n : ℕ) → entries_from t root space page (suc n) ≡ entry_of space page (leaf_at t root page) ++ entries_from t root space (suc page) n
+pub entries_from-suc : (t : PoolValue) (root : ℕ) (space : Capability) (page n : ℕ) → entries_from t root space page (suc n) ≡ page_entries space page (leaf_at t root page) ++ entries_from t root space (suc page) n
 unfolding entries_from
 entries_from-suc t root space page n = refl
 
@@ -36,7 +36,7 @@ module _ (t : PoolValue) (root : ℕ) (space : Capability) where
       let here : leaf_at t root first ≡ None = none first (omega arith) (omega arith) in
       let on : suc first + k ≡ first + suc k = omega arith in
       entries_from-suc t root space first m
-      ∙ ap (λ (x : Option Leaf). entry_of space first x ++ entries_from t root space (suc first) m) here
+      ∙ ap (λ (x : Option Leaf). page_entries space first x ++ entries_from t root space (suc first) m) here
       ∙ entries_from-skip k n m (suc first) (omega (arith, is)) (λ p from before. none p (omega (arith, from)) (omega (arith, before)))
       ∙ ap (λ (f : ℕ). entries_from t root space f n) on
 
@@ -51,7 +51,7 @@ module _ (t : PoolValue) (root : ℕ) (space : Capability) where
       entries_from-skip (page - first) (end - page) (end - first) first (omega (arith, from, before)) (λ p above below. next.none p above (omega (arith, below, from)))
       ∙ (λ i. entries_from t root space (there i) (count i))
       ∙ entries_from-suc t root space page (end - (page + 1))
-      ∙ ap (λ (x : Option Leaf). entry_of space page x ++ entries_from t root space (suc page) (end - (page + 1))) next.there
+      ∙ ap (λ (x : Option Leaf). page_entries space page x ++ entries_from t root space (suc page) (end - (page + 1))) next.there
       ∙ ap (λ (f : ℕ). mapping_of space page leaf ∷ entries_from t root space f (end - (page + 1))) behind
 
   -- where none has one

@@ -27,7 +27,7 @@ use Rattle.walk_engine.specs.declared.hit.Hit.{Hit}
 use Rattle.map_cache.specs.Kept.{KeptValue, added, added_to, cost_of, fits, kept_after, tlb_after}
 use Rattle.map_cache.specs.Cache.{CacheValue, IsCache, kept_of, leaf_for, leaf_in, root_at, space_at, tlb_at}
 use Rattle.map_cache.specs.Coherent.{IsCoherent, IsFresh, IsRecorded}
-use Rattle.map_cache.specs.Effects.{ChangesHart, IsWalked, Remembers, allows, leaf_of}
+use Rattle.map_cache.specs.Effects.{ChangesHart, IsWalked, Remembers, allows, reached_leaf}
 use Rattle.map_cache.proofs.Keyed.{root_at-some, space_at-at}
 use Rattle.map_cache.proofs.Invariant.{root_made}
 use Rattle.map_cache.proofs.Accesses.{IsAdded, IsSpared, Reaches, adds, changes-coherent, changes-kept, changes-leaf, counted-reached, leaf-reaches, leaf-refuses, reads-items, spared, walked-fresh}
@@ -101,9 +101,9 @@ module _ (page_law : PageLaw) (kind_law : KindLaw) (items : Items) (ranged : IsR
 
   -- the leaf of the place is fresh
   pub reached-walked : ReadsLaw → (place : Place) (reads : List Noted) → access (map_of items) (meaning items space) address kind ≡ Ok place → reads ≡ trail (map_of items) (meaning items space) address kind
-      → IsWalked (map_of items) space (address / 4096) (leaf_of place) reads
+      → IsWalked (map_of items) space (address / 4096) (reached_leaf place) reads
   reached-walked reads_law place reads reached same =
-      subst (λ (ns : List Noted). IsWalked (map_of items) space (address / 4096) (leaf_of place) ns) (sym same)
+      subst (λ (ns : List Noted). IsWalked (map_of items) space (address / 4096) (reached_leaf place) ns) (sym same)
       (walked-fresh page_law kind_law (map_of items) space (IsRanged-map_of items ranged) meant address kind data' reads_law place low reached)
 
 -- the reads of a walk are of items that there may be

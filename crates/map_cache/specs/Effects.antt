@@ -137,8 +137,8 @@ allows leaf Store = leaf.write
 allows leaf _ = false
 
 -- the leaf of the place that a walk reached
-abbrev pub leaf_of : Place → Leaf
-leaf_of place = record { page = place.number; write = not (denied Store place.restr.0); execute = not (denied Fetch place.restr.0) }
+abbrev pub reached_leaf : Place → Leaf
+reached_leaf place = record { page = place.number; write = not (denied Store place.restr.0); execute = not (denied Fetch place.restr.0) }
 
 -- no more than one hart's cache changes
 pub record ChangesHart (old new : CacheValue) (hart : ℕ) : Type 0 where

@@ -14,14 +14,14 @@ abbrev pub mapping_of : Capability → ℕ → Leaf → Mapping
 mapping_of space page leaf = record { space = space; va = page * 4096; page = leaf.page; write = leaf.write; execute = leaf.execute }
 
 -- the entry of a page, if it has a leaf
-abbrev pub entry_of : Capability → ℕ → Option Leaf → List Mapping
-entry_of space page None = []
-entry_of space page (Some leaf) = mapping_of space page leaf ∷ []
+abbrev pub page_entries : Capability → ℕ → Option Leaf → List Mapping
+page_entries space page None = []
+page_entries space page (Some leaf) = mapping_of space page leaf ∷ []
 
 -- the entries of so many pages of a space from one page on, in order
 unfoldable pub entries_from : PoolValue → ℕ → Capability → ℕ → ℕ → List Mapping
 entries_from tables root space page zero = []
-entries_from tables root space page (suc n) = entry_of space page (leaf_at tables root page) ++ entries_from tables root space (suc page) n
+entries_from tables root space page (suc n) = page_entries space page (leaf_at tables root page) ++ entries_from tables root space (suc page) n
 
 -- the entries under a frame from one page on: the space's where it is a root, and none of a region's frame
 abbrev pub entries_under : PoolValue → ℕ → Capability → ℕ → Option ℕ → List Mapping

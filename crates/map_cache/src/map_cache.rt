@@ -9,7 +9,7 @@ ghost use Rattle.sv32_tables.specs.Pool.{IsRoot};
 ghost use Rattle.tlb_model.specs.Tlb.{look};
 ghost use Rattle.walk_meaning.specs.Walk.{access, is_data};
 ghost use Rattle.walk_engine.specs.Answer.{HandlerLives, hit_meaning, hit_of};
-ghost use Rattle.map_cache.specs.Kept.{cost_of, kept_after, kept_without, tlb_after};
+ghost use Rattle.map_cache.specs.Kept.{cost_of, kept_after, kept_without, nothing, tlb_after};
 ghost use Rattle.map_cache.specs.Cache.{IsBacked, kept_of, root_at, tlb_at};
 ghost use Rattle.map_cache.specs.Coherent.{IsCoherent};
 ghost use Rattle.map_cache.specs.Effects.{AnswersHeld, IsBlank, value_of};
@@ -58,6 +58,7 @@ impl MapCache {
         requires some { 1 ≤ harts }
         requires most { harts ≤ 8 }
         ensures blank { IfOk result (λ cache. IsBlank cache) }
+        ensures nothing { IfOk result (λ cache. kept_of cache ≡ nothing) }
         ensures harts { IfOk result (λ cache. length cache.tlbs ≡ harts) }
     {
         Ok(MapCache {

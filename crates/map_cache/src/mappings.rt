@@ -3,7 +3,8 @@
 ghost use Rattle.std.specs.Prelude.{◌≡◌, ◌≢◌, ◌<◌, ◌/◌, ℕ, length, slice_get, IfOk, IfSome, IsTrue, Some};
 ghost use Rattle.std.specs.List.{position};
 ghost use Rattle.map_cache.specs.Key.{root_key, same_key};
-ghost use Rattle.map_cache.specs.Cache.{AreApart, leaf_for, root_at, tlb_at};
+ghost use Rattle.map_cache.specs.Kept.{nothing};
+ghost use Rattle.map_cache.specs.Cache.{AreApart, kept_of, leaf_for, root_at, tlb_at};
 ghost use Rattle.map_cache.specs.Effects.{ChangesHart, IsBlank, IsHeld, IsKept, value_of};
 
 use crate::key::Key;
@@ -36,6 +37,7 @@ impl Mappings {
     /// Nothing kept, for so many harts. No other call takes memory.
     pub fn new(alloc: Global, harts: u8) -> Result<Mappings, OutOfMemory>
         ensures blank { IfOk result (λ m. IsBlank (value_of m)) }
+        ensures nothing { IfOk result (λ m. kept_of (value_of m) ≡ nothing) }
         ensures kept { IfOk result (λ m. IsKept m) }
         ensures harts { IfOk result (λ m. length m.tlbs.items ≡ harts) }
     {

@@ -9,7 +9,7 @@ ghost use Rattle.walk_engine.specs.Answer.{HandlerLives, hit_meaning, hit_of};
 ghost use Rattle.map_cache.specs.Kept.{cost_of, kept_after, tlb_after};
 ghost use Rattle.map_cache.specs.Cache.{kept_of, leaf_for, tlb_at};
 ghost use Rattle.map_cache.specs.Coherent.{IsCoherent};
-ghost use Rattle.map_cache.specs.Effects.{AnswersHeld, ChangesHart, IsHeld, IsKept, allows, leaf_of, value_of};
+ghost use Rattle.map_cache.specs.Effects.{AnswersHeld, ChangesHart, IsHeld, IsKept, allows, reached_leaf, value_of};
 
 use crate::mappings::Mappings;
 use bitflags::Flags;
@@ -75,7 +75,7 @@ impl Mappings {
             });
         }
         let place = walk(objects, space, address, kind, trail, fetches)?;
-        self.remember(hart, space, address, leaf_of(place), trail.as_slice());
+        self.remember(hart, space, address, reached_leaf(place), trail.as_slice());
         Ok(Hit {
             page: place.number,
             offset: place.offset,
@@ -118,8 +118,8 @@ fn allows(leaf: Leaf, kind: Kind) -> bool
 }
 
 /// The leaf of the place that a walk reached: by all restrictions that it met.
-fn leaf_of(place: Place) -> Leaf
-    ensures { result ≡ leaf_of place }
+fn reached_leaf(place: Place) -> Leaf
+    ensures { result ≡ reached_leaf place }
 {
     Leaf {
         page: place.number,

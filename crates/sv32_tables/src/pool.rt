@@ -12,8 +12,9 @@ use crate::refusal::{PageFault, PoolFull};
 use crate::word::{leaf_of, leaf_word, pointer, table_of};
 use crate::words::{FRAME_WORDS, get, put, wipe, zeros};
 use arrayvec::ArrayVec;
+use cap_format::OutOfMemory;
 use guard_math::Block;
-use std::alloc::{AllocError, Global};
+use std::alloc::Global;
 use std::marker::Model;
 
 /// How many frames a pool has, numbered from 0.
@@ -41,7 +42,7 @@ impl Model for TablePool {
 
 impl TablePool {
     /// A pool with no root and no frame in use.
-    pub fn new(alloc: Global) -> Result<TablePool, AllocError>
+    pub fn new(alloc: Global) -> Result<TablePool, OutOfMemory>
         ensures { IfOk result (λ pool. IsEmpty pool) }
     {
         let words = zeros(alloc, FRAMES as usize * FRAME_WORDS)?;

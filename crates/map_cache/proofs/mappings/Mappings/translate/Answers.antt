@@ -58,8 +58,8 @@ remember-requires-clause-items g c =
     walk-items c.reads_law.ensures c.args.objects.now.items c.in_ranges.ensures.ranged c.args.space c.kind-range.ensures.range c.args.address low c.args.kind c.as_slice.result.now (c.as_slice.ensures.value ∙ c.in_ok-place.ensures.noted)
 
 -- what is left when the place was remembered
-remembered : (g : given.Over) (c : goal.After-remember g) → Remembers (value_of c.args.self.now) (value_of c.remember.new.self) c.args.hart c.args.space (c.args.address / 4096) c.leaf_of.result c.as_slice.result.now
-remembered g c = remembers-over (value_of c.args.self.now) (value_of c.find_allowed.new.self) (value_of c.remember.new.self) c.args.hart (c.args.address / 4096) c.args.space c.leaf_of.result c.as_slice.result.now c.find_allowed.ensures.changes c.remember.ensures.done
+remembered : (g : given.Over) (c : goal.After-remember g) → Remembers (value_of c.args.self.now) (value_of c.remember.new.self) c.args.hart c.args.space (c.args.address / 4096) c.reached_leaf.result c.as_slice.result.now
+remembered g c = remembers-over (value_of c.args.self.now) (value_of c.find_allowed.new.self) (value_of c.remember.new.self) c.args.hart (c.args.address / 4096) c.args.space c.reached_leaf.result c.as_slice.result.now c.find_allowed.ensures.changes c.remember.ensures.done
 
 -- and what the access came to
 added_new : (g : given.Over) (c : goal.After-remember g) → IsAdded (kept_of (value_of c.args.self.now)) (map_of c.args.objects.now.items) (meaning c.args.objects.now.items c.args.space) c.args.space c.args.address c.args.kind
@@ -73,7 +73,7 @@ pub returns-clause-coherent : goal.returns-clause-coherent
 returns-clause-coherent g c =
     let low : c.args.address < 2 ^ 32 = omega (arith, c.ranges.address.fits) in
     let walked = reached-walked c.page_law.ensures c.kind_law.ensures c.args.objects.now.items c.in_ranges.ensures.ranged c.args.space c.kind-range.ensures.range c.args.address low c.args.kind c.requires.data (value_of c.args.self.now) c.requires.kept c.requires.coherent c.reads_law.ensures c.in_ok-place.place c.as_slice.result.now (sym c.in_ok-place.ensures.value) (c.as_slice.ensures.value ∙ c.in_ok-place.ensures.noted) in
-    (remembered g c).coherent (map_of c.args.objects.now.items) (subst (λ (l : Leaf). IsWalked (map_of c.args.objects.now.items) c.args.space (c.args.address / 4096) l c.as_slice.result.now) (sym c.leaf_of.ensures) walked) c.requires.coherent
+    (remembered g c).coherent (map_of c.args.objects.now.items) (subst (λ (l : Leaf). IsWalked (map_of c.args.objects.now.items) c.args.space (c.args.address / 4096) l c.as_slice.result.now) (sym c.reached_leaf.ensures) walked) c.requires.coherent
 
 pub returns-clause-counted : goal.returns-clause-counted
 returns-clause-counted g c = omega (arith, c.walk.ensures.counted, (added_new g c).cost)
