@@ -7,6 +7,7 @@ use guard_math::Block;
 use std::alloc::Global;
 use std::test::Fail;
 use sv32_tables::{Leaf, TablePool};
+use tlb_model::Tlb;
 
 /// The page, whether it may be written and executed, and the word of such a leaf.
 const LEAVES: &str = "\
@@ -54,6 +55,70 @@ fn leaves_have_the_words_that_are_written_down(rt: HostRuntime) -> Result<(), Fa
         let words = words_of(rt.alloc(), leaf)?;
         assert_eq!(rt; words, (0x0040_0401, hex(&rt, row, 3)), "{row}");
     }
+    Ok(())
+}
+
+/// Two pages installed one after the other in the first root: the word that leads to its first table, the first leaf,
+/// and then the second leaf beside it.
+#[test]
+fn two_installs_leave_the_words_that_are_written_down(rt: HostRuntime) -> Result<(), Fail> {
+    let mut pool = TablePool::new(rt.alloc())?;
+    let root = pool.make_root()?;
+    let first = Leaf {
+        page: 1,
+        write: true,
+        execute: true,
+    };
+    pool.install(root, 0x1000, first)?;
+    assert_eq!(rt;
+        (pool.word(0, 0), pool.word(1, 1)),
+        (0x0040_0401, 0x0000_04df)
+    );
+    let second = Leaf {
+        page: 0,
+        write: false,
+        execute: true,
+    };
+    pool.install(root, 0, second)?;
+    assert_eq!(rt;
+        (pool.word(1, 0), pool.word(1, 1)),
+        (0x0000_00db, 0x0000_04df)
+    );
+    Ok(())
+}
+
+/// A hart's cache has room for 64 leaves: the 65th takes the place of the oldest, the 66th that of the next.
+#[test]
+fn the_oldest_leaf_goes_first(rt: HostRuntime) {
+    let mut tlb = Tlb::new();
+    for page in 0..66_u16 {
+        let leaf = Leaf {
+            page,
+            write: false,
+            execute: false,
+        };
+        tlb.fill(7, u32::from(page) * 4096, leaf);
+    }
+    for page in 0..66_u16 {
+        let held = tlb.look(7, u32::from(page) * 4096 + 5).is_some();
+        assert_eq!(rt; held, page > 1, "page {page}");
+    }
+}
+
+/// There is room for a record of each slot of 1,024 GPTs, which is 16,384, and for no other; one that is there is noted
+/// again.
+#[test]
+fn a_record_more_than_16384_is_refused(rt: HostRuntime) -> Result<(), Fail> {
+    let mut records = Depends::new(rt.alloc())?;
+    let page = Block::around(0x1234_5678, 12);
+    for gpt in 0..1024 {
+        for slot in 0..16 {
+            records.note(Item::Slot(gpt, slot), 7, page)?;
+        }
+    }
+    let header = Item::Header(CapKind::Process, 255);
+    assert!(rt; records.note(header, 7, page).is_err());
+    assert!(rt; records.note(Item::Slot(1023, 15), 7, page).is_ok());
     Ok(())
 }
 

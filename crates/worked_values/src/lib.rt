@@ -11,7 +11,7 @@ mod capabilities;
 #[cfg(test)]
 mod command_words;
 #[cfg(test)]
-mod control_caps;
+mod control_rows;
 #[cfg(test)]
 mod instructions;
 #[cfg(test)]
@@ -21,7 +21,7 @@ mod listings;
 #[cfg(test)]
 mod machine;
 #[cfg(test)]
-mod memory_caps;
+mod memory_rows;
 #[cfg(test)]
 mod numbers;
 #[cfg(test)]

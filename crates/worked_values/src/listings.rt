@@ -248,12 +248,12 @@ fn cap_word(cap: Cap) -> u32 {
     u32::from(cap.kind().number()) | u32::from(cap.restr().bits()) << 6
 }
 
-/// What a statement assigns, in the order of its line.
-fn values_of(statement: &Statement) -> [u32; 6] {
+/// What a statement assigns, in the order of its line; last the object of a recipient, or the handler of a process.
+fn values_of(statement: &Statement) -> [u32; 7] {
     match statement {
         Statement::Page { number, at, bytes } => {
             let [first, second, ..] = bytes.as_slice() else {
-                return [0, u32::from(*number), u32::from(*at), 0, 0, 0];
+                return [0, u32::from(*number), u32::from(*at), 0, 0, 0, 0];
             };
             [
                 0,
@@ -262,6 +262,7 @@ fn values_of(statement: &Statement) -> [u32; 6] {
                 bytes.as_slice().len() as u32,
                 u32::from(*first),
                 u32::from(*second),
+                0,
             ]
         }
         Statement::Code { number, at, insn } => [
@@ -269,6 +270,7 @@ fn values_of(statement: &Statement) -> [u32; 6] {
             u32::from(*number),
             u32::from(*at),
             u32::from(*insn == Insn::Lui { rd: 5, imm: 1 }),
+            0,
             0,
             0,
         ],
@@ -280,6 +282,7 @@ fn values_of(statement: &Statement) -> [u32; 6] {
                 cap_word(*cap),
                 cap.object(),
                 cap.payload(),
+                0,
             ]
         }
         Statement::Gpt { number, header } => {
@@ -289,6 +292,7 @@ fn values_of(statement: &Statement) -> [u32; 6] {
                 u32::from(header.l2v()),
                 u32::from(header.ha()),
                 u32::from(header.bg()),
+                0,
                 0,
             ]
         }
@@ -300,6 +304,7 @@ fn values_of(statement: &Statement) -> [u32; 6] {
                 cap_word(*cap),
                 cap.object(),
                 u32::from(cap.slot()),
+                0,
             ]
         }
         Statement::Endpoint {
@@ -316,6 +321,7 @@ fn values_of(statement: &Statement) -> [u32; 6] {
                 *id,
                 *payload,
                 u32::from(*matching),
+                recipient.object(),
             ]
         }
         Statement::Process {
@@ -323,7 +329,7 @@ fn values_of(statement: &Statement) -> [u32; 6] {
             pc,
             space,
             schedule,
-            handler: _,
+            handler,
             runs,
         } => {
             [
@@ -333,13 +339,14 @@ fn values_of(statement: &Statement) -> [u32; 6] {
                 cap_word(*space),
                 schedule.object(),
                 u32::from(*runs),
+                cap_word(*handler),
             ]
         }
         Statement::Reg {
             number,
             index,
             value,
-        } => [7, u32::from(*number), u32::from(*index), *value, 0, 0],
+        } => [7, u32::from(*number), u32::from(*index), *value, 0, 0, 0],
         Statement::CapReg { number, index, cap } => {
             [
                 8,
@@ -348,6 +355,7 @@ fn values_of(statement: &Statement) -> [u32; 6] {
                 cap_word(*cap),
                 u32::from(cap.guard().l2g()),
                 cap.guard().matches(),
+                0,
             ]
         }
         Statement::Count {
@@ -361,6 +369,7 @@ fn values_of(statement: &Statement) -> [u32; 6] {
             *count,
             0,
             0,
+            0,
         ],
     }
 }
@@ -370,26 +379,29 @@ fn a_statement_has_the_values_of_its_line(rt: HostRuntime) -> Result<(), Fail> {
     let alloc = rt.alloc();
     // (line, which statement it is and what it assigns)
     let cases = [
-        ("page 1 ffe 0aFf", [0, 1, 0xffe, 2, 10, 255]),
-        ("code 1 ffc lui x5 1", [1, 1, 0xffc, 1, 0, 0]),
-        ("cap 1 255 entry:1:DEADbeef", [2, 1, 255, 7, 1, 0xdead_beef]),
-        ("gpt 1 31 ha", [3, 1, 31, 1, 0, 0]),
-        ("gpt 01 012 bg", [3, 1, 12, 0, 1, 0]),
+        ("page 1 ffe 0aFf", [0, 1, 0xffe, 2, 10, 255, 0]),
+        ("code 1 ffc lui x5 1", [1, 1, 0xffc, 1, 0, 0, 0]),
+        (
+            "cap 1 255 entry:1:DEADbeef",
+            [2, 1, 255, 7, 1, 0xdead_beef, 0],
+        ),
+        ("gpt 1 31 ha", [3, 1, 31, 1, 0, 0, 0]),
+        ("gpt 01 012 bg", [3, 1, 12, 0, 1, 0, 0]),
         (
             "slot 1 15 local:3:5000@12/0+rn",
-            [4, 1, 15, 0x445, 0x5000, 3],
+            [4, 1, 15, 0x445, 0x5000, 3, 0],
         ),
-        ("endpoint 1 process:1 1 2 match", [5, 1, 8, 1, 2, 1]),
+        ("endpoint 1 process:1 1 2 match", [5, 1, 8, 1, 2, 1, 1]),
         (
-            "process 1 10 gpt:1@16/0+o schedule:6 null stop",
-            [6, 1, 16, 0x203, 6, 0],
+            "process 1 10 gpt:1@16/0+o schedule:6 range stop",
+            [6, 1, 16, 0x203, 6, 0, 10],
         ),
-        ("reg 1 31 10", [7, 1, 31, 16, 0, 0]),
+        ("reg 1 31 10", [7, 1, 31, 16, 0, 0, 0]),
         (
             "capreg 1 1 page:1@13/7FFFF+xw",
-            [8, 1, 1, 0x181, 13, 0x7ffff],
+            [8, 1, 1, 0x181, 13, 0x7ffff, 0],
         ),
-        ("count endpoint 1 10", [9, 6, 1, 10, 0, 0]),
+        ("count endpoint 1 10", [9, 6, 1, 10, 0, 0, 0]),
     ];
     for (line, values) in cases {
         let mut source = source_of(alloc, [TWO, line, "\nend\n"])?;

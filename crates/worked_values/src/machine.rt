@@ -484,20 +484,21 @@ fn a_step_leaves_and_goes_on_as_on_qemu(rt: HostRuntime) {
 fn loaded(rt: &impl Abort, row: &str, word: u32) -> u32 {
     let insn = assemble_insn(words_from(row.as_bytes(), 2)).expect(rt, "a load");
     let mut regs = [0; 32];
-    if let Effect::Load {
+    let Effect::Load {
         size,
         signed,
         rd,
         ..
     } = step(&mut regs, 0x1000, insn)
-    {
-        let value = match size {
-            1 => word % 0x100,
-            2 => word % 0x1_0000,
-            _ => word,
-        };
-        finish_load(&mut regs, rd, size, signed, value);
-    }
+    else {
+        panic!(rt; "{row} is no load")
+    };
+    let value = match size {
+        1 => word % 0x100,
+        2 => word % 0x1_0000,
+        _ => word,
+    };
+    finish_load(&mut regs, rd, size, signed, value);
     regs[3]
 }
 

@@ -1,6 +1,6 @@
 use Rattle.std.proofs.Common.{◌∙◌, sym}
 use Rattle.cap_format.specs.declared.kind.CapKind.TheVariants.{Process}
-use Rattle.worked_values.proofs.control_caps.reply.Goals as goal
+use Rattle.worked_values.proofs.control_rows.reply.Goals as goal
 
 pub returns-clause-none_ahead : goal.returns-clause-none_ahead
 returns-clause-none_ahead c = c.invoke.ensures.kept.behind

@@ -3,7 +3,7 @@ use Rattle.cap_format.specs.declared.kind.CapKind.TheVariants.{Process}
 use Rattle.object_store.specs.Store.{size_of}
 use Rattle.object_store.specs.Ahead.{NoneAhead}
 use Rattle.schedules.specs.Ready.{Agrees, runs_of}
-use Rattle.worked_values.proofs.control_caps.requests_to_the_other_kinds_are_replied_as_their_rows_say.Given as goal
+use Rattle.worked_values.proofs.control_rows.requests_to_the_other_kinds_are_replied_as_their_rows_say.Given as goal
 
 abbrev pub invariant-loop-row : goal.invariant-loop-row
 invariant-loop-row g l = record {

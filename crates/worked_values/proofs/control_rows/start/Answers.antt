@@ -4,7 +4,7 @@ use Rattle.std.proofs.lemmas.List.{length-replicate}
 use Rattle.process_objects.specs.Process.{ProcessValue, empty_process}
 use Rattle.schedules.specs.Standing.{standing, times_in, times_on, empty_queues}
 use Rattle.schedules.specs.Ready.{Agrees, runs, runs_of, places_due}
-use Rattle.worked_values.proofs.control_caps.start.Goals as goal
+use Rattle.worked_values.proofs.control_rows.start.Goals as goal
 
 -- nobody stands in empty queues
 none_in : (p n : ℕ) → sum_by (times_in p) (replicate n []) ≡ 0
