@@ -23,6 +23,8 @@ mod machine;
 #[cfg(test)]
 mod memory_rows;
 #[cfg(test)]
+mod messages;
+#[cfg(test)]
 mod numbers;
 #[cfg(test)]
 mod objects;
@@ -30,6 +32,8 @@ mod objects;
 mod requests;
 #[cfg(test)]
 mod rows;
+#[cfg(test)]
+mod strings;
 #[cfg(test)]
 mod texts;
 #[cfg(test)]
