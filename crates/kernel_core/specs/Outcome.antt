@@ -31,9 +31,11 @@ pub record Outcome : Type 0 where
 abbrev pub process_name : ℕ → ObjectName
 process_name p = object_name Process p
 
+-- the name of a page
 abbrev pub page_name : ℕ → ObjectName
 page_name n = object_name Page n
 
+-- the name of a capability page
 abbrev pub cappage_name : ℕ → ObjectName
 cappage_name n = object_name CapPage n
 

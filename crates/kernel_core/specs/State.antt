@@ -34,9 +34,11 @@ register_of s p i = reg_of (process s p) i
 abbrev pub space_slot : ℕ
 space_slot = 0
 
+-- the slot of a process that holds its schedule
 abbrev pub schedule_slot_number : ℕ
 schedule_slot_number = 1
 
+-- the slot of a process that holds its fault handler
 abbrev pub handler_slot : ℕ
 handler_slot = 2
 

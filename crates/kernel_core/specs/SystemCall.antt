@@ -46,6 +46,7 @@ moved s p (Some StoreCap) = store_cap s p (register_of s p 10) (register_of s p 
 moved s p (Some CopyCap) = copy_cap s p (register_of s p 10) (register_of s p 11)
 moved s p _ = malformed s p
 
+-- the call of the calls 1 to 3 whose number is in x17
 unfoldable pub move_cap : State → ℕ → Outcome
 move_cap s p = moved s p (call_with (register_of s p 17))
 

@@ -56,6 +56,7 @@ makeentry_row c r = always (gives (entry c.object c.count (w2 r)))
 unfoldable pub setpayload_row : Store → Capability → Request → Row
 setpayload_row s c r = always (does (EndpointIs c.object (record (endpoint_of s c) { payload = w2 r }) ∷ []))
 
+-- an endpoint: the row that has a number, if there is one
 unfoldable pub endpoint_table : Store → Capability → Request → ℕ → Option Row
 endpoint_table s c r number =
     if number == 8 then Some (setrecipient_row s c r)
@@ -86,6 +87,7 @@ tells_state Running = tells 0 0 0
 tells_state (Receiving accept) = tells 1 0 0
 tells_state (Faulted code address) = tells 2 (fault_number code) address
 
+-- whether a process is at a fault or was stopped
 abbrev pub is_faulted : RunState → Bool
 is_faulted Running = false
 is_faulted (Receiving accept) = false
@@ -135,6 +137,7 @@ stopping s p = Left p ∷ ProcessIs p (with_state (process_at s p) stopped) ∷ 
 unfoldable pub stop_row : Store → Capability → Row
 stop_row s c = unless_error (is_faulted (process_of s c).state) (does (stopping s c.object))
 
+-- a process
 unfoldable pub process_table : Store → Capability → Request → ℕ → Option Row
 process_table s c r number =
     if number == 8 then Some (getreg_row s c r)
@@ -158,6 +161,7 @@ priority_row c = always (tells c.object 0 0)
 unfoldable pub lower_row : Capability → Request → Row
 lower_row c r = unless_error (nat_lt c.object (w2 r)) (gives (schedule (w2 r)))
 
+-- a schedule
 unfoldable pub schedule_table : Capability → Request → ℕ → Option Row
 schedule_table c r number =
     if number == 8 then Some (priority_row c)
@@ -176,6 +180,7 @@ obtained reading s (Some kind) number =
 unfoldable pub getcap_row : Reading → Store → Request → Row
 getcap_row reading s r = obtained reading s (kind_with (w2 r)) (w3 r)
 
+-- whether a capability is to a process
 abbrev pub is_process : CapKind → Bool
 is_process Process = true
 is_process _ = false
@@ -195,6 +200,7 @@ destroy_row s sent = record {
   answer = does (destruction_of s sent.kind sent.object);
 }
 
+-- a range
 unfoldable pub range_table : Reading → Store → Request → ℕ → Option Row
 range_table reading s r number =
     if number == 8 then Some (getcap_row reading s r)
@@ -207,6 +213,7 @@ range_table reading s r number =
 unfoldable pub classify_row : Capability → Row
 classify_row sent = always (tells (number_of sent.kind) (bit (is_harmless sent)) 0)
 
+-- a discrim
 unfoldable pub discrim_table : Request → ℕ → Option Row
 discrim_table r number = if number == 8 then Some (classify_row r.sent) else None
 
@@ -227,6 +234,7 @@ control_table reading s c r kind number =
     if number == 0 then Some (kind_row c)
     else own_table reading s c r kind number
 
+-- whether it is the kind Null
 abbrev pub is_null : CapKind → Bool
 is_null Null = true
 is_null _ = false

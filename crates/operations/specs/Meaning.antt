@@ -24,9 +24,11 @@ abbrev pub cap_map : (Capability → Capability) → Option Capability → Optio
 cap_map f None = None
 cap_map f (Some c) = Some (f c)
 
+-- an answer with the function applied to each capability in it
 abbrev pub answer_map : (Capability → Capability) → Answer → Answer
 answer_map f answer = record { changes = map (change_map f) answer.changes; words = answer.words; cap = cap_map f answer.cap }
 
+-- a code with such an answer
 abbrev pub settled_map : (Capability → Capability) → Settled → Settled
 settled_map f settled = record { code = settled.code; answer = answer_map f settled.answer }
 

@@ -26,6 +26,7 @@ use Rattle.operations.specs.Request.{w1, w2, w3, w4}
 abbrev pub read_only : Capability → Bool
 read_only c = has c.restr 1
 
+-- whether OP is among the restrictions of a capability
 abbrev pub opaque : Capability → Bool
 opaque c = has c.restr 8
 
@@ -41,6 +42,7 @@ is_multiple l2g offset = offset % 2 ^ l2g == 0
 unfoldable pub may_have : Capability → ℕ → ℕ → Bool
 may_have c l2g matches = is_guard l2g matches && (not (is_window c.kind) || is_multiple l2g c.object)
 
+-- whether a capability is to a page
 abbrev pub is_page : CapKind → Bool
 is_page Page = true
 is_page _ = false
@@ -123,15 +125,19 @@ setheader_row c r =
 abbrev pub window_slot : Request → ℕ
 window_slot r = w2 r % 16
 
+-- bit 4: whether it becomes a local window
 abbrev pub window_is_local : Request → Bool
 window_is_local r = w2 r / 16 % 2 == 1
 
+-- bits 5 to 8: the slot of a local window
 abbrev pub window_local_slot : Request → ℕ
 window_local_slot r = w2 r / 32 % 16
 
+-- bits 9 to 14: the size of its guard
 abbrev pub window_l2g : Request → ℕ
 window_l2g r = w2 r / 512 % 64
 
+-- bits 15 to 19: its restrictions
 abbrev pub window_restr : Request → ℕ
 window_restr r = w2 r / 32768 % 32
 
@@ -156,12 +162,14 @@ setwindow_row c r = with_access (opaque c || read_only c) (window_error r) (does
 
 -- ---- the tables: the row that has a number, if there is one
 
+-- a page
 unfoldable pub page_table : Store → Capability → Request → ℕ → Option Row
 page_table s c r number =
     if number == 8 then Some (clear_page_row c)
     else (if number == 9 then Some (copy_row s c r)
     else None)
 
+-- a capability page
 unfoldable pub cappage_table : Store → Capability → Request → ℕ → Option Row
 cappage_table s c r number =
     if number == 8 then Some (clear_cappage_row c)
@@ -169,6 +177,7 @@ cappage_table s c r number =
     else (if number == 10 then Some (set_row s c r)
     else None))
 
+-- a GPT
 unfoldable pub gpt_table : Store → Capability → Request → ℕ → Option Row
 gpt_table s c r number =
     if number == 8 then Some (getslot_row s c r)
@@ -195,10 +204,12 @@ memory_table s c r kind number =
     else (if number == 4 then Some (getrestr_row c)
     else own_table s c r kind number))))
 
+-- whether a capability is to a GPT
 abbrev pub is_gpt : CapKind → Bool
 is_gpt Gpt = true
 is_gpt _ = false
 
+-- whether a code is Ok
 abbrev pub is_granted : Code → Bool
 is_granted OkCode = true
 is_granted _ = false

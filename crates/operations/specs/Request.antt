@@ -11,9 +11,11 @@ w1 r = slice_index r.words 0
 abbrev pub w2 : Request → ℕ
 w2 r = slice_index r.words 1
 
+-- the third word
 abbrev pub w3 : Request → ℕ
 w3 r = slice_index r.words 2
 
+-- the fourth word
 abbrev pub w4 : Request → ℕ
 w4 r = slice_index r.words 3
 
