@@ -228,6 +228,8 @@ fn a_delivery_changes_the_receiver_and_a_matching_endpoint(rt: HostRuntime) -> R
     let sizes = objects.sizes();
     assert!(rt; sizes.processes == 3 && sizes.endpoints == 8);
     give(&rt, &mut objects, 0, 0, message(true, three_caps()));
+    let sizes = objects.sizes();
+    assert!(rt; sizes.processes == 3 && sizes.endpoints == 8);
     let receiver = objects.process(0);
     assert_eq!(rt; receiver.reg(10), 0x0002_0101);
     assert_eq!(rt; (receiver.reg(11), receiver.reg(12)), (0x11, 0x22));
@@ -238,6 +240,8 @@ fn a_delivery_changes_the_receiver_and_a_matching_endpoint(rt: HostRuntime) -> R
     assert_eq!(rt; objects.endpoint(0).payload, 6);
     // What goes to c0 is dropped, and counts.
     give(&rt, &mut objects, 1, 1, message(false, three_caps()));
+    let sizes = objects.sizes();
+    assert!(rt; sizes.processes == 3 && sizes.endpoints == 8);
     let receiver = objects.process(1);
     assert_eq!(rt; receiver.reg(10), 0x0002_0001);
     assert_eq!(rt; receiver.capreg(0), Cap::null());
@@ -245,6 +249,8 @@ fn a_delivery_changes_the_receiver_and_a_matching_endpoint(rt: HostRuntime) -> R
     assert_eq!(rt; objects.endpoint(1).payload, 5);
     // The payload after the last is 0; no capability was sent.
     give(&rt, &mut objects, 7, 0, message(false, CapList::new()));
+    let sizes = objects.sizes();
+    assert!(rt; sizes.processes == 3 && sizes.endpoints == 8);
     assert_eq!(rt; objects.process(0).reg(10), 1);
     assert_eq!(rt; objects.endpoint(7).payload, 0);
     Ok(())
