@@ -33,8 +33,6 @@ mod requests;
 #[cfg(test)]
 mod rows;
 #[cfg(test)]
-mod strings;
-#[cfg(test)]
 mod texts;
 #[cfg(test)]
 mod walks;

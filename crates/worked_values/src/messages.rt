@@ -1,11 +1,10 @@
-//! Messages: registers that are an invocation or are malformed, who answers, and what a delivery leaves, worked out by
-//! hand from the rules.
+//! Messages: registers that are an invocation or are malformed, and who answers, worked out by hand from the rules.
 ghost use Rattle.std.specs.Prelude.{◌<◌};
 
 use crate::rows::{byte, hex};
 use cap_format::{Cap, CapKind};
 use endpoint_objects::Endpoint;
-use invocation::{Callee, CapList, Message, deliver, parse, target};
+use invocation::{Callee, parse, target};
 use object_store::{Objects, Sizes};
 use process_objects::{Accept, State, Wait};
 use std::alloc::Global;
@@ -190,68 +189,5 @@ fn each_entry_has_one_who_answers(rt: HostRuntime) -> Result<(), Fail> {
     }
     let range = Cap::plain(CapKind::Range);
     assert_eq!(rt; target(&objects, range), Callee::Kernel(range));
-    Ok(())
-}
-
-/// Three capabilities, of which a receiver of two takes the first two.
-fn three_caps() -> CapList {
-    let mut caps = CapList::new();
-    caps.push(Cap::plain(CapKind::Range));
-    caps.push(Cap::plain(CapKind::KernLog));
-    caps.push(Cap::plain(CapKind::Discrim));
-    caps
-}
-
-fn message(cut: bool, caps: CapList) -> Message {
-    Message {
-        words: [0x11, 0x22, 0x33, 0x44],
-        payload: 0x99,
-        length: 0x600,
-        cut,
-        caps,
-    }
-}
-
-/// Delivers to a process that receives.
-fn give(rt: &impl Abort, objects: &mut Objects, endpoint: u16, process: u16, message: Message) {
-    let sizes = objects.sizes();
-    assert!(rt; endpoint < sizes.endpoints && process < sizes.processes);
-    match objects.process(process).state() {
-        State::Receiving(_) => deliver(objects, endpoint, process, message),
-        _ => panic!(rt; "it doesn't receive"),
-    }
-}
-
-#[test]
-fn a_delivery_changes_the_receiver_and_a_matching_endpoint(rt: HostRuntime) -> Result<(), Fail> {
-    let mut objects = receivers(&rt, rt.alloc())?;
-    let sizes = objects.sizes();
-    assert!(rt; sizes.processes == 3 && sizes.endpoints == 8);
-    give(&rt, &mut objects, 0, 0, message(true, three_caps()));
-    let sizes = objects.sizes();
-    assert!(rt; sizes.processes == 3 && sizes.endpoints == 8);
-    let receiver = objects.process(0);
-    assert_eq!(rt; receiver.reg(10), 0x0002_0101);
-    assert_eq!(rt; (receiver.reg(11), receiver.reg(12)), (0x11, 0x22));
-    assert_eq!(rt; (receiver.reg(13), receiver.reg(14)), (0x33, 0x44));
-    assert_eq!(rt; (receiver.reg(15), receiver.reg(16)), (0x99, 0x600));
-    assert_eq!(rt; (receiver.reg(17), receiver.reg(22)), (0, 9));
-    assert_eq!(rt; receiver.capreg(5), Cap::plain(CapKind::KernLog));
-    assert_eq!(rt; objects.endpoint(0).payload, 6);
-    // What goes to c0 is dropped, and counts.
-    give(&rt, &mut objects, 1, 1, message(false, three_caps()));
-    let sizes = objects.sizes();
-    assert!(rt; sizes.processes == 3 && sizes.endpoints == 8);
-    let receiver = objects.process(1);
-    assert_eq!(rt; receiver.reg(10), 0x0002_0001);
-    assert_eq!(rt; receiver.capreg(0), Cap::null());
-    assert_eq!(rt; receiver.capreg(6), Cap::plain(CapKind::KernLog));
-    assert_eq!(rt; objects.endpoint(1).payload, 5);
-    // The payload after the last is 0; no capability was sent.
-    give(&rt, &mut objects, 7, 0, message(false, CapList::new()));
-    let sizes = objects.sizes();
-    assert!(rt; sizes.processes == 3 && sizes.endpoints == 8);
-    assert_eq!(rt; objects.process(0).reg(10), 1);
-    assert_eq!(rt; objects.endpoint(7).payload, 0);
     Ok(())
 }
