@@ -2,8 +2,8 @@
 use Rattle.std.proofs.Common.{◌≡◌, ◌<◌, ◌≤◌, ◌+◌, ◌-◌, ℕ, zero, suc, List, [], ◌∷◌, ◌++◌, ◌*◌, length, replicate, refl, sym, ap, ◌∙◌, arith}
 use Rattle.std.proofs.Math.Nat.{add_comm, suc-mul}
 use Rattle.std.proofs.lemmas.List.{length-append, length-replicate}
-use Rattle.kernel_core.specs.declared.event.Event.{Event}
-use Rattle.kernel_core.specs.declared.event.Event.TheVariants.{Step}
+use Rattle.machine_state.specs.declared.event.Event.{Event}
+use Rattle.machine_state.specs.declared.event.Event.TheVariants.{Step}
 use Rattle.listing_read.specs.Schedule.{IsTimed}
 use Rattle.listing_read.specs.declared.schedule.Timed.{Timed}
 use Rattle.listing_read.specs.declared.schedule.Timed.TheVariants.{Step as Steps, Tick as TimerTick, Round}

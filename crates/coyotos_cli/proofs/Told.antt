@@ -1,10 +1,10 @@
 -- The lines of records and the slots of touches, by parts.
 use Rattle.std.proofs.Common.{◌≡◌, ◌<◌, ◌≤◌, ◌+◌, ℕ, suc, List, [], ◌∷◌, ◌++◌, length, get_or, drop, true, false, refl, sym, ap, ◌∙◌, append_assoc, arith}
 use Rattle.std.proofs.Math.Seq.{drop-cons}
-use Rattle.kernel_core.specs.declared.event.Event.{Event}
-use Rattle.kernel_core.specs.declared.record.Record.{Record}
+use Rattle.machine_state.specs.declared.event.Event.{Event}
+use Rattle.machine_state.specs.declared.record.Record.{Record}
 use Rattle.kernel_core.specs.Event.{event_of}
-use Rattle.kernel_core.specs.Ran.{run_state-nil, run_state-cons, run_records-nil, run_records-cons, run_touches-nil, run_touches-cons, spent-append, kept_after-append}
+use Rattle.kernel_core.proofs.Ran.{run_state-nil, run_state-cons, run_records-nil, run_records-cons, run_touches-nil, run_touches-cons, spent-append, kept_after-append}
 use Rattle.kernel_core.specs.Outcome.{Touch, spent, kept_after}
 use Rattle.kernel_core.specs.Run.{run_state, run_records, run_touches}
 use Rattle.kernel_core.specs.State.{State}

@@ -1,7 +1,7 @@
 -- The events that a line of the schedule stands for.
 use Rattle.std.specs.Prelude.{◌≡◌, ℕ, zero, suc, ◌-◌, ◌<◌, List, [], ◌∷◌, ◌++◌, replicate, Option, Some, None, ⊤}
-use Rattle.kernel_core.specs.declared.event.Event.{Event}
-use Rattle.kernel_core.specs.declared.event.Event.TheVariants.{Step, Tick}
+use Rattle.machine_state.specs.declared.event.Event.{Event}
+use Rattle.machine_state.specs.declared.event.Event.TheVariants.{Step, Tick}
 use Rattle.kernel_core.specs.Machine.{hart_in}
 use Rattle.listing_read.specs.declared.schedule.Timed.{Timed}
 use Rattle.listing_read.specs.declared.schedule.Timed.TheVariants.{Step as Steps, Tick as TimerTick, Round}

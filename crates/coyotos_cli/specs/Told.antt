@@ -3,9 +3,9 @@ use Rattle.std.specs.Prelude.{◌≡◌, ◌+◌, Bool, true, false, not, if◌t
 use Rattle.cap_format.specs.Capability.{Capability}
 use Rattle.cap_format.specs.declared.item.Item.{Item}
 use Rattle.object_store.specs.Store.{Items}
-use Rattle.kernel_core.specs.declared.event.Event.{Event}
-use Rattle.kernel_core.specs.declared.record.Record.{Record}
-use Rattle.kernel_core.specs.declared.record.Record.TheVariants.{Access, Insn}
+use Rattle.machine_state.specs.declared.event.Event.{Event}
+use Rattle.machine_state.specs.declared.record.Record.{Record}
+use Rattle.machine_state.specs.declared.record.Record.TheVariants.{Access, Insn}
 use Rattle.kernel_core.specs.Outcome.{Touch, spent, kept_after}
 use Rattle.kernel_core.specs.State.{State}
 use Rattle.kernel_core.specs.Run.{run_state, run_records, run_touches}

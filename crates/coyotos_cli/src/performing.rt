@@ -13,7 +13,7 @@ use crate::command::Command;
 use crate::events::Events;
 use coy_io::{Sink, WriteFault, put_all};
 use coy_text::LineBuf;
-use kernel_core::{Machine, Record, Records};
+use kernel_core::{Machine, Record, Records, event_into};
 use listing_read::Timed;
 use run_text::record_line;
 use std::sync::ledger::Ledger;
@@ -53,7 +53,7 @@ pub(crate) fn perform<T: Translator, K: Sink, L: Ledger>(
     }
     let mut events = Events::new(harts, timed);
     'each: while let Some(event) = events.take() {
-        machine.event_into(event, records, fetches);
+        event_into(machine, event, records, fetches);
         put_records(command, records, output)?;
     }
     Ok(())

@@ -1,5 +1,1 @@
-pub mod Changed
-pub mod Kept
-pub mod Nowhere
-pub mod Replied
-pub mod Operated
+pub mod Ran

@@ -6,15 +6,15 @@ use Rattle.rv32_decode.specs.Table.{insn_at}
 use Rattle.walk_meaning.specs.declared.kind.Kind.TheVariants.{Fetch}
 use Rattle.walk_meaning.specs.declared.place.WalkFault.{WalkFault}
 use Rattle.walk_engine.specs.declared.hit.Hit.{Hit}
-use Rattle.schedules.specs.Queues.{hart_of, dispatched}
-use Rattle.kernel_core.specs.declared.event.Event.{Event}
-use Rattle.kernel_core.specs.declared.event.Event.TheVariants.{Step, Tick}
-use Rattle.kernel_core.specs.declared.record.Record.TheVariants.{Insn as InsnRead}
-use Rattle.kernel_core.specs.State.{State, pc_of}
-use Rattle.kernel_core.specs.Setters.{set_queues, leave, ready}
-use Rattle.kernel_core.specs.Outcome.{Outcome, process_name, names_on, done, recorded, touched, changing}
+use Rattle.schedules.specs.Queues.{hart_of}
+use Rattle.machine_state.specs.declared.event.Event.{Event}
+use Rattle.machine_state.specs.declared.event.Event.TheVariants.{Step, Tick}
+use Rattle.machine_state.specs.declared.record.Record.TheVariants.{Insn as InsnRead}
+use Rattle.machine_state.specs.State.{State, pc_of}
+use Rattle.machine_state.specs.Setters.{dispatch, ticked}
+use Rattle.machine_state.specs.Outcome.{Outcome, process_name, names_on, done, recorded, touched, changing}
 use Rattle.kernel_core.specs.Fault.{fault}
-use Rattle.kernel_core.specs.Access.{data_access, data_touch, reached, number_at}
+use Rattle.machine_state.specs.DataAccess.{data_access, data_touch, reached, number_at}
 use Rattle.kernel_core.specs.Instruction.{perform}
 
 -- the word that was fetched: an instruction, or none of the table
@@ -32,19 +32,10 @@ unfoldable pub instruction : State → ℕ → Outcome
 instruction s p =
     changing (process_name p) (touched (data_touch s p (pc_of s p) Fetch) (fetched_from s p (data_access s p (pc_of s p) Fetch)))
 
--- a hart without a process takes the first of the highest ready queue
-abbrev pub dispatch : State → ℕ → State
-dispatch s hart = set_queues s (dispatched s.queues hart)
-
 -- a step of a hart with this process
 abbrev pub stepped : State → Option ℕ → Outcome
 stepped s None = done s
 stepped s (Some p) = instruction s p
-
--- a tick of a hart with this process, which goes to the end of its queue
-abbrev pub ticked : State → Option ℕ → State
-ticked s None = s
-ticked s (Some p) = ready (leave s p) p
 
 -- such a tick, of which nothing is told
 abbrev pub tick_of : State → Option ℕ → Outcome

@@ -3,15 +3,10 @@ use Rattle.std.specs.Prelude.{ℕ, Option, None}
 use Rattle.cap_format.specs.Capability.{Capability}
 use Rattle.cap_format.specs.declared.fault.FaultCode.{FaultCode}
 use Rattle.cap_format.specs.declared.fault.FaultCode.TheVariants.{BadAlign, MalformedSyscall}
-use Rattle.process_objects.specs.declared.state.State.TheVariants.{Faulted}
-use Rattle.kernel_core.specs.declared.record.Record.TheVariants.{Fault}
-use Rattle.kernel_core.specs.State.{State, pc_of}
-use Rattle.kernel_core.specs.Setters.{leave, set_run_state}
-use Rattle.kernel_core.specs.Outcome.{Outcome, done, recorded}
-
--- the process is faulted and stands nowhere; its pc stays (Coyotos)
-abbrev pub faulted : State → ℕ → FaultCode → ℕ → State
-faulted s p code address = set_run_state (leave s p) p (Faulted code address)
+use Rattle.machine_state.specs.declared.record.Record.TheVariants.{Fault}
+use Rattle.machine_state.specs.State.{State, pc_of}
+use Rattle.machine_state.specs.Setters.{faulted}
+use Rattle.machine_state.specs.Outcome.{Outcome, done, recorded}
 
 -- a fault of a process with the handler that its walk gave; nobody hears it (fewer cases than Coyotos)
 unfoldable pub fault : State → ℕ → FaultCode → ℕ → Option Capability → Outcome

@@ -5,11 +5,11 @@ use Rattle.rv32_decode.specs.declared.insn.Insn.{Insn}
 use Rattle.rv32_user.specs.declared.effect.Effect.{Effect}
 use Rattle.rv32_user.specs.declared.effect.Effect.TheVariants.{Next, Load, Store, Syscall, Break, Misaligned}
 use Rattle.rv32_user.specs.Step.{effect_of, registers_after}
-use Rattle.kernel_core.specs.State.{State, process, pc_of}
-use Rattle.kernel_core.specs.Setters.{set_pc, set_registers}
-use Rattle.kernel_core.specs.Outcome.{Outcome, done}
+use Rattle.machine_state.specs.State.{State, process, pc_of}
+use Rattle.machine_state.specs.Setters.{set_pc, set_registers}
+use Rattle.machine_state.specs.Outcome.{Outcome, done}
 use Rattle.kernel_core.specs.Fault.{fault, misaligned}
-use Rattle.kernel_core.specs.Access.{load, store}
+use Rattle.kernel_core.specs.LoadStore.{load, store}
 use Rattle.kernel_core.specs.SystemCall.{system_call}
 
 -- what an instruction comes to by its effect (RV32I; faults are Coyotos's)

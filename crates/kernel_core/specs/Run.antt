@@ -1,9 +1,9 @@
 -- Runs: the events of a list, one after the other.
 use Rattle.std.specs.Prelude.{List, [], ◌∷◌, ◌++◌}
-use Rattle.kernel_core.specs.declared.event.Event.{Event}
-use Rattle.kernel_core.specs.declared.record.Record.{Record}
-use Rattle.kernel_core.specs.State.{State}
-use Rattle.kernel_core.specs.Outcome.{Touch}
+use Rattle.machine_state.specs.declared.event.Event.{Event}
+use Rattle.machine_state.specs.declared.record.Record.{Record}
+use Rattle.machine_state.specs.State.{State}
+use Rattle.machine_state.specs.Outcome.{Touch}
 use Rattle.kernel_core.specs.Event.{event_of}
 
 -- the state after the events

@@ -11,13 +11,13 @@ use Rattle.invocation.specs.Invocation.{InvocationValue, parsed}
 use Rattle.invocation.specs.Target.{callee}
 use Rattle.kernel_core.specs.declared.system_call.SystemCall.{SystemCall}
 use Rattle.kernel_core.specs.declared.system_call.SystemCall.TheVariants.{Invoke, LoadCap, StoreCap, CopyCap, Yield}
-use Rattle.kernel_core.specs.State.{State, process, register_of}
-use Rattle.kernel_core.specs.Setters.{set_capreg, advance, leave, ready}
-use Rattle.kernel_core.specs.Outcome.{Outcome, done}
+use Rattle.machine_state.specs.State.{State, process, register_of}
+use Rattle.machine_state.specs.Setters.{set_capreg, advance, yielded}
+use Rattle.machine_state.specs.Outcome.{Outcome, done}
 use Rattle.kernel_core.specs.Fault.{malformed}
-use Rattle.kernel_core.specs.CapAccess.{load_cap, store_cap}
-use Rattle.kernel_core.specs.Reply.{set_reply}
-use Rattle.kernel_core.specs.Operation.{kernel_op}
+use Rattle.kernel_core.specs.CapTransfer.{load_cap, store_cap}
+use Rattle.machine_state.specs.Reply.{set_reply}
+use Rattle.kernel_core.specs.KernelOperation.{kernel_op}
 
 -- the system call with this number
 abbrev pub call_with : ℕ → Option SystemCall
@@ -77,10 +77,6 @@ invoked s p (Ok inv) = if inv.send then send s p inv else receive s p inv
 -- call 0
 unfoldable pub invoke : State → ℕ → Outcome
 invoke s p = invoked s p (parsed (process s p).regs)
-
--- call 4: the process goes on behind its instruction, and to the end of its queue
-abbrev pub yielded : State → ℕ → State
-yielded s p = ready (leave (advance s p) p) p
 
 -- what a system call comes to
 abbrev pub called : State → ℕ → Option SystemCall → Outcome

@@ -2,16 +2,14 @@
 ghost use Rattle.std.specs.Prelude.{◌<◌, ◌≤◌, ◌∷◌, Ok};
 ghost use Rattle.cap_format.specs.declared.kind.CapKind.TheVariants.{Process};
 ghost use Rattle.object_store.specs.Store.{size_of};
-ghost use Rattle.kernel_core.specs.State.{state_of, IsOnHart};
-ghost use Rattle.kernel_core.specs.Outcome.{process_name};
-ghost use Rattle.kernel_core.specs.Came.{Came, CameUnasked, Leaves, HasRoom};
-ghost use Rattle.kernel_core.specs.CapAccess.{load_cap, cap_loaded_from, store_cap, cap_stored_to};
+ghost use Rattle.machine_state.specs.State.{state_of, IsOnHart};
+ghost use Rattle.machine_state.specs.Outcome.{process_name};
+ghost use Rattle.machine_state.specs.Came.{Came, CameUnasked, Leaves, HasRoom};
+ghost use Rattle.kernel_core.specs.CapTransfer.{load_cap, cap_loaded_from, store_cap, cap_stored_to};
 
 use crate::faults::{fault, malformed, misaligned};
-use crate::machine::Machine;
-use crate::record::Record;
-use crate::records::Records;
 use cap_format::CapKind;
+use machine_state::{Machine, Record, Records};
 use std::sync::ledger::Ledger;
 use steps::Steps;
 use walk_engine::Translator;
@@ -19,7 +17,7 @@ use walk_meaning::{Kind, Place};
 
 /// Loadcap: the capability at an address goes to a register. What is no register comes before the alignment, and that
 /// before the walk.
-#[tactic(auto, unfolding(crate::specs::CapAccess::load_cap))]
+#[tactic(auto, unfolding(crate::specs::CapTransfer::load_cap))]
 pub(crate) fn load_cap<T: Translator, L: Ledger>(
     machine: &mut Machine<T>,
     p: u16,
@@ -81,7 +79,7 @@ fn cap_loaded_from<T: Translator>(
 }
 
 /// Storecap: the capability of a register goes to an address, with the same tests in the same order.
-#[tactic(auto, unfolding(crate::specs::CapAccess::store_cap))]
+#[tactic(auto, unfolding(crate::specs::CapTransfer::store_cap))]
 pub(crate) fn store_cap<T: Translator, L: Ledger>(
     machine: &mut Machine<T>,
     p: u16,

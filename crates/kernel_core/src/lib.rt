@@ -5,30 +5,18 @@
 #![tactic(auto)]
 
 mod cap_accesses;
-mod cap_memory;
-mod changes;
-mod event;
 mod events;
 mod faults;
 mod instructions;
 mod loads;
-mod log_bytes;
-mod machine;
-mod memory;
 mod operating;
 pub mod parts;
-mod record;
-mod records;
-mod replies;
 mod runs;
 mod stores;
 mod system_call;
 mod system_calls;
 
-pub use event::Event;
-pub use log_bytes::LogBytes;
-pub use machine::Machine;
-pub use record::Record;
-pub use records::Records;
+pub use events::{event, event_into};
+pub use machine_state::{Event, LogBytes, Machine, Record, Records};
 pub use runs::{Listener, run};
 pub use system_call::SystemCall;

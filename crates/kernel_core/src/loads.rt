@@ -3,16 +3,14 @@ ghost use Rattle.std.specs.Prelude.{◌≡◌, ◌<◌, ◌≤◌, ◌+◌, ◌%
 ghost use Rattle.cap_format.specs.declared.kind.CapKind.TheVariants.{Process};
 ghost use Rattle.object_store.specs.Store.{size_of};
 ghost use Rattle.rv32_user.specs.Size.{IsSize};
-ghost use Rattle.kernel_core.specs.State.{state_of, IsOnHart};
-ghost use Rattle.kernel_core.specs.Outcome.{process_name};
-ghost use Rattle.kernel_core.specs.Came.{Came, CameUnasked, Leaves, HasRoom};
-ghost use Rattle.kernel_core.specs.Access.{load, loaded_from};
+ghost use Rattle.machine_state.specs.State.{state_of, IsOnHart};
+ghost use Rattle.machine_state.specs.Outcome.{process_name};
+ghost use Rattle.machine_state.specs.Came.{Came, CameUnasked, Leaves, HasRoom};
+ghost use Rattle.kernel_core.specs.LoadStore.{load, loaded_from};
 
 use crate::faults::{fault, misaligned};
-use crate::machine::Machine;
-use crate::record::Record;
-use crate::records::Records;
 use cap_format::CapKind;
+use machine_state::{Machine, Record, Records};
 use rv32_user::finish_load;
 use std::sync::ledger::Ledger;
 use steps::Steps;
@@ -32,7 +30,7 @@ pub(crate) struct Wanted {
 }
 
 /// A load. An address that is no multiple of the size is not walked.
-#[tactic(auto, unfolding(crate::specs::Access::load))]
+#[tactic(auto, unfolding(crate::specs::LoadStore::load))]
 pub(crate) fn load<T: Translator, L: Ledger>(
     machine: &mut Machine<T>,
     p: u16,

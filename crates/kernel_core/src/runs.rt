@@ -1,14 +1,13 @@
 //! Runs: the events of a list, one after the other.
 ghost use Rattle.std.specs.Prelude.{◌≡◌, ◌<◌, ◌+◌, ◌++◌};
 ghost use Rattle.std.specs.List.{All};
-ghost use Rattle.kernel_core.specs.Machine.{hart_in};
-ghost use Rattle.kernel_core.specs.State.{state_of};
-ghost use Rattle.kernel_core.specs.Outcome.{spent, kept_after};
+ghost use Rattle.machine_state.specs.Machine.{hart_in};
+ghost use Rattle.machine_state.specs.State.{state_of};
+ghost use Rattle.machine_state.specs.Outcome.{spent, kept_after};
 ghost use Rattle.kernel_core.specs.Run.{run_state, run_records, run_touches};
 
-use crate::event::Event;
-use crate::machine::Machine;
-use crate::records::Records;
+use crate::events::event_into;
+use machine_state::{Event, Machine, Records};
 use std::sync::ledger::Ledger;
 use steps::Steps;
 use walk_engine::Translator;
@@ -16,7 +15,7 @@ use walk_engine::Translator;
 /// Is told the records of each event.
 pub trait Listener {
     ghost use Rattle.std.specs.Prelude.{List, ◌≡◌, ◌++◌};
-    ghost use Rattle.kernel_core.specs.declared.record.Record.{Record};
+    ghost use Rattle.machine_state.specs.declared.record.Record.{Record};
 
     /// All that it was told.
     ghost told: { Self → List Record };
@@ -46,7 +45,7 @@ pub fn run<T: Translator, W: Listener, L: Ledger>(
 {
     let mut records = Records::new();
     'each: for i in 0..events.len() {
-        machine.event_into(events[i], &mut records, fetches);
+        event_into(machine, events[i], &mut records, fetches);
         listener.tell(&records);
     }
 }

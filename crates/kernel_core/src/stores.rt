@@ -3,24 +3,22 @@ ghost use Rattle.std.specs.Prelude.{◌<◌, ◌≤◌, ◌+◌, ◌*◌, ◌^�
 ghost use Rattle.cap_format.specs.declared.kind.CapKind.TheVariants.{Process};
 ghost use Rattle.object_store.specs.Store.{size_of};
 ghost use Rattle.rv32_user.specs.Size.{IsSize};
-ghost use Rattle.kernel_core.specs.State.{state_of, IsOnHart};
-ghost use Rattle.kernel_core.specs.Outcome.{process_name};
-ghost use Rattle.kernel_core.specs.Came.{Came, CameUnasked, Leaves, HasRoom};
-ghost use Rattle.kernel_core.specs.Access.{store, stored_to};
+ghost use Rattle.machine_state.specs.State.{state_of, IsOnHart};
+ghost use Rattle.machine_state.specs.Outcome.{process_name};
+ghost use Rattle.machine_state.specs.Came.{Came, CameUnasked, Leaves, HasRoom};
+ghost use Rattle.kernel_core.specs.LoadStore.{store, stored_to};
 
 use crate::faults::{fault, misaligned};
 use crate::loads::is_aligned;
-use crate::machine::Machine;
-use crate::record::Record;
-use crate::records::Records;
 use cap_format::CapKind;
+use machine_state::{Machine, Record, Records};
 use std::sync::ledger::Ledger;
 use steps::Steps;
 use walk_engine::{Hit, Translator};
 use walk_meaning::Kind;
 
 /// A store of the lowest bytes of a number. Nothing is written before the walk has reached a page.
-#[tactic(auto, unfolding(crate::specs::Access::store))]
+#[tactic(auto, unfolding(crate::specs::LoadStore::store))]
 pub(crate) fn store<T: Translator, L: Ledger>(
     machine: &mut Machine<T>,
     p: u16,

@@ -2,22 +2,19 @@
 ghost use Rattle.std.specs.Prelude.{◌≡◌, ◌<◌, ◌≤◌, ◌∷◌, false, Ok};
 ghost use Rattle.cap_format.specs.declared.kind.CapKind.TheVariants.{Process};
 ghost use Rattle.object_store.specs.Store.{size_of};
-ghost use Rattle.process_objects.specs.Process.{capreg_of};
 ghost use Rattle.invocation.specs.Invocation.{parsed};
-ghost use Rattle.invocation.specs.Target.{callee, bare_callee, IsReached};
-ghost use Rattle.kernel_core.specs.State.{state_of, process, IsOnHart};
-ghost use Rattle.kernel_core.specs.Outcome.{process_name};
-ghost use Rattle.kernel_core.specs.Came.{Came, Leaves, HasRoom};
+ghost use Rattle.machine_state.specs.State.{state_of, process, IsOnHart};
+ghost use Rattle.machine_state.specs.Outcome.{process_name};
+ghost use Rattle.machine_state.specs.Came.{Came, Leaves, HasRoom};
 ghost use Rattle.kernel_core.specs.SystemCall.{copy_cap, move_cap, invoke, refused_call, send, receive, system_call};
 
 use crate::cap_accesses::{load_cap, store_cap};
 use crate::faults::malformed;
-use crate::machine::Machine;
 use crate::operating::kernel_op;
-use crate::records::Records;
 use crate::system_call::SystemCall;
 use cap_format::Code;
-use invocation::{Callee, Invocation, parse, target};
+use invocation::{Callee, Invocation, parse};
+use machine_state::{Machine, Records};
 use operations::refuse;
 use std::sync::ledger::Ledger;
 use steps::Steps;
@@ -216,17 +213,4 @@ pub fn receive<T: Translator, L: Ledger>(
 {
     let _ = inv;
     malformed(machine, p, records, fetches);
-}
-
-impl<T: Translator> Machine<T> {
-    /// Who answers an invocation of what a capability register holds.
-    fn callee(&self, p: u16, register: u8) -> Callee
-        requires there { p < size_of self.now.objects.items Process }
-        requires register { register ≤ 31 }
-        ensures means { let s = state_of self.now in
-            bare_callee result ≡ callee s.store (capreg_of (process s p) register) }
-        ensures there { IsReached self.now.objects result }
-    {
-        target(&self.objects, self.capability(p, register))
-    }
 }

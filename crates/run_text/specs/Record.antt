@@ -5,8 +5,8 @@ use Rattle.rv32_asm.specs.Text.{text_of}
 use Rattle.cap_format.specs.declared.fault.FaultCode.{FaultCode}
 use Rattle.rv32_decode.specs.declared.insn.Insn.{Insn as InsnRead}
 use Rattle.walk_meaning.specs.declared.kind.Kind.{Kind}
-use Rattle.kernel_core.specs.declared.record.Record.{Record}
-use Rattle.kernel_core.specs.declared.record.Record.TheVariants.{Access, Insn, Message, Fault, Log, Destroy, Halt}
+use Rattle.machine_state.specs.declared.record.Record.{Record}
+use Rattle.machine_state.specs.declared.record.Record.TheVariants.{Access, Insn, Message, Fault, Log, Destroy, Halt}
 use Rattle.run_text.specs.Each.{line_feed}
 use Rattle.run_text.specs.Names.{fault_name, object_name, access_name, target_name}
 

@@ -1,9 +1,9 @@
 use Rattle.std.proofs.Common.{◌+◌, ◌∙◌, List, drop, get_or, subst}
 use Rattle.std.proofs.lemmas.List.{drop_more, drop_all}
-use Rattle.kernel_core.specs.declared.event.Event.{Event}
-use Rattle.kernel_core.specs.declared.event.Event.TheVariants.{Step}
-use Rattle.kernel_core.specs.State.{state_of}
-use Rattle.kernel_core.specs.Ran.{IsRun, is_run-step, is_run-end}
+use Rattle.machine_state.specs.declared.event.Event.{Event}
+use Rattle.machine_state.specs.declared.event.Event.TheVariants.{Step}
+use Rattle.machine_state.specs.State.{state_of}
+use Rattle.kernel_core.proofs.Ran.{IsRun, is_run-step, is_run-end}
 use Rattle.kernel_core.proofs.runs.run.Goals as goal
 
 pub each-preserved : goal.each-preserved

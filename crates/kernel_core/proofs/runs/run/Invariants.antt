@@ -1,6 +1,6 @@
 use Rattle.std.proofs.Common.{◌≡◌, drop}
-use Rattle.kernel_core.specs.State.{state_of}
-use Rattle.kernel_core.specs.Ran.{IsRun}
+use Rattle.machine_state.specs.State.{state_of}
+use Rattle.kernel_core.proofs.Ran.{IsRun}
 use Rattle.kernel_core.proofs.runs.run.Given as goal
 
 abbrev pub invariant-each : goal.invariant-each

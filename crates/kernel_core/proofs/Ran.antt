@@ -1,0 +1,125 @@
+-- Laws of runs: by parts, and event by event.
+use Rattle.std.proofs.Common.{◌≡◌, ℕ, ◌+◌, List, [], ◌∷◌, ◌++◌, refl, sym, ap, ◌∙◌, append_assoc, append-nil, arith}
+use Rattle.cap_format.specs.Capability.{Capability}
+use Rattle.cap_format.specs.declared.item.Item.{Item}
+use Rattle.object_store.specs.Store.{Items}
+use Rattle.walk_meaning.specs.declared.kind.Kind.{Kind}
+use Rattle.machine_state.specs.declared.event.Event.{Event}
+use Rattle.machine_state.specs.declared.record.Record.{Record}
+use Rattle.machine_state.specs.State.{State}
+use Rattle.machine_state.specs.Outcome.{Touch, kept_at, spent, kept_after}
+use Rattle.kernel_core.specs.Event.{event_of}
+use Rattle.kernel_core.specs.Run.{run_state, run_records, run_touches}
+
+-- where there is no event the state stays
+pub run_state-nil : (s : State) → run_state s [] ≡ s
+unfolding run_state
+run_state-nil s = refl
+
+-- where there is no event nothing is told
+pub run_records-nil : (s : State) → run_records s [] ≡ []
+unfolding run_records
+run_records-nil s = refl
+
+-- where there is no event no translator is asked
+pub run_touches-nil : (s : State) → run_touches s [] ≡ []
+unfolding run_touches
+run_touches-nil s = refl
+
+-- the events behind the first begin in the state that it leaves
+pub run_state-cons : (s : State) (e : Event) (es : List Event) → run_state s (e ∷ es) ≡ run_state (event_of s e).state es
+unfolding run_state
+run_state-cons s e es = refl
+
+-- the first event's records come before those of the events behind it
+pub run_records-cons : (s : State) (e : Event) (es : List Event) → run_records s (e ∷ es) ≡ (event_of s e).records ++ run_records (event_of s e).state es
+unfolding run_records
+run_records-cons s e es = refl
+
+-- the first event's touches come before those of the events behind it
+pub run_touches-cons : (s : State) (e : Event) (es : List Event) → run_touches s (e ∷ es) ≡ (event_of s e).touches ++ run_touches (event_of s e).state es
+unfolding run_touches
+run_touches-cons s e es = refl
+
+-- a run of two lists is the run of the second from where the first ends
+pub run_state-append : (s : State) (es fs : List Event) → run_state s (es ++ fs) ≡ run_state (run_state s es) fs
+unfolding run_state
+run_state-append s [] fs = refl
+run_state-append s (e ∷ es) fs = run_state-append (event_of s e).state es fs
+
+-- the records of a run of two lists are those of the first, then those of the second from where the first ends
+pub run_records-append : (s : State) (es fs : List Event) → run_records s (es ++ fs) ≡ run_records s es ++ run_records (run_state s es) fs
+unfolding run_state run_records
+run_records-append s [] fs = refl
+run_records-append s (e ∷ es) fs =
+    ap (λ rs. (event_of s e).records ++ rs) (run_records-append (event_of s e).state es fs)
+    ∙ sym (append_assoc (event_of s e).records (run_records (event_of s e).state es) (run_records (run_state (event_of s e).state es) fs))
+
+-- the touches of a run of two lists are those of the first, then those of the second from where the first ends
+pub run_touches-append : (s : State) (es fs : List Event) → run_touches s (es ++ fs) ≡ run_touches s es ++ run_touches (run_state s es) fs
+unfolding run_state run_touches
+run_touches-append s [] fs = refl
+run_touches-append s (e ∷ es) fs =
+    ap (λ ts. (event_of s e).touches ++ ts) (run_touches-append (event_of s e).state es fs)
+    ∙ sym (append_assoc (event_of s e).touches (run_touches (event_of s e).state es) (run_touches (run_state (event_of s e).state es) fs))
+
+-- touches, and those behind them, by what a translator says of one access and of one change
+module _ {K : Type 0} (cost : K → Items → Capability → ℕ → Kind → ℕ) (after : K → Items → Capability → ℕ → Kind → K) (without : K → Item → K) where
+  -- what is kept after two lists of touches is what is kept after the second, from what the first leaves
+  pub kept_after-append : (k : K) (ts us : List Touch) → kept_after cost after without k (ts ++ us) ≡ kept_after cost after without (kept_after cost after without k ts) us
+  kept_after-append k [] us = refl
+  kept_after-append k (t ∷ ts) us = kept_after-append (kept_at cost after without k t) ts us
+
+  -- two lists of touches fetch what the first fetches, and what the second fetches from what is kept then
+  pub spent-append : (k : K) (ts us : List Touch) → spent cost after without k (ts ++ us) ≡ spent cost after without k ts + spent cost after without (kept_after cost after without k ts) us
+  spent-append k [] us = omega arith
+  spent-append k (t ∷ ts) us =
+      let rest = spent-append (kept_at cost after without k t) ts us in
+      omega (arith, rest)
+
+  -- what was done from the state `s0` on, and the run of the rest from the state `s`, are the run of the events from `s0`
+  pub record IsRun (k0 : K) (s0 : State) (events : List Event) (told0 : List Record) (fetches0 : ℕ) (k : K) (s : State) (rest : List Event) (told : List Record) (fetches : ℕ) : Type 0 where
+    pub state : run_state s rest ≡ run_state s0 events
+    pub records : told ++ run_records s rest ≡ told0 ++ run_records s0 events
+    pub counted : fetches + spent cost after without k (run_touches s rest) ≡ fetches0 + spent cost after without k0 (run_touches s0 events)
+    pub kept : kept_after cost after without k (run_touches s rest) ≡ kept_after cost after without k0 (run_touches s0 events)
+
+  -- at the start
+  pub is_run-start : (k : K) (s : State) (events : List Event) (told : List Record) (fetches : ℕ) → IsRun k s events told fetches k s events told fetches
+  is_run-start k s events told fetches = record { state = refl; records = refl; counted = refl; kept = refl }
+
+  -- after one event more
+  pub is_run-step : (k0 : K) (s0 : State) (events : List Event) (told0 : List Record) (fetches0 : ℕ) (k : K) (s : State) (e : Event) (rest : List Event) (told : List Record) (fetches : ℕ) (k1 : K) (s1 : State) (told1 : List Record) (fetches1 : ℕ)
+      → IsRun k0 s0 events told0 fetches0 k s (e ∷ rest) told fetches
+      → s1 ≡ (event_of s e).state → told1 ≡ told ++ (event_of s e).records
+      → fetches1 ≡ fetches + spent cost after without k (event_of s e).touches → k1 ≡ kept_after cost after without k (event_of s e).touches
+      → IsRun k0 s0 events told0 fetches0 k1 s1 rest told1 fetches1
+  is_run-step k0 s0 events told0 fetches0 k s e rest told fetches k1 s1 told1 fetches1 run state records counted kept =
+      let o = event_of s e in
+      let touches = run_touches-cons s e rest in
+      let sum = ap (spent cost after without k) touches ∙ spent-append k o.touches (run_touches o.state rest) in
+      record {
+        state = ap (λ x. run_state x rest) state ∙ (sym (run_state-cons s e rest) ∙ run.state);
+        records = rw (records, state) (append_assoc told o.records (run_records o.state rest) ∙ (ap (λ rs. told ++ rs) (sym (run_records-cons s e rest)) ∙ run.records));
+        counted = rw (kept, state, counted) (let before = run.counted in omega (arith, sum, before));
+        kept = rw (kept, state) (sym (kept_after-append k o.touches (run_touches o.state rest)) ∙ (ap (kept_after cost after without k) (sym touches) ∙ run.kept));
+      }
+
+  -- all of the run was done
+  pub record HasRun (k0 : K) (s0 : State) (events : List Event) (told0 : List Record) (fetches0 : ℕ) (k : K) (s : State) (told : List Record) (fetches : ℕ) : Type 0 where
+    pub state : s ≡ run_state s0 events
+    pub records : told ≡ told0 ++ run_records s0 events
+    pub counted : fetches ≡ fetches0 + spent cost after without k0 (run_touches s0 events)
+    pub kept : k ≡ kept_after cost after without k0 (run_touches s0 events)
+
+  -- at the end
+  pub is_run-end : (k0 : K) (s0 : State) (events : List Event) (told0 : List Record) (fetches0 : ℕ) (k : K) (s : State) (told : List Record) (fetches : ℕ)
+      → IsRun k0 s0 events told0 fetches0 k s [] told fetches → HasRun k0 s0 events told0 fetches0 k s told fetches
+  is_run-end k0 s0 events told0 fetches0 k s told fetches run =
+      let none = ap (spent cost after without k) (run_touches-nil s) in
+      record {
+        state = sym (run_state-nil s) ∙ run.state;
+        records = sym (append-nil told) ∙ (ap (λ rs. told ++ rs) (sym (run_records-nil s)) ∙ run.records);
+        counted = let all = run.counted in omega (arith, none, all);
+        kept = ap (kept_after cost after without k) (sym (run_touches-nil s)) ∙ run.kept;
+      }

@@ -1,0 +1,5 @@
+pub mod Changed
+pub mod Kept
+pub mod Nowhere
+pub mod Replied
+pub mod Operated

@@ -1,0 +1,111 @@
+-- An operation on a memory kind: what it touches, and that a machine is still one.
+use Rattle.std.proofs.Common.{◌≡◌, ◌⊎◌, inl, inr, ℕ, zero, suc, ◌+◌, ◌<◌, ◌≤◌, true≢false, true, false, List, [], ◌∷◌, ◌++◌, length, get_or, slice_get, refl, sym, ap, ◌∙◌, subst, arith, Option, Some, None, IfSome}
+use Rattle.std.specs.List.{All}
+use Rattle.cap_format.specs.declared.item.Item.{Item}
+use Rattle.cap_format.specs.declared.kind.CapKind.{CapKind}
+use Rattle.cap_format.specs.declared.kind.CapKind.TheVariants.{Process}
+use Rattle.cap_format.specs.Kind.{is_memory}
+use Rattle.cap_format.specs.Capability.{Capability}
+use Rattle.gpt_objects.specs.Gpt.{GptValue}
+use Rattle.process_objects.specs.Process.{ProcessValue, empty_process}
+use Rattle.object_store.specs.Store.{CountsValue, Items, Store, size_of, process_at}
+use Rattle.object_store.specs.Meaning.{meaning}
+use Rattle.object_store.specs.Ahead.{IsBehind, NoneAhead}
+use Rattle.object_store.specs.Object.{ObjectName, ObjectValue, IsAmong, SameObject, Stays, object_name}
+use Rattle.object_store.specs.Object.ObjectValue.{OfProcess}
+use Rattle.schedules.specs.Queues.{QueuesValue}
+use Rattle.schedules.specs.Ready.{places_due}
+use Rattle.operations.specs.System.{System, Stored}
+use Rattle.operations.specs.Change.{Change, PageIs, CapPageIs, SlotIs, HeaderIs, EndpointIs, ProcessIs, Left, Readied, Woken, Destroyed, applied, applied_all}
+use Rattle.walk_meaning.specs.declared.kind.Kind.{Kind}
+use Rattle.machine_state.specs.Machine.{MachineValue, IsMachine}
+use Rattle.machine_state.specs.Came.{Leaves}
+use Rattle.machine_state.specs.Outcome.{spent, kept_after}
+use Rattle.machine_state.specs.Operation.{read_touches, change_touches}
+
+-- what a translator says of one access and of one change
+module _ {K : Type 0} (cost : K → Items → Capability → ℕ → Kind → ℕ) (after : K → Items → Capability → ℕ → Kind → K) (without : K → Item → K) where
+  -- slots that are read fetch one each, and a change nothing
+  pub spent_reads : (k : K) (n : ℕ) (item : Option Item) → spent cost after without k (read_touches n ++ change_touches item) ≡ n
+  spent_reads k zero None = refl
+  spent_reads k zero (Some item) = refl
+  spent_reads k (suc n) item = let rest = spent_reads k n item in omega (arith, rest)
+
+  -- slots that are read leave what is kept
+  pub kept_reads : (k : K) (n : ℕ) (item : Option Item) → kept_after cost after without k (read_touches n ++ change_touches item) ≡ kept_after cost after without k (change_touches item)
+  kept_reads k zero item = refl
+  kept_reads k (suc n) item = kept_reads k n item
+
+-- items by their counts and GPTs
+abbrev items_by : CountsValue → List GptValue → Items
+items_by counts gpts = record { counts = counts; gpts = gpts }
+
+-- a capability means the same by items of the same counts
+pub meaning_counts : (o p : Items) → o.counts ≡ p.counts → meaning o ≡ meaning p
+meaning_counts o p e = ap (λ counts. meaning (items_by counts o.gpts)) e
+
+-- and is as far behind
+pub behind_counts : (o p : Items) (cap : Option Capability) → o.counts ≡ p.counts → IfSome cap (IsBehind o) → IfSome cap (IsBehind p)
+behind_counts o p cap e h = subst (λ (counts : CountsValue). IfSome cap (IsBehind (items_by counts o.gpts))) e h
+
+-- no change is of the harts
+applied-harts : (w : System) (change : Change) → (applied Stored w change).store.harts ≡ w.store.harts
+applied-harts w (PageIs n page) = refl
+applied-harts w (CapPageIs n page) = refl
+applied-harts w (SlotIs g i c) = refl
+applied-harts w (HeaderIs g header) = refl
+applied-harts w (EndpointIs e endpoint) = refl
+applied-harts w (ProcessIs p process) = refl
+applied-harts w (Left p) = refl
+applied-harts w (Readied p) = refl
+applied-harts w (Woken p) = refl
+applied-harts w (Destroyed kind n) = refl
+
+pub applied_harts : (w : System) (changes : List Change) → (applied_all Stored w changes).store.harts ≡ w.store.harts
+applied_harts w [] = refl
+applied_harts w (change ∷ changes) = applied_harts (applied Stored w change) changes ∙ applied-harts w change
+
+-- the process in what is stored of one
+abbrev process_in : ObjectValue → ProcessValue
+process_in (OfProcess count process) = process
+process_in _ = empty_process
+
+-- where only an object of a memory kind changes, each process is as before
+same-process : (kind : CapKind) (n : ℕ) (o p : Store) → is_memory kind ≡ true → Stays (object_name kind n ∷ []) o p → (x : ℕ) → process_at p x ≡ process_at o x
+same-process kind n o p memory stays x = on (stays.same Process x)
+  where
+    on : IsAmong Process x (object_name kind n ∷ []) ⊎ SameObject Process x o p → process_at p x ≡ process_at o x
+    on (inl (inl named)) = absurd (true≢false (sym memory ∙ ap is_memory (sym named.0)))
+    on (inl (inr none)) = absurd none
+    on (inr same) = sym (ap process_in same)
+
+-- a machine is still one
+pub kept_memory : (o p : Store) (q : QueuesValue) (kind : CapKind) (n : ℕ) → is_memory kind ≡ true → Stays (object_name kind n ∷ []) o p → p.items.counts ≡ o.items.counts → p.harts ≡ o.harts
+    → length p.contents.processes ≡ length p.items.counts.processes → length o.contents.processes ≡ length o.items.counts.processes → NoneAhead p → IsMachine o q → IsMachine p q
+kept_memory o p q kind n memory stays counts harts there before behind is =
+    let long : length p.contents.processes ≡ length o.contents.processes = there ∙ (ap (λ (c : CountsValue). length c.processes) counts ∙ sym before) in
+    record {
+      fits = record { processes = is.fits.processes ∙ ap (λ (c : CountsValue). length c.processes) (sym counts); harts = is.fits.harts ∙ sym harts };
+      agrees = record {
+        sizes = long ∙ is.agrees.sizes;
+        each = λ x h. is.agrees.each x (rw long at h) ∙ ap (λ (z : ProcessValue). places_due z.state) (sym (same-process kind n o p memory stays x));
+      };
+      behind = behind;
+    }
+
+-- the first of registers, where there is one
+pub first_register : (xs : List ℕ) (register : ℕ) → All (λ r. r ≤ 31) xs → slice_get xs 0 ≡ Some register → register ≤ 31
+first_register [] register all e = cc
+first_register (x ∷ xs) register all e = let here : x ≤ 31 = all 0 0 (omega arith) in let same : x ≡ register = cc (e) in omega (arith, here, same)
+
+-- a machine whose counts and harts are as before leaves as many objects and harts
+pub leaves_counts : {T : Type 0} (names : List ObjectName) (m n : MachineValue T) → n.objects.items.counts ≡ m.objects.items.counts → n.objects.harts ≡ m.objects.harts → Stays names m.objects n.objects → Leaves names m n
+leaves_counts names m n counts harts stays = record {
+  pages = ap (λ (c : CountsValue). length c.pages) counts;
+  cappages = ap (λ (c : CountsValue). length c.cappages) counts;
+  gpts = ap (λ (c : CountsValue). length c.gpts) counts;
+  processes = ap (λ (c : CountsValue). length c.processes) counts;
+  endpoints = ap (λ (c : CountsValue). length c.endpoints) counts;
+  harts = harts;
+  stays = stays;
+}

@@ -1,0 +1,9 @@
+pub mod Machine
+pub mod State
+pub mod Setters
+pub mod Outcome
+pub mod Came
+pub mod DataAccess
+pub mod CapAccess
+pub mod Reply
+pub mod Operation

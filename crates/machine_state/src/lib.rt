@@ -1,0 +1,24 @@
+//! The machine's state: objects, queues and harts over any translator, and the single changes and accesses of which
+//! events are made.
+//!
+//! Each call does one thing, and tells it of the abstract machine's state. Nothing here knows of instructions, of the
+//! order in which an event does things, or of what a translator keeps.
+#![tactic(auto)]
+
+mod callees;
+mod cap_memory;
+mod changes;
+mod event;
+mod log_bytes;
+mod machine;
+mod memory;
+mod operating;
+mod record;
+mod records;
+mod replies;
+
+pub use event::Event;
+pub use log_bytes::LogBytes;
+pub use machine::Machine;
+pub use record::Record;
+pub use records::Records;

@@ -1,0 +1,118 @@
+//! The machine, and what can be read of it.
+ghost use Rattle.std.specs.Prelude.{◌≡◌, ◌<◌, ◌≤◌, [], ◌∷◌, false, IfOk, length};
+ghost use Rattle.cap_format.specs.declared.kind.CapKind.TheVariants.{Process};
+ghost use Rattle.object_store.specs.Store.{size_of, sizes_of, process_at};
+ghost use Rattle.object_store.specs.Meaning.{map_of};
+ghost use Rattle.object_store.specs.Ahead.{NoneAhead};
+ghost use Rattle.machine_state.specs.Machine.{NoneRuns};
+ghost use Rattle.machine_state.specs.State.{state_of};
+ghost use Rattle.machine_state.specs.Setters.{leave, ready};
+ghost use Rattle.machine_state.specs.Outcome.{process_name};
+ghost use Rattle.machine_state.specs.Came.{Leaves};
+ghost use Rattle.schedules.specs.Standing.{empty_queues};
+ghost use Rattle.schedules.specs.Ready.{Agrees, runs_of, places_due};
+
+use cap_format::OutOfMemory;
+use object_store::Objects;
+use schedules::Queues;
+use std::alloc::Global;
+use std::marker::Model;
+use walk_engine::Translator;
+
+/// Objects, queues, harts and a translator. All its memory is taken when it is made.
+#[derive(Drop)]
+pub struct Machine<T: Translator> {
+    pub(crate) objects: Objects,
+    pub(crate) queues: Queues,
+    pub(crate) halted: bool,
+    pub(crate) translator: T,
+}
+
+impl<T: Translator> Model for Machine<T> {
+    ghost use Rattle.std.specs.Prelude.{◌≤◌};
+    ghost use Rattle.object_store.specs.Meaning.{map_of};
+    ghost use Rattle.machine_state.specs.Machine.{MachineValue, IsMachine};
+
+    ghost Value = { MachineValue T };
+
+    ghost view = { λ m. record { objects = m.objects; queues = m.queues; halted = m.halted; translator = m.translator } };
+
+    ghost invariant = { λ m. (T.coherent m.translator (map_of m.objects.items)) × (m.objects.harts ≤ T.harts m.translator) × IsMachine m.objects m.queues };
+}
+
+impl<T: Translator> Machine<T> {
+    /// A machine with these objects, of which no process runs, with no process on any hart, empty queues and lists, and
+    /// not halted.
+    pub fn new(alloc: Global, objects: Objects, translator: T) -> Result<Machine<T>, OutOfMemory>
+        requires coherent { T.coherent translator (map_of objects.items) }
+        requires harts { objects.harts ≤ T.harts translator }
+        requires stopped { NoneRuns objects }
+        requires behind { NoneAhead objects }
+        ensures objects { IfOk result (λ machine. machine.objects ≡ objects) }
+        ensures queues { let processes = size_of objects.items Process in
+            IfOk result (λ machine. machine.queues ≡ empty_queues processes objects.harts) }
+        ensures halted { IfOk result (λ machine. machine.halted ≡ false) }
+        ensures translator { IfOk result (λ machine. machine.translator ≡ translator) }
+    {
+        objects.in_ranges();
+        let queues = Queues::new(alloc, objects.sizes())?;
+        Ok(Machine {
+            objects,
+            queues,
+            halted: false,
+            translator,
+        })
+    }
+
+    pub fn objects(&self) -> &Objects
+        ensures { result.now ≡ self.now.objects }
+    {
+        &self.objects
+    }
+
+    pub fn queues(&self) -> &Queues
+        ensures value { result.now ≡ self.now.queues }
+        ensures processes { let processes = size_of self.now.objects.items Process in
+            length self.now.queues.sleepers ≡ processes }
+        ensures harts { length self.now.queues.harts ≡ self.now.objects.harts }
+    {
+        &self.queues
+    }
+
+    /// Does nothing: its contract tells what every machine keeps. A process that runs stands in exactly one place and any
+    /// other in none, and no capability is ahead of its object.
+    pub fn tell_kept(&self)
+        ensures agrees { Agrees (runs_of self.now.objects self.now.queues) }
+        ensures behind { NoneAhead self.now.objects }
+        ensures coherent { T.coherent self.now.translator (map_of self.now.objects.items) }
+    {
+        let _halted = self.halted;
+    }
+
+    /// Whether a process halted the machine.
+    pub fn halted(&self) -> bool
+        ensures { result ≡ self.now.halted }
+    {
+        self.halted
+    }
+
+    pub fn translator(&self) -> &T
+        ensures { result.now ≡ self.now.translator }
+    {
+        &self.translator
+    }
+
+    /// Makes a process ready, which leaves the place where it stands, if any.
+    #[tactic(auto, using(crate::proofs::Changed::sizes_left))]
+    pub fn start(&mut self, p: u16)
+        requires { p < size_of self.old.objects.items Process }
+        ensures state { state_of self.new ≡ ready (leave (state_of self.old) p) p }
+        ensures stopped { places_due (process_at self.old.objects p).state ≡ 0 →
+            state_of self.new ≡ ready (state_of self.old) p }
+        ensures leaves { Leaves (process_name p ∷ []) self.old self.new }
+        ensures sizes { sizes_of self.new.objects ≡ sizes_of self.old.objects }
+        ensures translator { self.new.translator ≡ self.old.translator }
+    {
+        self.requeue(p);
+    }
+}
