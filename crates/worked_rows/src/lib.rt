@@ -5,6 +5,8 @@
 #![tactic(auto)]
 
 #[cfg(test)]
+mod kernel_rows;
+#[cfg(test)]
 mod machines;
 #[cfg(test)]
 mod rows;
