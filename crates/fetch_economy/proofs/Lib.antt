@@ -1,0 +1,5 @@
+pub mod Bound
+mod Sets
+mod Added
+mod Meets
+pub mod Economic

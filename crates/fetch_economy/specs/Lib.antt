@@ -1,0 +1,4 @@
+pub mod Counts
+pub mod Economy
+pub mod Ages
+pub mod Laws
