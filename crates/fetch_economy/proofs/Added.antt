@@ -48,7 +48,7 @@ noted_all-both s t space (r ∷ reads) within =
     noted_all-both (insert s (note space r.item r.block)) (insert t (note space r.item r.block)) space reads (insert-both s t (note space r.item r.block) within)
 
 -- the first read is noted
-noted_all-first : (s : FinSet note_order) (space : Capability) (r : Noted) (reads : List Noted) → contains (noted_all s space (r ∷ reads)) (note space r.item r.block) ≡ true
+pub noted_all-first : (s : FinSet note_order) (space : Capability) (r : Noted) (reads : List Noted) → contains (noted_all s space (r ∷ reads)) (note space r.item r.block) ≡ true
 noted_all-first s space r reads =
     noted_all-within (insert s (note space r.item r.block)) space reads (note space r.item r.block)
     (contains-insert notes_total s (note space r.item r.block) (note space r.item r.block)

@@ -1,5 +1,7 @@
 pub mod Bound
+pub mod Told
 mod Sets
 mod Added
 mod Meets
 pub mod Economic
+mod Worked

@@ -5,6 +5,7 @@
 #![tactic(auto)]
 
 ghost use Rattle.fetch_economy.specs.Laws.{BoundInEveryRun, RoundBound, FetchEconomy, RoundEconomy};
+ghost use Rattle.fetch_economy.specs.Worked.{RewritesAreCheap};
 
 /// Whatever is kept before them, touches fetch at most 32 slots for each access, and one for each slot that an operation
 /// reads.
@@ -19,4 +20,10 @@ pub fn bound_in_every_run()
 pub fn fetch_economy()
     ensures economy { FetchEconomy }
     ensures round { RoundEconomy }
+{}
+
+/// A worked value: a process that rewrites a slot of a GPT outside of its own space, however often, needs two frames and
+/// seven records, and one of its fetches is walked.
+pub fn unrelated_rewrites()
+    ensures { RewritesAreCheap }
 {}
