@@ -4,4 +4,5 @@ mod Sets
 mod Added
 mod Meets
 pub mod Economic
+pub mod Entries
 mod Worked

@@ -4,7 +4,7 @@
 //! and texts nothing is known.
 #![tactic(auto)]
 
-ghost use Rattle.fetch_economy.specs.Laws.{BoundInEveryRun, RoundBound, FetchEconomy, RoundEconomy};
+ghost use Rattle.fetch_economy.specs.Laws.{BoundInEveryRun, RoundBound, FetchEconomy, RoundEconomy, CoveredHaveEntries};
 ghost use Rattle.fetch_economy.specs.Worked.{RewritesAreCheap};
 
 /// Whatever is kept before them, touches fetch at most 32 slots for each access, and one for each slot that an operation
@@ -15,11 +15,12 @@ pub fn bound_in_every_run()
 {}
 
 /// Touches whose need of frames and records fits, and that begin with nothing kept, fetch at most 32 slots for each access
-/// that has to be walked, and one for each slot that an operation reads. At their end each covered pair is held, and nothing
-/// was forgotten for want of room.
+/// that has to be walked, and one for each slot that an operation reads. At their end each covered pair is held, and so has
+/// an entry in the tables; and at no time was all forgotten for want of room.
 pub fn fetch_economy()
     ensures economy { FetchEconomy }
     ensures round { RoundEconomy }
+    ensures entries { CoveredHaveEntries }
 {}
 
 /// A worked value: a process that rewrites a slot of a GPT outside of its own space, however often, needs two frames and
