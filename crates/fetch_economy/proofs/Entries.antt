@@ -1,14 +1,13 @@
 -- What is covered has an entry: it is held, and what is held has a leaf.
-use Rattle.std.proofs.Common.{◌≡◌, ℕ, ◌<◌, ◌^◌, Bool, true, false, ◌&&◌, nat_lt, List, Option, Some, None, is_some, refl, sym, ap, ◌∙◌, arith}
+use Rattle.std.proofs.Common.{◌≡◌, ℕ, ◌<◌, ◌^◌, true, false, nat_lt, List, Option, Some, None, is_some, refl, sym, ap, ◌∙◌, arith}
 use Rattle.std.proofs.lemmas.Bool.Decides.{nat_tests}
 use Rattle.cap_format.specs.Capability.{Capability}
 use Rattle.sv32_tables.specs.declared.leaf.Leaf.{Leaf}
 use Rattle.map_cache.specs.declared.mapping.Mapping.{Mapping}
-use Rattle.map_cache.specs.Kept.{KeptValue, counted, nothing}
+use Rattle.map_cache.specs.Kept.{KeptValue, counted}
 use Rattle.map_cache.specs.Cache.{CacheValue, kept_of, leaf_for}
 use Rattle.map_cache.specs.Mappings.{AreMappings}
 use Rattle.map_cache.proofs.Codes.{both}
-use Rattle.fetch_economy.specs.Counts.{kept_by}
 use Rattle.fetch_economy.specs.Laws.{CoveredHaveEntries, HasEntry}
 use Rattle.fetch_economy.proofs.Economic.{fetch_economy}
 

@@ -5,4 +5,6 @@ mod Added
 mod Meets
 pub mod Economic
 pub mod Entries
+mod Noted
 mod Worked
+mod Selective

@@ -13,7 +13,7 @@ Within s t = (n : Note) → contains s n ≡ true → contains t n ≡ true
 -- ---- tests
 
 -- where a note of a list passes, it is found
-found : (p : Note → Bool) (xs : List Note) → list_any p xs ≡ true → (n : Note) × ((list_any (eq_by_cmp note_order n) xs ≡ true) × (p n ≡ true))
+pub found : (p : Note → Bool) (xs : List Note) → list_any p xs ≡ true → (n : Note) × ((list_any (eq_by_cmp note_order n) xs ≡ true) × (p n ≡ true))
 found p [] holds = absurd (cc)
 found p (x ∷ xs) holds = on (either (p x) (list_any p xs) holds) (found p xs)
   where
@@ -26,7 +26,7 @@ found p (x ∷ xs) holds = on (either (p x) (list_any p xs) holds) (found p xs)
         (next.0, (or_right (eq_by_cmp note_order next.0 x) (list_any (eq_by_cmp note_order next.0) xs) next.1.0, next.1.1))
 
 -- and where one that passes is in the list, some note passes
-passes : (p : Note → Bool) (xs : List Note) (n : Note) → list_any (eq_by_cmp note_order n) xs ≡ true → p n ≡ true → list_any p xs ≡ true
+pub passes : (p : Note → Bool) (xs : List Note) (n : Note) → list_any (eq_by_cmp note_order n) xs ≡ true → p n ≡ true → list_any p xs ≡ true
 passes p [] n there holds = absurd (cc)
 passes p (x ∷ xs) n there holds = on (either (eq_by_cmp note_order n x) (list_any (eq_by_cmp note_order n) xs) there) (λ later. passes p xs n later holds)
   where

@@ -5,7 +5,7 @@
 #![tactic(auto)]
 
 ghost use Rattle.fetch_economy.specs.Laws.{BoundInEveryRun, RoundBound, FetchEconomy, RoundEconomy, CoveredHaveEntries};
-ghost use Rattle.fetch_economy.specs.Worked.{RewritesAreCheap};
+ghost use Rattle.fetch_economy.specs.Worked.{RewritesAreCheap, ChangesAreSelective};
 
 /// Whatever is kept before them, touches fetch at most 32 slots for each access, and one for each slot that an operation
 /// reads.
@@ -27,4 +27,10 @@ pub fn fetch_economy()
 /// seven records, and one of its fetches is walked.
 pub fn unrelated_rewrites()
     ensures { RewritesAreCheap }
+{}
+
+/// A worked value: changes of two items take out the pair of one page of a space and that of another space, and leave a
+/// third.
+pub fn selective_changes()
+    ensures { ChangesAreSelective }
 {}
