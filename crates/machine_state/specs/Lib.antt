@@ -3,6 +3,7 @@ pub mod State
 pub mod Setters
 pub mod Outcome
 pub mod Came
+pub mod Faulting
 pub mod DataAccess
 pub mod CapAccess
 pub mod Reply

@@ -9,6 +9,7 @@ mod callees;
 mod cap_memory;
 mod changes;
 mod event;
+mod faulting;
 mod log_bytes;
 mod machine;
 mod memory;
