@@ -3,3 +3,5 @@ pub mod Kept
 pub mod Nowhere
 pub mod Replied
 pub mod Operated
+pub mod Names
+pub mod Controlled

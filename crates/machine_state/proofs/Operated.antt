@@ -1,5 +1,5 @@
 -- An operation on a memory kind: what it touches, and that a machine is still one.
-use Rattle.std.proofs.Common.{◌≡◌, ◌⊎◌, inl, inr, ℕ, zero, suc, ◌+◌, ◌<◌, ◌≤◌, true≢false, true, false, List, [], ◌∷◌, ◌++◌, length, get_or, slice_get, refl, sym, ap, ◌∙◌, subst, arith, Option, Some, None, IfSome}
+use Rattle.std.proofs.Common.{◌≡◌, ◌⊎◌, inl, inr, ℕ, zero, suc, ◌≤◌, true≢false, true, List, [], ◌∷◌, ◌++◌, length, slice_get, refl, sym, ap, ◌∙◌, subst, arith, Option, Some, None, IfSome}
 use Rattle.std.specs.List.{All}
 use Rattle.cap_format.specs.declared.item.Item.{Item}
 use Rattle.cap_format.specs.declared.kind.CapKind.{CapKind}
@@ -8,7 +8,7 @@ use Rattle.cap_format.specs.Kind.{is_memory}
 use Rattle.cap_format.specs.Capability.{Capability}
 use Rattle.gpt_objects.specs.Gpt.{GptValue}
 use Rattle.process_objects.specs.Process.{ProcessValue, empty_process}
-use Rattle.object_store.specs.Store.{CountsValue, Items, Store, size_of, process_at}
+use Rattle.object_store.specs.Store.{CountsValue, Items, Store, process_at, counts_of}
 use Rattle.object_store.specs.Meaning.{meaning}
 use Rattle.object_store.specs.Ahead.{IsBehind, NoneAhead}
 use Rattle.object_store.specs.Object.{ObjectName, ObjectValue, IsAmong, SameObject, Stays, object_name}
@@ -22,6 +22,7 @@ use Rattle.machine_state.specs.Machine.{MachineValue, IsMachine}
 use Rattle.machine_state.specs.Came.{Leaves}
 use Rattle.machine_state.specs.Outcome.{spent, kept_after}
 use Rattle.machine_state.specs.Operation.{read_touches, change_touches}
+use Rattle.machine_state.proofs.Changed.{leaves_sizes}
 
 -- what a translator says of one access and of one change
 module _ {K : Type 0} (cost : K → Items → Capability → ℕ → Kind → ℕ) (after : K → Items → Capability → ℕ → Kind → K) (without : K → Item → K) where
@@ -100,12 +101,4 @@ first_register (x ∷ xs) register all e = let here : x ≤ 31 = all 0 0 (omega 
 
 -- a machine whose counts and harts are as before leaves as many objects and harts
 pub leaves_counts : {T : Type 0} (names : List ObjectName) (m n : MachineValue T) → n.objects.items.counts ≡ m.objects.items.counts → n.objects.harts ≡ m.objects.harts → Stays names m.objects n.objects → Leaves names m n
-leaves_counts names m n counts harts stays = record {
-  pages = ap (λ (c : CountsValue). length c.pages) counts;
-  cappages = ap (λ (c : CountsValue). length c.cappages) counts;
-  gpts = ap (λ (c : CountsValue). length c.gpts) counts;
-  processes = ap (λ (c : CountsValue). length c.processes) counts;
-  endpoints = ap (λ (c : CountsValue). length c.endpoints) counts;
-  harts = harts;
-  stays = stays;
-}
+leaves_counts names m n counts harts stays = leaves_sizes names m n (λ kind. ap (λ (c : CountsValue). length (counts_of c kind)) counts) harts stays
