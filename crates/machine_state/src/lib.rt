@@ -17,6 +17,7 @@ mod operating;
 mod record;
 mod records;
 mod replies;
+mod strings;
 
 pub use event::Event;
 pub use log_bytes::LogBytes;
