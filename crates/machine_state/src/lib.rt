@@ -13,6 +13,7 @@ mod faulting;
 mod log_bytes;
 mod machine;
 mod memory;
+mod messages;
 mod operating;
 mod record;
 mod records;
