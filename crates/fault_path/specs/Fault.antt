@@ -9,13 +9,12 @@ use Rattle.process_objects.specs.declared.state.State.TheVariants.{Faulted}
 use Rattle.process_objects.specs.Process.{ProcessValue, slot_of, with_state}
 use Rattle.object_store.specs.Store.{Store, process_at, with_process}
 use Rattle.object_store.specs.Object.{ObjectName, object_name}
-use Rattle.schedules.specs.Queues.{left, asleep}
-use Rattle.schedules.specs.Ready.{readied, runs_of}
+use Rattle.schedules.specs.Queues.{left}
 use Rattle.invocation.specs.declared.message.Message.{Message}
 use Rattle.invocation.specs.Answerer.{Answer, answerer}
 use Rattle.invocation.specs.Answerer.Answer.{Dead, Open, Busy}
-use Rattle.invocation.specs.Delivery.{delivered}
-use Rattle.operations.specs.System.{System, system, Reading, with_store, with_runs, schedule_by, count_in}
+use Rattle.operations.specs.System.{System, system, Reading, count_in}
+use Rattle.message_path.specs.Messages.{told, waiting}
 use Rattle.fault_path.specs.declared.outcome.Outcome.{Outcome}
 use Rattle.fault_path.specs.declared.outcome.Outcome.TheVariants.{Delivered, MustWait, Unheard}
 
@@ -47,16 +46,6 @@ fault_message cap process code address payload = record {
 -- the process leaves its place and is faulted; its pc stays, and its sleepers sleep on
 unfoldable pub faulted : System → ℕ → FaultCode → ℕ → System
 faulted w p code address = system (with_process w.store p (with_state (process_at w.store p) (Faulted code address))) (left w.queues p)
-
--- the process leaves its place and is the last sleeper of another
-unfoldable pub waiting : System → ℕ → ℕ → System
-waiting w p q = system w.store (asleep (left w.queues p) p q)
-
--- a message through an endpoint to a process, which is made ready
-unfoldable pub told : Reading → System → ℕ → ℕ → Message → System
-told reading w e q message =
-    let s = delivered w.store e q message in
-    with_runs (with_store w s) (readied (schedule_by reading s q) q (runs_of s w.queues))
 
 -- a fault of process `p` that is answered so, through a handler with this payload
 unfoldable pub answered : Reading → System → ℕ → FaultCode → ℕ → ℕ → Answer → System

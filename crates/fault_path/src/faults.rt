@@ -13,12 +13,13 @@ ghost use Rattle.invocation.specs.Answerer.Answer.{Open};
 ghost use Rattle.invocation.specs.Target.{IsReached, answer_of, is_receiving};
 ghost use Rattle.operations.specs.System.{system, Stored, Meant};
 ghost use Rattle.operations.specs.Meaning.{cap_map};
-ghost use Rattle.fault_path.specs.Fault.{faulted, waiting, answered, fault_message, outcome_of, heard_by, fault_of, fault_names};
+ghost use Rattle.fault_path.specs.Fault.{faulted, answered, fault_message, outcome_of, heard_by, fault_of, fault_names};
 
 use crate::handlers::handler;
 use crate::outcome::Outcome;
 use cap_format::{Cap, CapKind, FaultCode};
-use invocation::{Callee, CapList, Message, deliver, target};
+use invocation::{Callee, CapList, Message, target};
+use message_path::{tell, wait};
 use object_store::Objects;
 use process_objects::State;
 use schedules::Queues;
@@ -96,7 +97,7 @@ fn settle(
 {
     match callee {
         Callee::Open { endpoint, process } => {
-            tell(
+            report(
                 objects, queues, p, code, address, payload, endpoint, process,
             );
             Outcome::Delivered(process)
@@ -136,27 +137,9 @@ fn stop(objects: &mut Objects, queues: &mut Queues, p: u16, code: FaultCode, add
         .set_state(State::Faulted { code, address });
 }
 
-/// The process leaves its place and is the last sleeper of another.
-#[tactic(auto, unfolding(crate::specs::Fault::waiting))]
-fn wait(objects: &Objects, queues: &mut Queues, p: u16, on: u16)
-    requires there { p < size_of objects.now.items Process }
-    requires on { on < size_of objects.now.items Process }
-    requires runs { (process_at objects.now p).state ≡ Running }
-    requires sizes { length queues.old.sleepers ≡ size_of objects.now.items Process }
-    requires agrees { Agrees (runs_of objects.now queues.old) }
-    ensures after { system objects.now queues.new ≡ waiting (system objects.now queues.old) p on }
-    ensures means { let map = state_map objects.now in
-        system map queues.new ≡ waiting (system map queues.old) p on }
-    ensures processes { length queues.new.sleepers ≡ length queues.old.sleepers }
-    ensures queue_harts { length queues.new.harts ≡ length queues.old.harts }
-    ensures agrees { Agrees (runs_of objects.now queues.new) }
-{
-    queues.leave(p);
-    queues.sleep(p, on);
-}
-
 /// The process is faulted, and another, which receives, is told and made ready.
-fn tell(
+#[tactic(auto, using(crate::proofs::FaultLaws::still_receiving, crate::proofs::FaultLaws::reported_after, crate::proofs::FaultLaws::reported_stays, crate::proofs::FaultLaws::message_behind))]
+fn report(
     objects: &mut Objects,
     queues: &mut Queues,
     p: u16,
@@ -169,7 +152,6 @@ fn tell(
     requires there { p < size_of objects.old.items Process }
     requires runs { (process_at objects.old p).state ≡ Running }
     requires endpoint { endpoint < size_of objects.old.items Endpoint }
-    requires to { to < size_of objects.old.items Process }
     requires receives { is_receiving (process_at objects.old to).state ≡ true }
     requires sizes { length queues.old.sleepers ≡ size_of objects.old.items Process }
     requires agrees { Agrees (runs_of objects.old queues.old) }
@@ -189,8 +171,7 @@ fn tell(
 {
     let message = message_of(objects, p, code, address, payload);
     stop(objects, queues, p, code, address);
-    deliver(objects, endpoint, to, message);
-    queues.make_ready(objects, to);
+    tell(objects, queues, endpoint, to, message);
 }
 
 /// What is told of a fault of this process.

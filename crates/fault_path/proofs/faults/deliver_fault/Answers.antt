@@ -1,4 +1,4 @@
-use Rattle.std.proofs.Common.{◌≡◌, ◌∙◌, ap, sym, subst}
+use Rattle.std.proofs.Common.{◌∙◌, ap, subst}
 use Rattle.object_store.specs.Meaning.{meaning, state_map}
 use Rattle.object_store.specs.Object.{Stays}
 use Rattle.object_store.proofs.Live.{meaning_live}

@@ -1,0 +1,2 @@
+mod Receiver
+mod Sleepers
