@@ -1,0 +1,13 @@
+//! What passes from one process to another, with its records: faults, strings, messages, and those who wait or listen.
+//!
+//! Each call is a part of an event of a process that stands on a hart. Nothing here knows of instructions, of which call a
+//! process makes, or of operations of the kernel.
+#![tactic(auto)]
+
+mod faults;
+mod string_fault;
+mod strings;
+
+pub use faults::{fault, malformed, misaligned};
+pub use string_fault::StringFault;
+pub use strings::{Found, access_spans};
