@@ -13,7 +13,7 @@ use Rattle.machine_state.specs.declared.record.Record.TheVariants.{Insn as InsnR
 use Rattle.machine_state.specs.State.{State, pc_of}
 use Rattle.machine_state.specs.Setters.{dispatch, ticked}
 use Rattle.machine_state.specs.Outcome.{Outcome, process_name, names_on, done, recorded, touched, changing}
-use Rattle.kernel_core.specs.Fault.{fault}
+use Rattle.messages.specs.Fault.{fault}
 use Rattle.machine_state.specs.DataAccess.{data_access, data_touch, reached, number_at}
 use Rattle.kernel_core.specs.Instruction.{perform}
 

@@ -23,7 +23,7 @@ use Rattle.machine_state.specs.Setters.{advance, halted}
 use Rattle.machine_state.specs.Outcome.{Outcome, done, recorded}
 use Rattle.machine_state.specs.Operation.{request_of, changed_by, changed_names, change_touches, memory_touches}
 use Rattle.machine_state.specs.Reply.{set_reply}
-use Rattle.kernel_core.specs.Fault.{malformed}
+use Rattle.messages.specs.Fault.{malformed}
 
 -- the number of the request that is made: the first word
 abbrev pub asked_number : InvocationValue → ℕ

@@ -14,7 +14,7 @@ use Rattle.kernel_core.specs.declared.system_call.SystemCall.TheVariants.{Invoke
 use Rattle.machine_state.specs.State.{State, process, register_of}
 use Rattle.machine_state.specs.Setters.{set_capreg, advance, yielded}
 use Rattle.machine_state.specs.Outcome.{Outcome, done}
-use Rattle.kernel_core.specs.Fault.{malformed}
+use Rattle.messages.specs.Fault.{malformed}
 use Rattle.kernel_core.specs.CapTransfer.{load_cap, store_cap}
 use Rattle.machine_state.specs.Reply.{set_reply}
 use Rattle.kernel_core.specs.KernelOperation.{kernel_op}

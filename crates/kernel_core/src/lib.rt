@@ -6,7 +6,6 @@
 
 mod cap_accesses;
 mod events;
-mod faults;
 mod instructions;
 mod loads;
 mod operating;

@@ -16,10 +16,10 @@ ghost use Rattle.machine_state.specs.Outcome.{process_name};
 ghost use Rattle.machine_state.specs.Came.{Came, CameUnasked, Leaves, HasRoom};
 ghost use Rattle.kernel_core.specs.KernelOperation.{memory_op, control_op, header_name, destroy_records, replied_unless, is_end_of, kind_table, halting, sysctl_op, answered_call, kernel_op};
 
-use crate::faults::malformed;
 use cap_format::{Cap, CapKind, Code, Item, Reply};
 use invocation::Invocation;
 use machine_state::{Machine, Record, Records};
+use messages::malformed;
 use operations::{done, refuse, tell};
 use process_objects::Accept;
 use std::sync::ledger::Ledger;

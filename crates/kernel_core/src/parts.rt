@@ -2,7 +2,7 @@
 //!
 //! Each appends its records, and is for a process that stands on a hart.
 
-pub use crate::faults::fault;
 pub use crate::instructions::perform;
 pub use crate::operating::kernel_op;
 pub use crate::system_calls::{move_cap, receive, send};
+pub use messages::fault;

@@ -9,12 +9,12 @@ ghost use Rattle.machine_state.specs.Came.{Came, Leaves, HasRoom};
 ghost use Rattle.kernel_core.specs.SystemCall.{copy_cap, move_cap, invoke, refused_call, send, receive, system_call};
 
 use crate::cap_accesses::{load_cap, store_cap};
-use crate::faults::malformed;
 use crate::operating::kernel_op;
 use crate::system_call::SystemCall;
 use cap_format::Code;
 use invocation::{Callee, Invocation, parse};
 use machine_state::{Machine, Records};
+use messages::malformed;
 use operations::refuse;
 use std::sync::ledger::Ledger;
 use steps::Steps;
