@@ -5,3 +5,4 @@ pub mod Replied
 pub mod Operated
 pub mod Names
 pub mod Controlled
+pub mod Moved

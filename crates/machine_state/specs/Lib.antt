@@ -4,6 +4,7 @@ pub mod Setters
 pub mod Outcome
 pub mod Came
 pub mod Faulting
+pub mod Messaging
 pub mod DataAccess
 pub mod CapAccess
 pub mod Reply

@@ -13,10 +13,12 @@ mod faulting;
 mod log_bytes;
 mod machine;
 mod memory;
+mod messages;
 mod operating;
 mod record;
 mod records;
 mod replies;
+mod strings;
 
 pub use event::Event;
 pub use log_bytes::LogBytes;

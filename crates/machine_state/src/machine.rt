@@ -17,15 +17,18 @@ use object_store::Objects;
 use schedules::Queues;
 use std::alloc::Global;
 use std::marker::Model;
+use string_move::Scratch;
 use walk_engine::Translator;
 
-/// Objects, queues, harts and a translator. All its memory is taken when it is made.
+/// Objects, queues, harts and a translator, with room for the bytes of a string. All its memory is taken when it is
+/// made.
 #[derive(Drop)]
 pub struct Machine<T: Translator> {
     pub(crate) objects: Objects,
     pub(crate) queues: Queues,
     pub(crate) halted: bool,
     pub(crate) translator: T,
+    pub(crate) scratch: Scratch,
 }
 
 impl<T: Translator> Model for Machine<T> {
@@ -56,11 +59,13 @@ impl<T: Translator> Machine<T> {
     {
         objects.in_ranges();
         let queues = Queues::new(alloc, objects.sizes())?;
+        let scratch = Scratch::new(alloc)?;
         Ok(Machine {
             objects,
             queues,
             halted: false,
             translator,
+            scratch,
         })
     }
 
