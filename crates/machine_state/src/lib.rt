@@ -8,6 +8,7 @@
 mod callees;
 mod cap_memory;
 mod changes;
+mod controlling;
 mod event;
 mod faulting;
 mod log_bytes;

@@ -6,7 +6,7 @@ ghost use Rattle.object_store.specs.Meaning.{map_of};
 ghost use Rattle.object_store.specs.Ahead.{NoneAhead};
 ghost use Rattle.machine_state.specs.Machine.{NoneRuns};
 ghost use Rattle.machine_state.specs.State.{state_of};
-ghost use Rattle.machine_state.specs.Setters.{leave, ready};
+ghost use Rattle.machine_state.specs.Setters.{leave, ready, halted};
 ghost use Rattle.machine_state.specs.Outcome.{process_name};
 ghost use Rattle.machine_state.specs.Came.{Leaves};
 ghost use Rattle.schedules.specs.Standing.{empty_queues};
@@ -119,5 +119,15 @@ impl<T: Translator> Machine<T> {
         ensures translator { self.new.translator ≡ self.old.translator }
     {
         self.requeue(p);
+    }
+
+    /// The machine is halted for good.
+    pub fn halt(&mut self)
+        ensures state { state_of self.new ≡ halted (state_of self.old) }
+        ensures objects { self.new.objects ≡ self.old.objects }
+        ensures queues { self.new.queues ≡ self.old.queues }
+        ensures translator { self.new.translator ≡ self.old.translator }
+    {
+        self.halted = true;
     }
 }

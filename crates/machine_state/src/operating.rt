@@ -1,4 +1,4 @@
-//! Operations of the kernel on the objects.
+//! Operations of the kernel on objects of the memory kinds.
 ghost use Rattle.std.specs.Prelude.{◌≡◌, ◌<◌, ◌+◌, [], ◌∷◌, true, IfSome};
 ghost use Rattle.cap_format.specs.declared.kind.CapKind.TheVariants.{Process};
 ghost use Rattle.cap_format.specs.Kind.{is_memory};
@@ -13,14 +13,10 @@ ghost use Rattle.operations.specs.Meaning.{reply_map};
 ghost use Rattle.operations.specs.Request.{request_map};
 ghost use Rattle.operations.specs.Row.{reply_of};
 ghost use Rattle.operations.specs.Memory.{memory_operation};
-ghost use Rattle.operations.specs.Control.{control_operation};
-ghost use Rattle.operations.specs.System.{Meant};
-ghost use Rattle.control_caps.specs.Kinds.{is_control};
 ghost use Rattle.machine_state.specs.State.{state_of, process};
-ghost use Rattle.machine_state.specs.Setters.{halted};
 ghost use Rattle.machine_state.specs.Outcome.{spent, kept_after};
 ghost use Rattle.machine_state.specs.Came.{Leaves};
-ghost use Rattle.machine_state.specs.Operation.{request_of, changed_by, changed_names, change_touches, memory_touches};
+ghost use Rattle.machine_state.specs.Operation.{request_of, changed_by, change_touches, memory_touches};
 
 use crate::machine::Machine;
 use cap_format::{Cap, Item, Reply, Request};
@@ -80,48 +76,10 @@ impl<T: Translator> Machine<T> {
         self.objects.in_ranges();
         reply
     }
-
-    /// Does what is asked of a capability of one of the other kinds that answer requests, and tells its translator the
-    /// item that changed in the same call.
-    pub fn control(&mut self, cap: Cap, request: Request) -> Reply
-        requires kind { is_control cap.kind ≡ true }
-        requires live { is_live self.old.objects.items cap ≡ true }
-        requires sent { is_live self.old.objects.items request.sent ≡ true }
-        ensures means { let asked = request_map bare request in
-            let settled = control_operation Meant (state_of self.old).store (bare cap) asked in
-            reply_map (meaning self.new.objects.items) result ≡ reply_of settled }
-        ensures behind { IfSome result.cap (IsBehind self.new.objects.items) }
-        ensures state { let asked = request_map bare request in
-            let settled = control_operation Meant (state_of self.old).store (bare cap) asked in
-            state_of self.new ≡ changed_by (state_of self.old) settled.answer.changes }
-        ensures kept { let asked = request_map bare request in
-            let settled = control_operation Meant (state_of self.old).store (bare cap) asked in
-            let touches = change_touches (item_in settled.answer.changes) in
-            T.kept self.new.translator
-            ≡ kept_after T.cost T.after T.without (T.kept self.old.translator) touches }
-        ensures leaves { let asked = request_map bare request in
-            let settled = control_operation Meant (state_of self.old).store (bare cap) asked in
-            Leaves (changed_names (state_of self.old) settled.answer.changes) self.old self.new }
-    {
-        self.objects.in_ranges();
-        let reply = control_caps::invoke(&mut self.objects, &mut self.queues, cap, request);
-        tell_changed(&mut self.translator, reply.changed);
-        reply
-    }
-
-    /// The machine is halted for good.
-    pub fn halt(&mut self)
-        ensures state { state_of self.new ≡ halted (state_of self.old) }
-        ensures objects { self.new.objects ≡ self.old.objects }
-        ensures queues { self.new.queues ≡ self.old.queues }
-        ensures translator { self.new.translator ≡ self.old.translator }
-    {
-        self.halted = true;
-    }
 }
 
 /// Tells a translator the item that changed, if one did.
-fn tell_changed<T: Translator>(translator: &mut T, changed: Option<Item>)
+pub(crate) fn tell_changed<T: Translator>(translator: &mut T, changed: Option<Item>)
     ensures coherent { (o p : Items)
         → DifferBy changed o p → T.coherent translator.old o → T.coherent translator.new p }
     ensures harts { T.harts translator.new ≡ T.harts translator.old }

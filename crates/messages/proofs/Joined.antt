@@ -1,13 +1,16 @@
 -- Touches behind touches, and parts of events behind parts.
-use Rattle.std.proofs.Common.{◌≡◌, ℕ, ◌+◌, List, [], ◌∷◌, ◌++◌, refl, sym, ap, ◌∙◌, append_assoc, arith}
+use Rattle.std.proofs.Common.{◌≡◌, ℕ, inl, inr, ◌+◌, List, [], ◌∷◌, ◌++◌, refl, sym, ap, ◌∙◌, append_assoc, arith}
 use Rattle.cap_format.specs.Capability.{Capability}
+use Rattle.cap_format.specs.declared.kind.CapKind.{CapKind}
 use Rattle.cap_format.specs.declared.item.Item.{Item}
-use Rattle.object_store.specs.Store.{Items}
+use Rattle.object_store.specs.Store.{Items, Store}
+use Rattle.object_store.specs.Object.{ObjectName, IsAmong, Stays}
+use Rattle.object_store.proofs.Stays.{stays_then, stays_front, stays_within, stays_more, among_back}
 use Rattle.walk_meaning.specs.declared.kind.Kind.{Kind}
 use Rattle.machine_state.specs.declared.record.Record.{Record}
 use Rattle.machine_state.specs.Machine.{MachineValue}
 use Rattle.machine_state.specs.Outcome.{Outcome, Touch, kept_at, spent, kept_after}
-use Rattle.machine_state.specs.Came.{Came}
+use Rattle.machine_state.specs.Came.{Came, Leaves}
 use Rattle.messages.specs.Followed.{followed}
 
 -- touches, and those behind them, by what a translator says of one access and of one change
@@ -41,3 +44,43 @@ module _ {K : Type 0} (cost : K → Items → Capability → ℕ → Kind → �
             omega (arith, sum, later, a, b);
         keeps = two.keeps ∙ (ap (λ j. kept_after cost after without j second.touches) one.keeps ∙ sym (kept_after_append k first.touches second.touches));
       }
+
+-- ---- which objects change
+
+-- one object changed, and then it or others
+pub stays_first : (name : ObjectName) (names : List ObjectName) (s t u : Store) → Stays (name ∷ []) s t → Stays (name ∷ names) t u → Stays (name ∷ names) s u
+stays_first name names s t u one two = stays_then (name ∷ names) s t u (stays_front (name ∷ []) names s t one) two
+
+-- a process with others, and then it with more
+stays_followed : (name : ObjectName) (names others : List ObjectName) (s t u : Store) → Stays (name ∷ names) s t → Stays (name ∷ others) t u → Stays (name ∷ names ++ others) s u
+stays_followed name names others s t u one two =
+    let later : (kind : CapKind) (n : ℕ) → IsAmong kind n (name ∷ others) → IsAmong kind n (name ∷ names ++ others) = within in
+    stays_then (name ∷ names ++ others) s t u (stays_front (name ∷ names) others s t one) (stays_within (name ∷ others) (name ∷ names ++ others) t u later two)
+  where
+    within : (kind : CapKind) (n : ℕ) → IsAmong kind n (name ∷ others) → IsAmong kind n (name ∷ names ++ others)
+    within kind n (inl here) = inl here
+    within kind n (inr here) = inr (among_back kind n names others here)
+
+-- what two parts leave alone, the one behind the other
+pub leaves_followed : {T : Type 0} (name : ObjectName) (names others : List ObjectName) (m n o : MachineValue T) → Leaves (name ∷ names) m n → Leaves (name ∷ others) n o → Leaves (name ∷ names ++ others) m o
+leaves_followed name names others m n o one two = record {
+  pages = two.pages ∙ one.pages;
+  cappages = two.cappages ∙ one.cappages;
+  gpts = two.gpts ∙ one.gpts;
+  processes = two.processes ∙ one.processes;
+  endpoints = two.endpoints ∙ one.endpoints;
+  harts = two.harts ∙ one.harts;
+  stays = stays_followed name names others m.objects n.objects o.objects one.stays two.stays;
+}
+
+-- one name more
+pub leaves_more : {T : Type 0} (name : ObjectName) (names : List ObjectName) (m n : MachineValue T) → Leaves names m n → Leaves (name ∷ names) m n
+leaves_more name names m n leaves = record {
+  pages = leaves.pages;
+  cappages = leaves.cappages;
+  gpts = leaves.gpts;
+  processes = leaves.processes;
+  endpoints = leaves.endpoints;
+  harts = leaves.harts;
+  stays = stays_more name names m.objects n.objects leaves.stays;
+}

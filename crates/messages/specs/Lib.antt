@@ -1,3 +1,5 @@
 pub mod Followed
 pub mod Fault
 pub mod Strings
+pub mod Message
+pub mod Waiting

@@ -1,5 +1,5 @@
 //! Faults of processes, heard or not.
-ghost use Rattle.std.specs.Prelude.{◌≡◌, ◌<◌, ◌++◌, ◌∷◌};
+ghost use Rattle.std.specs.Prelude.{◌≡◌, ◌<◌, ◌≤◌, ◌+◌, ◌++◌, ◌∷◌, length};
 ghost use Rattle.cap_format.specs.declared.kind.CapKind.TheVariants.{Process};
 ghost use Rattle.object_store.specs.Store.{size_of};
 ghost use Rattle.object_store.specs.Meaning.{meaning};
@@ -38,6 +38,7 @@ pub fn fault<T: Translator, L: Ledger>(
     ensures leaves { let meant = cap_map (meaning machine.old.objects.items) handler in
         let outcome = fault (state_of machine.old) p code address meant in
         Leaves (process_name p ∷ outcome.changed) machine.old machine.new }
+    ensures most { length records.new ≤ length records.old + 1 }
 {
     let outcome = machine.settle_fault(p, code, address, handler);
     tell_fault(records, p, code, address, outcome);
@@ -46,7 +47,8 @@ pub fn fault<T: Translator, L: Ledger>(
 /// Records a fault, by what became of it.
 fn tell_fault(records: &mut Records, p: u16, code: FaultCode, address: u32, outcome: Outcome)
     requires { HasRoom 1 records.old }
-    ensures { records.new ≡ records.old ++ fault_records p code address outcome }
+    ensures records { records.new ≡ records.old ++ fault_records p code address outcome }
+    ensures most { length records.new ≤ length records.old + 1 }
 {
     let to = match outcome {
         Outcome::Delivered(recipient) => Some(recipient),

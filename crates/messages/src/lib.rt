@@ -5,9 +5,13 @@
 #![tactic(auto)]
 
 mod faults;
+mod sending;
 mod string_fault;
 mod strings;
+mod waiting;
 
 pub use faults::{fault, malformed, misaligned};
+pub use sending::send_open;
 pub use string_fault::StringFault;
-pub use strings::{Found, access_spans};
+pub use strings::{Found, access_string};
+pub use waiting::{listen, wait_on};

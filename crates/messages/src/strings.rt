@@ -8,14 +8,14 @@ ghost use Rattle.string_move.specs.Spans.{spans, IsInOnePage};
 ghost use Rattle.string_move.specs.Move.{ArePieces, size_of_pieces};
 ghost use Rattle.walk_meaning.specs.Walk.{is_data};
 ghost use Rattle.machine_state.specs.State.{state_of, IsOnHart};
-ghost use Rattle.machine_state.specs.Came.{Came};
+ghost use Rattle.machine_state.specs.Came.{Came, HasRoom};
 ghost use Rattle.messages.specs.Strings.{side, side_outcome, string_fault_map};
 
 use crate::string_fault::StringFault;
 use machine_state::{Machine, Record, Records};
 use std::sync::ledger::Ledger;
 use steps::Steps;
-use string_move::{Piece, Pieces, Spans};
+use string_move::{Piece, Pieces, Spans, cut};
 use walk_engine::Translator;
 use walk_meaning::Kind;
 
@@ -28,9 +28,46 @@ pub struct Found {
     pub fault: Option<StringFault>,
 }
 
-/// Accesses the spans of a string in their order, up to the first that faults, by the space of process `q` and on the
-/// hart of process `p`.
-pub fn access_spans<T: Translator, L: Ledger>(
+/// Accesses a string of at most 65,536 bytes span by span, up to the first that faults, by the space of process `q` and
+/// on the hart of process `p`.
+pub fn access_string<T: Translator, L: Ledger>(
+    machine: &mut Machine<T>,
+    p: u16,
+    q: u16,
+    kind: Kind,
+    at: u32,
+    size: u32,
+    records: &mut Records,
+    fetches: &mut Steps<L>,
+) -> Found
+    requires there { p < size_of machine.old.objects.items Process }
+    requires space { q < size_of machine.old.objects.items Process }
+    requires on_hart { IsOnHart machine.old.queues p }
+    requires data { is_data kind ≡ true }
+    requires longest { size ≤ 65536 }
+    requires ends { at + size ≤ 2 ^ 32 }
+    requires room { HasRoom 17 records.old }
+    ensures pieces { let side = side (state_of machine.old) q kind (spans at size) in
+        result.pieces ≡ side.pieces }
+    ensures fault { let side = side (state_of machine.old) q kind (spans at size) in
+        string_fault_map (meaning machine.new.objects.items) result.fault ≡ side.fault }
+    ensures there { ArePieces machine.new.objects.items result.pieces }
+    ensures within { size_of_pieces result.pieces ≤ size }
+    ensures whole { result.fault ≡ None → size_of_pieces result.pieces ≡ size }
+    ensures came { let s = state_of machine.old in
+        let outcome = side_outcome s (side s q kind (spans at size)) in
+        Came T.kept T.cost T.after T.without
+        outcome machine.old records.old fetches.old machine.new records.new fetches.new }
+    ensures objects { machine.new.objects ≡ machine.old.objects }
+    ensures queues { machine.new.queues ≡ machine.old.queues }
+    ensures most { length records.new ≤ length records.old + 17 }
+{
+    let spans = cut(at, size);
+    access_spans(machine, p, q, kind, &spans, records, fetches)
+}
+
+/// Accesses the spans of a string in their order, up to the first that faults.
+fn access_spans<T: Translator, L: Ledger>(
     machine: &mut Machine<T>,
     p: u16,
     q: u16,

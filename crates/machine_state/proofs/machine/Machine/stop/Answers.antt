@@ -4,7 +4,8 @@ use Rattle.process_objects.specs.declared.state.State.TheVariants.{Faulted}
 use Rattle.process_objects.specs.Process.{with_state}
 use Rattle.object_store.specs.Store.{size_of, process_at}
 use Rattle.machine_state.specs.Machine.{MachineValue}
-use Rattle.machine_state.proofs.Kept.{kept_placed, agrees_stopped}
+use Rattle.operations.proofs.Placed.{agrees_stopped}
+use Rattle.machine_state.proofs.Kept.{kept_placed}
 use Rattle.object_store.proofs.Writes.{put_state}
 use Rattle.machine_state.proofs.Changed.{same_state}
 use Rattle.machine_state.proofs.machine.Machine.stop.Goals as goal
@@ -23,4 +24,4 @@ invariant_of-self g c =
     let within : c.args.p < length i.objects.contents.processes = omega (arith, there, is.agrees.sizes, is.fits.processes) in
     let v = with_state (process_at i.objects c.args.p) (Faulted c.args.code c.args.address) in
     rw (c.set_state.ensures.state, c.process_mut.ensures.value)
-    (c.self.invariant.0, c.self.invariant.1, kept_placed i.objects i.queues c.leave.new.self c.args.p v refl refl c.leave.ensures.processes c.leave.ensures.harts (agrees_stopped i.objects.contents.processes c.leave.new.self c.args.p v within refl (c.leave.ensures.agrees i.objects.contents.processes is.agrees)) is)
+    (c.self.invariant.0, c.self.invariant.1, kept_placed i.objects i.queues c.leave.new.self c.args.p v refl refl c.leave.ensures.processes c.leave.ensures.harts (agrees_stopped i.objects c.leave.new.self c.args.p v within refl (c.leave.ensures.agrees i.objects.contents.processes is.agrees)) is)
