@@ -1,2 +1,3 @@
 pub mod Ran
 mod Destroyed
+mod Told

@@ -1,7 +1,8 @@
 -- Operations of the kernel on the capability that is invoked, with their replies. (Coyotos)
-use Rattle.std.specs.Prelude.{ℕ, ◌==◌, ◌&&◌, Bool, false, if◌then◌else◌, slice_index, List, [], ◌∷◌, Option, Some, None}
+use Rattle.std.specs.Prelude.{ℕ, ◌==◌, ◌&&◌, ◌||◌, nat_lt, Bool, false, if◌then◌else◌, slice_index, List, [], ◌∷◌, Option, Some, None}
 use Rattle.cap_format.specs.declared.kind.CapKind.{CapKind}
 use Rattle.cap_format.specs.declared.kind.CapKind.TheVariants.{KernLog, SysCtl}
+use Rattle.cap_format.specs.declared.code.Code.TheVariants.{RequestError}
 use Rattle.cap_format.specs.declared.request.Request.{Request}
 use Rattle.cap_format.specs.declared.request.Reply.{Reply}
 use Rattle.cap_format.specs.declared.item.Item.{Item}
@@ -12,18 +13,25 @@ use Rattle.process_objects.specs.Accept.{AcceptValue}
 use Rattle.object_store.specs.Object.{ObjectName, object_name}
 use Rattle.operations.specs.System.{Meant}
 use Rattle.operations.specs.Change.{Change, Destroyed, item_in}
-use Rattle.operations.specs.Row.{Row, Settled, nothing, granted, settled_row, reply_of}
+use Rattle.operations.specs.Row.{Row, Settled, nothing, granted, refused, settled_row, reply_of}
 use Rattle.operations.specs.Memory.{kind_row, memory_operation}
 use Rattle.operations.specs.Control.{is_process, control_operation}
 use Rattle.invocation.specs.Invocation.{InvocationValue}
+use Rattle.string_move.specs.declared.piece.Piece.{Piece}
+use Rattle.string_move.specs.Spans.{spans}
+use Rattle.string_move.specs.Move.{gathered}
+use Rattle.walk_meaning.specs.declared.kind.Kind.TheVariants.{Load}
 use Rattle.machine_state.specs.declared.record.Record.{Record}
-use Rattle.machine_state.specs.declared.record.Record.TheVariants.{Destroy, Halt}
+use Rattle.machine_state.specs.declared.record.Record.TheVariants.{Destroy, Halt, Log}
 use Rattle.machine_state.specs.State.{State, process}
 use Rattle.machine_state.specs.Setters.{advance, halted}
 use Rattle.machine_state.specs.Outcome.{Outcome, done, recorded}
 use Rattle.machine_state.specs.Operation.{request_of, changed_by, changed_names, change_touches, memory_touches}
 use Rattle.machine_state.specs.Reply.{set_reply}
-use Rattle.messages.specs.Fault.{malformed}
+use Rattle.messages.specs.declared.string_fault.StringFault.{StringFault}
+use Rattle.messages.specs.Followed.{followed}
+use Rattle.messages.specs.Fault.{fault}
+use Rattle.messages.specs.Strings.{Side, side, side_outcome}
 
 -- the number of the request that is made: the first word
 abbrev pub asked_number : InvocationValue → ℕ
@@ -109,11 +117,38 @@ sysctl_op s p inv cap =
     if asked_number inv == 8 then halting s p inv
     else answered_call s p inv (reply_of (settled_row (kind_table cap (asked_number inv))))
 
+-- a string that is no log: of no byte, or of more than 256
+abbrev pub is_no_log : ℕ → Bool
+is_no_log length = length == 0 || nat_lt 256 length
+
+-- the string that process `p` sends, at this moment
+abbrev pub logged_side : State → ℕ → InvocationValue → Side
+logged_side s p inv = side s p Load (spans inv.at inv.length)
+
+-- by the fault of the string: where there is none its bytes are told; a fault is the process's, and its pc stays
+abbrev pub logged : State → ℕ → InvocationValue → List Piece → Option StringFault → Outcome
+logged s p inv pieces None = recorded (Log p (gathered s.store pieces)) (answered_call s p inv (reply_of (granted nothing)))
+logged s p inv pieces (Some f) = fault s p f.why.code f.address f.why.handler
+
+-- KernLog 8 log, where the string is a log
+unfoldable pub log_string : State → ℕ → InvocationValue → Outcome
+log_string s p inv =
+    let string = logged_side s p inv in
+    followed (side_outcome s string) (logged s p inv string.pieces string.fault)
+
+-- a request to KernLog: its string's length is looked at before the string
+unfoldable pub kernlog_op : State → ℕ → InvocationValue → Capability → Outcome
+kernlog_op s p inv cap =
+    if asked_number inv == 8 then
+    (if is_no_log inv.length then answered_call s p inv (reply_of (refused RequestError))
+    else log_string s p inv)
+    else answered_call s p inv (reply_of (settled_row (kind_table cap (asked_number inv))))
+
 -- ---- all
 
 -- an operation by the kind of its capability: pc has advanced before it
 abbrev pub asked_for : State → ℕ → InvocationValue → CapKind → Capability → Outcome
-asked_for s p inv KernLog cap = malformed s p
+asked_for s p inv KernLog cap = kernlog_op s p inv cap
 asked_for s p inv SysCtl cap = sysctl_op s p inv cap
 asked_for s p inv kind cap = if is_memory kind then memory_op (advance s p) p inv cap else control_op (advance s p) p inv cap
 

@@ -8,7 +8,7 @@ use Rattle.operations.specs.Control.{control_operation}
 use Rattle.machine_state.specs.State.{State, state_of}
 use Rattle.machine_state.proofs.Operated.{spent_reads}
 use Rattle.kernel_core.proofs.Destroyed.{header_tells}
-use Rattle.kernel_core.proofs.operating.control_op.Goals as goal
+use Rattle.kernel_core.proofs.controlling.control_op.Goals as goal
 
 pub returns-clause-came : goal.returns-clause-came
 returns-clause-came g c =
