@@ -9,10 +9,10 @@ ghost use Rattle.machine_state.specs.Came.{Came, Leaves, HasRoom};
 ghost use Rattle.machine_state.specs.Machine.{hart_in};
 ghost use Rattle.kernel_core.specs.Event.{decoded_to, instruction, event_by, event_of};
 
-use crate::faults::fault;
 use crate::instructions::perform;
 use cap_format::FaultCode;
 use machine_state::{Event, Machine, Record, Records};
+use messages::fault;
 use rv32_decode::decode;
 use std::sync::ledger::Ledger;
 use steps::Steps;
