@@ -41,7 +41,12 @@ module _ {K : Type 0} (cost : K → Items → Capability → ℕ → Kind → �
       by false getslot granted None = refl
       by false getslot granted (Some item) = refl
 
-  -- it leaves what is kept
+  -- a change alone
+  pub spent_changed : (k : K) (item : Option Item) → spent cost after without k (change_touches item) ≡ 0
+  spent_changed k None = refl
+  spent_changed k (Some item) = refl
+
+  -- an invocation leaves what is kept
   pub kept_reads : (k : K) (kind : CapKind) (number : ℕ) (code : Code) (item : Option Item) → kept_after cost after without k (gpt_touches kind number code ++ change_touches item) ≡ kept_after cost after without k (change_touches item)
   kept_reads k kind number code item = by (is_gpt kind)
     where

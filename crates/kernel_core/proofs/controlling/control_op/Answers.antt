@@ -6,7 +6,7 @@ use Rattle.operations.specs.Change.{item_in}
 use Rattle.operations.specs.Request.{request_map}
 use Rattle.operations.specs.Control.{control_operation}
 use Rattle.machine_state.specs.State.{State, state_of}
-use Rattle.machine_state.proofs.Operated.{spent_reads}
+use Rattle.machine_state.proofs.Operated.{spent_changed}
 use Rattle.kernel_core.proofs.Destroyed.{header_tells}
 use Rattle.kernel_core.proofs.controlling.control_op.Goals as goal
 
@@ -14,7 +14,7 @@ pub returns-clause-came : goal.returns-clause-came
 returns-clause-came g c =
     let s : State = state_of c.advance.new.self in
     let named = header_tells s.store (bare c.args.cap) (request_map bare c.request-request.result) (meaning c.control-reply.new.self.objects.items) c.control-reply.result c.control-reply.ensures.means in
-    let nothing_fetched = spent_reads g.T.Translator.cost g.T.Translator.after g.T.Translator.without (g.T.Translator.kept c.args.machine.now.translator) 0 (item_in (control_operation Meant s.store (bare c.args.cap) (request_map bare c.request-request.result)).answer.changes) in
+    let nothing_fetched = spent_changed g.T.Translator.cost g.T.Translator.after g.T.Translator.without (g.T.Translator.kept c.args.machine.now.translator) (item_in (control_operation Meant s.store (bare c.args.cap) (request_map bare c.request-request.result)).answer.changes) in
     record {
       state = search rules;
       records = search rules;
