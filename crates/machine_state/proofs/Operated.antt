@@ -1,16 +1,14 @@
 -- An operation on a memory kind: what it touches, and that a machine is still one.
-use Rattle.std.proofs.Common.{◌≡◌, ◌⊎◌, inl, inr, ℕ, zero, suc, ◌≤◌, true≢false, true, List, [], ◌∷◌, ◌++◌, length, slice_get, refl, sym, ap, ◌∙◌, subst, arith, Option, Some, None, IfSome}
+use Rattle.std.proofs.Common.{◌≡◌, ◌⊎◌, inl, inr, ℕ, zero, suc, ◌≤◌, true≢false, true, List, [], ◌∷◌, ◌++◌, length, slice_get, refl, sym, ap, ◌∙◌, arith, Option, Some, None}
 use Rattle.std.specs.List.{All}
 use Rattle.cap_format.specs.declared.item.Item.{Item}
 use Rattle.cap_format.specs.declared.kind.CapKind.{CapKind}
 use Rattle.cap_format.specs.declared.kind.CapKind.TheVariants.{Process}
 use Rattle.cap_format.specs.Kind.{is_memory}
 use Rattle.cap_format.specs.Capability.{Capability}
-use Rattle.gpt_objects.specs.Gpt.{GptValue}
 use Rattle.process_objects.specs.Process.{ProcessValue, empty_process}
 use Rattle.object_store.specs.Store.{CountsValue, Items, Store, process_at, counts_of}
-use Rattle.object_store.specs.Meaning.{meaning}
-use Rattle.object_store.specs.Ahead.{IsBehind, NoneAhead}
+use Rattle.object_store.specs.Ahead.{NoneAhead}
 use Rattle.object_store.specs.Object.{ObjectName, ObjectValue, IsAmong, SameObject, Stays, object_name}
 use Rattle.object_store.specs.Object.ObjectValue.{OfProcess}
 use Rattle.schedules.specs.Queues.{QueuesValue}
@@ -36,18 +34,6 @@ module _ {K : Type 0} (cost : K → Items → Capability → ℕ → Kind → �
   pub kept_reads : (k : K) (n : ℕ) (item : Option Item) → kept_after cost after without k (read_touches n ++ change_touches item) ≡ kept_after cost after without k (change_touches item)
   kept_reads k zero item = refl
   kept_reads k (suc n) item = kept_reads k n item
-
--- items by their counts and GPTs
-abbrev items_by : CountsValue → List GptValue → Items
-items_by counts gpts = record { counts = counts; gpts = gpts }
-
--- a capability means the same by items of the same counts
-pub meaning_counts : (o p : Items) → o.counts ≡ p.counts → meaning o ≡ meaning p
-meaning_counts o p e = ap (λ counts. meaning (items_by counts o.gpts)) e
-
--- and is as far behind
-pub behind_counts : (o p : Items) (cap : Option Capability) → o.counts ≡ p.counts → IfSome cap (IsBehind o) → IfSome cap (IsBehind p)
-behind_counts o p cap e h = subst (λ (counts : CountsValue). IfSome cap (IsBehind (items_by counts o.gpts))) e h
 
 -- no change is of the harts
 applied-harts : (w : System) (change : Change) → (applied Stored w change).store.harts ≡ w.store.harts

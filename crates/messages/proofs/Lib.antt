@@ -1,3 +1,4 @@
 pub mod Joined
 pub mod Sides
 pub mod Told
+pub mod Few

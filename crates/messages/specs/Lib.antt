@@ -3,3 +3,4 @@ pub mod Fault
 pub mod Strings
 pub mod Message
 pub mod Waiting
+pub mod Laws

@@ -5,12 +5,15 @@
 #![tactic(auto)]
 
 mod faults;
+mod laws;
 mod sending;
 mod string_fault;
 mod strings;
+mod telling;
 mod waiting;
 
 pub use faults::{fault, malformed, misaligned};
+pub use laws::few_records;
 pub use sending::send_open;
 pub use string_fault::StringFault;
 pub use strings::{Found, access_string};

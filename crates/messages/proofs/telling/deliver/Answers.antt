@@ -4,7 +4,7 @@ use Rattle.object_store.specs.Object.{object_name}
 use Rattle.string_move.specs.Move.{page_names}
 use Rattle.machine_state.specs.Outcome.{process_name}
 use Rattle.messages.proofs.Joined.{leaves_followed, leaves_more}
-use Rattle.messages.proofs.sending.deliver.Goals as goal
+use Rattle.messages.proofs.telling.deliver.Goals as goal
 
 pub returns-clause-leaves : goal.returns-clause-leaves
 returns-clause-leaves g c =

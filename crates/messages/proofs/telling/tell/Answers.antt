@@ -4,7 +4,7 @@ use Rattle.object_store.specs.Meaning.{meaning}
 use Rattle.invocation.specs.Delivery.{message_map}
 use Rattle.machine_state.specs.State.{state_of, IsOnHart}
 use Rattle.messages.proofs.Told.{told_on_hart}
-use Rattle.messages.proofs.sending.tell.Goals as goal
+use Rattle.messages.proofs.telling.tell.Goals as goal
 
 pub returns-clause-on_hart : goal.returns-clause-on_hart
 returns-clause-on_hart g c =
