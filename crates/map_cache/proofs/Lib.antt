@@ -1,11 +1,11 @@
-mod Codes
+pub mod Codes
 mod Records
 mod Keyed
 mod Notes
 mod Invariant
 mod Leaves
 mod Coherence
-mod Economy
+pub mod Economy
 mod Installing
 pub mod Blank
 mod Forgotten
