@@ -5,23 +5,25 @@ use Rattle.cap_format.specs.declared.kind.CapKind.{CapKind}
 use Rattle.cap_format.specs.declared.kind.CapKind.TheVariants.{Endpoint, Process, Schedule, Range, Discrim}
 use Rattle.cap_format.specs.declared.code.Code.{Code}
 use Rattle.cap_format.specs.declared.code.Code.TheVariants.{UnknownRequest}
+use Rattle.cap_format.specs.declared.item.Item.{Item}
 use Rattle.cap_format.specs.declared.request.Request.{Request}
-use Rattle.cap_format.specs.declared.request.Reply.{Reply}
 use Rattle.cap_format.specs.Kind.{kind_with}
 use Rattle.cap_format.specs.Capability.{Capability}
 use Rattle.process_objects.specs.declared.state.State.{State as RunState}
 use Rattle.process_objects.specs.declared.state.State.TheVariants.{Running, Receiving, Faulted}
 use Rattle.process_objects.specs.Process.{with_state, stopped}
-use Rattle.object_store.specs.Store.{Store, process_at}
+use Rattle.object_store.specs.Store.{Items, Store, process_at}
 use Rattle.operations.specs.System.{Reading, Meant}
 use Rattle.operations.specs.Change.{Left, ProcessIs, Woken, Destroyed, item_in}
-use Rattle.operations.specs.Row.{Settled, refused, granted, settled, settled_row, reply_of}
+use Rattle.operations.specs.Row.{Settled, refused, granted, settled, settled_row}
 use Rattle.operations.specs.Request.{w1, w2, w3}
 use Rattle.operations.specs.Memory.{kind_row}
 use Rattle.operations.specs.Control.{setrecipient_row, getid_row, setid_row, setmatch_row, makeentry_row, setpayload_row, endpoint_table, getreg_row, setreg_row, getcapreg_row, setcapreg_row, getslot_row, setslot_row, tells_state, process_of, getstate_row, resume_row, stop_row, process_table, priority_row, lower_row, schedule_table, obtained, getcap_row, is_process, destruction_of, destroy_row, range_table, classify_row, discrim_table, own_table, control_table, is_null, control_operation}
-use Rattle.operations.specs.Meaning.{reply_map}
 use Rattle.operations.proofs.Settled.{by_row}
 use Rattle.operations.proofs.Fits.{table_fits}
+use Rattle.walk_meaning.specs.declared.kind.Kind.{Kind}
+use Rattle.machine_state.specs.Outcome.{spent}
+use Rattle.machine_state.specs.Operation.{change_touches}
 use Rattle.kernel_core.specs.KernelOperation.{destroyed_by, header_name}
 
 -- what is destroyed is the object whose header changes
@@ -106,6 +108,13 @@ pub control_tells : (reading : Reading) (s : Store) (c : Capability) (r : Reques
 unfolding control_operation control_table kind_row
 control_tells reading s c r = cond_both (is_null c.kind) _ _ Tells (λ e. refl) (λ e. table_fits Tells (w1 r == 0) _ _ (by_row Tells of_refusal (kind_row c) refl) (own-tells reading s c r c.kind (w1 r)))
 
--- of a reply to such an operation: what it says that changed tells what was destroyed
-pub header_tells : (s : Store) (c : Capability) (r : Request) (f : Capability → Capability) (reply : Reply) → reply_map f reply ≡ reply_of (control_operation Meant s c r) → header_name reply.changed ≡ destroyed_by (control_operation Meant s c r).answer.changes
-header_tells s c r f reply means = ap (λ (z : Reply). header_name z.changed) means ∙ sym (control_tells Meant s c r)
+-- of an item that such an operation changed: it tells what was destroyed
+pub header_tells : (s : Store) (c : Capability) (r : Request) (changed : Option Item) → changed ≡ item_in (control_operation Meant s c r).answer.changes → header_name changed ≡ destroyed_by (control_operation Meant s c r).answer.changes
+header_tells s c r changed is = ap header_name is ∙ sym (control_tells Meant s c r)
+
+-- what a translator says of one access and of one change
+module _ {K : Type 0} (cost : K → Items → Capability → ℕ → Kind → ℕ) (after : K → Items → Capability → ℕ → Kind → K) (without : K → Item → K) where
+  -- an item that changes fetches nothing
+  pub spent_change : (k : K) (item : Option Item) → spent cost after without k (change_touches item) ≡ 0
+  spent_change k None = refl
+  spent_change k (Some item) = refl

@@ -1,9 +1,8 @@
 -- How many records an event makes.
-use Rattle.std.proofs.Common.{◌≡◌, ℕ, ◌+◌, ◌≤◌, ◌%◌, ◌==◌, ◌&&◌, nat_le, Bool, true, false, if◌then◌else◌, List, [], ◌∷◌, length, min, slice_index, Option, Some, None, Result, Ok, Err, arith, length-append}
+use Rattle.std.proofs.Common.{◌≡◌, ℕ, ◌≤◌, ◌%◌, ◌==◌, ◌&&◌, nat_le, Bool, true, false, if◌then◌else◌, List, length, slice_index, Option, Some, None, Result, Ok, Err, arith}
 use Rattle.std.proofs.lemmas.Bool.{cond_both, ltb-false, or_parts}
 use Rattle.cap_format.specs.declared.kind.CapKind.{CapKind}
 use Rattle.cap_format.specs.declared.kind.CapKind.TheVariants.{KernLog, SysCtl}
-use Rattle.cap_format.specs.declared.fault.FaultCode.{FaultCode}
 use Rattle.cap_format.specs.declared.fault.FaultCode.TheVariants.{BadAlign, MalformedSyscall, Breakpoint, BadOpcode}
 use Rattle.cap_format.specs.Kind.{is_memory}
 use Rattle.cap_format.specs.Capability.{Capability}
@@ -14,13 +13,6 @@ use Rattle.invocation.specs.declared.malformed.MalformedSyscall.{MalformedSyscal
 use Rattle.invocation.specs.Invocation.{InvocationValue, sends, is_no_string, sends_no_string, accepts_no_string, is_malformed, invocation_of, parsed}
 use Rattle.invocation.specs.Target.{callee}
 use Rattle.string_move.specs.declared.piece.Piece.{Piece}
-use Rattle.string_move.specs.declared.span.Span.{Span}
-use Rattle.string_move.specs.Spans.{spans}
-use Rattle.string_move.proofs.Cuts.{length-spans}
-use Rattle.fault_path.specs.declared.outcome.Outcome.{Outcome as Became}
-use Rattle.fault_path.specs.declared.outcome.Outcome.TheVariants.{Delivered, MustWait, Unheard}
-use Rattle.fault_path.specs.Fault.{heard_by, outcome_of}
-use Rattle.walk_meaning.specs.declared.kind.Kind.{Kind}
 use Rattle.walk_meaning.specs.declared.kind.Kind.TheVariants.{Fetch, Load, Store as Put, CapLoad, CapStore}
 use Rattle.walk_meaning.specs.declared.place.Place.{Place}
 use Rattle.walk_meaning.specs.declared.place.WalkFault.{WalkFault}
@@ -40,15 +32,14 @@ use Rattle.machine_state.specs.declared.event.Event.TheVariants.{Step, Tick}
 use Rattle.machine_state.specs.Setters.{advance, dispatch}
 use Rattle.machine_state.specs.Operation.{request_of}
 use Rattle.machine_state.specs.State.{State, process, pc_of, register_of}
-use Rattle.machine_state.specs.Outcome.{Outcome}
 use Rattle.machine_state.specs.DataAccess.{data_access, number_at}
 use Rattle.machine_state.specs.CapAccess.{cap_access}
 use Rattle.messages.specs.declared.string_fault.StringFault.{StringFault}
-use Rattle.messages.specs.Followed.{followed}
-use Rattle.messages.specs.Fault.{fault, fault_records, malformed}
-use Rattle.messages.specs.Strings.{span_side, side, side_outcome}
-use Rattle.messages.specs.Message.{accept_in, sent_side, received_side, delivered, sent_on, sent_by_fault, send_open}
+use Rattle.messages.specs.Fault.{malformed}
+use Rattle.messages.specs.Strings.{side_outcome}
 use Rattle.messages.specs.Waiting.{wait_on, listen}
+use Rattle.messages.proofs.Few.{AtMost, followed-most, fault-most, string-most, send_open-most}
+use Rattle.kernel_core.specs.Laws.{FewRecords}
 use Rattle.kernel_core.specs.declared.system_call.SystemCall.{SystemCall}
 use Rattle.kernel_core.specs.declared.system_call.SystemCall.TheVariants.{Invoke, LoadCap, StoreCap, CopyCap, Yield}
 use Rattle.kernel_core.specs.LoadStore.{loaded_from, load, stored_to, store}
@@ -56,42 +47,7 @@ use Rattle.kernel_core.specs.CapTransfer.{cap_loaded_from, load_cap, cap_stored_
 use Rattle.kernel_core.specs.KernelOperation.{destroyed_by, destroy_records, control_answered, logged, logged_side, log_string, kernlog_op, asked_number, is_no_log, sysctl_op, memory_op, control_op, asked_for, kernel_op}
 use Rattle.kernel_core.specs.SystemCall.{call_with, copy_cap, moved, move_cap, Sending, busy_call, sent_to, send, received_after, invoked, invoke, called, system_call}
 use Rattle.kernel_core.specs.Instruction.{performed, perform}
-use Rattle.kernel_core.specs.Event.{decoded_to, fetched_from, instruction, stepped, event_by, event_of}
-
--- at most so many records
-abbrev AtMost : ℕ → Outcome → Type 0
-AtMost n o = length o.records ≤ n
-
--- of two parts, one behind the other
-followed-most : (m n : ℕ) (first second : Outcome) → AtMost m first → AtMost n second → AtMost (m + n) (followed first second)
-followed-most m n first second one two = omega (arith, length-append first.records second.records, one, two)
-
--- ---- faults and strings
-
-fault_records-most : (p : ℕ) (code : FaultCode) (address : ℕ) (became : Became) → length (fault_records p code address became) ≤ 1
-fault_records-most p code address (Delivered q) = omega arith
-fault_records-most p code address Unheard = omega arith
-fault_records-most p code address (MustWait q) = omega arith
-
-fault-most : (s : State) (p : ℕ) (code : FaultCode) (address : ℕ) (handler : Option Capability) → AtMost 1 (fault s p code address handler)
-unfolding fault
-fault-most s p code address handler = fault_records-most p code address (outcome_of (heard_by s.store p handler))
-
-side-most : (s : State) (q : ℕ) (kind : Kind) (ss : List Span) → length (side s q kind ss).records ≤ length ss
-unfolding side
-side-most s q kind [] = omega arith
-side-most s q kind (span ∷ ss) = on (data_access s q span.address kind) (side-most s q kind ss)
-  where
-    on : (answer : Result Hit WalkFault) → length (side s q kind ss).records ≤ length ss → length (span_side s q kind span (side s q kind ss) answer).records ≤ length (span ∷ ss)
-    on (Ok hit) rest = omega (arith, rest)
-    on (Err why) rest = omega arith
-
--- a string makes one record a span, and the longest has 17
-string-most : (s : State) (q : ℕ) (kind : Kind) (at size : ℕ) → size ≤ 65536 → length (side s q kind (spans at size)).records ≤ 17
-string-most s q kind at size longest =
-    let each = side-most s q kind (spans at size) in
-    let most = length-spans at size longest in
-    omega (arith, each, most)
+use Rattle.kernel_core.specs.Event.{decoded_to, fetched_from, instruction, stepped, event_by}
 
 -- ---- loads, stores and capabilities
 
@@ -199,23 +155,6 @@ kernel_op-most s p inv cap longest = asked-most s p inv cap.kind cap longest
 
 -- ---- messages
 
-sent_on-most : (s : State) (p e q : ℕ) (inv : InvocationValue) (from : List Piece) → inv.length ≤ 65536 → AtMost 18 (sent_on s p e q inv from)
-sent_on-most s p e q inv from longest =
-    let accept = accept_in s q in
-    let to = received_side s q inv.length in
-    let short : min inv.length accept.bound ≤ 65536 = omega (arith, longest) in
-    followed-most 17 1 (side_outcome s to) (delivered s p e q inv from to.pieces) (string-most s q Put accept.at (min inv.length accept.bound) short) (omega arith)
-
-sent_by_fault-most : (s : State) (p e q : ℕ) (inv : InvocationValue) (from : List Piece) (f : Option StringFault) → inv.length ≤ 65536 → AtMost 18 (sent_by_fault s p e q inv from f)
-sent_by_fault-most s p e q inv from None longest = sent_on-most s p e q inv from longest
-sent_by_fault-most s p e q inv from (Some f) longest = let one = fault-most s p f.why.code f.address f.why.handler in omega (arith, one)
-
-send_open-most : (s : State) (p e q : ℕ) (inv : InvocationValue) → inv.length ≤ 65536 → AtMost 35 (send_open s p e q inv)
-unfolding send_open
-send_open-most s p e q inv longest =
-    let from = sent_side s p inv in
-    followed-most 17 18 (side_outcome s from) (sent_by_fault s p e q inv from.pieces from.fault) (string-most s p Load inv.at inv.length longest) (sent_by_fault-most s p e q inv from.pieces from.fault longest)
-
 listen-none : (s : State) (p : ℕ) (inv : InvocationValue) → AtMost 0 (listen s p inv)
 unfolding listen
 listen-none s p inv = omega arith
@@ -307,5 +246,5 @@ event_by-most s (Step hart) = stepped-most (dispatch s hart) (hart_of (dispatch 
 event_by-most s (Tick hart) = omega arith
 
 -- of every event
-pub event_most : (s : State) (e : Event) → length (event_of s e).records ≤ 37
-event_most s e = cond_both s.halted _ _ (AtMost 37) (λ h. omega arith) (λ h. event_by-most s e)
+pub few_records : FewRecords
+few_records s e = cond_both s.halted _ _ (AtMost 37) (λ h. omega arith) (λ h. event_by-most s e)

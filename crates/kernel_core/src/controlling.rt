@@ -5,15 +5,21 @@ ghost use Rattle.cap_format.specs.Capability.{bare};
 ghost use Rattle.object_store.specs.Store.{size_of};
 ghost use Rattle.object_store.specs.Meaning.{is_live, meaning};
 ghost use Rattle.object_store.specs.Ahead.{IsBehind};
+ghost use Rattle.operations.specs.System.{Meant};
+ghost use Rattle.operations.specs.Change.{item_in};
+ghost use Rattle.operations.specs.Row.{reply_of};
+ghost use Rattle.operations.specs.Request.{request_map};
+ghost use Rattle.operations.specs.Control.{control_operation};
 ghost use Rattle.operations.specs.Meaning.{reply_map};
 ghost use Rattle.control_caps.specs.Kinds.{is_control};
 ghost use Rattle.machine_state.specs.State.{state_of};
 ghost use Rattle.machine_state.specs.Setters.{advance};
-ghost use Rattle.machine_state.specs.Outcome.{process_name};
+ghost use Rattle.machine_state.specs.Operation.{changed_by, changed_names, change_touches};
+ghost use Rattle.machine_state.specs.Outcome.{process_name, kept_after};
 ghost use Rattle.machine_state.specs.Came.{Came, Leaves, HasRoom};
 ghost use Rattle.kernel_core.specs.KernelOperation.{control_op, header_name, destroy_records, replied_unless, is_end_of};
 
-use cap_format::{Cap, CapKind, Item, Reply};
+use cap_format::{Cap, CapKind, Item, Reply, Request};
 use invocation::Invocation;
 use machine_state::{Machine, Record, Records};
 use process_objects::Accept;
@@ -42,9 +48,42 @@ pub(crate) fn control_op<T: Translator, L: Ledger>(
 {
     machine.advance(p);
     let request = machine.request(p, inv);
+    let changed = do_and_reply(machine, p, inv.accept(), cap, request);
+    tell_destruction(records, changed);
+}
+
+/// Does what is asked, and writes the reply last, over what this made of the process. Gives the item that changed.
+fn do_and_reply<T: Translator>(
+    machine: &mut Machine<T>,
+    p: u16,
+    accept: Accept,
+    cap: Cap,
+    request: Request,
+) -> Option<Item>
+    requires there { p < size_of machine.old.objects.items Process }
+    requires kind { is_control cap.kind ≡ true }
+    requires live { is_live machine.old.objects.items cap ≡ true }
+    requires sent { is_live machine.old.objects.items request.sent ≡ true }
+    ensures changed { let asked = request_map bare request in
+        let settled = control_operation Meant (state_of machine.old).store (bare cap) asked in
+        result ≡ item_in settled.answer.changes }
+    ensures state { let asked = request_map bare request in
+        let settled = control_operation Meant (state_of machine.old).store (bare cap) asked in
+        let after = changed_by (state_of machine.old) settled.answer.changes in
+        state_of machine.new ≡ replied_unless (header_name result) after p accept (reply_of settled) }
+    ensures kept { let asked = request_map bare request in
+        let settled = control_operation Meant (state_of machine.old).store (bare cap) asked in
+        let touches = change_touches (item_in settled.answer.changes) in
+        T.kept machine.new.translator ≡ kept_after T.cost T.after T.without (T.kept machine.old.translator) touches }
+    ensures leaves { let asked = request_map bare request in
+        let settled = control_operation Meant (state_of machine.old).store (bare cap) asked in
+        let names = changed_names (state_of machine.old) settled.answer.changes in
+        Leaves (process_name p ∷ names) machine.old machine.new }
+{
     let reply = machine.control(cap, request);
-    tell_destruction(records, reply.changed);
-    reply_last(machine, p, inv.accept(), reply);
+    let changed = reply.changed;
+    reply_last(machine, p, accept, reply);
+    changed
 }
 
 /// Records a destruction, where the header of an object changed.
