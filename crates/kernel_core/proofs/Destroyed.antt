@@ -12,7 +12,7 @@ use Rattle.cap_format.specs.Capability.{Capability}
 use Rattle.process_objects.specs.declared.state.State.{State as RunState}
 use Rattle.process_objects.specs.declared.state.State.TheVariants.{Running, Receiving, Faulted}
 use Rattle.process_objects.specs.Process.{with_state, stopped}
-use Rattle.object_store.specs.Store.{Items, Store, process_at}
+use Rattle.object_store.specs.Store.{Store, process_at}
 use Rattle.operations.specs.System.{Reading, Meant}
 use Rattle.operations.specs.Change.{Left, ProcessIs, Woken, Destroyed, item_in}
 use Rattle.operations.specs.Row.{Settled, refused, granted, settled, settled_row}
@@ -21,9 +21,6 @@ use Rattle.operations.specs.Memory.{kind_row}
 use Rattle.operations.specs.Control.{setrecipient_row, getid_row, setid_row, setmatch_row, makeentry_row, setpayload_row, endpoint_table, getreg_row, setreg_row, getcapreg_row, setcapreg_row, getslot_row, setslot_row, tells_state, process_of, getstate_row, resume_row, stop_row, process_table, priority_row, lower_row, schedule_table, obtained, getcap_row, is_process, destruction_of, destroy_row, range_table, classify_row, discrim_table, own_table, control_table, is_null, control_operation}
 use Rattle.operations.proofs.Settled.{by_row}
 use Rattle.operations.proofs.Fits.{table_fits}
-use Rattle.walk_meaning.specs.declared.kind.Kind.{Kind}
-use Rattle.machine_state.specs.Outcome.{spent}
-use Rattle.machine_state.specs.Operation.{change_touches}
 use Rattle.kernel_core.specs.KernelOperation.{destroyed_by, header_name}
 
 -- what is destroyed is the object whose header changes
@@ -111,10 +108,3 @@ control_tells reading s c r = cond_both (is_null c.kind) _ _ Tells (λ e. refl) 
 -- of an item that such an operation changed: it tells what was destroyed
 pub header_tells : (s : Store) (c : Capability) (r : Request) (changed : Option Item) → changed ≡ item_in (control_operation Meant s c r).answer.changes → header_name changed ≡ destroyed_by (control_operation Meant s c r).answer.changes
 header_tells s c r changed is = ap header_name is ∙ sym (control_tells Meant s c r)
-
--- what a translator says of one access and of one change
-module _ {K : Type 0} (cost : K → Items → Capability → ℕ → Kind → ℕ) (after : K → Items → Capability → ℕ → Kind → K) (without : K → Item → K) where
-  -- an item that changes fetches nothing
-  pub spent_change : (k : K) (item : Option Item) → spent cost after without k (change_touches item) ≡ 0
-  spent_change k None = refl
-  spent_change k (Some item) = refl
