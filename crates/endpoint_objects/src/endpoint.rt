@@ -36,4 +36,11 @@ impl Endpoint {
     {
         self.payload = self.payload.wrapping_add(1);
     }
+
+    /// Becomes a copy of another endpoint.
+    pub fn copy_from(&mut self, from: &Endpoint)
+        ensures copy { self.new ≡ from.now }
+    {
+        *self = *from;
+    }
 }

@@ -14,7 +14,7 @@ use object_store::Objects;
 
 /// The handler that is asked: the walk's, where somebody answers it, and otherwise that of the process.
 #[tactic(auto, using(object_store::proofs::Writes::slot_means), unfolding(crate::specs::Fault::handler_of))]
-pub(crate) fn handler(objects: &Objects, p: u16, walked: Option<Cap>) -> Cap
+pub fn handler(objects: &Objects, p: u16, walked: Option<Cap>) -> Cap
     requires { p < size_of objects.now.items Process }
     ensures value { bare result ≡
         handler_of (state_map objects.now) p (cap_map (meaning objects.now.items) walked) }

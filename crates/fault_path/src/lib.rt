@@ -8,4 +8,5 @@ mod handlers;
 mod outcome;
 
 pub use faults::deliver_fault;
+pub use handlers::handler;
 pub use outcome::Outcome;

@@ -73,6 +73,29 @@ impl Gpt {
         let _kind = cap.kind();
         self.slots[i as usize] = cap;
     }
+
+    /// Becomes a copy of another GPT, of which it reads each slot.
+    pub fn copy_from<L: Ledger>(&mut self, from: &Gpt, fetches: &mut Steps<L>)
+        ensures copy { self.new ≡ from.now }
+        ensures counted { fetches.new ≡ fetches.old + 16 }
+    {
+        self.header = from.header;
+        self.slots = from.all_slots(fetches);
+    }
+
+    /// Reads all slots, and counts each.
+    fn all_slots<L: Ledger>(&self, fetches: &mut Steps<L>) -> [Cap; 16]
+        ensures value { result ≡ self.now.slots }
+        ensures counted { fetches.new ≡ fetches.old + 16 }
+    {
+        // A header that is read tells how many slots there are.
+        let _header = self.header();
+        let mut slots = nulls();
+        for i in 0..16 {
+            slots[i as usize] = self.slot(i, fetches);
+        }
+        slots
+    }
 }
 
 #[tactic(auto, unfolding(crate::specs::Gpt::empty_slots))]

@@ -11,4 +11,5 @@ pub mod Destroyed
 pub mod DifferLaws
 pub mod Stays
 pub mod Same
+pub mod Restored
 pub mod Ranged

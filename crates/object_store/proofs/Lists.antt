@@ -1,4 +1,5 @@
 -- Facts about lists that upper crates cite too.
+pub use Rattle.gpt_objects.proofs.Copied.{copied_more}
 use Rattle.std.proofs.Common.{◌≡◌, ℕ, ◌⊎◌, inl, inr, List, [], ◌∷◌, length, get_or, set, map, replicate, zero, suc, refl, sym, ap, ◌∙◌, subst, arith}
 use Rattle.std.specs.List.{All}
 use Rattle.std.proofs.lemmas.Bool.{cases_eq, cases_lt}

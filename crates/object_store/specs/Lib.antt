@@ -6,5 +6,6 @@ pub mod Differ
 pub mod Ahead
 pub mod Destruction
 pub mod Object
+pub mod Saved
 pub mod Laws
 pub mod Lending

@@ -7,6 +7,7 @@ ghost use Rattle.object_store.specs.Ranges.{IsRanged, IsSized, IsStore, IsWithin
 ghost use Rattle.object_store.specs.Ahead.{IsBehind, NoneAhead};
 
 mod contents;
+mod copies;
 mod counted;
 mod items;
 

@@ -62,6 +62,13 @@ impl CapPage {
     {
         self.caps = nulls();
     }
+
+    /// Becomes a copy of another capability page.
+    pub fn copy_from(&mut self, from: &CapPage)
+        ensures copy { self.new ≡ from.now }
+    {
+        self.caps = from.caps;
+    }
 }
 
 #[tactic(auto, unfolding(crate::specs::CapPage::empty_cappage))]

@@ -64,6 +64,13 @@ impl Page {
     {
         self.bytes = zeros();
     }
+
+    /// Becomes a copy of another page.
+    pub fn copy_from(&mut self, from: &Page)
+        ensures copy { self.new ≡ from.now }
+    {
+        self.bytes = from.bytes;
+    }
 }
 
 #[tactic(auto, unfolding(crate::specs::Page::empty_page))]

@@ -166,4 +166,15 @@ impl Process {
         state.tell_range();
         self.state = state;
     }
+
+    /// Becomes a copy of another process.
+    pub fn copy_from(&mut self, from: &Process)
+        ensures copy { self.new ≡ from.now }
+    {
+        self.pc = from.pc;
+        self.regs = from.regs;
+        self.capregs = from.capregs;
+        self.slots = from.slots;
+        self.state = from.state;
+    }
 }

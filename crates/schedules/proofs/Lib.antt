@@ -7,4 +7,5 @@ pub mod Kept
 pub mod Agreement
 pub mod Waking
 pub mod OnHart
+pub mod Next
 pub mod Meant

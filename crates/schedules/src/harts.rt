@@ -54,6 +54,14 @@ pub(crate) fn take_off(harts: &mut Vec<Option<u16>>, p: u16)
     }
 }
 
+/// The harts get the processes of as many others.
+pub(crate) fn copy_harts(harts: &mut Vec<Option<u16>>, from: &[Option<u16>])
+    requires { length harts.old.items ≡ length from.now }
+    ensures { harts.new.items ≡ from.now }
+{
+    harts.copy_from_slice(from);
+}
+
 /// The hart that has this process.
 pub(crate) fn hart_with(harts: &[Option<u16>], p: u16) -> Option<usize>
     ensures there { IfSome result (λ i. i < length harts.now) }

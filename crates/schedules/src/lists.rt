@@ -57,6 +57,14 @@ pub(crate) fn pop_at(lists: &mut Vec<ProcessList>, i: usize) -> Option<u16>
     lists[i].pop_first()
 }
 
+/// The first process, if any, of the list at place `i`.
+pub(crate) fn first_at(lists: &[ProcessList], i: usize) -> Option<u16>
+    requires { i < length lists.now }
+    ensures { result ≡ first_of (slice_index_or lists.now i []) }
+{
+    lists[i].first()
+}
+
 /// Takes the process out of the list at place `i`, where it stands there.
 fn remove_at(lists: &mut Vec<ProcessList>, i: usize, p: u16)
     requires { i < length lists.old.items }
@@ -64,6 +72,25 @@ fn remove_at(lists: &mut Vec<ProcessList>, i: usize, p: u16)
         lists.new.items ≡ slice_set lists.old.items i (without p list) }
 {
     lists[i].remove(p);
+}
+
+/// The list at place `i` becomes a copy of that at the same place of others.
+fn copy_at(lists: &mut Vec<ProcessList>, from: &[ProcessList], i: usize)
+    requires within { i < length lists.old.items }
+    requires there { i < length from.now }
+    ensures { lists.new.items ≡ slice_set lists.old.items i (slice_index_or from.now i []) }
+{
+    lists[i].copy_from(&from[i]);
+}
+
+/// The lists become copies of as many others.
+pub(crate) fn copy_lists(lists: &mut Vec<ProcessList>, from: &[ProcessList])
+    requires { length lists.old.items ≡ length from.now }
+    ensures { lists.new.items ≡ from.now }
+{
+    for i in 0..from.len() {
+        copy_at(lists, from, i);
+    }
 }
 
 /// Takes the process out of all lists.

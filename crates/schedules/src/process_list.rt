@@ -42,6 +42,16 @@ impl ProcessList {
         self.list.as_slice().get(place as usize).copied()
     }
 
+    /// The process that is served first.
+    pub fn first(&self) -> Option<u16>
+        ensures { result ≡ first_of self.now }
+    {
+        if self.list.is_empty() {
+            return None;
+        }
+        Some(self.list.as_slice()[0])
+    }
+
     pub fn len(&self) -> usize
         ensures { result ≡ length self.now }
     {
@@ -60,6 +70,14 @@ impl ProcessList {
         ensures { result ≡ stands_in self.now process }
     {
         self.list.as_slice().contains(&process)
+    }
+
+    /// Becomes a copy of another list.
+    pub fn copy_from(&mut self, from: &ProcessList)
+        ensures { self.new ≡ from.now }
+    {
+        self.list.clear();
+        let _fits = self.list.try_extend_from_slice(from.list.as_slice());
     }
 
     pub fn push_last(&mut self, process: u16)

@@ -6,8 +6,10 @@ ghost use Rattle.process_objects.specs.Process.{ProcessValue, empty_process};
 
 mod ready;
 
-use crate::harts::{empty_harts, hart_with, process_on, take_off};
-use crate::lists::{empty_at, empty_lists, highest, list_with, pop_at, push_at, take_out};
+use crate::harts::{copy_harts, empty_harts, hart_with, process_on, take_off};
+use crate::lists::{
+    copy_lists, empty_at, empty_lists, first_at, highest, list_with, pop_at, push_at, take_out,
+};
 use crate::process_list::ProcessList;
 use crate::spot::Spot;
 use std::alloc::{AllocError, Global};
@@ -147,6 +149,41 @@ impl Queues {
         let next = pop_at(&mut self.ready, priority as usize);
         self.harts[hart as usize] = next;
         next
+    }
+
+    /// The process that `dispatch` would answer for this hart: the one that it has, or would take.
+    pub fn next_on(&self, hart: u8) -> Option<u16>
+        requires { hart < length self.now.harts }
+        ensures value { result ≡ hart_of (dispatched self.now hart) hart }
+        ensures there { IfSome result (λ p. p < length self.now.sleepers) }
+    {
+        let _ready = &self.ready;
+        self.next_of(hart)
+    }
+
+    /// The same, by the lists alone.
+    fn next_of(&self, hart: u8) -> Option<u16>
+        requires { hart < length self.now.harts }
+        ensures value { result ≡ hart_of (dispatched self.now hart) hart }
+    {
+        match process_on(&self.harts, hart as usize) {
+            Some(p) => Some(p),
+            None => match highest(&self.ready, 8) {
+                Some(priority) => first_at(&self.ready, priority as usize),
+                None => None,
+            },
+        }
+    }
+
+    /// Becomes a copy of other queues for as many processes and harts. It takes no memory.
+    pub fn copy_from(&mut self, from: &Queues)
+        requires processes { length self.old.sleepers ≡ length from.now.sleepers }
+        requires harts { length self.old.harts ≡ length from.now.harts }
+        ensures copy { self.new ≡ from.now }
+    {
+        copy_lists(&mut self.ready, &from.ready);
+        copy_lists(&mut self.sleepers, &from.sleepers);
+        copy_harts(&mut self.harts, &from.harts);
     }
 
     /// Takes the list of those that sleep on `on`; nobody sleeps on it then.

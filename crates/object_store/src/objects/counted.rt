@@ -72,7 +72,7 @@ impl Objects {
         self.clear(kind, number);
     }
 
-    fn put_count(&mut self, kind: CapKind, number: u16, count: u32)
+    pub(super) fn put_count(&mut self, kind: CapKind, number: u16, count: u32)
         requires there { number < size_of self.old.items kind }
         requires fits { count ≤ 1048575 }
         ensures { self.new ≡ with_items self.old (set_count self.old.items kind number count) }
