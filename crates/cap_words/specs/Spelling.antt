@@ -159,5 +159,6 @@ pub record IsSpelled (spelled : Spelled) : Type 0 where
   pub restr : spelled.restr < restr_limit spelled.kind
   pub unguarded : is_memory spelled.kind ≡ false → guard_of spelled.l2g spelled.matches ≡ no_guard
   pub object : is_counted spelled.kind ≡ false → spelled.object < object_limit spelled.kind
+  pub name : is_counted spelled.kind ≡ false → spelled.name ≡ None
   pub payload : spelled.payload < payload_limit spelled.kind
   pub slot : spelled.slot < slot_limit spelled.kind
