@@ -28,7 +28,7 @@ use Rattle.image_builder.specs.Given.{last_given, listed, with_object_count, cou
 use Rattle.image_builder.specs.Boot.{objects_of}
 use Rattle.read_back.specs.Laws.{runs_of}
 use Rattle.read_back.specs.Listable.{IsListable}
-use Rattle.boot_again.specs.Typed.{IsTyped}
+use Rattle.statement_text.specs.Typed.{IsTyped}
 use Rattle.boot_again.proofs.Kept.{Holds, IsKept, IsKeptEndpoint, kept-null, last_kept, count_kept, byte_kept, cap_kept, header_kept, slot_kept, endpoint_kept, pc_kept, place_kept, reg_kept, capreg_kept, x0_kept, c0_kept}
 use Rattle.boot_again.proofs.Stands.{returned}
 
@@ -95,7 +95,7 @@ module _ (listing : ListingValue) (is : IsListing listing) (typed : All IsTyped 
   byte_again n i = last_kept (λ byte. byte < 256) (Holds (sizes_of o)) (byte_given n i) (byte_kept (sizes_of o) n i) 0 xs (omega arith) all
 
   slots_again : (g : ℕ) (i : ℕ) → IsKept (sizes_of o) (meaning o.items (final_cap o.items.counts xs (slot_given g i)))
-  slots_again g i = cap_again (slot_given g i) (slot_kept (sizes_of o) g i)
+  slots_again g i = cap_again (slot_given g i) (slot_kept (sizes_of o) limits g i)
 
   caps_again : (n i : ℕ) → IsKept (sizes_of o) (meaning o.items (final_cap o.items.counts xs (cap_given n i)))
   caps_again n i = cap_again (cap_given n i) (cap_kept (sizes_of o) n i)

@@ -80,6 +80,7 @@ subject_kind (says.Code n at insn) = 1
 subject_kind (says.CapSlot n i c) = 2
 subject_kind (says.Gpt n header) = 3
 subject_kind (says.GptSlot n i c) = 3
+subject_kind (says.Region gpt slot count page restr) = 3
 subject_kind (says.Endpoint n recipient id payload matching) = 6
 subject_kind (says.Process n pc space schedule handler runs) = 8
 subject_kind (says.Reg n i value) = 8
@@ -92,6 +93,7 @@ subject (says.Code n at insn) = n
 subject (says.CapSlot n i c) = n
 subject (says.Gpt n header) = n
 subject (says.GptSlot n i c) = n
+subject (says.Region gpt slot count page restr) = gpt
 subject (says.Endpoint n recipient id payload matching) = n
 subject (says.Process n pc space schedule handler runs) = n
 subject (says.Reg n i value) = n
@@ -117,6 +119,7 @@ names_header n _ apart = refl
 
 pub names_slot : (n i : ℕ) → Names (slot_given n i) 3 n
 names_slot n i (says.GptSlot number slot c) apart = let off = ne_eqb number n (apart refl) in rw off refl
+names_slot n i (says.Region gpt slot count page restr) apart = let off = ne_eqb gpt n (apart refl) in rw off refl
 names_slot n i _ apart = refl
 
 pub names_endpoint : (n : ℕ) → Names (endpoint_given n) 6 n

@@ -1,9 +1,9 @@
 -- What the statements of a listing give is in its range, and so is what stands in the end.
-use Rattle.std.proofs.Common.{ℕ, ◌≡◌, ◌-◌, ◌%◌, ◌^◌, ◌<◌, ◌≤◌, ◌==◌, ◌&&◌, Bool, true, false, if◌then◌else◌, List, [], ◌∷◌, Option, Some, None, length, refl, subst, sym, inl, inr, arith, nat_le}
-use Rattle.std.specs.Prelude.{slice_get, zero, suc}
+use Rattle.std.proofs.Common.{ℕ, ◌≡◌, ◌+◌, ◌-◌, ◌%◌, ◌^◌, ◌<◌, ◌≤◌, ◌==◌, ◌&&◌, Bool, true, false, if◌then◌else◌, List, [], ◌∷◌, Option, Some, None, length, refl, subst, sym, inl, inr, arith, nat_le}
+use Rattle.std.specs.Prelude.{slice_get, zero, suc, nat_lt}
 use Rattle.std.specs.List.{All, filter_map, cons_option, last_or}
 use Rattle.std.specs.Option.{IfSome, unwrap_or}
-use Rattle.std.proofs.lemmas.Bool.{cases_lt, ne_eqb}
+use Rattle.std.proofs.lemmas.Bool.{cases_lt, ne_eqb, and_parts, leb-true, ltb-true}
 use Rattle.std.proofs.lemmas.List.Elements.{All-tail}
 use Rattle.std.proofs.lemmas.Option.{slice_get-get_or, slice_get_past}
 use Rattle.cap_format.specs.declared.kind.CapKind.{CapKind}
@@ -12,13 +12,15 @@ use Rattle.cap_format.specs.Capability.{Capability, IsCapability, null}
 use Rattle.cap_format.proofs.Ranges.{IsCapability-null}
 use Rattle.gpt_objects.specs.Header.{IsHeader}
 use Rattle.endpoint_objects.specs.declared.endpoint.Endpoint.{Endpoint}
+use Rattle.cap_format.specs.declared.restr.Restr.{Restr}
 use Rattle.object_store.specs.declared.sizes.Sizes.{Sizes}
+use Rattle.object_store.specs.Ranges.{IsWithinLimits}
 use Rattle.listing_read.specs.CapWord.{IsStated}
 use Rattle.listing_read.specs.Statement.{IsStatement, is_recipient}
 use Rattle.listing_read.specs.declared.statement.Statement.{Statement}
 use Rattle.listing_read.specs.declared.statement.Statement.TheVariants as says
-use Rattle.image_builder.specs.Given.{last_given, instruction_bytes, byte_in, count_given, byte_given, cap_given, header_given, slot_given, endpoint_given, pc_given, slot_among, place_given, reg_given, capreg_given}
-use Rattle.boot_again.specs.Typed.{IsTyped}
+use Rattle.image_builder.specs.Given.{last_given, instruction_bytes, byte_in, count_given, byte_given, cap_given, header_given, region_cap, is_among, slot_given, endpoint_given, pc_given, slot_among, place_given, reg_given, capreg_given}
+use Rattle.statement_text.specs.Typed.{IsTyped}
 
 -- ---- what stands in the end
 
@@ -80,6 +82,34 @@ IsKept sizes c = IsCapability c × IsStated sizes c
 pub kept-null : (sizes : Sizes) → IsKept sizes null
 kept-null sizes = (IsCapability-null, record { uncounted = refl; there = λ counts. absurd (cc) })
 
+-- the capability of a page that a region assigns, of a machine that has the page
+region_is : (sizes : Sizes) → IsWithinLimits sizes → (n restr : ℕ) → n < sizes.pages → restr < 32 → IsKept sizes (region_cap n restr)
+region_is sizes limits n restr there below = (
+  record {
+    restr = below;
+    count = omega arith;
+    guard = record { low = omega arith; high = omega arith; fits = omega arith };
+    unguarded = λ plain. absurd (cc);
+    object = omega (arith, limits.pages);
+    aligned = λ window. absurd (cc);
+    payload = omega arith;
+    slot = omega arith;
+  },
+  record { uncounted = refl; there = λ _. there },
+)
+
+-- what a region gives a slot
+region_kept : (sizes : Sizes) → IsWithinLimits sizes → (n i gpt slot count page : ℕ) (restr : Restr) → IsStatement sizes (says.Region gpt slot count page restr) → IfSome (slot_given n i (says.Region gpt slot count page restr)) (IsKept sizes)
+region_kept sizes limits n i gpt slot count page restr is = on (gpt == n && is_among slot count i) refl
+  where
+    on : (b : Bool) → (gpt == n && is_among slot count i) ≡ b → IfSome (if b then Some (region_cap (page + (i - slot)) restr.0) else None) (IsKept sizes)
+    on false none = tt
+    on true some =
+        let inside = and_parts (nat_le slot i) (nat_lt i (slot + count)) (and_parts (gpt == n) (is_among slot count i) some).1 in
+        let from : slot ≤ i = leb-true slot i inside.0 in
+        let below : i < slot + count = ltb-true i (slot + count) inside.1 in
+        region_is sizes limits (page + (i - slot)) restr.0 (omega (arith, is.3)) is.4
+
 -- the parts of an endpoint
 abbrev pub IsKeptEndpoint : Sizes → Endpoint → Type 0
 IsKeptEndpoint sizes e =
@@ -95,22 +125,23 @@ module _ (sizes : Sizes) where
   count_kept kind n _ is = tt
 
   pub byte_kept : (n i : ℕ) (x : Statement) → Holds x → IfSome (byte_given n i x) (λ byte. byte < 256)
-  byte_kept n i (says.Page number at bytes) is = if_byte_in (number == n) at bytes i is.1
+  byte_kept n i (says.Page number at bytes) is = if_byte_in (number == n) at bytes i is.1.0
   byte_kept n i (says.Code number at insn) is =
       if_byte_in (number == n) at (instruction_bytes insn) i (four_bytes _ _ _ _ (omega arith) (omega arith) (omega arith) (omega arith))
   byte_kept n i _ is = tt
 
   pub cap_kept : (n i : ℕ) (x : Statement) → Holds x → IfSome (cap_given n i x) (IsKept sizes)
-  cap_kept n i (says.CapSlot number slot c) is = if_given (IsKept sizes) (number == n && slot == i) c (is.1, is.0.1)
+  cap_kept n i (says.CapSlot number slot c) is = if_given (IsKept sizes) (number == n && slot == i) c (is.1.0, is.0.1)
   cap_kept n i _ is = tt
 
   pub header_kept : (n : ℕ) (x : Statement) → Holds x → IfSome (header_given n x) IsHeader
   header_kept n (says.Gpt number header) is = if_given IsHeader (number == n) header is.1
   header_kept n _ is = tt
 
-  pub slot_kept : (n i : ℕ) (x : Statement) → Holds x → IfSome (slot_given n i x) (IsKept sizes)
-  slot_kept n i (says.GptSlot number slot c) is = if_given (IsKept sizes) (number == n && slot == i) c (is.1, is.0.2)
-  slot_kept n i _ is = tt
+  pub slot_kept : (limits : IsWithinLimits sizes) (n i : ℕ) (x : Statement) → Holds x → IfSome (slot_given n i x) (IsKept sizes)
+  slot_kept limits n i (says.GptSlot number slot c) is = if_given (IsKept sizes) (number == n && slot == i) c (is.1, is.0.2)
+  slot_kept limits n i (says.Region gpt slot count page restr) is = region_kept sizes limits n i gpt slot count page restr is.0
+  slot_kept limits n i _ is = tt
 
   pub endpoint_kept : (n : ℕ) (x : Statement) → Holds x → IfSome (endpoint_given n x) (IsKeptEndpoint sizes)
   endpoint_kept n (says.Endpoint number recipient id payload matching) is =

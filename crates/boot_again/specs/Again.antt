@@ -6,7 +6,7 @@ use Rattle.listing_read.specs.Statement.{ListingValue, IsListing}
 use Rattle.image_builder.specs.Boot.{booted}
 use Rattle.read_back.specs.Laws.{runs_of}
 use Rattle.read_back.specs.Listable.{IsListable}
-use Rattle.boot_again.specs.Typed.{IsTyped}
+use Rattle.statement_text.specs.Typed.{IsTyped}
 use Rattle.boot_again.specs.Boots.{printed_listing}
 
 -- each process of the machine of a listing runs or was stopped: none was refused for want of a schedule

@@ -1,4 +1,3 @@
 pub mod Boots
-pub mod Typed
 pub mod Again
 pub mod Text

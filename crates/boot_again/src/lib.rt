@@ -1,7 +1,6 @@
 //! Laws: a printed state, read and booted, is that state again.
 //!
-//! There is no code here but what reads values, so that their types tell their ranges. Each function has a law as its
-//! contract.
+//! There is no code here. Each function has a law as its contract.
 #![tactic(auto)]
 
 ghost use Rattle.std.specs.Prelude.{◌≡◌};
@@ -11,10 +10,8 @@ ghost use Rattle.boot_again.specs.Boots.{PrintedObjectsBoot, printed_listing};
 ghost use Rattle.boot_again.specs.Again.{AllAccepted, BootedIsListable, BootedAgain};
 ghost use Rattle.boot_again.specs.Text.{PrintedIsListing};
 
-mod typed;
-
 use listing_read::Listing;
-pub use typed::listing_is_typed;
+use statement_text::listing_is_typed;
 
 /// The statements that are printed of the objects of a state make these objects again, in a machine that is booted with
 /// them: each thing and each count is as it was, and those processes are made ready that ran.

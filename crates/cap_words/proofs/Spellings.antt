@@ -29,6 +29,7 @@ IsSpelled_named kind object fits =
       restr = positive_restr kind;
       unguarded = λ _. refl;
       object = fits;
+      name = λ _. refl;
       payload = positive_payload kind;
       slot = positive_slot kind;
     }
@@ -41,6 +42,7 @@ IsSpelled_behind guarded spelled memory below is =
       restr = omega (arith, limit, below);
       unguarded = λ plain. absurd (true≢false (sym memory ∙ plain));
       object = is.object;
+      name = is.name;
       payload = is.payload;
       slot = is.slot;
     }

@@ -1,5 +1,6 @@
 -- Which words spell a capability, and what they spell: one function for each form of the words. What a kind has not is
--- 0, and its guard is 12/0.
+-- 0, and its guard is 12/0. Where there may be names, one may stand in place of an object's number, behind a `$`; the
+-- number is 0 then.
 use Rattle.std.specs.Prelude.{ℕ, ◌≡◌, ◌<◌, ◌+◌, ◌*◌, ◌==◌, ◌||◌, not, nat_le, Bool, true, false, if◌then◌else◌, List, [], ◌∷◌, length, Option, Some, None, option_map, bytes_eq, codes}
 use Rattle.coy_text.specs.Numeral.{dec_of, hex_of}
 use Rattle.coy_text.specs.Words.{cut_at}
@@ -9,6 +10,7 @@ use Rattle.cap_format.specs.Guard.{guard_of, no_guard}
 use Rattle.cap_format.specs.Kind.{is_counted, is_memory, object_limit, payload_limit, restr_limit, slot_limit}
 use Rattle.cap_words.specs.declared.spelling.Spelled.{Spelled}
 use Rattle.cap_words.specs.declared.spelling.Guarded.{Guarded}
+use Rattle.cap_words.specs.Name.{name_of, called}
 
 infixl 10 ◌>>=◌
 -- what is read after something else was, where that could be read
@@ -31,7 +33,20 @@ dec_to most word = do
 -- a capability without guard and restrictions
 abbrev pub named : CapKind → ℕ → Spelled
 named kind object =
-    record { kind = kind; restr = 0; l2g = 12; matches = 0; object = object; payload = 0; slot = 0 }
+    record { kind = kind; restr = 0; l2g = 12; matches = 0; object = object; name = None; payload = 0; slot = 0 }
+
+-- one to the object that a name stands for
+abbrev pub named_by : CapKind → List ℕ → Spelled
+named_by kind name = record (named kind 0) { name = Some name }
+
+-- what a number stands for, or the name in its place
+abbrev pub object_by : CapKind → List ℕ → Option (List ℕ) → Option Spelled
+object_by kind word None = option_map (named kind) (dec_of word)
+object_by kind word (Some name) = option_map (named_by kind) (name_of name)
+
+-- `N`, or `$NAME` where there may be names: a capability without guard and restrictions
+unfoldable pub object_at : Bool → CapKind → List ℕ → Option Spelled
+object_at names kind word = object_by kind word (called names word)
 
 -- the same behind a guard
 abbrev pub behind : Guarded → Spelled → Spelled
@@ -86,27 +101,21 @@ schedule_of rest = do
   priority ← dec_to 7 rest
   Some (named Schedule priority)
 
--- `endpoint:N`, `process:N`
-unfoldable pub named_of : CapKind → List ℕ → Option Spelled
-named_of kind rest = do
-  number ← dec_of rest
-  Some (named kind number)
-
 -- `entry:N:PAYLOAD`, the payload hexadecimal
-unfoldable pub entry_of : List ℕ → Option Spelled
-entry_of rest = do
+unfoldable pub entry_of : Bool → List ℕ → Option Spelled
+entry_of names rest = do
   parts ← cut_at 58 rest
-  endpoint ← dec_of parts.0
+  spelled ← object_at names Entry parts.0
   payload ← hex_of parts.1
-  Some (record (named Entry endpoint) { payload = payload })
+  Some (record spelled { payload = payload })
 
 -- `page:N`, `cappage:N`, `gpt:N` and then `@` and the guard
-unfoldable pub memory_of : CapKind → List ℕ → Option Spelled
-memory_of kind rest = do
+unfoldable pub memory_of : Bool → CapKind → List ℕ → Option Spelled
+memory_of names kind rest = do
   parts ← cut_at 64 rest
-  number ← dec_of parts.0
+  spelled ← object_at names kind parts.0
   guarded ← guarded_of parts.1
-  Some (behind guarded (named kind number))
+  Some (behind guarded spelled)
 
 -- `OFFSET` of a window, hexadecimal, and then `@` and the guard
 unfoldable pub window_of : CapKind → ℕ → List ℕ → Option Spelled
@@ -124,31 +133,32 @@ local_of rest = do
   window_of LocalWindow slot parts.1
 
 -- a word whose part before its first `:` is this head
-unfoldable pub headed : List ℕ → List ℕ → Option Spelled
-headed head rest =
+unfoldable pub headed : Bool → List ℕ → List ℕ → Option Spelled
+headed names head rest =
     if bytes_eq head (codes "schedule") then schedule_of rest
-    else (if bytes_eq head (codes "endpoint") then named_of Endpoint rest
-    else (if bytes_eq head (codes "process") then named_of Process rest
-    else (if bytes_eq head (codes "entry") then entry_of rest
-    else (if bytes_eq head (codes "page") then memory_of Page rest
-    else (if bytes_eq head (codes "cappage") then memory_of CapPage rest
-    else (if bytes_eq head (codes "gpt") then memory_of Gpt rest
+    else (if bytes_eq head (codes "endpoint") then object_at names Endpoint rest
+    else (if bytes_eq head (codes "process") then object_at names Process rest
+    else (if bytes_eq head (codes "entry") then entry_of names rest
+    else (if bytes_eq head (codes "page") then memory_of names Page rest
+    else (if bytes_eq head (codes "cappage") then memory_of names CapPage rest
+    else (if bytes_eq head (codes "gpt") then memory_of names Gpt rest
     else (if bytes_eq head (codes "window") then window_of Window 0 rest
     else (if bytes_eq head (codes "local") then local_of rest else None))))))))
 
 -- a word that has the part before its first `:`, or none such
-abbrev pub spelled_by : List ℕ → Option (List ℕ × List ℕ) → Option Spelled
-spelled_by word None = option_map (λ kind. named kind 0) (plain_kind_of word)
-spelled_by word (Some (head, rest)) = headed head rest
+abbrev pub spelled_by : Bool → List ℕ → Option (List ℕ × List ℕ) → Option Spelled
+spelled_by names word None = option_map (λ kind. named kind 0) (plain_kind_of word)
+spelled_by names word (Some (head, rest)) = headed names head rest
 
--- what a word spells, if it spells a capability
-unfoldable pub spelled_of : List ℕ → Option Spelled
-spelled_of word = spelled_by word (cut_at 58 word)
+-- what a word spells, if it spells a capability, where there may be names or not
+unfoldable pub spelled_of : Bool → List ℕ → Option Spelled
+spelled_of names word = spelled_by names word (cut_at 58 word)
 
 -- what every spelling keeps: what its kind has not is 0 or 12/0, and what stands in it alone is in its range
 pub record IsSpelled (spelled : Spelled) : Type 0 where
   pub restr : spelled.restr < restr_limit spelled.kind
   pub unguarded : is_memory spelled.kind ≡ false → guard_of spelled.l2g spelled.matches ≡ no_guard
   pub object : is_counted spelled.kind ≡ false → spelled.object < object_limit spelled.kind
+  pub name : is_counted spelled.kind ≡ false → spelled.name ≡ None
   pub payload : spelled.payload < payload_limit spelled.kind
   pub slot : spelled.slot < slot_limit spelled.kind

@@ -3,10 +3,12 @@
 //! Nothing here knows which objects a machine has.
 #![tactic(auto)]
 
+mod name;
 mod numbers;
 mod spelling;
 mod text;
 
+pub use name::{Name, called, read_name};
 pub use numbers::{push_number, push_numbered, push_value};
-pub use spelling::{Guarded, Spelled, number_to, read_spelled};
+pub use spelling::{Guarded, Spelled, number_to, read_spelled, restrictions};
 pub use text::{push_capability, push_letters};

@@ -2,13 +2,14 @@
 ghost use Rattle.std.specs.Prelude.{◌≡◌, ◌≤◌, ◌<◌, ◌^◌, true, false, IfSome};
 ghost use Rattle.coy_text.specs.Numeral.{dec_of, hex_of};
 ghost use Rattle.cap_format.specs.Kind.{is_memory, is_window, is_counted, object_limit, payload_limit, slot_limit};
-ghost use Rattle.cap_words.specs.Spelling.{dec_to, named, behind, plain_kind_of, letter_at, restr_of, match_of, guarded_of, schedule_of, named_of, entry_of, memory_of, window_of, local_of, headed, spelled_of, IsSpelled};
+ghost use Rattle.cap_words.specs.Spelling.{dec_to, named, named_by, object_by, object_at, behind, plain_kind_of, letter_at, restr_of, match_of, guarded_of, schedule_of, entry_of, memory_of, window_of, local_of, headed, spelled_of, IsSpelled};
 
+use crate::name::{Name, called, read_name};
 use cap_format::CapKind;
 use coy_text::{cut, read_dec, read_hex};
 
 /// A word that is spelled as a capability. Its numbers may be out of range, and what its kind has not is 0.
-#[derive(Clone, Copy)]
+#[derive(Drop)]
 pub struct Spelled {
     pub kind: CapKind,
     pub restr: u8,
@@ -16,6 +17,8 @@ pub struct Spelled {
     pub matches: u32,
     /// The object number, the offset in bytes, or the priority.
     pub object: u32,
+    /// The name that stands for the object number, which is 0 then.
+    pub name: Option<Name>,
     pub payload: u32,
     pub slot: u8,
 }
@@ -28,43 +31,43 @@ pub struct Guarded {
     pub restr: u8,
 }
 
-/// What a word spells. `None` where it spells no capability.
+/// What a word spells, in which a name may stand for an object's number, or not. `None` where it spells no capability.
 #[tactic(auto, unfolding(crate::specs::Spelling::spelled_of))]
-pub fn read_spelled(word: &[u8]) -> Option<Spelled>
-    ensures value { result ≡ spelled_of word.now }
+pub fn read_spelled(names: bool, word: &[u8]) -> Option<Spelled>
+    ensures value { result ≡ spelled_of names word.now }
     ensures range { IfSome result IsSpelled }
 {
     match cut(word, b':') {
-        Some((head, rest)) => headed(head, rest),
+        Some((head, rest)) => headed(names, head, rest),
         None => Some(named(plain_kind(word)?, 0)),
     }
 }
 
 #[tactic(auto, unfolding(crate::specs::Spelling::headed))]
-fn headed(head: &[u8], rest: &[u8]) -> Option<Spelled>
-    ensures value { result ≡ headed head.now rest.now }
+fn headed(names: bool, head: &[u8], rest: &[u8]) -> Option<Spelled>
+    ensures value { result ≡ headed names head.now rest.now }
     ensures range { IfSome result IsSpelled }
 {
     if head == b"schedule".as_slice() {
         return scheduled(rest);
     }
     if head == b"endpoint".as_slice() {
-        return numbered(CapKind::Endpoint, rest);
+        return object_at(names, CapKind::Endpoint, rest);
     }
     if head == b"process".as_slice() {
-        return numbered(CapKind::Process, rest);
+        return object_at(names, CapKind::Process, rest);
     }
     if head == b"entry".as_slice() {
-        return entered(rest);
+        return entered(names, rest);
     }
     if head == b"page".as_slice() {
-        return guarded_object(CapKind::Page, rest);
+        return guarded_object(names, CapKind::Page, rest);
     }
     if head == b"cappage".as_slice() {
-        return guarded_object(CapKind::CapPage, rest);
+        return guarded_object(names, CapKind::CapPage, rest);
     }
     if head == b"gpt".as_slice() {
-        return guarded_object(CapKind::Gpt, rest);
+        return guarded_object(names, CapKind::Gpt, rest);
     }
     if head == b"window".as_slice() {
         return windowed(CapKind::Window, 0, rest);
@@ -88,8 +91,23 @@ fn named(kind: CapKind, object: u32) -> Spelled
         l2g: 12,
         matches: 0,
         object,
+        name: None,
         payload: 0,
         slot: 0,
+    }
+}
+
+/// One to the object that a name stands for.
+#[tactic(auto, using(crate::proofs::Spellings::IsSpelled_named))]
+fn named_by(kind: CapKind, name: Name) -> Spelled
+    requires { is_counted kind ≡ true }
+    ensures value { result ≡ named_by kind name }
+    ensures range { IsSpelled result }
+    ensures kind { result.kind ≡ kind }
+{
+    Spelled {
+        name: Some(name),
+        ..named(kind, 0)
     }
 }
 
@@ -161,37 +179,41 @@ fn scheduled(rest: &[u8]) -> Option<Spelled>
     Some(named(CapKind::Schedule, number_to(7, rest)?))
 }
 
-#[tactic(auto, unfolding(crate::specs::Spelling::named_of))]
-fn numbered(kind: CapKind, rest: &[u8]) -> Option<Spelled>
+#[tactic(auto, unfolding(crate::specs::Spelling::object_at))]
+fn object_at(names: bool, kind: CapKind, word: &[u8]) -> Option<Spelled>
     requires { is_counted kind ≡ true }
-    ensures value { result ≡ named_of kind rest.now }
+    ensures value { result ≡ object_at names kind word.now }
     ensures range { IfSome result IsSpelled }
+    ensures kind { IfSome result (λ spelled. spelled.kind ≡ kind) }
 {
-    Some(named(kind, number(rest)?))
+    match called(names, word) {
+        Some(name) => Some(named_by(kind, read_name(name)?)),
+        None => Some(named(kind, number(word)?)),
+    }
 }
 
 #[tactic(auto, unfolding(crate::specs::Spelling::entry_of))]
-fn entered(rest: &[u8]) -> Option<Spelled>
-    ensures value { result ≡ entry_of rest.now }
+fn entered(names: bool, rest: &[u8]) -> Option<Spelled>
+    ensures value { result ≡ entry_of names rest.now }
     ensures range { IfSome result IsSpelled }
 {
     let (endpoint, payload) = cut(rest, b':')?;
-    let endpoint = number(endpoint)?;
+    let spelled = object_at(names, CapKind::Entry, endpoint)?;
     let payload = hexadecimal(payload)?;
-    Some(with_payload(payload, named(CapKind::Entry, endpoint)))
+    Some(with_payload(payload, spelled))
 }
 
 #[tactic(auto, unfolding(crate::specs::Spelling::memory_of))]
-fn guarded_object(kind: CapKind, rest: &[u8]) -> Option<Spelled>
+fn guarded_object(names: bool, kind: CapKind, rest: &[u8]) -> Option<Spelled>
     requires memory { is_memory kind ≡ true }
     requires counted { is_counted kind ≡ true }
-    ensures value { result ≡ memory_of kind rest.now }
+    ensures value { result ≡ memory_of names kind rest.now }
     ensures range { IfSome result IsSpelled }
 {
     let (object, guard) = cut(rest, b'@')?;
-    let object = number(object)?;
+    let spelled = object_at(names, kind, object)?;
     let guarded = read_guard(guard)?;
-    Some(behind(guarded, named(kind, object)))
+    Some(behind(guarded, spelled))
 }
 
 #[tactic(auto, unfolding(crate::specs::Spelling::window_of))]
@@ -238,9 +260,9 @@ fn read_guard(word: &[u8]) -> Option<Guarded>
     }
 }
 
-/// At least one of the letters, in their order, each at most once.
+/// The bits of restrictions, by at least one of their letters, in their order, each at most once.
 #[tactic(auto, unfolding(crate::specs::Spelling::restr_of))]
-fn restrictions(letters: &[u8]) -> Option<u8>
+pub fn restrictions(letters: &[u8]) -> Option<u8>
     ensures value { result ≡ restr_of letters.now }
     ensures range { IfSome result (λ restr. restr < 32) }
 {

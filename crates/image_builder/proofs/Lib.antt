@@ -1,4 +1,5 @@
 mod Listed
+mod Regions
 mod Finals
 mod Further
 mod AtRest

@@ -52,6 +52,10 @@ listed_is : {A : Type 0} (n : ℕ) (f : ℕ → A) (xs : List A) (d : A) → len
 unfolding listed
 listed_is n f xs d long each = fill_by_all f xs n d long each
 
+-- two lists with the same elements
+pub listed-same : {A : Type 0} (n : ℕ) (f g : ℕ → A) → ((k : ℕ) → k < n → f k ≡ g k) → listed n f ≡ listed n g
+listed-same n f g same = listed_is n g (listed n f) (f 0) (length-listed n f) (λ k there. get_or-listed n f k (f 0) there ∙ same k there)
+
 pub replicate-listed : {A : Type 0} (n : ℕ) (x : A) → replicate n x ≡ listed n (λ k. x)
 replicate-listed n x = listed_is n (λ k. x) (replicate n x) x (length-replicate n x) (λ k h. get_or-replicate n k x x h)
 

@@ -1,11 +1,12 @@
 -- What the statements of a listing give each thing of a machine: of those that name a thing the last one says what stands there.
-use Rattle.std.specs.Prelude.{ℕ, ◌-◌, ◌==◌, ◌&&◌, nat_le, Bool, zero, suc, List, map, Option, Some, None, unwrap_or, if◌then◌else◌, slice_get, slice_index}
+use Rattle.std.specs.Prelude.{ℕ, ◌+◌, ◌-◌, ◌==◌, ◌&&◌, nat_le, nat_lt, Bool, zero, suc, List, map, Option, Some, None, unwrap_or, if◌then◌else◌, slice_get, slice_index}
 use Rattle.std.specs.List.{range_with_len, filter_map, last_or}
 use Rattle.std.specs.Int.{to_le_bytes, w32}
 use Rattle.cap_format.specs.declared.kind.CapKind.{CapKind}
 use Rattle.cap_format.specs.declared.kind.CapKind.TheVariants.{Page as PageKind, CapPage as CapPageKind, Gpt as GptKind, Endpoint as EndpointKind, Process as ProcessKind}
 use Rattle.cap_format.specs.Kind.{number_of, is_counted, object_kind}
-use Rattle.cap_format.specs.Capability.{Capability, with_count, null}
+use Rattle.cap_format.specs.Guard.{guard_of}
+use Rattle.cap_format.specs.Capability.{Capability, capability, with_count, null}
 use Rattle.gpt_objects.specs.Header.{HeaderValue, empty_header}
 use Rattle.gpt_objects.specs.Gpt.{GptValue}
 use Rattle.process_objects.specs.Process.{ProcessValue, process_of, stopped}
@@ -16,7 +17,7 @@ use Rattle.rv32_decode.specs.Word.{word_of}
 use Rattle.object_store.specs.declared.sizes.Sizes.{Sizes}
 use Rattle.object_store.specs.Store.{CountsValue, Store, counts_of, store_of}
 use Rattle.listing_read.specs.declared.statement.Statement.{Statement}
-use Rattle.listing_read.specs.declared.statement.Statement.TheVariants.{Page, Code, CapSlot, Gpt, GptSlot, Endpoint, Process, Reg, CapReg, Count}
+use Rattle.listing_read.specs.declared.statement.Statement.TheVariants.{Page, Code, CapSlot, Gpt, GptSlot, Endpoint, Process, Reg, CapReg, Count, Region}
 
 -- ---- what one statement gives a thing
 
@@ -49,9 +50,19 @@ abbrev pub header_given : ℕ → Statement → Option HeaderValue
 header_given g (Gpt number header) = if number == g then Some header else None
 header_given g statement = None
 
--- slot `i` of GPT `g`
+-- what a region assigns for page `n`, which stands there behind the guard 12/0 with the region's restrictions
+abbrev pub region_cap : ℕ → ℕ → Capability
+region_cap n restr = capability PageKind restr 0 (guard_of 12 0) n 0 0
+
+-- slot `i` is one of `count` slots from `slot` on
+abbrev pub is_among : ℕ → ℕ → ℕ → Bool
+is_among slot count i = nat_le slot i && nat_lt i (slot + count)
+
+-- slot `i` of GPT `g`: a region gives the first of its slots its first page, the next the next, and so on
 abbrev pub slot_given : ℕ → ℕ → Statement → Option Capability
 slot_given g i (GptSlot number slot cap) = if number == g && slot == i then Some cap else None
+slot_given g i (Region gpt slot count page restr) =
+    if gpt == g && is_among slot count i then Some (region_cap (page + (i - slot)) restr.0) else None
 slot_given g i statement = None
 
 -- endpoint `n`

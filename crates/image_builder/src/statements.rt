@@ -4,10 +4,10 @@ ghost use Rattle.cap_format.specs.declared.kind.CapKind.TheVariants.{Page, CapPa
 ghost use Rattle.rv32_decode.specs.InRange.{InRange};
 ghost use Rattle.object_store.specs.Store.{sizes_of, size_of, process_at, with_process};
 ghost use Rattle.listing_read.specs.Statement.{IsStatement};
-ghost use Rattle.image_builder.specs.Given.{with_object_count};
-ghost use Rattle.image_builder.specs.Assigned.{process_with, with_count_of, assigned, flagged, NamesProcess};
+ghost use Rattle.image_builder.specs.Given.{with_object_count, region_cap};
+ghost use Rattle.image_builder.specs.Assigned.{process_with, with_count_of, with_region, assigned, flagged, NamesProcess};
 
-use cap_format::Cap;
+use cap_format::{Cap, CapKind, Restr, reduce};
 use endpoint_objects::Endpoint;
 use listing_read::Statement;
 use object_store::Objects;
@@ -90,6 +90,13 @@ pub(crate) fn assign(objects: &mut Objects, statement: &Statement)
         Statement::CapReg { number, index, cap } => {
             assign_capreg(objects, *number, *index, *cap)
         }
+        Statement::Region {
+            gpt,
+            slot,
+            count,
+            page,
+            restr,
+        } => assign_region(objects, *gpt, *slot, *count, *page, *restr),
         Statement::Count { .. } => {}
     }
 }
@@ -127,6 +134,29 @@ fn assign_slot(objects: &mut Objects, number: u16, slot: u8, cap: Cap)
 {
     let cap = with_object_count(objects, cap);
     let _item = objects.set_gpt_slot(number, slot, cap);
+}
+
+/// Assigns the slots of a region one after the other, as statements of their own would.
+fn assign_region(objects: &mut Objects, gpt: u16, slot: u8, count: u8, page: u16, restr: Restr)
+    requires there { gpt < size_of objects.old.items Gpt }
+    requires slots { slot + count ≤ 16 }
+    requires pages { page + count ≤ size_of objects.old.items Page }
+    requires restr { restr.0 < 32 }
+    ensures { objects.new ≡ with_region objects.old gpt slot page restr.0 count }
+{
+    let _sizes = objects.sizes();
+    'each: for i in 0..count {
+        assign_slot(objects, gpt, slot + i, region_cap(page + i as u16, restr));
+    }
+}
+
+/// The capability that a region assigns for a page.
+fn region_cap(page: u16, restr: Restr) -> Cap
+    requires page { page < 4096 }
+    requires restr { restr.0 < 32 }
+    ensures { result ≡ region_cap page restr.0 }
+{
+    reduce(Cap::to_object(CapKind::Page, page, 0), restr)
 }
 
 fn assign_endpoint(

@@ -6,17 +6,18 @@ use Rattle.coy_io.specs.Lines.{Part, Line}
 use Rattle.coy_io.specs.Reader.{Reader, Advances, GivesLines, bytes_ahead, ahead}
 use Rattle.coy_io.proofs.GivenLaws.{Advances-nil, Advances-trans, GivesLines-nil, GivesLines-trans, GivesLines-kept}
 use Rattle.object_store.specs.Ranges.{IsWithinLimits}
-use Rattle.listing_read.specs.declared.place.Terms.{Terms}
+use Rattle.object_store.specs.declared.sizes.Sizes.{Sizes}
+use Rattle.listing_read.specs.declared.names.Naming.{Naming}
 use Rattle.listing_read.specs.declared.fault.Fault.{Fault}
 use Rattle.listing_read.specs.declared.fault.ListingFault.{ListingFault}
 use Rattle.listing_read.specs.declared.fault.ListingFault.TheVariants as faults
 use Rattle.listing_read.specs.declared.place.Place.{Place}
 use Rattle.listing_read.specs.declared.place.Place.TheVariants.{Header, Machine, Statements}
 use Rattle.listing_read.specs.declared.place.Said.{Said}
-use Rattle.listing_read.specs.declared.place.Said.TheVariants.{Nothing, Opens, Says, Ends}
+use Rattle.listing_read.specs.declared.place.Said.TheVariants.{Nothing, Opens, Calls, Says, Ends}
 use Rattle.listing_read.specs.declared.statement.Statement.{Statement}
 use Rattle.listing_read.specs.Statement.{IsStatement, IsListing, ListingValue}
-use Rattle.listing_read.specs.Listing.{Listed, Good, Refused, Past, with_front, place_behind, listed_by, judged, listing_of, fault_at_end, IsListed, IsCause, IsPlace, IsSaid}
+use Rattle.listing_read.specs.Listing.{Listed, Good, Refused, Past, with_front, place_behind, place_with, listed_by, judged, listing_of, fault_at_end, IsListed, IsCause, IsPlace, IsSaid}
 use Rattle.listing_read.specs.Reads.{ReadsLine, IsStopped, GivesListing, GivesFront}
 
 -- no statement in front
@@ -143,6 +144,12 @@ module _ (old mid new : Reader) (held held' held'' : Option (List ℕ)) (stateme
   follows_opens next follows reads says =
       follows_line statements next follows reads (makes_line (old.number + 1) follows.given statements place (mid.number + 1) new.line (Ok (Opens next)) follows.makes says)
 
+  -- it gives a name
+  pub follows_calls : (naming : Naming) → Follows old mid held held' statements place → ReadsLine mid new held' held'' → judged place new.line ≡ Ok (Calls naming)
+      → Follows old new held held'' statements (place_with naming place)
+  follows_calls naming follows reads says =
+      follows_line statements (place_with naming place) follows reads (makes_line (old.number + 1) follows.given statements place (mid.number + 1) new.line (Ok (Calls naming)) follows.makes says)
+
   -- it is a statement
   pub follows_says : (statement : Statement) → Follows old mid held held' statements place → ReadsLine mid new held' held'' → judged place new.line ≡ Ok (Says statement)
       → Follows old new held held'' (statements ++ statement ∷ []) place
@@ -152,29 +159,29 @@ module _ (old mid new : Reader) (held held' held'' : Option (List ℕ)) (stateme
       ∙ sym (with_front-append statements (statement ∷ []) (listing_of place (mid.number + 1 + 1) rest)))
 
   -- it ends the listing
-  makes_listing : (terms : Terms) (follows : Follows old mid held held' statements place) → ReadsLine mid new held' held'' → judged place new.line ≡ Ok (Ends terms)
-      → (rest : List Part) → listing_of Header (old.number + 1) ((follows.given ++ Line new.line ∷ []) ++ rest) ≡ Good (record { sizes = terms.sizes; statements = statements }) new.number rest
-  makes_listing terms follows reads says rest =
-      makes_line (old.number + 1) follows.given statements place (mid.number + 1) new.line (Ok (Ends terms)) follows.makes says rest
-      ∙ ap (λ s. Good (record { sizes = terms.sizes; statements = s }) (mid.number + 1) rest) (append-nil statements)
-      ∙ ap (λ n. Good (record { sizes = terms.sizes; statements = statements }) n rest) (sym reads.counted)
+  makes_listing : (sizes : Sizes) (follows : Follows old mid held held' statements place) → ReadsLine mid new held' held'' → judged place new.line ≡ Ok (Ends sizes)
+      → (rest : List Part) → listing_of Header (old.number + 1) ((follows.given ++ Line new.line ∷ []) ++ rest) ≡ Good (record { sizes = sizes; statements = statements }) new.number rest
+  makes_listing sizes follows reads says rest =
+      makes_line (old.number + 1) follows.given statements place (mid.number + 1) new.line (Ok (Ends sizes)) follows.makes says rest
+      ∙ ap (λ s. Good (record { sizes = sizes; statements = s }) (mid.number + 1) rest) (append-nil statements)
+      ∙ ap (λ n. Good (record { sizes = sizes; statements = statements }) n rest) (sym reads.counted)
 
   -- the known lines make it
-  pub listed_end : (terms : Terms) → Follows old mid held held' statements place → ReadsLine mid new held' held'' → judged place new.line ≡ Ok (Ends terms)
-      → IsListed Header (old.number + 1) (ahead old held) (record { sizes = terms.sizes; statements = statements }) new.number (ahead new held'')
-  listed_end terms follows reads says =
-      listed (old.number + 1) (ahead old held) (ahead new held'') _ _ new.number (line_advances follows reads) (makes_listing terms follows reads says)
+  pub listed_end : (sizes : Sizes) → Follows old mid held held' statements place → ReadsLine mid new held' held'' → judged place new.line ≡ Ok (Ends sizes)
+      → IsListed Header (old.number + 1) (ahead old held) (record { sizes = sizes; statements = statements }) new.number (ahead new held'')
+  listed_end sizes follows reads says =
+      listed (old.number + 1) (ahead old held) (ahead new held'') _ _ new.number (line_advances follows reads) (makes_listing sizes follows reads says)
 
   -- the lines given make it
-  pub gives_end : (terms : Terms) → Follows old mid held held' statements place → ReadsLine mid new held' held'' → judged place new.line ≡ Ok (Ends terms)
-      → new.ended ≡ false → GivesListing old new held held'' (record { sizes = terms.sizes; statements = statements })
-  gives_end terms follows reads says unended =
+  pub gives_end : (sizes : Sizes) → Follows old mid held held' statements place → ReadsLine mid new held' held'' → judged place new.line ≡ Ok (Ends sizes)
+      → new.ended ≡ false → GivesListing old new held held'' (record { sizes = sizes; statements = statements })
+  gives_end sizes follows reads says unended =
       let gives = line_gives follows reads unended in
       record {
         before = gives.0;
         given = follows.given ++ Line new.line ∷ [];
         gives = gives.1;
-        makes = makes_listing terms follows reads says;
+        makes = makes_listing sizes follows reads says;
       }
 
   -- the fault of the next line is that of all
@@ -207,36 +214,42 @@ module _ (old mid new : Reader) (held held' held'' : Option (List ℕ)) (stateme
 -- the statements so far are ones of the place's machine, and there are none before it is known
 abbrev pub HoldsIn : Place → List Statement → Type 0
 HoldsIn Header statements = statements ≡ []
-HoldsIn Machine statements = statements ≡ []
+HoldsIn (Machine version) statements = statements ≡ []
 HoldsIn (Statements terms) statements = IsWithinLimits terms.sizes × All (IsStatement terms.sizes) statements
 
 -- the sizes of the place are within their limits
 pub place_held : (place : Place) (statements : List Statement) → HoldsIn place statements → IsPlace place
 place_held Header statements held = tt
-place_held Machine statements held = tt
+place_held (Machine version) statements held = tt
 place_held (Statements terms) statements held = held.0
 
 -- in the next place
 pub holds_opens : (place next : Place) (statements : List Statement) → IsSaid place (Opens next) → HoldsIn place statements → HoldsIn next statements
 holds_opens Header Header statements said held = absurd said
-holds_opens Header Machine statements said held = held
+holds_opens Header (Machine version) statements said held = held
 holds_opens Header (Statements terms) statements said held = absurd said
-holds_opens Machine Header statements said held = absurd said
-holds_opens Machine Machine statements said held = absurd said
-holds_opens Machine (Statements terms) statements said held = (said, subst (All (IsStatement terms.sizes)) (sym held) (All-nil (IsStatement terms.sizes)))
+holds_opens (Machine version) Header statements said held = absurd said
+holds_opens (Machine version) (Machine other) statements said held = absurd said
+holds_opens (Machine version) (Statements terms) statements said held = (said, subst (All (IsStatement terms.sizes)) (sym held) (All-nil (IsStatement terms.sizes)))
 holds_opens (Statements terms) Header statements said held = absurd said
-holds_opens (Statements terms) Machine statements said held = absurd said
+holds_opens (Statements terms) (Machine version) statements said held = absurd said
 holds_opens (Statements terms) (Statements other) statements said held = absurd said
+
+-- behind a name
+pub holds_calls : (place : Place) (naming : Naming) (statements : List Statement) → HoldsIn place statements → HoldsIn (place_with naming place) statements
+holds_calls Header naming statements held = held
+holds_calls (Machine version) naming statements held = held
+holds_calls (Statements terms) naming statements held = held
 
 -- behind one more statement
 pub holds_says : (place : Place) (statements : List Statement) (statement : Statement) → IsSaid place (Says statement) → HoldsIn place statements → HoldsIn place (statements ++ statement ∷ [])
 holds_says Header statements statement said held = absurd said
-holds_says Machine statements statement said held = absurd said
+holds_says (Machine version) statements statement said held = absurd said
 holds_says (Statements terms) statements statement said held = (held.0, All-append (IsStatement terms.sizes) statements (statement ∷ []) held.1 (All-cons (IsStatement terms.sizes) statement [] said (All-nil (IsStatement terms.sizes))))
 
 -- at the end
-pub listing_kept : (place : Place) (statements : List Statement) (terms : Terms) → IsSaid place (Ends terms) → HoldsIn place statements → length statements < 2 ^ 32
-    → IsListing (record { sizes = terms.sizes; statements = statements })
-listing_kept Header statements terms said held few = absurd said
-listing_kept Machine statements terms said held few = absurd said
-listing_kept (Statements known) statements terms said held few = subst (λ (t : Terms). IsListing (record { sizes = t.sizes; statements = statements })) (sym said) (record { limits = held.0; statements = held.1; few = few })
+pub listing_kept : (place : Place) (statements : List Statement) (sizes : Sizes) → IsSaid place (Ends sizes) → HoldsIn place statements → length statements < 2 ^ 32
+    → IsListing (record { sizes = sizes; statements = statements })
+listing_kept Header statements sizes said held few = absurd said
+listing_kept (Machine version) statements sizes said held few = absurd said
+listing_kept (Statements terms) statements sizes said held few = subst (λ (z : Sizes). IsListing (record { sizes = z; statements = statements })) (sym said) (record { limits = held.0; statements = held.1; few = few })

@@ -1,10 +1,18 @@
--- The fields of a line, each with its faults in the order in which they are tried: that it is no number, then that it
--- names no object or is out of its range.
-use Rattle.std.specs.Prelude.{ℕ, ◌%◌, ◌==◌, ◌&&◌, nat_lt, nat_le, Bool, true, false, if◌then◌else◌, List, [], slice_index_or, bytes_eq, ok_or, Result, Ok, Err}
+-- The fields of a line, each with its faults in the order in which they are tried: that it is no number, or no name that
+-- was given, then that it names no object or is out of its range.
+use Rattle.std.specs.Prelude.{ℕ, ◌+◌, ◌%◌, ◌==◌, ◌&&◌, nat_lt, nat_le, Bool, true, false, if◌then◌else◌, List, [], slice_index_or, bytes_eq, ok_or, Option, Some, None, Result, Ok, Err}
 use Rattle.coy_text.specs.Numeral.{dec_of, hex_of}
+use Rattle.cap_words.specs.Name.{name_of, called}
+use Rattle.cap_format.specs.declared.kind.CapKind.{CapKind}
+use Rattle.cap_format.specs.declared.kind.CapKind.TheVariants as kinds
+use Rattle.object_store.specs.declared.sizes.Sizes.{Sizes}
+use Rattle.object_store.specs.Sizes.{size_in}
 use Rattle.listing_read.specs.Faults.{◌>>=◌, ensured}
+use Rattle.listing_read.specs.Names.{number_called}
+use Rattle.listing_read.specs.Terms.{has_names}
+use Rattle.listing_read.specs.declared.terms.Terms.{Terms}
 use Rattle.listing_read.specs.declared.fault.Fault.{Fault}
-use Rattle.listing_read.specs.declared.fault.Fault.TheVariants.{BadNumber, NoObject, BadValue}
+use Rattle.listing_read.specs.declared.fault.Fault.TheVariants.{BadNumber, NoObject, BadValue, BadName, NameUnknown}
 
 -- word `n` of a line, from 0, which is empty where the line has no more
 abbrev pub field : List (List ℕ) → ℕ → List ℕ
@@ -18,11 +26,44 @@ decimal_of word = ok_or (dec_of word) BadNumber
 abbrev pub hex_number_of : List ℕ → Result ℕ Fault
 hex_number_of word = ok_or (hex_of word) BadNumber
 
--- the number of an object of which there are `size`
-unfoldable pub object_of : ℕ → List ℕ → Result ℕ Fault
-object_of size word = do
+-- a number of an object that a machine of these sizes has
+abbrev pub there_of : Sizes → CapKind → ℕ → Result ℕ Fault
+there_of sizes kind number = do
+  _ ← ensured (nat_lt number (size_in sizes kind)) NoObject
+  Ok number
+
+-- the same in decimal, whatever names there are
+unfoldable pub plain_object_of : Sizes → CapKind → List ℕ → Result ℕ Fault
+plain_object_of sizes kind word = do
   number ← decimal_of word
-  _ ← ensured (nat_lt number size) NoObject
+  there_of sizes kind number
+
+-- the number for which a name stands
+unfoldable pub named_number_of : Terms → CapKind → List ℕ → Result ℕ Fault
+named_number_of terms kind word = do
+  name ← ok_or (name_of word) BadName
+  ok_or (number_called kind name terms.names) NameUnknown
+
+-- the number for which a word stands, or the name behind its `$`
+abbrev pub number_by : Terms → CapKind → List ℕ → Option (List ℕ) → Result ℕ Fault
+number_by terms kind word None = decimal_of word
+number_by terms kind word (Some name) = named_number_of terms kind name
+
+-- the number of an object: in decimal, and in version 2 also as `$NAME`
+unfoldable pub number_of_object : Terms → CapKind → List ℕ → Result ℕ Fault
+number_of_object terms kind word = number_by terms kind word (called (has_names terms.version) word)
+
+-- the same of one that the machine has
+unfoldable pub object_of : Terms → CapKind → List ℕ → Result ℕ Fault
+object_of terms kind word = do
+  number ← number_of_object terms kind word
+  there_of terms.sizes kind number
+
+-- the first of so many pages that the machine has
+unfoldable pub first_page_of : Terms → ℕ → List ℕ → Result ℕ Fault
+first_page_of terms count word = do
+  number ← number_of_object terms kinds.Page word
+  _ ← ensured (nat_le (number + count) terms.sizes.pages) NoObject
   Ok number
 
 -- a decimal number from `least` to `most`

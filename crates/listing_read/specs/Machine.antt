@@ -1,13 +1,21 @@
 -- The two lines that open a listing.
-use Rattle.std.specs.Prelude.{ℕ, ◌==◌, ◌&&◌, nat_le, Bool, List, length, bytes_eq, codes, Option, Some}
+use Rattle.std.specs.Prelude.{ℕ, ◌==◌, ◌&&◌, nat_le, List, length, bytes_eq, codes, Option, Some, None, if◌then◌else◌}
 use Rattle.object_store.specs.declared.sizes.Sizes.{Sizes}
+use Rattle.listing_read.specs.declared.terms.Version.{Version}
+use Rattle.listing_read.specs.declared.terms.Version.TheVariants.{One, Two}
 use Rattle.listing_read.specs.Fields.{field}
 use Rattle.cap_words.specs.Spelling.{◌>>=◌, given, dec_to}
 
--- `coyotos 1`
-abbrev pub is_header : List (List ℕ) → Bool
-is_header words =
-    (length words == 2) && bytes_eq (field words 0) (codes "coyotos") && bytes_eq (field words 1) (codes "1")
+-- the version that a number names
+abbrev pub version_named : List ℕ → Option Version
+version_named word =
+    if bytes_eq word (codes "1") then Some One else (if bytes_eq word (codes "2") then Some Two else None)
+
+-- `coyotos 1` or `coyotos 2`
+unfoldable pub version_of : List (List ℕ) → Option Version
+version_of words = do
+  _ ← given ((length words == 2) && bytes_eq (field words 0) (codes "coyotos"))
+  version_named (field words 1)
 
 -- `machine HARTS PAGES CAPPAGES GPTS PROCESSES ENDPOINTS`, each within its limit
 unfoldable pub machine_of : List (List ℕ) → Option Sizes

@@ -10,7 +10,7 @@ use Rattle.rv32_decode.specs.InRange.{InRange}
 use Rattle.object_store.specs.Sizes.{size_in}
 use Rattle.listing_read.specs.CapWord.{IsStated}
 use Rattle.listing_read.specs.declared.statement.Statement.{Statement}
-use Rattle.listing_read.specs.declared.statement.Statement.TheVariants.{Page, Code, CapSlot, Gpt, GptSlot, Endpoint, Process, Reg, CapReg, Count}
+use Rattle.listing_read.specs.declared.statement.Statement.TheVariants.{Page, Code, CapSlot, Gpt, GptSlot, Endpoint, Process, Reg, CapReg, Count, Region}
 
 -- the kinds that may receive for an endpoint
 abbrev pub is_recipient : CapKind → Bool
@@ -33,6 +33,8 @@ IsStatement sizes (Process number pc space schedule handler runs) =
 IsStatement sizes (Reg number index value) = (number < sizes.processes) × (index < 32) × (1 ≤ index)
 IsStatement sizes (CapReg number index cap) = (number < sizes.processes) × (index < 32) × (1 ≤ index) × IsStated sizes cap
 IsStatement sizes (Count kind number count) = (number < size_in sizes kind) × (count ≤ 1048575) × (is_object kind ≡ true)
+IsStatement sizes (Region gpt slot count page restr) =
+    (gpt < sizes.gpts) × (slot + count ≤ 16) × (1 ≤ count) × (page + count ≤ sizes.pages) × (restr.0 < 32)
 
 -- a listing: the sizes of its machine and its statements
 pub record ListingValue : Type 0 where

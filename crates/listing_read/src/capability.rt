@@ -6,58 +6,64 @@ ghost use Rattle.listing_read.specs.declared.fault.Fault.TheVariants.{NoObject, 
 ghost use Rattle.object_store.specs.Ranges.{IsWithinLimits};
 ghost use Rattle.object_store.specs.Sizes.{size_in};
 ghost use Rattle.listing_read.specs.Faults.{ensured};
-ghost use Rattle.listing_read.specs.CapWord.{is_there, has_guard, is_aligned, meant, cap_of, IsStated};
+ghost use Rattle.listing_read.specs.CapWord.{numbered_by, is_there, has_guard, is_aligned, meant, cap_of, IsStated};
 ghost use Rattle.cap_words.specs.Spelling.{IsSpelled};
 
 use crate::fault::Fault;
+use crate::terms::{Terms, size_of};
 use bitflags::Flags;
 use cap_format::{Cap, CapKind, Guard, Restr};
 use cap_words::{Spelled, read_spelled};
-use object_store::Sizes;
 
-/// The capability, with count 0, that a word spells on a machine of these sizes.
+/// The capability, with count 0, that a word spells.
 #[tactic(auto, unfolding(crate::specs::CapWord::cap_of))]
-pub(crate) fn capability(sizes: Sizes, word: &[u8]) -> Result<Cap, Fault>
-    requires { IsWithinLimits sizes }
-    ensures value { result ≡ cap_of sizes word.now }
-    ensures range { IfOk result (IsStated sizes) }
+pub(crate) fn capability(terms: &Terms, word: &[u8]) -> Result<Cap, Fault>
+    requires { IsWithinLimits terms.now.sizes }
+    ensures value { result ≡ cap_of terms.now word.now }
+    ensures range { IfOk result (IsStated terms.now.sizes) }
 {
-    let Some(spelled) = read_spelled(word) else {
+    let Some(words) = read_spelled(terms.version.has_names(), word) else {
         return Err(Fault::BadCap);
     };
-    there(sizes, spelled)?;
+    let spelled = numbered(terms, words)?;
+    there(terms, &spelled)?;
     guarded(spelled)
 }
 
+/// The same with the number for which its name stands, where it has one.
+fn numbered(terms: &Terms, words: Spelled) -> Result<Spelled, Fault>
+    requires { IsSpelled words }
+    ensures value { result ≡ numbered_by terms.now words words.name }
+    ensures range { IfOk result IsSpelled }
+{
+    let kind = words.kind.object_kind();
+    let Some(name) = &words.name else {
+        return Ok(words);
+    };
+    match terms.names.number_called(kind, name.as_slice()) {
+        Some(number) => Ok(Spelled {
+            object: number as u32,
+            ..words
+        }),
+        None => Err(Fault::NameUnknown),
+    }
+}
+
 /// The machine has the object that is spelled, if one is.
-fn there(sizes: Sizes, spelled: Spelled) -> Result<(), Fault>
-    requires limits { IsWithinLimits sizes }
-    requires range { IsSpelled spelled }
-    ensures value { result ≡ ensured (is_there sizes spelled) NoObject }
-    ensures named { let size = size_in sizes (object_kind spelled.kind) in
-        OnOk result (is_counted spelled.kind ≡ true → spelled.object < size) }
-    ensures fits { OnOk result (spelled.object < object_limit spelled.kind) }
+fn there(terms: &Terms, spelled: &Spelled) -> Result<(), Fault>
+    requires limits { IsWithinLimits terms.now.sizes }
+    requires range { IsSpelled spelled.now }
+    ensures value { result ≡ ensured (is_there terms.now.sizes spelled.now) NoObject }
+    ensures named { let size = size_in terms.now.sizes (object_kind spelled.now.kind) in
+        OnOk result (is_counted spelled.now.kind ≡ true → spelled.now.object < size) }
+    ensures fits { OnOk result (spelled.now.object < object_limit spelled.now.kind) }
 {
     if spelled.kind.is_counted()
-        && spelled.object >= u32::from(size_of(sizes, spelled.kind.object_kind()))
+        && spelled.object >= u32::from(size_of(terms.sizes, spelled.kind.object_kind()))
     {
         return Err(Fault::NoObject);
     }
     Ok(())
-}
-
-/// How many objects of a kind a machine of these sizes has.
-pub(crate) fn size_of(sizes: Sizes, kind: CapKind) -> u16
-    ensures { result ≡ size_in sizes kind }
-{
-    match kind {
-        CapKind::Page => sizes.pages,
-        CapKind::CapPage => sizes.cappages,
-        CapKind::Gpt => sizes.gpts,
-        CapKind::Process => sizes.processes,
-        CapKind::Endpoint => sizes.endpoints,
-        _ => 0,
-    }
 }
 
 /// The capability that is spelled, where its guard is in range and divides its offset.
@@ -68,7 +74,7 @@ fn guarded(spelled: Spelled) -> Result<Cap, Fault>
         if has_guard spelled && is_aligned spelled then Ok (meant spelled) else Err BadGuard }
     ensures meant { IfOk result (λ cap. cap ≡ meant spelled) }
 {
-    match guard(spelled) {
+    match guard(&spelled) {
         Some(guard) => through(spelled, guard),
         None => Err(Fault::BadGuard),
     }
@@ -76,9 +82,9 @@ fn guarded(spelled: Spelled) -> Result<Cap, Fault>
 
 /// The guard that is spelled, where it is in range.
 #[tactic(auto, using(crate::proofs::CapWords::guard_tested))]
-fn guard(spelled: Spelled) -> Option<Guard>
-    ensures { result ≡
-        if has_guard spelled then Some (guard_of spelled.l2g spelled.matches) else None }
+fn guard(spelled: &Spelled) -> Option<Guard>
+    ensures { let s = spelled.now in
+        result ≡ if has_guard s then Some (guard_of s.l2g s.matches) else None }
 {
     if spelled.l2g > 32 {
         return None;

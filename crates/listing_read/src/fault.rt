@@ -9,7 +9,7 @@ pub enum Fault {
     LineTooLong,
     /// A byte is neither a space nor a visible character of ASCII.
     BadByte,
-    /// The first line is not `coyotos 1`.
+    /// The first line is neither `coyotos 1` nor `coyotos 2`.
     BadHeader,
     /// The second line is not `machine` with six sizes within the limits.
     BadMachine,
@@ -33,6 +33,12 @@ pub enum Fault {
     BadCap,
     /// A guard is out of its range, or an offset is no multiple of its size.
     BadGuard,
+    /// What is to be a name, or stands behind a `$`, is none.
+    BadName,
+    /// An earlier line gave the name.
+    NameTaken,
+    /// No earlier line gave the name to an object of the kind that is wanted.
+    NameUnknown,
 }
 
 /// What is wrong with a line of a schedule. Where several hold, the first of the line counts.

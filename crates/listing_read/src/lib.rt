@@ -11,11 +11,13 @@ mod flags;
 mod hex_bytes;
 mod line;
 mod listing;
+mod names;
 mod page_bytes;
 mod place;
 mod schedule;
 mod statement;
 mod statements;
+mod terms;
 
 pub use fault::{Fault, ListingFault, ScheduleFault};
 pub use listing::{Listing, read_listing};

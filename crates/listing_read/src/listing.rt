@@ -109,17 +109,13 @@ pub fn read_listing<S: Source>(
     let mut place = Place::Header;
     let mut statements = Vec::new(alloc);
     'lines: loop {
-        let number = next_line(place, lines, source)?;
-        match judge(place, lines.line()) {
+        let number = next_line(&place, lines, source)?;
+        match judge(alloc, &place, lines.line()) {
             Ok(Said::Nothing) => {}
             Ok(Said::Opens(next)) => place = next,
+            Ok(Said::Calls(naming)) => place.call(naming)?,
             Ok(Said::Says(statement)) => statements.push(statement)?,
-            Ok(Said::Ends(terms)) => {
-                return Ok(Listing {
-                    sizes: terms.sizes,
-                    statements,
-                });
-            }
+            Ok(Said::Ends(sizes)) => return Ok(Listing { sizes, statements }),
             Err(fault) => return Err(refused(number, fault)),
         }
     }
@@ -128,7 +124,7 @@ pub fn read_listing<S: Source>(
 /// Goes on to the next line, which has this place, and answers its number.
 #[tactic(auto, using(crate::proofs::Causes::cause_at_end, crate::proofs::Causes::cause_long, crate::proofs::Causes::cause_past, crate::proofs::Causes::cause_read))]
 fn next_line<S: Source>(
-    place: Place,
+    place: &Place,
     lines: &mut LineReader,
     source: &mut S,
 ) -> Result<u32, ListingFault>
@@ -138,7 +134,7 @@ fn next_line<S: Source>(
     ensures stopped { result ≡ Err ListingFault.ReadFault →
         IsStopped lines.old lines.new (S.held source.old) (S.held source.new) }
     ensures fault { let old = ahead lines.old (S.held source.old) in
-        IfErr result (λ fault. IsCause fault place (lines.old.number + 1) old) }
+        IfErr result (λ fault. IsCause fault place.now (lines.old.number + 1) old) }
     ensures told { TellsEnd lines.old (S.held source.old) → TellsEnd lines.new (S.held source.new) }
     ensures number { IfOk result (λ number. number ≡ lines.old.number + 1) }
     ensures bound { IfOk result (λ number. number < 2 ^ 32) }

@@ -1,35 +1,31 @@
 //! What a line says in its place.
-ghost use Rattle.std.specs.Prelude.{◌≡◌, true, bytes_eq, codes, IfOk, IfSome};
+ghost use Rattle.std.specs.Prelude.{◌≡◌, true, bytes_eq, codes, IfOk, OnOk, IfSome};
 ghost use Rattle.coy_text.specs.Words.{words_of};
 ghost use Rattle.object_store.specs.Ranges.{IsWithinLimits};
 ghost use Rattle.listing_read.specs.Fields.{field};
 ghost use Rattle.listing_read.specs.declared.place.Place.TheVariants.{Header, Machine, Statements};
-ghost use Rattle.listing_read.specs.Machine.{is_header, machine_of};
-ghost use Rattle.listing_read.specs.Listing.{header_line, machine_line, end_line, says_line, further_line, judged, fault_at_end, EndsAt, IsPlace, IsSaid};
+ghost use Rattle.listing_read.specs.Machine.{version_named, version_of, machine_of};
+ghost use Rattle.listing_read.specs.Listing.{header_line, machine_line, end_line, says_line, calls_line, stating_line, further_line, judged, fault_at_end, place_with, EndsAt, IsPlace, IsSaid};
 
 use crate::fault::Fault;
 use crate::fields::has_words;
 use crate::line::{is_skipped, is_visible};
+use crate::names::{Names, Naming};
 use crate::statement::Statement;
-use crate::statements::statement;
+use crate::statements::{naming, statement};
+use crate::terms::{Terms, Version};
 use cap_words::number_to;
 use coy_text::{word, word_count};
 use object_store::Sizes;
-
-/// What the statements of a listing are judged by, as the lines before them said it.
-#[derive(Clone, Copy)]
-pub struct Terms {
-    /// How many objects of each kind the machine has.
-    pub sizes: Sizes,
-}
+use std::alloc::{AllocFailed, Global};
 
 /// What the next line that is not skipped has to be.
-#[derive(Clone, Copy)]
+#[derive(Drop)]
 pub enum Place {
     /// The first.
     Header,
-    /// The second.
-    Machine,
+    /// The second, of a listing of this version.
+    Machine(Version),
     /// A statement or the end, judged by these terms.
     Statements(Terms),
 }
@@ -41,31 +37,43 @@ pub enum Said {
     Nothing,
     /// The next place.
     Opens(Place),
+    /// A name for an object.
+    Calls(Naming),
     /// A statement.
     Says(Statement),
-    /// The listing ends, whose statements were judged by these terms.
-    Ends(Terms),
+    /// The listing ends, of a machine of these sizes.
+    Ends(Sizes),
 }
 
 impl Place {
     /// The fault where the input ends here.
-    pub(crate) fn fault_at_end(self) -> Fault
-        ensures { result ≡ fault_at_end self }
+    pub(crate) fn fault_at_end(&self) -> Fault
+        ensures { result ≡ fault_at_end self.now }
     {
         match self {
             Place::Header => Fault::BadHeader,
-            Place::Machine => Fault::BadMachine,
+            Place::Machine(_) => Fault::BadMachine,
             Place::Statements(_) => Fault::NoEnd,
+        }
+    }
+
+    /// Goes on behind a line that gave a name, which stands among the statements.
+    pub(crate) fn call(&mut self, naming: Naming) -> Result<(), AllocFailed<Naming>>
+        ensures { OnOk result (self.new ≡ place_with naming self.old) }
+    {
+        match self {
+            Place::Statements(terms) => terms.names.push(naming),
+            _ => Ok(()),
         }
     }
 }
 
 /// What a line of at most 512 bytes says in its place.
 #[tactic(auto, unfolding(crate::specs::Listing::judged))]
-pub(crate) fn judge(place: Place, line: &[u8]) -> Result<Said, Fault>
-    requires { IsPlace place }
-    ensures value { result ≡ judged place line.now }
-    ensures range { IfOk result (IsSaid place) }
+pub(crate) fn judge(alloc: Global, place: &Place, line: &[u8]) -> Result<Said, Fault>
+    requires { IsPlace place.now }
+    ensures value { result ≡ judged place.now line.now }
+    ensures range { IfOk result (IsSaid place.now) }
     ensures end { EndsAt result (words_of line.now) }
 {
     if !is_visible(line) {
@@ -76,7 +84,7 @@ pub(crate) fn judge(place: Place, line: &[u8]) -> Result<Said, Fault>
     }
     match place {
         Place::Header => header(line),
-        Place::Machine => opened(line),
+        Place::Machine(version) => opened(alloc, *version, line),
         Place::Statements(terms) => further(terms, line),
     }
 }
@@ -87,28 +95,47 @@ fn header(line: &[u8]) -> Result<Said, Fault>
     ensures range { IfOk result (IsSaid Header) }
     ensures end { EndsAt result (words_of line.now) }
 {
-    if !is_header(line) {
-        return Err(Fault::BadHeader);
+    match version(line) {
+        Some(version) => Ok(Said::Opens(Place::Machine(version))),
+        None => Err(Fault::BadHeader),
     }
-    Ok(Said::Opens(Place::Machine))
 }
 
-fn is_header(line: &[u8]) -> bool
-    ensures { result ≡ is_header (words_of line.now) }
+/// The version that the first line names.
+#[tactic(auto, unfolding(crate::specs::Machine::version_of))]
+fn version(line: &[u8]) -> Option<Version>
+    ensures { result ≡ version_of (words_of line.now) }
 {
-    word_count(line) == 2
-        && word(line, 0) == b"coyotos".as_slice()
-        && word(line, 1) == b"1".as_slice()
+    if word_count(line) != 2 || word(line, 0) != b"coyotos".as_slice() {
+        return None;
+    }
+    version_named(word(line, 1))
+}
+
+fn version_named(word: &[u8]) -> Option<Version>
+    ensures { result ≡ version_named word.now }
+{
+    if word == b"1".as_slice() {
+        return Some(Version::One);
+    }
+    if word == b"2".as_slice() {
+        return Some(Version::Two);
+    }
+    None
 }
 
 #[tactic(auto, unfolding(crate::specs::Listing::machine_line))]
-fn opened(line: &[u8]) -> Result<Said, Fault>
-    ensures value { result ≡ machine_line (words_of line.now) }
-    ensures range { IfOk result (IsSaid Machine) }
+fn opened(alloc: Global, version: Version, line: &[u8]) -> Result<Said, Fault>
+    ensures value { result ≡ machine_line version (words_of line.now) }
+    ensures range { IfOk result (IsSaid (Machine version)) }
     ensures end { EndsAt result (words_of line.now) }
 {
     match machine_sizes(line) {
-        Some(sizes) => Ok(Said::Opens(Place::Statements(Terms { sizes }))),
+        Some(sizes) => Ok(Said::Opens(Place::Statements(Terms {
+            version,
+            sizes,
+            names: Names::new(alloc),
+        }))),
         None => Err(Fault::BadMachine),
     }
 }
@@ -137,35 +164,57 @@ fn machine_sizes(line: &[u8]) -> Option<Sizes>
 }
 
 #[tactic(auto, unfolding(crate::specs::Listing::further_line))]
-fn further(terms: Terms, line: &[u8]) -> Result<Said, Fault>
-    requires { IsWithinLimits terms.sizes }
-    ensures value { result ≡ further_line terms (words_of line.now) }
-    ensures range { IfOk result (IsSaid (Statements terms)) }
+fn further(terms: &Terms, line: &[u8]) -> Result<Said, Fault>
+    requires { IsWithinLimits terms.now.sizes }
+    ensures value { result ≡ further_line terms.now (words_of line.now) }
+    ensures range { IfOk result (IsSaid (Statements terms.now)) }
     ensures end { EndsAt result (words_of line.now) }
 {
     if word(line, 0) == b"end".as_slice() {
         return ended(terms, line);
     }
+    stating(terms, line)
+}
+
+#[tactic(auto, unfolding(crate::specs::Listing::stating_line))]
+fn stating(terms: &Terms, line: &[u8]) -> Result<Said, Fault>
+    requires { IsWithinLimits terms.now.sizes }
+    ensures value { result ≡ stating_line terms.now (words_of line.now) }
+    ensures range { IfOk result (IsSaid (Statements terms.now)) }
+    ensures end { EndsAt result (words_of line.now) }
+{
+    if terms.version.has_names() && word(line, 0) == b"name".as_slice() {
+        return naming_said(terms, line);
+    }
     stated(terms, line)
 }
 
+#[tactic(auto, unfolding(crate::specs::Listing::calls_line))]
+fn naming_said(terms: &Terms, line: &[u8]) -> Result<Said, Fault>
+    ensures value { result ≡ calls_line terms.now (words_of line.now) }
+    ensures range { IfOk result (IsSaid (Statements terms.now)) }
+    ensures end { EndsAt result (words_of line.now) }
+{
+    Ok(Said::Calls(naming(terms, line)?))
+}
+
 #[tactic(auto, unfolding(crate::specs::Listing::end_line))]
-fn ended(terms: Terms, line: &[u8]) -> Result<Said, Fault>
+fn ended(terms: &Terms, line: &[u8]) -> Result<Said, Fault>
     requires { bytes_eq (field (words_of line.now) 0) (codes "end") ≡ true }
-    ensures value { result ≡ end_line terms (words_of line.now) }
-    ensures range { IfOk result (IsSaid (Statements terms)) }
+    ensures value { result ≡ end_line terms.now (words_of line.now) }
+    ensures range { IfOk result (IsSaid (Statements terms.now)) }
     ensures end { EndsAt result (words_of line.now) }
 {
     has_words(line, 1)?;
-    Ok(Said::Ends(terms))
+    Ok(Said::Ends(terms.sizes))
 }
 
 #[tactic(auto, unfolding(crate::specs::Listing::says_line))]
-fn stated(terms: Terms, line: &[u8]) -> Result<Said, Fault>
-    requires { IsWithinLimits terms.sizes }
-    ensures value { result ≡ says_line terms (words_of line.now) }
-    ensures range { IfOk result (IsSaid (Statements terms)) }
+fn stated(terms: &Terms, line: &[u8]) -> Result<Said, Fault>
+    requires { IsWithinLimits terms.now.sizes }
+    ensures value { result ≡ says_line terms.now (words_of line.now) }
+    ensures range { IfOk result (IsSaid (Statements terms.now)) }
     ensures end { EndsAt result (words_of line.now) }
 {
-    Ok(Said::Says(statement(terms.sizes, line)?))
+    Ok(Said::Says(statement(terms, line)?))
 }

@@ -1,6 +1,6 @@
 //! What a listing says of a machine.
 use crate::page_bytes::PageBytes;
-use cap_format::{Cap, CapKind};
+use cap_format::{Cap, CapKind, Restr};
 use gpt_objects::GptHeader;
 use rv32_decode::Insn;
 
@@ -70,5 +70,14 @@ pub enum Statement {
         kind: CapKind,
         number: u16,
         count: u32,
+    },
+    /// Slots of a GPT from one on, for as many pages from one on: each holds its page, behind a guard of 2^12 bytes and
+    /// match 0, with these restrictions.
+    Region {
+        gpt: u16,
+        slot: u8,
+        count: u8,
+        page: u16,
+        restr: Restr,
     },
 }

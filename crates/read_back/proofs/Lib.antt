@@ -1,7 +1,3 @@
-pub mod Printed
-mod Capabilities
-pub mod Lines
-mod Fields
 mod Statements
 mod Listed
 pub mod Stored

@@ -1,181 +1,122 @@
--- The line that is printed for each thing is read as its statement.
-use Rattle.std.proofs.Common.{ℕ, ◌≡◌, ◌+◌, ◌<◌, ◌≤◌, ◌&&◌, Bool, true, false, if◌then◌else◌, List, [], ◌∷◌, ◌++◌, length, decimal, refl, arith, append_assoc, ap, sym, ◌∙◌}
-use Rattle.std.specs.Prelude.{nat_le, Ok, codes, Some, bytes_eq}
-use Rattle.std.proofs.lemmas.Bool.{ne_eqb, le-leb}
-use Rattle.std.proofs.lemmas.List.{append-nil}
+-- The line that is printed for each thing is that of its statement, so it is read as that.
+use Rattle.std.proofs.Common.{ℕ, ◌≡◌, Bool, true, false, if◌then◌else◌, List, [], ◌∷◌, ◌++◌, decimal, refl, arith, append_assoc, append-nil, ap, sym, ◌∙◌}
+use Rattle.std.specs.Prelude.{codes, Some}
+use Rattle.std.proofs.lemmas.Bool.{ne_eqb}
 use Rattle.coy_text.specs.Numeral.{hex_text}
-use Rattle.coy_text.proofs.NumeralLaws.{hex_of-hex_text}
 use Rattle.cap_format.specs.declared.kind.CapKind.{CapKind}
 use Rattle.cap_format.specs.declared.kind.CapKind.TheVariants as kinds
-use Rattle.cap_format.specs.Capability.{Capability, IsCapability}
+use Rattle.cap_format.specs.Capability.{bare}
+use Rattle.cap_format.proofs.Ranges.{IsCapability-bare}
 use Rattle.cap_format.specs.declared.fault.FaultCode.TheVariants.{Stopped}
 use Rattle.process_objects.specs.declared.state.State.{State}
 use Rattle.process_objects.specs.declared.state.State.TheVariants.{Running, Faulted}
 use Rattle.process_objects.specs.Process.{slot_of}
 use Rattle.process_objects.proofs.Ranges.{IsCapability-slot_of}
-use Rattle.object_store.specs.Ranges.{IsWithinLimits}
 use Rattle.object_store.specs.declared.sizes.Sizes.{Sizes}
-use Rattle.object_store.specs.Sizes.{size_in}
-use Rattle.listing_read.specs.Fields.{either_of, hex_to, aligned_to}
-use Rattle.listing_read.specs.StatementLines.{statement_of, count_line, page_line, flags_of, gpt_line, cap_line, slot_line, endpoint_line, process_line, reg_line, capreg_line}
-use Rattle.run_text.specs.Each.{line_feed}
-use Rattle.run_text.specs.Names.{object_name}
-use Rattle.run_text.specs.Record.{bytes_text}
+use Rattle.object_store.specs.Ranges.{IsWithinLimits}
+use Rattle.listing_read.specs.Terms.{terms_of}
+use Rattle.listing_read.specs.Statement.{IsStatement}
+use Rattle.listing_read.specs.declared.statement.Statement.{Statement}
+use Rattle.listing_read.specs.declared.statement.Statement.TheVariants as says
+use Rattle.listing_read.specs.declared.terms.Version.TheVariants.{One}
 use Rattle.cap_words.specs.Text.{cap_text}
+use Rattle.statement_text.specs.Words.{kind_word, flag_words, match_word, run_word}
+use Rattle.statement_text.specs.Text.{line_feed, behind, line_of, statement_text}
+use Rattle.statement_text.specs.Typed.{IsTyped}
+use Rattle.statement_text.specs.ReadsBack.{ReadsBack, IsSayable}
+use Rattle.statement_text.proofs.Statements.{statement_reads}
+use Rattle.run_text.specs.Names.{object_name}
 use Rattle.run_text.specs.Objects.{count_text, row_text, slot_text, header_text, endpoint_text, process_text, register_text, state_word}
 use Rattle.read_back.specs.Laws.{CountsReadBack, RowsReadBack, CapPageSlotsReadBack, HeadersReadBack, GptSlotsReadBack, EndpointsReadBack, runs_of, ProcessesReadBack, RegistersReadBack, CapRegistersReadBack}
-use Rattle.read_back.proofs.Printed.{IsPrinted, ArePrinted, printed}
-use Rattle.read_back.proofs.Capabilities.{cap_of-cap_text, printed-cap_text}
-use Rattle.read_back.proofs.Fields.{object_of-decimal, printed-number, between_of-decimal, hex_number_of-hex_text, kind_named, piece-bytes_text, length-bytes_text, hex_bytes_of-bytes_text}
-use Rattle.read_back.proofs.Lines.{written, keyword, printed-decimal, printed-hex_text, line_reads}
 
--- one of two keywords
-printed_either : (b : Bool) {first second : List ℕ} → IsPrinted first → IsPrinted second → IsPrinted (if b then first else second)
-printed_either true first second = first
-printed_either false first second = second
+-- a text that is that of a statement reads as it does
+read_as : (sizes : Sizes) (text : List ℕ) (x : Statement) → text ≡ statement_text x → IsWithinLimits sizes → IsStatement sizes x → IsTyped x → IsSayable One x → ReadsBack (terms_of One sizes) text x
+read_as sizes text x same limits is typed sayable =
+    let reads = statement_reads (terms_of One sizes) x limits is typed sayable in
+    record { line = reads.line; text_is = same ∙ reads.text_is; short = reads.short; whole = reads.whole; said = reads.said }
 
--- the field that they are read in tells them apart
-either_of-either : (b : Bool) (first second : List ℕ) → bytes_eq first first ≡ true → bytes_eq second first ≡ false → bytes_eq second second ≡ true → either_of first second (if b then first else second) ≡ Ok b
-unfolding either_of
-either_of-either true first second one other two = rw one refl
-either_of-either false first second one other two = rw (other, two) refl
+-- words that are written one after the other, each behind a space
+abbrev written : List ℕ → List (List ℕ) → List ℕ
+written line [] = line
+written line (word ∷ words) = written (line ++ codes " " ++ word) words
 
--- the number of an object, its slot or register, and a capability
-numbered : (sizes : Sizes) (kind : CapKind) (n i : ℕ) (c : Capability) → IsWithinLimits sizes → n < size_in sizes kind → i < 256 → IsCapability c → ArePrinted (decimal n ∷ decimal i ∷ cap_text c ∷ [])
-numbered sizes kind n i c limits below slot in_range =
-    (printed-number sizes kind n limits below, (printed-decimal i (omega arith), (printed-cap_text c in_range, tt)))
+written-behind : (line : List ℕ) (words : List (List ℕ)) → written line words ≡ line ++ behind words
+written-behind line [] = sym (append-nil line)
+written-behind line (word ∷ words) =
+    written-behind (line ++ codes " " ++ word) words
+    ∙ append_assoc (line ++ codes " ") word (behind words)
+    ∙ append_assoc line (codes " ") (word ++ behind words)
+
+-- they are a line with its line feed
+line_same : (first : List ℕ) (words : List (List ℕ)) → written first words ++ line_feed ≡ line_of (first ∷ words) ++ line_feed
+unfolding line_of
+line_same first words = ap (λ line. line ++ line_feed) (written-behind first words)
+
+-- a kind by its name
+named : (kind : CapKind) → object_name kind ≡ kind_word kind
+named kinds.Page = refl
+named kinds.CapPage = refl
+named kinds.Gpt = refl
+named kinds.Endpoint = refl
+named kinds.Process = refl
+named _ = refl
 
 -- `count KIND N C`
 pub count_reads : CountsReadBack
-unfolding count_text statement_of count_line
+unfolding count_text
 count_reads sizes kind n count limits is some =
-    line_reads (codes "count") refl (object_name kind ∷ decimal n ∷ decimal count ∷ []) (omega arith)
-    (rw (ne_eqb count 0 (λ none. omega arith)) refl)
-    ((kind_named kind is.2).0, (printed-number sizes kind n limits is.0, (printed-decimal count (omega (arith, is.1)), tt)))
-    (rw (
-      (kind_named kind is.2).1,
-      object_of-decimal sizes kind n limits is.0,
-      between_of-decimal 0 1048575 count (omega arith) (omega arith) is.1,
-    )
-    refl)
+    read_as sizes _ (says.Count kind n count) (rw (ne_eqb count 0 (λ none. omega arith), named kind) (line_same (codes "count") (kind_word kind ∷ decimal n ∷ decimal count ∷ []))) limits is tt tt
 
 -- `page N OFF HEX`
 pub row_reads : RowsReadBack
-unfolding row_text statement_of page_line hex_to
+unfolding row_text line_of
 row_reads sizes n at bytes limits is sixteen each some =
-    line_reads (codes "page") refl (decimal n ∷ hex_text 3 at ∷ bytes_text bytes ∷ []) (omega arith)
-    (rw some refl)
-    (printed-number sizes kinds.Page n limits is.0, (printed-hex_text 3 at (omega arith) (omega arith), (printed (piece-bytes_text bytes) (omega arith) (omega (arith, length-bytes_text bytes)), tt)))
-    (rw (
-      object_of-decimal sizes kinds.Page n limits is.0,
-      hex_of-hex_text 3 at (omega arith) (omega arith) (omega (arith, is.1)),
-      le-leb at 4095 (omega (arith, is.1)),
-      hex_bytes_of-bytes_text bytes sixteen each,
-      le-leb (at + length bytes) 4096 is.1,
-    )
-    refl)
+    read_as sizes _ (says.Page n at bytes) (rw some (simp append_assoc)) limits is (each, omega arith) tt
 
 -- `cap N S CAP`
 pub cap_reads : CapPageSlotsReadBack
-unfolding slot_text statement_of cap_line
+unfolding slot_text line_of
 cap_reads sizes n i c limits is below in_range some =
-    line_reads (codes "cap") refl (decimal n ∷ decimal i ∷ cap_text c ∷ []) (omega arith)
-    (rw some refl)
-    (numbered sizes kinds.CapPage n i c limits is.0 below in_range)
-    (rw (
-      object_of-decimal sizes kinds.CapPage n limits is.0,
-      between_of-decimal 0 255 i (omega arith) (omega arith) (omega arith),
-      cap_of-cap_text sizes c in_range is.1.there,
-    )
-    refl)
+    read_as sizes _ (says.CapSlot n i (bare c)) (rw some (simp append_assoc)) limits is (IsCapability-bare c in_range, below) tt
 
 -- `slot N S CAP`
 pub slot_reads : GptSlotsReadBack
-unfolding slot_text statement_of slot_line
+unfolding slot_text line_of
 slot_reads sizes n i c limits is in_range some =
-    line_reads (codes "slot") refl (decimal n ∷ decimal i ∷ cap_text c ∷ []) (omega arith)
-    (rw some refl)
-    (numbered sizes kinds.Gpt n i c limits is.0 (omega (arith, is.1)) in_range)
-    (rw (
-      object_of-decimal sizes kinds.Gpt n limits is.0,
-      between_of-decimal 0 15 i (omega arith) (omega arith) (omega (arith, is.1)),
-      cap_of-cap_text sizes c in_range is.2.there,
-    )
-    refl)
+    read_as sizes _ (says.GptSlot n i (bare c)) (rw some (simp append_assoc)) limits is (IsCapability-bare c in_range) tt
 
--- the words of two flags
-flag_words : Bool → Bool → List (List ℕ)
-flag_words true true = codes "ha" ∷ codes "bg" ∷ []
-flag_words true false = codes "ha" ∷ []
-flag_words false true = codes "bg" ∷ []
-flag_words false false = []
-
--- how they are written
-flags_written : (ha bg : Bool) (line : List ℕ) → line ++ (if ha then codes " ha" else []) ++ (if bg then codes " bg" else []) ≡ written line (flag_words ha bg)
-unfolding flag_words
-flags_written true true line =
-    ap (λ text. text ++ codes " bg") (sym (append_assoc line (codes " ") (codes "ha")))
-    ∙ sym (append_assoc (line ++ codes " " ++ codes "ha") (codes " ") (codes "bg"))
-flags_written true false line = append-nil (line ++ codes " ha") ∙ sym (append_assoc line (codes " ") (codes "ha"))
-flags_written false true line =
-    ap (λ text. text ++ codes " bg") (append-nil line) ∙ sym (append_assoc line (codes " ") (codes "bg"))
-flags_written false false line = append-nil (line ++ []) ∙ append-nil line
-
--- the words of two flags are few and printed, and are read as those flags
-record AreFlags (ha bg : Bool) (words : List (List ℕ)) : Type 0 where
-  pub printed_are : ArePrinted words
-  pub few : length words ≤ 2
-  pub read : (first second third : List ℕ) → flags_of (first ∷ second ∷ third ∷ words) ≡ Ok (ha, bg)
-  pub fit : (first second third : List ℕ) → (nat_le 3 (length (first ∷ second ∷ third ∷ words)) && nat_le (length (first ∷ second ∷ third ∷ words)) 5) ≡ true
-
--- they are
-flags_are : (ha bg : Bool) → AreFlags ha bg (flag_words ha bg)
-unfolding flag_words flags_of
-flags_are true true = record { printed_are = (keyword (codes "ha") refl, (keyword (codes "bg") refl, tt)); few = omega arith; read = λ first second third. refl; fit = λ first second third. refl }
-flags_are true false = record { printed_are = (keyword (codes "ha") refl, tt); few = omega arith; read = λ first second third. refl; fit = λ first second third. refl }
-flags_are false true = record { printed_are = (keyword (codes "bg") refl, tt); few = omega arith; read = λ first second third. refl; fit = λ first second third. refl }
-flags_are false false = record { printed_are = tt; few = omega arith; read = λ first second third. refl; fit = λ first second third. refl }
+-- the flags of a GPT
+flags_same : (ha bg : Bool) (line rest : List ℕ) → line ++ (if ha then codes " ha" else []) ++ (if bg then codes " bg" else []) ++ rest ≡ line ++ (behind (flag_words ha bg) ++ rest)
+flags_same true true line rest = simp append_assoc
+flags_same true false line rest = simp (append_assoc, append-nil)
+flags_same false true line rest = simp (append_assoc, append-nil)
+flags_same false false line rest = simp append-nil
 
 -- `gpt N V [ha] [bg]`
 pub header_reads : HeadersReadBack
-unfolding header_text statement_of gpt_line
+unfolding header_text line_of
 header_reads sizes n header limits is in_range some =
-    let flags = flags_are header.ha header.bg in
-    line_reads (codes "gpt") refl (decimal n ∷ decimal header.l2v ∷ flag_words header.ha header.bg) (omega (arith, flags.few))
-    (rw some (ap (λ text. text ++ line_feed) (flags_written header.ha header.bg (codes "gpt " ++ decimal n ++ codes " " ++ decimal header.l2v))))
-    (printed-number sizes kinds.Gpt n limits is, (printed-decimal header.l2v (omega (arith, in_range.high)), flags.printed_are))
-    (rw (
-      flags.fit (codes "gpt") (decimal n) (decimal header.l2v),
-      object_of-decimal sizes kinds.Gpt n limits is,
-      between_of-decimal 12 31 header.l2v (omega arith) in_range.low in_range.high,
-      flags.read (codes "gpt") (decimal n) (decimal header.l2v),
-    )
-    refl)
+    read_as sizes _ (says.Gpt n header)
+    (rw some (flags_same header.ha header.bg (codes "gpt " ++ decimal n ++ codes " " ++ decimal header.l2v) line_feed ∙ simp append_assoc))
+    limits is in_range tt
 
--- how the flag of an endpoint is written
-flag_written : (matching : Bool) (line : List ℕ) → line ++ (if matching then codes " match" else codes " plain") ≡ line ++ codes " " ++ (if matching then codes "match" else codes "plain")
-flag_written true line = sym (append_assoc line (codes " ") (codes "match"))
-flag_written false line = sym (append_assoc line (codes " ") (codes "plain"))
+-- whether an endpoint takes its payload alone
+match_same : (matching : Bool) (line : List ℕ) → line ++ (if matching then codes " match" else codes " plain") ≡ line ++ codes " " ++ match_word matching
+match_same true line = sym (append_assoc line (codes " ") (codes "match"))
+match_same false line = sym (append_assoc line (codes " ") (codes "plain"))
 
 -- `endpoint N REC ID PAYLOAD FLAG`
 pub endpoint_reads : EndpointsReadBack
-unfolding endpoint_text statement_of endpoint_line
+unfolding endpoint_text
 endpoint_reads sizes n e limits is in_range id payload some =
-    line_reads (codes "endpoint") refl (decimal n ∷ cap_text e.recipient ∷ hex_text 8 e.id ∷ hex_text 8 e.payload ∷ (if e.matching then codes "match" else codes "plain") ∷ []) (omega arith)
-    (rw some (ap (λ text. text ++ line_feed) (flag_written e.matching (codes "endpoint " ++ decimal n ++ codes " " ++ cap_text e.recipient ++ codes " " ++ hex_text 8 e.id ++ codes " " ++ hex_text 8 e.payload))))
-    (printed-number sizes kinds.Endpoint n limits is.0, (printed-cap_text e.recipient in_range, (printed-hex_text 8 e.id (omega arith) (omega arith), (printed-hex_text 8 e.payload (omega arith) (omega arith), (printed_either e.matching (keyword (codes "match") refl) (keyword (codes "plain") refl), tt)))))
-    (rw (
-      object_of-decimal sizes kinds.Endpoint n limits is.0,
-      cap_of-cap_text sizes e.recipient in_range is.2.there,
-      is.1,
-      hex_number_of-hex_text e.id id,
-      hex_number_of-hex_text e.payload payload,
-      either_of-either e.matching (codes "match") (codes "plain") refl refl refl,
-    )
-    refl)
+    read_as sizes _ (says.Endpoint n (bare e.recipient) e.id e.payload e.matching)
+    (rw some
+    (ap (λ line. line ++ line_feed) (match_same e.matching (codes "endpoint " ++ decimal n ++ codes " " ++ cap_text e.recipient ++ codes " " ++ hex_text 8 e.id ++ codes " " ++ hex_text 8 e.payload))
+    ∙ line_same (codes "endpoint") (decimal n ∷ cap_text e.recipient ∷ hex_text 8 e.id ∷ hex_text 8 e.payload ∷ match_word e.matching ∷ [])))
+    limits is (IsCapability-bare e.recipient in_range, id, payload) tt
 
 -- the word of a state
-state_word-runs : (state : State) (runs : Bool) → runs_of state ≡ Some runs → state_word state ≡ (if runs then codes "run" else codes "stop")
+state_word-runs : (state : State) (runs : Bool) → runs_of state ≡ Some runs → state_word state ≡ run_word runs
 unfolding state_word
 state_word-runs Running true is = refl
 state_word-runs (Faulted Stopped address) false is = refl
@@ -183,48 +124,22 @@ state_word-runs _ _ is = cc
 
 -- `process N PC SPACE SCHEDULE HANDLER STATE`
 pub process_reads : ProcessesReadBack
-unfolding process_text statement_of process_line aligned_to
+unfolding process_text
 process_reads sizes n p runs limits is in_range fits state some =
-    let slot = λ (i : ℕ). IsCapability-slot_of p i in_range in
-    line_reads (codes "process") refl (decimal n ∷ hex_text 8 p.pc ∷ cap_text (slot_of p 0) ∷ cap_text (slot_of p 1) ∷ cap_text (slot_of p 2) ∷ (if runs then codes "run" else codes "stop") ∷ []) (omega arith)
-    (rw (some, state_word-runs p.state runs state) refl)
-    (printed-number sizes kinds.Process n limits is.0, (printed-hex_text 8 p.pc (omega arith) (omega arith), (printed-cap_text (slot_of p 0) (slot 0), (printed-cap_text (slot_of p 1) (slot 1), (printed-cap_text (slot_of p 2) (slot 2), (printed_either runs (keyword (codes "run") refl) (keyword (codes "stop") refl), tt))))))
-    (rw (
-      object_of-decimal sizes kinds.Process n limits is.0,
-      hex_of-hex_text 8 p.pc (omega arith) (omega arith) (omega arith),
-      le-leb p.pc 4294967295 (omega arith),
-      is.1,
-      cap_of-cap_text sizes (slot_of p 0) (slot 0) is.2.there,
-      cap_of-cap_text sizes (slot_of p 1) (slot 1) is.3.there,
-      cap_of-cap_text sizes (slot_of p 2) (slot 2) is.4.there,
-      either_of-either runs (codes "run") (codes "stop") refl refl refl,
-    )
-    refl)
+    let slot = λ (i : ℕ). IsCapability-bare (slot_of p i) (IsCapability-slot_of p i in_range) in
+    read_as sizes _ (says.Process n p.pc (bare (slot_of p 0)) (bare (slot_of p 1)) (bare (slot_of p 2)) runs)
+    (rw (some, state_word-runs p.state runs state)
+    (line_same (codes "process") (decimal n ∷ hex_text 8 p.pc ∷ cap_text (slot_of p 0) ∷ cap_text (slot_of p 1) ∷ cap_text (slot_of p 2) ∷ run_word runs ∷ [])))
+    limits is (fits, slot 0, slot 1, slot 2) tt
 
 -- `reg N I VALUE`
 pub register_reads : RegistersReadBack
-unfolding register_text statement_of reg_line
+unfolding register_text line_of
 register_reads sizes n i value limits is fits some =
-    line_reads (codes "reg") refl (decimal n ∷ decimal i ∷ hex_text 8 value ∷ []) (omega arith)
-    (rw (ne_eqb value 0 (λ none. omega arith)) refl)
-    (printed-number sizes kinds.Process n limits is.0, (printed-decimal i (omega (arith, is.1)), (printed-hex_text 8 value (omega arith) (omega arith), tt)))
-    (rw (
-      object_of-decimal sizes kinds.Process n limits is.0,
-      between_of-decimal 1 31 i (omega arith) is.2 (omega (arith, is.1)),
-      hex_number_of-hex_text value fits,
-    )
-    refl)
+    read_as sizes _ (says.Reg n i value) (rw (ne_eqb value 0 (λ none. omega arith)) (simp append_assoc)) limits is fits tt
 
 -- `capreg N I CAP`
 pub capreg_reads : CapRegistersReadBack
-unfolding slot_text statement_of capreg_line
+unfolding slot_text line_of
 capreg_reads sizes n i c limits is in_range some =
-    line_reads (codes "capreg") refl (decimal n ∷ decimal i ∷ cap_text c ∷ []) (omega arith)
-    (rw some refl)
-    (numbered sizes kinds.Process n i c limits is.0 (omega (arith, is.1)) in_range)
-    (rw (
-      object_of-decimal sizes kinds.Process n limits is.0,
-      between_of-decimal 1 31 i (omega arith) is.2 (omega (arith, is.1)),
-      cap_of-cap_text sizes c in_range is.3.there,
-    )
-    refl)
+    read_as sizes _ (says.CapReg n i (bare c)) (rw some (simp append_assoc)) limits is (IsCapability-bare c in_range) tt

@@ -1,3 +1,3 @@
 mod Lengths
 mod Reading
-mod RoundTrip
+pub mod RoundTrip

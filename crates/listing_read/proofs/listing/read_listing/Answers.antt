@@ -1,7 +1,7 @@
 use Rattle.std.proofs.Common.{rules, Ok, Err, refl, ◌≡◌, ◌∷◌, ◌++◌, [], length, ap, ◌∙◌, arith, length-append}
-use Rattle.listing_read.specs.declared.place.Said.TheVariants.{Nothing, Opens, Says, Ends}
+use Rattle.listing_read.specs.declared.place.Said.TheVariants.{Nothing, Opens, Calls, Says, Ends}
 use Rattle.listing_read.specs.Reads.{IsStopped}
-use Rattle.listing_read.proofs.Follows.{says, follows_start, gives_front, follows_nothing, follows_opens, follows_says, listed_end, gives_end, cause_judged, holds_opens, holds_says}
+use Rattle.listing_read.proofs.Follows.{says, follows_start, gives_front, follows_nothing, follows_opens, follows_calls, follows_says, listed_end, gives_end, cause_judged, holds_opens, holds_calls, holds_says}
 use Rattle.listing_read.proofs.listing.read_listing.Goals as goal
 
 pub lines-init : goal.lines-init
@@ -44,6 +44,21 @@ lines-preserved-in-Ok-Opens g c =
       few = omega (arith, before.few, next.reads.counted);
     }
 
+pub lines-preserved-in-Continue-branch-2 : goal.lines-preserved-in-Continue-branch-2
+lines-preserved-in-Continue-branch-2 g c =
+    let e = rw c.in-Ok-Calls.field-0-is at c.in-Ok-Calls.ensures in
+    let said = says c.lines.place c.line.result.now c.next_line.new.lines.line (Ok (Calls c.in-Ok-Calls.naming)) c.line.ensures.value e.value in
+    let before = c.lines.invariant in
+    let next = c.in_ok-number.ensures in
+    record {
+      going = search rules;
+      quiet = search rules;
+      told = λ told. next.told (before.told told);
+      follows = rw c.in_ok-call-in-Ok-Calls.ensures (follows_calls _ c.lines.lines c.next_line.new.lines _ _ _ c.lines.statements.items c.lines.place c.in-Ok-Calls.naming before.follows next.reads said);
+      holds = rw c.in_ok-call-in-Ok-Calls.ensures (holds_calls _ _ _ before.holds);
+      few = omega (arith, before.few, next.reads.counted);
+    }
+
 pub lines-preserved : goal.lines-preserved
 lines-preserved g c =
     let e = rw c.in-Ok-Says.field-0-is at c.in-Ok-Says.ensures in
@@ -64,16 +79,16 @@ lines-preserved g c =
 pub returns-in-Ok-Ends-clause-listed : goal.returns-in-Ok-Ends-clause-listed
 returns-in-Ok-Ends-clause-listed g c =
     let e = rw c.in-Ok-Ends.field-0-is at c.in-Ok-Ends.ensures in
-    let said = says c.lines.place c.line.result.now c.next_line.new.lines.line (Ok (Ends c.in-Ok-Ends.terms)) c.line.ensures.value e.value in
+    let said = says c.lines.place c.line.result.now c.next_line.new.lines.line (Ok (Ends c.in-Ok-Ends.sizes)) c.line.ensures.value e.value in
     let next = c.in_ok-number.ensures in
-    listed_end _ c.lines.lines c.next_line.new.lines _ _ _ c.lines.statements.items c.lines.place c.in-Ok-Ends.terms c.lines.invariant.follows next.reads said
+    listed_end _ c.lines.lines c.next_line.new.lines _ _ _ c.lines.statements.items c.lines.place c.in-Ok-Ends.sizes c.lines.invariant.follows next.reads said
 
 pub returns-in-Ok-Ends-clause-given : goal.returns-in-Ok-Ends-clause-given
 returns-in-Ok-Ends-clause-given g c =
     let e = rw c.in-Ok-Ends.field-0-is at c.in-Ok-Ends.ensures in
-    let said = says c.lines.place c.line.result.now c.next_line.new.lines.line (Ok (Ends c.in-Ok-Ends.terms)) c.line.ensures.value e.value in
+    let said = says c.lines.place c.line.result.now c.next_line.new.lines.line (Ok (Ends c.in-Ok-Ends.sizes)) c.line.ensures.value e.value in
     let next = c.in_ok-number.ensures in
-    gives_end _ c.lines.lines c.next_line.new.lines _ _ _ c.lines.statements.items c.lines.place c.in-Ok-Ends.terms c.lines.invariant.follows next.reads said
+    gives_end _ c.lines.lines c.next_line.new.lines _ _ _ c.lines.statements.items c.lines.place c.in-Ok-Ends.sizes c.lines.invariant.follows next.reads said
 
 pub returns-in-Err-clause-fault : goal.returns-in-Err-clause-fault
 returns-in-Err-clause-fault g c =

@@ -1,0 +1,7 @@
+pub mod Words
+pub mod Text
+pub mod Written
+pub mod Typed
+pub mod ReadsBack
+pub mod Lists
+pub mod Laws

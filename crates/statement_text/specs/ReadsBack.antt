@@ -1,0 +1,27 @@
+-- Text that is read as what it was written for.
+use Rattle.std.specs.Prelude.{ℕ, ◌≡◌, ◌≤◌, ⊤, true, List, ◌++◌, length, Ok}
+use Rattle.coy_io.specs.declared.TheConstants.{LINE_LIMIT}
+use Rattle.coy_io.specs.Lines.{IsUnfinished}
+use Rattle.listing_read.specs.declared.place.Place.TheVariants.{Statements}
+use Rattle.listing_read.specs.declared.place.Said.TheVariants.{Says}
+use Rattle.listing_read.specs.declared.statement.Statement.{Statement}
+use Rattle.listing_read.specs.declared.statement.Statement.TheVariants.{Region}
+use Rattle.listing_read.specs.declared.terms.Terms.{Terms}
+use Rattle.listing_read.specs.declared.terms.Version.{Version}
+use Rattle.listing_read.specs.Terms.{has_names}
+use Rattle.listing_read.specs.Listing.{judged}
+use Rattle.statement_text.specs.Text.{line_feed}
+
+-- the text is a line and the line feed behind it; the line has none in it, is no longer than a reader takes, and says
+-- this statement among those that are judged by these terms
+pub record ReadsBack (terms : Terms) (text : List ℕ) (statement : Statement) : Type 0 where
+  pub line : List ℕ
+  pub text_is : text ≡ line ++ line_feed
+  pub short : length line ≤ LINE_LIMIT
+  pub whole : IsUnfinished line
+  pub said : judged (Statements terms) line ≡ Ok (Says statement)
+
+-- a listing of this version may say the statement
+abbrev pub IsSayable : Version → Statement → Type 0
+IsSayable version (Region gpt slot count page restr) = has_names version ≡ true
+IsSayable version _ = ⊤
