@@ -13,6 +13,8 @@ mod command_words;
 #[cfg(test)]
 mod control_rows;
 #[cfg(test)]
+mod deliveries;
+#[cfg(test)]
 mod instructions;
 #[cfg(test)]
 mod lines;
