@@ -35,6 +35,8 @@ mod requests;
 #[cfg(test)]
 mod rows;
 #[cfg(test)]
+mod strings;
+#[cfg(test)]
 mod texts;
 #[cfg(test)]
 mod walks;
