@@ -15,6 +15,8 @@ mod control_rows;
 #[cfg(test)]
 mod deliveries;
 #[cfg(test)]
+mod faults;
+#[cfg(test)]
 mod instructions;
 #[cfg(test)]
 mod lines;
@@ -22,6 +24,8 @@ mod lines;
 mod listings;
 #[cfg(test)]
 mod machine;
+#[cfg(test)]
+mod meetings;
 #[cfg(test)]
 mod memory_rows;
 #[cfg(test)]
@@ -34,6 +38,8 @@ mod objects;
 mod requests;
 #[cfg(test)]
 mod rows;
+#[cfg(test)]
+mod running;
 #[cfg(test)]
 mod strings;
 #[cfg(test)]
