@@ -5,6 +5,8 @@
 #![tactic(auto)]
 
 #[cfg(test)]
+mod cached;
+#[cfg(test)]
 mod caches;
 #[cfg(test)]
 mod capabilities;
@@ -24,6 +26,8 @@ mod lines;
 mod listings;
 #[cfg(test)]
 mod machine;
+#[cfg(test)]
+mod mappings;
 #[cfg(test)]
 mod meetings;
 #[cfg(test)]
