@@ -3,10 +3,11 @@ ghost use Rattle.std.specs.Prelude.{◌≡◌, ◌<◌, [], ◌∷◌, true, Ok}
 ghost use Rattle.cap_format.specs.declared.kind.CapKind.TheVariants.{Process};
 ghost use Rattle.object_store.specs.Store.{size_of};
 ghost use Rattle.invocation.specs.Invocation.{parsed};
+ghost use Rattle.invocation.specs.Target.{bare_callee, IsReached};
 ghost use Rattle.machine_state.specs.State.{state_of, process, IsOnHart};
 ghost use Rattle.machine_state.specs.Outcome.{process_name};
 ghost use Rattle.machine_state.specs.Came.{Came, Leaves, HasRoom};
-ghost use Rattle.kernel_core.specs.SystemCall.{invoke, received_after, refused_call, busy_call, send};
+ghost use Rattle.kernel_core.specs.SystemCall.{invoke, received_after, refused_call, busy_call, sent_to, send};
 
 use crate::answering::answer_call;
 use crate::operating::kernel_op;
@@ -96,7 +97,33 @@ pub fn send<T: Translator, L: Ledger>(
     ensures leaves { let outcome = (send (state_of machine.old) p inv.now).outcome in
         Leaves (process_name p ∷ outcome.changed) machine.old machine.new }
 {
-    match machine.callee(p, inv.capreg()) {
+    let callee = machine.callee(p, inv.capreg());
+    send_to(machine, p, records, inv, callee, fetches)
+}
+
+/// The send phase of an invocation by who answers.
+fn send_to<T: Translator, L: Ledger>(
+    machine: &mut Machine<T>,
+    p: u16,
+    records: &mut Records,
+    inv: &Invocation,
+    callee: Callee,
+    fetches: &mut Steps<L>,
+) -> bool
+    requires there { p < size_of machine.old.objects.items Process }
+    requires on_hart { IsOnHart machine.old.queues p }
+    requires room { HasRoom 40 records.old }
+    requires inv { parsed (process (state_of machine.old) p).regs ≡ Ok inv.now }
+    requires reached { IsReached machine.old.objects callee }
+    ensures delivered { result ≡ (sent_to (state_of machine.old) p inv.now (bare_callee callee)).delivers }
+    ensures on_hart { result ≡ true → IsOnHart machine.new.queues p }
+    ensures came { let outcome = (sent_to (state_of machine.old) p inv.now (bare_callee callee)).outcome in
+        Came T.kept T.cost T.after T.without
+        outcome machine.old records.old fetches.old machine.new records.new fetches.new }
+    ensures leaves { let outcome = (sent_to (state_of machine.old) p inv.now (bare_callee callee)).outcome in
+        Leaves (process_name p ∷ outcome.changed) machine.old machine.new }
+{
+    match callee {
         Callee::Kernel(cap) => kernel_op(machine, p, records, cap, inv, fetches),
         Callee::Dead => refuse_call(machine, p, inv, Code::InvalidCap),
         Callee::Busy(q) => wait_or_refuse(machine, p, records, inv, q, fetches),

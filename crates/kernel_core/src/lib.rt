@@ -1,7 +1,8 @@
-//! The machine: objects, queues and harts over any translator, one event at a time.
+//! The kernel: what each event does to the machine, over any translator.
 //!
-//! An event is one step of a hart or one tick of its timer, and is atomic. Nothing here knows of texts, of tables or of
-//! what a translator keeps.
+//! An event is one step of a hart or one tick of its timer, and is atomic. It is a chain of the machine's single changes,
+//! of faults and messages, and of operations on what a process invokes. Nothing here knows of texts, of tables or of what a
+//! translator keeps.
 #![tactic(auto)]
 
 mod answering;

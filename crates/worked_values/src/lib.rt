@@ -5,6 +5,8 @@
 #![tactic(auto)]
 
 #[cfg(test)]
+mod cached;
+#[cfg(test)]
 mod caches;
 #[cfg(test)]
 mod capabilities;
@@ -13,6 +15,10 @@ mod command_words;
 #[cfg(test)]
 mod control_rows;
 #[cfg(test)]
+mod deliveries;
+#[cfg(test)]
+mod faults;
+#[cfg(test)]
 mod instructions;
 #[cfg(test)]
 mod lines;
@@ -20,6 +26,10 @@ mod lines;
 mod listings;
 #[cfg(test)]
 mod machine;
+#[cfg(test)]
+mod mappings;
+#[cfg(test)]
+mod meetings;
 #[cfg(test)]
 mod memory_rows;
 #[cfg(test)]
@@ -32,6 +42,10 @@ mod objects;
 mod requests;
 #[cfg(test)]
 mod rows;
+#[cfg(test)]
+mod running;
+#[cfg(test)]
+mod strings;
 #[cfg(test)]
 mod texts;
 #[cfg(test)]

@@ -12,3 +12,19 @@ pub fn hex(rt: &impl Abort, row: &str, n: usize) -> u32 {
 pub fn byte(rt: &impl Abort, row: &str, n: usize) -> u8 {
     u8::try_from(hex(rt, row, n)).expect(rt, "a number below 256")
 }
+
+/// The first byte of the row's word `n`, and 0 where there is none.
+pub fn letter(row: &str, n: usize) -> u8 {
+    match word(row.as_bytes(), n).first() {
+        Some(byte) => *byte,
+        None => 0,
+    }
+}
+
+/// The row's word `n`, or None where it is `-`.
+pub fn number(rt: &impl Abort, row: &str, n: usize) -> Option<u32> {
+    if letter(row, n) == b'-' {
+        return None;
+    }
+    Some(hex(rt, row, n))
+}
