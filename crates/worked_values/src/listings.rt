@@ -125,6 +125,66 @@ fn a_line_is_refused_for_its_first_fault(rt: HostRuntime) -> Result<(), Fail> {
     Ok(())
 }
 
+/// The same machine in version 2, of whose pages the second has a name.
+const NAMED: &str = "coyotos 2\nmachine 2 2 2 2 2 2\nname code page 1\n";
+
+#[test]
+fn names_and_regions_are_judged_from_left_to_right(rt: HostRuntime) -> Result<(), Fail> {
+    let alloc = rt.alloc();
+    // (fourth line on this machine, its fault)
+    let cases = [
+        ("name data page 0", None),
+        ("name code gpt 0", Some(Fault::NameTaken)),
+        ("name code entry 9", Some(Fault::NameTaken)),
+        ("name Code page 0", Some(Fault::BadName)),
+        ("name 1st page 0", Some(Fault::BadName)),
+        ("name abcdefghijklmn_9 page 0", None),
+        ("name abcdefghijklmn_90 page 0", Some(Fault::BadName)),
+        ("name data entry 0", Some(Fault::BadValue)),
+        ("name data page 2", Some(Fault::NoObject)),
+        ("name data page $code", Some(Fault::BadNumber)),
+        ("name data page", Some(Fault::WrongWords)),
+        ("page $code 000 00", None),
+        ("page $ 000 00", Some(Fault::BadName)),
+        ("page $data 000 0", Some(Fault::NameUnknown)),
+        ("gpt $code 12", Some(Fault::NameUnknown)),
+        ("count page $code 1", None),
+        ("cap 0 0 page:$code@12/0", None),
+        ("cap 0 0 page:$code@11/0", Some(Fault::BadGuard)),
+        ("cap 0 0 page:$data@11/0", Some(Fault::NameUnknown)),
+        ("cap 0 0 gpt:$code@16/0", Some(Fault::NameUnknown)),
+        ("cap 0 0 page:$data@12", Some(Fault::BadCap)),
+        ("cap 0 0 page:$@12/0", Some(Fault::BadCap)),
+        ("region 0 0 2 0", None),
+        ("region 1 15 1 $code rx", None),
+        ("region 2 0 1 0", Some(Fault::NoObject)),
+        ("region 0 16 1 0", Some(Fault::BadValue)),
+        ("region 0 0 0 0", Some(Fault::BadValue)),
+        ("region 0 14 3 0", Some(Fault::BadValue)),
+        ("region 0 0 3 0", Some(Fault::NoObject)),
+        ("region 0 0 2 $code", Some(Fault::NoObject)),
+        ("region 0 0 1 0 xr", Some(Fault::BadValue)),
+        ("region 0 0 1 0 r x", Some(Fault::WrongWords)),
+    ];
+    for (line, fault) in cases {
+        let mut source = source_of(alloc, [NAMED, line, "\nend\nany\n"])?;
+        let wanted = fault.map(|fault| (4, fault));
+        assert_eq!(rt; refusal(alloc, &mut source)?, wanted, "{line}");
+    }
+    // (third line in version 1, its fault)
+    let earlier = [
+        ("name data page 0", Fault::UnknownStatement),
+        ("region 0 0 1 0", Fault::UnknownStatement),
+        ("page $code 000 00", Fault::BadNumber),
+        ("cap 0 0 page:$code@12/0", Fault::BadCap),
+    ];
+    for (line, fault) in earlier {
+        let mut source = source_of(alloc, [TWO, line, "\nend\n"])?;
+        assert_eq!(rt; refusal(alloc, &mut source)?, Some((3, fault)), "{line}");
+    }
+    Ok(())
+}
+
 #[test]
 fn a_capability_word_has_three_faults_in_order(rt: HostRuntime) -> Result<(), Fail> {
     let alloc = rt.alloc();
@@ -182,7 +242,7 @@ fn a_listing_is_refused_at_its_first_line_with_a_fault(rt: HostRuntime) -> Resul
     let cases = [
         ("", 1, Fault::BadHeader),
         ("\n# coyotos 1\n", 3, Fault::BadHeader),
-        ("coyotos 2\n", 1, Fault::BadHeader),
+        ("coyotos 3\n", 1, Fault::BadHeader),
         ("coyotos 1 1\n", 1, Fault::BadHeader),
         ("\n coyotos  1 ", 3, Fault::BadMachine),
         (
@@ -369,6 +429,21 @@ fn values_of(statement: &Statement) -> [u32; 7] {
             *count,
             0,
             0,
+            0,
+        ],
+        Statement::Region {
+            gpt,
+            slot,
+            count,
+            page,
+            restr,
+        } => [
+            10,
+            u32::from(*gpt),
+            u32::from(*slot),
+            u32::from(*count),
+            u32::from(*page),
+            u32::from(restr.bits()),
             0,
         ],
     }
