@@ -1,7 +1,7 @@
 -- What a change of the objects makes of a state.
 use Rattle.std.proofs.Common.{◌≡◌, ℕ, ◌<◌, List, [], ◌∷◌, Bool, true, false, if◌then◌else◌, refl, ap, ◌∙◌, subst}
 use Rattle.cap_format.specs.declared.kind.CapKind.{CapKind}
-use Rattle.cap_format.specs.declared.kind.CapKind.TheVariants.{CapPage}
+use Rattle.cap_format.specs.declared.kind.CapKind.TheVariants.{Page, CapPage, Gpt, Process, Endpoint}
 use Rattle.cap_format.specs.Restr.{has}
 use Rattle.cap_format.specs.Capability.{Capability}
 use Rattle.cap_format.specs.Weakening.{weakened}
@@ -66,6 +66,22 @@ cap_page o kind place capability is =
 -- where a part leaves as many objects of each kind and as many harts, the sizes are as before
 pub sizes_left : {T : Type 0} (names : List ObjectName) (m n : MachineValue T) → Leaves names m n → sizes_of n.objects ≡ sizes_of m.objects
 sizes_left names m n l = rw (l.harts, l.pages, l.cappages, l.gpts, l.processes, l.endpoints) refl
+
+-- a machine of as many objects of each kind and as many harts leaves them
+pub leaves_sizes : {T : Type 0} (names : List ObjectName) (m n : MachineValue T) → ((kind : CapKind) → size_of n.objects.items kind ≡ size_of m.objects.items kind) → n.objects.harts ≡ m.objects.harts → Stays names m.objects n.objects → Leaves names m n
+leaves_sizes names m n sizes harts stays = record {
+  pages = sizes Page;
+  cappages = sizes CapPage;
+  gpts = sizes Gpt;
+  processes = sizes Process;
+  endpoints = sizes Endpoint;
+  harts = harts;
+  stays = stays;
+}
+
+-- so does one with the same items
+pub leaves_items : {T : Type 0} (names : List ObjectName) (m n : MachineValue T) → n.objects.items ≡ m.objects.items → n.objects.harts ≡ m.objects.harts → Stays names m.objects n.objects → Leaves names m n
+leaves_items names m n items harts stays = leaves_sizes names m n (λ kind. ap (λ (o : Items). size_of o kind) items) harts stays
 
 -- one object changed, another, and the first again
 pub stays_around : (first second : ObjectName) (s t u v : Store) → Stays (first ∷ []) s t → Stays (second ∷ []) t u → Stays (first ∷ []) u v → Stays (first ∷ second ∷ []) s v

@@ -1,65 +1,31 @@
 -- Each change of a machine keeps what a machine keeps.
-use Rattle.std.proofs.Common.{◌≡◌, ◌≢◌, ◌⊎◌, inl, inr, ℕ, zero, suc, ◌<◌, eqb, true, false, List, [], replicate, length, get_or, set, refl, sym, ap, ◌∙◌, subst, arith, None, IfSome}
+use Rattle.std.proofs.Common.{◌≡◌, ℕ, zero, suc, ◌<◌, [], replicate, length, refl, sym, ◌∙◌, subst, arith, None, IfSome}
 use Rattle.std.specs.List.{All, sum_by}
-use Rattle.std.proofs.Math.ListN.{length-set}
-use Rattle.std.proofs.lemmas.List.{get_or-set_same, get_or-set_other, length-replicate}
-use Rattle.std.proofs.lemmas.Bool.Decides.{eqb_tells}
+use Rattle.std.proofs.lemmas.List.{length-replicate}
 use Rattle.cap_format.specs.declared.kind.CapKind.TheVariants.{Process}
 use Rattle.cap_format.specs.Capability.{Capability}
 use Rattle.page_store.specs.CapPage.{with_cap}
-use Rattle.process_objects.specs.Process.{ProcessValue, with_capreg, empty_process}
-use Rattle.object_store.specs.Store.{Store, with_process, with_page, with_cappage, process_at, cappage_at, size_of}
+use Rattle.process_objects.specs.Process.{ProcessValue, with_capreg}
+use Rattle.object_store.specs.Store.{Store, with_process, with_cappage, process_at, cappage_at, size_of}
 use Rattle.object_store.specs.Ahead.{IsBehind, NoneAhead}
-use Rattle.object_store.proofs.Lists.{get_or-set}
 use Rattle.object_store.proofs.Each.{capregs-each, process_slots-each}
 use Rattle.object_store.proofs.Behind.{NoneAhead-with_process}
-use Rattle.object_store.proofs.WritesBehind.{null_behind, put_process_behind, put_capreg_behind, put_cap_behind, put_page_behind}
+use Rattle.object_store.proofs.WritesBehind.{null_behind, put_process_behind, put_capreg_behind, put_cap_behind}
 use Rattle.schedules.specs.Queues.{QueuesValue}
 use Rattle.schedules.specs.Standing.{standing, times_in, times_on, empty_queues}
-use Rattle.schedules.specs.Ready.{runs, runs_of, places_due, Agrees, AgreesBut}
+use Rattle.schedules.specs.Ready.{runs_of, Agrees}
 use Rattle.cap_format.specs.declared.request.Reply.{Reply}
 use Rattle.process_objects.specs.Accept.{AcceptValue}
+use Rattle.operations.proofs.Placed.{agrees_written}
 use Rattle.machine_state.specs.Machine.{IsMachine, NoneRuns}
 use Rattle.machine_state.specs.Reply.{replied}
 use Rattle.machine_state.proofs.Replied.{replied_keeps}
-
--- another process with the state of the one before
-state_same : (ps : List ProcessValue) (p x : ℕ) (v : ProcessValue) → v.state ≡ (get_or ps p empty_process).state → (get_or (set ps p v) x empty_process).state ≡ (get_or ps x empty_process).state
-state_same ps p x v same = elim (get_or-set ps p x v empty_process) [
-  | inl here ↦ ap (λ (z : ProcessValue). z.state) here.1 ∙ (same ∙ ap (λ n. (get_or ps n empty_process).state) (sym here.0))
-  | inr other ↦ ap (λ (z : ProcessValue). z.state) other
-]
-
-agrees_same : (ps : List ProcessValue) (q : QueuesValue) (p : ℕ) (v : ProcessValue) → v.state ≡ (get_or ps p empty_process).state → Agrees (runs ps q) → Agrees (runs (set ps p v) q)
-agrees_same ps q p v same agrees = record {
-  sizes = length-set ps p v ∙ agrees.sizes;
-  each = λ x h. agrees.each x (rw length-set at h) ∙ ap places_due (sym (state_same ps p x v same));
-}
-
--- a process that stands nowhere got a state that stands nowhere
-pub agrees_stopped : (ps : List ProcessValue) (q : QueuesValue) (p : ℕ) (v : ProcessValue) → p < length ps → places_due v.state ≡ 0 → AgreesBut p (runs ps q) → Agrees (runs (set ps p v) q)
-agrees_stopped ps q p v there due but = record {
-  sizes = length-set ps p v ∙ but.sizes;
-  each = λ x h. at x (rw length-set at h) (eqb_tells p x);
-}
-  where
-    at : (x : ℕ) → x < length ps → ((eqb p x ≡ true) × (p ≡ x)) ⊎ ((eqb p x ≡ false) × (p ≢ x)) → standing q x ≡ places_due (get_or (set ps p v) x empty_process).state
-    at x h (inl (t, e)) = rw (← e) (but.nowhere ∙ (sym due ∙ ap (λ (z : ProcessValue). places_due z.state) (sym (get_or-set_same ps p v empty_process there))))
-    at x h (inr (t, other)) = but.each x h (λ e. other (sym e)) ∙ ap (λ (z : ProcessValue). places_due z.state) (sym (get_or-set_other ps p x v empty_process (λ e. other (sym e))))
-
--- a process that has another pc or other registers
-pub kept_process : (o : Store) (q : QueuesValue) (p : ℕ) (v : ProcessValue) → v.state ≡ (process_at o p).state → v.capregs ≡ (process_at o p).capregs → v.slots ≡ (process_at o p).slots → IsMachine o q → IsMachine (with_process o p v) q
-kept_process o q p v state capregs slots is = record {
-  fits = record { processes = is.fits.processes; harts = is.fits.harts };
-  agrees = agrees_same o.contents.processes q p v state is.agrees;
-  behind = put_process_behind o is.behind p v capregs slots;
-}
 
 -- a process with another capability in a register
 pub kept_capreg : (o : Store) (q : QueuesValue) (p to : ℕ) (cap : Capability) → IsBehind o.items cap → IsMachine o q → IsMachine (with_process o p (with_capreg (process_at o p) to cap)) q
 kept_capreg o q p to cap behind is = record {
   fits = record { processes = is.fits.processes; harts = is.fits.harts };
-  agrees = agrees_same o.contents.processes q p _ refl is.agrees;
+  agrees = agrees_written o q p _ refl is.agrees;
   behind = put_capreg_behind o is.behind p to cap behind;
 }
 
@@ -71,28 +37,12 @@ kept_cap o q n slot cap behind is = record {
   behind = put_cap_behind o is.behind n slot cap behind;
 }
 
--- a page with other bytes
-pub kept_page : (o : Store) (q : QueuesValue) (n : ℕ) (page : List ℕ) → IsMachine o q → IsMachine (with_page o n page) q
-kept_page o q n page is = record {
-  fits = record { processes = is.fits.processes; harts = is.fits.harts };
-  agrees = record { sizes = is.agrees.sizes; each = is.agrees.each };
-  behind = put_page_behind o is.behind n page;
-}
-
 -- a process in another state, and other queues that agree with it
 pub kept_placed : (o : Store) (q r : QueuesValue) (p : ℕ) (v : ProcessValue) → v.capregs ≡ (process_at o p).capregs → v.slots ≡ (process_at o p).slots → length r.sleepers ≡ length q.sleepers → length r.harts ≡ length q.harts → Agrees (runs_of (with_process o p v) r) → IsMachine o q → IsMachine (with_process o p v) r
 kept_placed o q r p v capregs slots sleepers harts agrees is = record {
   fits = record { processes = sleepers ∙ is.fits.processes; harts = harts ∙ is.fits.harts };
   agrees = agrees;
   behind = put_process_behind o is.behind p v capregs slots;
-}
-
--- other queues
-pub kept_queues : (o : Store) (q r : QueuesValue) → length r.sleepers ≡ length q.sleepers → length r.harts ≡ length q.harts → Agrees (runs_of o r) → IsMachine o q → IsMachine o r
-kept_queues o q r sleepers harts agrees is = record {
-  fits = record { processes = sleepers ∙ is.fits.processes; harts = harts ∙ is.fits.harts };
-  agrees = agrees;
-  behind = is.behind;
 }
 
 -- nobody stands in empty queues
@@ -129,6 +79,6 @@ kept_reply o q p accept reply given is =
     let keeps = replied_keeps P (null_behind o) (process_at o p) accept reply (capregs-each P (null_behind o) o is.behind p) given in
     record {
       fits = record { processes = is.fits.processes; harts = is.fits.harts };
-      agrees = agrees_same o.contents.processes q p _ keeps.state is.agrees;
+      agrees = agrees_written o q p _ keeps.state is.agrees;
       behind = NoneAhead-with_process o is.behind p _ keeps.capregs (subst (All P) (sym keeps.slots) (process_slots-each P (null_behind o) o is.behind p));
     }

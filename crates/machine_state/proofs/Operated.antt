@@ -1,16 +1,14 @@
 -- An operation on a memory kind: what it touches, and that a machine is still one.
-use Rattle.std.proofs.Common.{◌≡◌, ◌⊎◌, inl, inr, ℕ, zero, suc, ◌+◌, ◌<◌, ◌≤◌, true≢false, true, false, List, [], ◌∷◌, ◌++◌, length, get_or, slice_get, refl, sym, ap, ◌∙◌, subst, arith, Option, Some, None, IfSome}
+use Rattle.std.proofs.Common.{◌≡◌, ◌⊎◌, inl, inr, ℕ, zero, suc, ◌≤◌, true≢false, true, List, [], ◌∷◌, ◌++◌, length, slice_get, refl, sym, ap, ◌∙◌, arith, Option, Some, None}
 use Rattle.std.specs.List.{All}
 use Rattle.cap_format.specs.declared.item.Item.{Item}
 use Rattle.cap_format.specs.declared.kind.CapKind.{CapKind}
 use Rattle.cap_format.specs.declared.kind.CapKind.TheVariants.{Process}
 use Rattle.cap_format.specs.Kind.{is_memory}
 use Rattle.cap_format.specs.Capability.{Capability}
-use Rattle.gpt_objects.specs.Gpt.{GptValue}
 use Rattle.process_objects.specs.Process.{ProcessValue, empty_process}
-use Rattle.object_store.specs.Store.{CountsValue, Items, Store, size_of, process_at}
-use Rattle.object_store.specs.Meaning.{meaning}
-use Rattle.object_store.specs.Ahead.{IsBehind, NoneAhead}
+use Rattle.object_store.specs.Store.{CountsValue, Items, Store, process_at, counts_of}
+use Rattle.object_store.specs.Ahead.{NoneAhead}
 use Rattle.object_store.specs.Object.{ObjectName, ObjectValue, IsAmong, SameObject, Stays, object_name}
 use Rattle.object_store.specs.Object.ObjectValue.{OfProcess}
 use Rattle.schedules.specs.Queues.{QueuesValue}
@@ -22,6 +20,7 @@ use Rattle.machine_state.specs.Machine.{MachineValue, IsMachine}
 use Rattle.machine_state.specs.Came.{Leaves}
 use Rattle.machine_state.specs.Outcome.{spent, kept_after}
 use Rattle.machine_state.specs.Operation.{read_touches, change_touches}
+use Rattle.machine_state.proofs.Changed.{leaves_sizes}
 
 -- what a translator says of one access and of one change
 module _ {K : Type 0} (cost : K → Items → Capability → ℕ → Kind → ℕ) (after : K → Items → Capability → ℕ → Kind → K) (without : K → Item → K) where
@@ -35,18 +34,6 @@ module _ {K : Type 0} (cost : K → Items → Capability → ℕ → Kind → �
   pub kept_reads : (k : K) (n : ℕ) (item : Option Item) → kept_after cost after without k (read_touches n ++ change_touches item) ≡ kept_after cost after without k (change_touches item)
   kept_reads k zero item = refl
   kept_reads k (suc n) item = kept_reads k n item
-
--- items by their counts and GPTs
-abbrev items_by : CountsValue → List GptValue → Items
-items_by counts gpts = record { counts = counts; gpts = gpts }
-
--- a capability means the same by items of the same counts
-pub meaning_counts : (o p : Items) → o.counts ≡ p.counts → meaning o ≡ meaning p
-meaning_counts o p e = ap (λ counts. meaning (items_by counts o.gpts)) e
-
--- and is as far behind
-pub behind_counts : (o p : Items) (cap : Option Capability) → o.counts ≡ p.counts → IfSome cap (IsBehind o) → IfSome cap (IsBehind p)
-behind_counts o p cap e h = subst (λ (counts : CountsValue). IfSome cap (IsBehind (items_by counts o.gpts))) e h
 
 -- no change is of the harts
 applied-harts : (w : System) (change : Change) → (applied Stored w change).store.harts ≡ w.store.harts
@@ -100,12 +87,4 @@ first_register (x ∷ xs) register all e = let here : x ≤ 31 = all 0 0 (omega 
 
 -- a machine whose counts and harts are as before leaves as many objects and harts
 pub leaves_counts : {T : Type 0} (names : List ObjectName) (m n : MachineValue T) → n.objects.items.counts ≡ m.objects.items.counts → n.objects.harts ≡ m.objects.harts → Stays names m.objects n.objects → Leaves names m n
-leaves_counts names m n counts harts stays = record {
-  pages = ap (λ (c : CountsValue). length c.pages) counts;
-  cappages = ap (λ (c : CountsValue). length c.cappages) counts;
-  gpts = ap (λ (c : CountsValue). length c.gpts) counts;
-  processes = ap (λ (c : CountsValue). length c.processes) counts;
-  endpoints = ap (λ (c : CountsValue). length c.endpoints) counts;
-  harts = harts;
-  stays = stays;
-}
+leaves_counts names m n counts harts stays = leaves_sizes names m n (λ kind. ap (λ (c : CountsValue). length (counts_of c kind)) counts) harts stays

@@ -3,6 +3,8 @@ pub mod State
 pub mod Setters
 pub mod Outcome
 pub mod Came
+pub mod Faulting
+pub mod Messaging
 pub mod DataAccess
 pub mod CapAccess
 pub mod Reply

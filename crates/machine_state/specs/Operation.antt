@@ -5,12 +5,15 @@ use Rattle.cap_format.specs.declared.item.Item.{Item}
 use Rattle.cap_format.specs.declared.request.Request.{Request}
 use Rattle.cap_format.specs.Capability.{Capability, null}
 use Rattle.process_objects.specs.Process.{ProcessValue, capreg_of}
+use Rattle.object_store.specs.Object.{ObjectName}
 use Rattle.operations.specs.System.{Meant, system}
 use Rattle.operations.specs.Change.{Change, applied_all}
+use Rattle.operations.specs.Changed.{names_in}
 use Rattle.operations.specs.Request.{w1}
 use Rattle.operations.specs.Memory.{reads}
 use Rattle.invocation.specs.Invocation.{InvocationValue}
 use Rattle.machine_state.specs.State.{State}
+use Rattle.machine_state.specs.Setters.{set_system}
 use Rattle.machine_state.specs.Outcome.{Touch}
 use Rattle.machine_state.specs.Outcome.Touch.{SlotRead, Changed}
 
@@ -25,9 +28,11 @@ request_of q inv = record { words = inv.words; sent = first_sent q (slice_get in
 
 -- the state after these changes, one after the other
 abbrev pub changed_by : State → List Change → State
-changed_by s changes =
-    let w = applied_all Meant (system s.store s.queues) changes in
-    record { store = w.store; queues = w.queues; halted = s.halted }
+changed_by s changes = set_system s (applied_all Meant (system s.store s.queues) changes)
+
+-- the objects that these changes write, one after the other
+abbrev pub changed_names : State → List Change → List ObjectName
+changed_names s changes = names_in Meant (system s.store s.queues) changes
 
 -- the touches of so many slots that are read
 abbrev pub read_touches : ℕ → List Touch

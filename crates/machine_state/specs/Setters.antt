@@ -1,5 +1,5 @@
 -- What one change makes of a state. All else stays the same.
-use Rattle.std.specs.Prelude.{ℕ, List, Option, Some, None}
+use Rattle.std.specs.Prelude.{ℕ, true, List, Option, Some, None}
 use Rattle.cap_format.specs.Capability.{Capability}
 use Rattle.gpt_objects.specs.Gpt.{GptValue}
 use Rattle.endpoint_objects.specs.declared.endpoint.Endpoint.{Endpoint as EndpointValue}
@@ -11,6 +11,7 @@ use Rattle.rv32_user.specs.Word.{next_of}
 use Rattle.object_store.specs.Store.{Store, with_items, set_gpt as set_gpt_item, with_page, with_cappage, with_process, with_endpoint}
 use Rattle.schedules.specs.Queues.{QueuesValue, left, dispatched}
 use Rattle.schedules.specs.Ready.{Runs, runs_of, with_processes, readied}
+use Rattle.operations.specs.System.{System}
 use Rattle.machine_state.specs.State.{State, process, pc_of, schedule_slot}
 
 -- these objects in the place of the state's
@@ -20,6 +21,14 @@ set_store s store = record { store = store; queues = s.queues; halted = s.halted
 -- these queues and harts in the place of the state's
 abbrev pub set_queues : State → QueuesValue → State
 set_queues s queues = record { store = s.store; queues = queues; halted = s.halted }
+
+-- these objects and queues in the place of the state's
+abbrev pub set_system : State → System → State
+set_system s w = record { store = w.store; queues = w.queues; halted = s.halted }
+
+-- the machine is halted: nothing happens to it any more (this project's)
+abbrev pub halted : State → State
+halted s = record { store = s.store; queues = s.queues; halted = true }
 
 -- another process in the place of process `p`
 abbrev pub set_process : State → ℕ → ProcessValue → State

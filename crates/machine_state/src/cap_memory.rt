@@ -11,6 +11,7 @@ ghost use Rattle.machine_state.specs.State.{state_of, space_of};
 ghost use Rattle.machine_state.specs.Outcome.{cappage_name};
 ghost use Rattle.machine_state.specs.Came.{Leaves};
 ghost use Rattle.machine_state.specs.CapAccess.{cap_access, cap_found, cap_stored};
+ghost use Rattle.machine_state.specs.Faulting.{place_map};
 
 use crate::machine::Machine;
 use cap_format::{Cap, CapKind};
@@ -33,6 +34,8 @@ impl<T: Translator> Machine<T> {
         requires there { p < size_of self.now.objects.items Process }
         requires capability { is_data kind ≡ false }
         ensures answer { answer_meaning result ≡ cap_access (state_of self.now) p address kind }
+        ensures means { let f = meaning self.now.objects.items in
+            place_map f result ≡ cap_access (state_of self.now) p address kind }
         ensures page { IfOk result
             (λ place. place.number < size_of self.now.objects.items CapKind.CapPage) }
         ensures within { IfOk result (λ place. place.offset < 4096) }

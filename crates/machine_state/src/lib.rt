@@ -8,14 +8,18 @@
 mod callees;
 mod cap_memory;
 mod changes;
+mod controlling;
 mod event;
+mod faulting;
 mod log_bytes;
 mod machine;
 mod memory;
+mod messages;
 mod operating;
 mod record;
 mod records;
 mod replies;
+mod strings;
 
 pub use event::Event;
 pub use log_bytes::LogBytes;

@@ -17,7 +17,7 @@ impl Model for LogBytes {
 }
 
 impl LogBytes {
-    ghost use Rattle.std.specs.Prelude.{◌≡◌, ◌≤◌, ◌<◌, ◌++◌, ◌∷◌, [], length};
+    ghost use Rattle.std.specs.Prelude.{◌≡◌, ◌≤◌, ◌<◌, ◌+◌, ◌++◌, ◌∷◌, [], length};
 
     pub fn new() -> LogBytes
         ensures { result ≡ [] }
@@ -32,6 +32,13 @@ impl LogBytes {
         ensures { self.new ≡ self.old ++ byte ∷ [] }
     {
         self.bytes.push(byte);
+    }
+
+    pub fn append(&mut self, bytes: &[u8])
+        requires { length self.old + length bytes.now ≤ 256 }
+        ensures { self.new ≡ self.old ++ bytes.now }
+    {
+        let _fits = self.bytes.try_extend_from_slice(bytes);
     }
 
     pub fn as_slice(&self) -> &[u8]

@@ -6,7 +6,7 @@ ghost use Rattle.object_store.specs.Meaning.{map_of};
 ghost use Rattle.object_store.specs.Ahead.{NoneAhead};
 ghost use Rattle.machine_state.specs.Machine.{NoneRuns};
 ghost use Rattle.machine_state.specs.State.{state_of};
-ghost use Rattle.machine_state.specs.Setters.{leave, ready};
+ghost use Rattle.machine_state.specs.Setters.{leave, ready, halted};
 ghost use Rattle.machine_state.specs.Outcome.{process_name};
 ghost use Rattle.machine_state.specs.Came.{Leaves};
 ghost use Rattle.schedules.specs.Standing.{empty_queues};
@@ -17,15 +17,18 @@ use object_store::Objects;
 use schedules::Queues;
 use std::alloc::Global;
 use std::marker::Model;
+use string_move::Scratch;
 use walk_engine::Translator;
 
-/// Objects, queues, harts and a translator. All its memory is taken when it is made.
+/// Objects, queues, harts and a translator, with room for the bytes of a string. All its memory is taken when it is
+/// made.
 #[derive(Drop)]
 pub struct Machine<T: Translator> {
     pub(crate) objects: Objects,
     pub(crate) queues: Queues,
     pub(crate) halted: bool,
     pub(crate) translator: T,
+    pub(crate) scratch: Scratch,
 }
 
 impl<T: Translator> Model for Machine<T> {
@@ -56,11 +59,13 @@ impl<T: Translator> Machine<T> {
     {
         objects.in_ranges();
         let queues = Queues::new(alloc, objects.sizes())?;
+        let scratch = Scratch::new(alloc)?;
         Ok(Machine {
             objects,
             queues,
             halted: false,
             translator,
+            scratch,
         })
     }
 
@@ -114,5 +119,15 @@ impl<T: Translator> Machine<T> {
         ensures translator { self.new.translator ≡ self.old.translator }
     {
         self.requeue(p);
+    }
+
+    /// The machine is halted for good.
+    pub fn halt(&mut self)
+        ensures state { state_of self.new ≡ halted (state_of self.old) }
+        ensures objects { self.new.objects ≡ self.old.objects }
+        ensures queues { self.new.queues ≡ self.old.queues }
+        ensures translator { self.new.translator ≡ self.old.translator }
+    {
+        self.halted = true;
     }
 }

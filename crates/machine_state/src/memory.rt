@@ -11,6 +11,7 @@ ghost use Rattle.machine_state.specs.State.{state_of, space_of, IsOnHart};
 ghost use Rattle.machine_state.specs.Outcome.{page_name};
 ghost use Rattle.machine_state.specs.Came.{Leaves};
 ghost use Rattle.machine_state.specs.DataAccess.{data_access, number_at, written};
+ghost use Rattle.machine_state.specs.Faulting.{hit_map};
 
 use crate::machine::Machine;
 use cap_format::{Cap, CapKind};
@@ -57,6 +58,8 @@ impl<T: Translator> Machine<T> {
         requires on_hart { IsOnHart self.old.queues p }
         requires data { is_data kind ≡ true }
         ensures answer { hit_meaning result ≡ data_access (state_of self.old) p address kind }
+        ensures means { let f = meaning self.new.objects.items in
+            hit_map f result ≡ data_access (state_of self.old) p address kind }
         ensures page { IfOk result (λ hit. hit.page < size_of self.new.objects.items CapKind.Page) }
         ensures offset { IfOk result (λ hit. hit.offset ≡ address % 4096) }
         ensures handler { IfErr result (λ fault. HandlerLives self.new.objects.items fault.handler) }
@@ -76,8 +79,46 @@ impl<T: Translator> Machine<T> {
             (k : ℕ) → hart_of self.old.queues k ≢ Some p →
             T.cache self.new.translator k ≡ spared (T.cache self.old.translator k) }
     {
+        self.access_for(p, p, address, kind, fetches)
+    }
+
+    /// A fetch, load or store by the space of process `q`, on the hart on which process `p` stands.
+    pub fn access_for<L: Ledger>(
+        &mut self,
+        p: u16,
+        q: u16,
+        address: u32,
+        kind: Kind,
+        fetches: &mut Steps<L>,
+    ) -> Result<Hit, WalkFault>
+        requires there { p < size_of self.old.objects.items Process }
+        requires space { q < size_of self.old.objects.items Process }
+        requires on_hart { IsOnHart self.old.queues p }
+        requires data { is_data kind ≡ true }
+        ensures answer { hit_meaning result ≡ data_access (state_of self.old) q address kind }
+        ensures means { let f = meaning self.new.objects.items in
+            hit_map f result ≡ data_access (state_of self.old) q address kind }
+        ensures page { IfOk result (λ hit. hit.page < size_of self.new.objects.items CapKind.Page) }
+        ensures offset { IfOk result (λ hit. hit.offset ≡ address % 4096) }
+        ensures handler { IfErr result (λ fault. HandlerLives self.new.objects.items fault.handler) }
+        ensures state { state_of self.new ≡ state_of self.old }
+        ensures objects { self.new.objects ≡ self.old.objects }
+        ensures queues { self.new.queues ≡ self.old.queues }
+        ensures counted { let s = state_of self.old in
+            let cost = T.cost (T.kept self.old.translator) s.store.items (space_of s q) address kind in
+            fetches.new ≡ fetches.old + cost }
+        ensures kept { let s = state_of self.old in
+            let kept = T.kept self.old.translator in
+            T.kept self.new.translator ≡ T.after kept s.store.items (space_of s q) address kind }
+
+        // The caches of the harts on which the process is not are as an access elsewhere leaves them.
+        ensures others { let s = state_of self.old in
+            let spared = T.spared (T.kept self.old.translator) s.store.items (space_of s q) address kind in
+            (k : ℕ) → hart_of self.old.queues k ≢ Some p →
+            T.cache self.new.translator k ≡ spared (T.cache self.old.translator k) }
+    {
         let hart = self.hart(p);
-        self.access_on(hart, p, address, kind, fetches)
+        self.access_on(hart, q, address, kind, fetches)
     }
 
     /// A fetch, load or store on a hart by the space of any process.
@@ -93,6 +134,8 @@ impl<T: Translator> Machine<T> {
         requires there { p < size_of self.old.objects.items Process }
         requires data { is_data kind ≡ true }
         ensures answer { hit_meaning result ≡ data_access (state_of self.old) p address kind }
+        ensures means { let f = meaning self.new.objects.items in
+            hit_map f result ≡ data_access (state_of self.old) p address kind }
         ensures page { IfOk result (λ hit. hit.page < size_of self.new.objects.items CapKind.Page) }
         ensures offset { IfOk result (λ hit. hit.offset ≡ address % 4096) }
         ensures handler { IfErr result (λ fault. HandlerLives self.new.objects.items fault.handler) }

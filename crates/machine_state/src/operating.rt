@@ -1,4 +1,4 @@
-//! Operations of the kernel on the objects.
+//! Operations of the kernel on objects of the memory kinds.
 ghost use Rattle.std.specs.Prelude.{◌≡◌, ◌<◌, ◌+◌, [], ◌∷◌, true, IfSome};
 ghost use Rattle.cap_format.specs.declared.kind.CapKind.TheVariants.{Process};
 ghost use Rattle.cap_format.specs.Kind.{is_memory};
@@ -79,7 +79,7 @@ impl<T: Translator> Machine<T> {
 }
 
 /// Tells a translator the item that changed, if one did.
-fn tell_changed<T: Translator>(translator: &mut T, changed: Option<Item>)
+pub(crate) fn tell_changed<T: Translator>(translator: &mut T, changed: Option<Item>)
     ensures coherent { (o p : Items)
         → DifferBy changed o p → T.coherent translator.old o → T.coherent translator.new p }
     ensures harts { T.harts translator.new ≡ T.harts translator.old }

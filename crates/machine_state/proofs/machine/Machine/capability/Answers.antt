@@ -1,8 +1,5 @@
-use Rattle.std.proofs.Common.{subst}
-use Rattle.object_store.specs.Ahead.{IsBehind}
 use Rattle.object_store.proofs.Writes.{capreg_means}
 use Rattle.object_store.proofs.WritesBehind.{capreg_behind}
-use Rattle.machine_state.specs.Machine.{MachineValue}
 use Rattle.machine_state.proofs.machine.Machine.capability.Goals as goal
 
 pub returns-clause-means : goal.returns-clause-means

@@ -1,0 +1,28 @@
+use Rattle.std.proofs.Common.{sym, subst, arith}
+use Rattle.std.proofs.Common.{◌≡◌, true}
+use Rattle.object_store.specs.Meaning.{is_live}
+use Rattle.machine_state.specs.Machine.{MachineValue}
+use Rattle.machine_state.proofs.Changed.{leaves_sizes}
+use Rattle.machine_state.proofs.Controlled.{kept_control, control_stays}
+use Rattle.machine_state.proofs.machine.Machine.control.Goals as goal
+
+pub invariant_of-self : goal.invariant_of-self
+invariant_of-self g c =
+    let i = c.self.inside in
+    let done = c.invoke-reply.ensures in
+    let harts = done.kept.object_harts in
+    let served = c.tell_changed.ensures.harts in
+    let most = c.self.invariant.1 in (
+      c.tell_changed.ensures.coherent _ _ done.differ c.self.invariant.0,
+      omega (arith, harts, served, most),
+      kept_control i.objects c.invoke-reply.new.objects i.queues c.invoke-reply.new.queues done.kept c.self.invariant.2,
+    )
+
+pub returns-clause-leaves : goal.returns-clause-leaves
+returns-clause-leaves g c =
+    let i = c.self.inside in
+    let done = c.invoke-reply.ensures in
+    let Live : MachineValue g.row.T.Denot → Type 0 = λ m. is_live m.objects.items c.args.cap ≡ true in
+    let Sent : MachineValue g.row.T.Denot → Type 0 = λ m. is_live m.objects.items c.args.request.sent ≡ true in
+    let stays = control_stays i.objects c.invoke-reply.new.objects i.queues c.args.cap c.args.request (subst Live (sym c.self.view_is) c.requires.live) (subst Sent (sym c.self.view_is) c.requires.sent) done.stays in
+    rw (← c.self.view_is) (leaves_sizes _ _ _ done.kept.sizes done.kept.object_harts stays)
