@@ -1,0 +1,7 @@
+pub mod Held
+pub mod Acting
+pub mod Walks
+pub mod Answering
+pub mod Delivering
+pub mod Operating
+pub mod Machine
