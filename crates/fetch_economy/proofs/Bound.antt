@@ -1,12 +1,14 @@
 -- The bound in every run: an access fetches the slots that its walk reads, or none.
-use Rattle.std.proofs.Common.{ℕ, ◌≤◌, Bool, true, false, if◌then◌else◌, [], ◌∷◌, arith}
+use Rattle.std.proofs.Common.{ℕ, ◌≤◌, Bool, true, false, if◌then◌else◌, List, [], ◌∷◌, arith}
 use Rattle.cap_format.specs.Capability.{Capability}
 use Rattle.object_store.specs.Store.{Items}
 use Rattle.walk_meaning.specs.declared.kind.Kind.{Kind}
 use Rattle.walk_meaning.specs.Trail.{slots}
 use Rattle.walk_meaning.proofs.SlotsLaw.{slots_law}
 use Rattle.map_cache.specs.Kept.{KeptValue, cost_of, is_spared, kept_after, kept_without}
-use Rattle.machine_state.specs.Outcome.Touch.{DataAccess, CapAccess, SlotRead, Changed}
+use Rattle.machine_state.specs.Outcome.{Touch}
+use Rattle.machine_state.specs.Outcome.Touch.{DataAccess, CapAccess, GptCall, Changed}
+use Rattle.fetch_economy.specs.Counts.{slot_reads, gpt_calls}
 use Rattle.fetch_economy.specs.Laws.{BoundInEveryRun, RoundBound}
 
 -- an access of data fetches at most 32 slots
@@ -23,8 +25,18 @@ bound_in_every_run kept (DataAccess o space address kind ∷ touches) =
     omega (arith, cost_of-most kept o space address kind, bound_in_every_run (kept_after kept o space address kind) touches)
 bound_in_every_run kept (CapAccess o space address kind ∷ touches) =
     omega (arith, slots_law o space address kind, bound_in_every_run kept touches)
-bound_in_every_run kept (SlotRead ∷ touches) = omega (arith, bound_in_every_run kept touches)
+bound_in_every_run kept (GptCall true ∷ touches) = omega (arith, bound_in_every_run kept touches)
+bound_in_every_run kept (GptCall false ∷ touches) = omega (arith, bound_in_every_run kept touches)
 bound_in_every_run kept (Changed item ∷ touches) = omega (arith, bound_in_every_run (kept_without kept item) touches)
 
+-- no more slots are read than GPTs are invoked
+pub slot_reads-most : (touches : List Touch) → slot_reads touches ≤ gpt_calls touches
+slot_reads-most [] = omega arith
+slot_reads-most (DataAccess o space address kind ∷ touches) = slot_reads-most touches
+slot_reads-most (CapAccess o space address kind ∷ touches) = slot_reads-most touches
+slot_reads-most (GptCall true ∷ touches) = omega (arith, slot_reads-most touches)
+slot_reads-most (GptCall false ∷ touches) = omega (arith, slot_reads-most touches)
+slot_reads-most (Changed item ∷ touches) = slot_reads-most touches
+
 pub round_bound : RoundBound
-round_bound kept touches invocations reads = omega (arith, bound_in_every_run kept touches, reads)
+round_bound kept touches = omega (arith, bound_in_every_run kept touches, slot_reads-most touches)

@@ -13,7 +13,8 @@ use Rattle.map_cache.specs.Key.{region_key, root_key, with_key}
 use Rattle.map_cache.specs.Kept.{KeptValue, added, added_to, cost_of, counted, fits, is_reached, kept_after, kept_without, nothing, overflows}
 use Rattle.map_cache.proofs.Economy.{noted_all-grows, with_key-grows}
 use Rattle.machine_state.specs.Outcome.{Touch}
-use Rattle.machine_state.specs.Outcome.Touch.{DataAccess, CapAccess, SlotRead, Changed}
+use Rattle.machine_state.specs.Outcome.Touch.{DataAccess, CapAccess, GptCall, Changed}
+use Rattle.fetch_economy.proofs.Bound.{slot_reads-most}
 use Rattle.fetch_economy.specs.Counts.{slot_reads, fetched_by, kept_by, overflows_in}
 use Rattle.fetch_economy.specs.Economy.{EconomyValue, at_start, covering, economy_at, economy_after, uncovered, uncovered_at}
 use Rattle.fetch_economy.specs.Ages.{AgesAreTold}
@@ -39,7 +40,7 @@ need-before_touch e (DataAccess o space address kind) need = on (is_reached (acc
     on true need = need-before_access e space (counted o space) (address / 4096) (trail o space address kind) need
     on false need = need
 need-before_touch e (CapAccess o space address kind) need = need
-need-before_touch e SlotRead need = need
+need-before_touch e (GptCall reads) need = need
 need-before_touch e (Changed item) need = need
 
 -- the need before touches fits where the need after them does
@@ -116,7 +117,10 @@ economic k e o p (DataAccess q space address kind ∷ ts) m told need =
 economic k e o p (CapAccess q space address kind ∷ ts) m told need =
     let rest = economic k e o p ts m told need in
     record { meets = rest.meets; few = omega (arith, slots_law q space address kind, rest.few); whole = rest.whole }
-economic k e o p (SlotRead ∷ ts) m told need =
+economic k e o p (GptCall true ∷ ts) m told need =
+    let rest = economic k e o p ts m told need in
+    record { meets = rest.meets; few = omega (arith, rest.few); whole = rest.whole }
+economic k e o p (GptCall false ∷ ts) m told need =
     let rest = economic k e o p ts m told need in
     record { meets = rest.meets; few = omega (arith, rest.few); whole = rest.whole }
 economic k e o p (Changed item ∷ ts) m told need =
@@ -129,4 +133,4 @@ fetch_economy o p ts told need =
     record { few = all.few; held = all.meets.held; whole = all.whole }
 
 pub round_economy : RoundEconomy
-round_economy o p ts invocations told need reads = omega (arith, (fetch_economy o p ts told need).few, reads)
+round_economy o p ts told need = omega (arith, (fetch_economy o p ts told need).few, slot_reads-most ts)

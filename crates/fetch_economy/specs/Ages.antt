@@ -5,7 +5,7 @@ use Rattle.cap_format.specs.declared.item.Item.TheVariants.{Header}
 use Rattle.cap_format.specs.declared.kind.CapKind.{CapKind}
 use Rattle.object_store.specs.Store.{Items, count_of}
 use Rattle.machine_state.specs.Outcome.{Touch}
-use Rattle.machine_state.specs.Outcome.Touch.{DataAccess, CapAccess, SlotRead, Changed}
+use Rattle.machine_state.specs.Outcome.Touch.{DataAccess, CapAccess, GptCall, Changed}
 
 -- all objects have the same ages
 abbrev pub SameAges : Items → Items → Type 0
@@ -21,5 +21,5 @@ abbrev pub AgesAreTold : Items → List Touch → Items → Type 0
 AgesAreTold o [] p = SameAges o p
 AgesAreTold o (DataAccess q space address kind ∷ touches) p = SameAges o q × AgesAreTold q touches p
 AgesAreTold o (CapAccess q space address kind ∷ touches) p = AgesAreTold o touches p
-AgesAreTold o (SlotRead ∷ touches) p = AgesAreTold o touches p
+AgesAreTold o (GptCall reads ∷ touches) p = AgesAreTold o touches p
 AgesAreTold o (Changed item ∷ touches) p = (q : Items) × SameAgesBut item o q × AgesAreTold q touches p

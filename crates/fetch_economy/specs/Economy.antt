@@ -27,7 +27,7 @@ use Rattle.map_cache.specs.declared.key.Key.{Key}
 use Rattle.map_cache.specs.Key.{region_key, root_key, same_space, with_key}
 use Rattle.map_cache.specs.Kept.{Note, note_order, noted_all, is_reached, counted}
 use Rattle.machine_state.specs.Outcome.{Touch}
-use Rattle.machine_state.specs.Outcome.Touch.{DataAccess, CapAccess, SlotRead, Changed}
+use Rattle.machine_state.specs.Outcome.Touch.{DataAccess, CapAccess, GptCall, Changed}
 
 -- Which pairs of a space and a page are covered; the notes, each of a space with its age, an item and a block; and the spaces
 -- with their ages, and these with regions, of accesses that reached. No note and no frame comes twice.
@@ -69,7 +69,7 @@ economy_at e (DataAccess o space address kind) =
     then covering e space (counted o space) (address / 4096) (trail o space address kind)
     else e
 economy_at e (CapAccess o space address kind) = e
-economy_at e SlotRead = e
+economy_at e (GptCall reads) = e
 economy_at e (Changed item) = uncovering e item
 
 -- all of these touches, in their order
@@ -87,7 +87,7 @@ is_covered e o space address kind = is_reached (access o space address kind) && 
 abbrev pub uncovered_at : EconomyValue → Touch → ℕ
 uncovered_at e (DataAccess o space address kind) = if is_covered e o space address kind then 0 else 1
 uncovered_at e (CapAccess o space address kind) = 1
-uncovered_at e SlotRead = 0
+uncovered_at e (GptCall reads) = 0
 uncovered_at e (Changed item) = 0
 
 -- how many touches have to be walked. (The access that is asked for behind a run is no touch of it: it is one walk more.)

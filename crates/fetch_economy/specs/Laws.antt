@@ -8,7 +8,7 @@ use Rattle.map_cache.specs.Kept.{KeptValue, nothing, counted}
 use Rattle.map_cache.specs.Cache.{CacheValue, kept_of}
 use Rattle.map_cache.specs.Mappings.{AreMappings, mapping_of}
 use Rattle.machine_state.specs.Outcome.{Touch}
-use Rattle.fetch_economy.specs.Counts.{accesses, slot_reads, fetched_by, kept_by, overflows_in}
+use Rattle.fetch_economy.specs.Counts.{accesses, gpt_calls, slot_reads, fetched_by, kept_by, overflows_in}
 use Rattle.fetch_economy.specs.Economy.{at_start, economy_after, uncovered, need_fits}
 use Rattle.fetch_economy.specs.Ages.{AgesAreTold}
 
@@ -19,12 +19,10 @@ abbrev pub BoundInEveryRun : Type 0
 BoundInEveryRun =
     (kept : KeptValue) (touches : List Touch) → fetched_by kept touches ≤ 32 * accesses touches + slot_reads touches
 
--- The same in rounder numbers: 33 for each access, and one for each of so many invocations of GPTs' capabilities, of which
--- there are no fewer than slots read by operations.
+-- The same in rounder numbers: 33 for each access, and one for each invocation of a GPT's capability.
 abbrev pub RoundBound : Type 0
 RoundBound =
-    (kept : KeptValue) (touches : List Touch) (invocations : ℕ) → slot_reads touches ≤ invocations →
-    fetched_by kept touches ≤ 33 * accesses touches + invocations
+    (kept : KeptValue) (touches : List Touch) → fetched_by kept touches ≤ 33 * accesses touches + gpt_calls touches
 
 -- ---- where the need fits
 
@@ -46,8 +44,8 @@ FetchEconomy =
 -- the bound in rounder numbers
 abbrev pub RoundEconomy : Type 0
 RoundEconomy =
-    (start end : Items) (touches : List Touch) (invocations : ℕ) → AgesAreTold start touches end → need_fits touches ≡ true →
-    slot_reads touches ≤ invocations → fetched_by nothing touches ≤ 33 * uncovered at_start touches + invocations
+    (start end : Items) (touches : List Touch) → AgesAreTold start touches end → need_fits touches ≡ true →
+    fetched_by nothing touches ≤ 33 * uncovered at_start touches + gpt_calls touches
 
 -- the entry of a page of a space is among these
 pub record HasEntry (entries : List Mapping) (space : Capability) (page : ℕ) : Type 0 where

@@ -1,1 +1,3 @@
 pub mod Ran
+mod Destroyed
+mod Told

@@ -9,7 +9,7 @@ use Rattle.machine_state.specs.State.{State, process}
 use Rattle.machine_state.specs.Setters.{set_capreg, advance}
 use Rattle.machine_state.specs.Outcome.{Outcome, cappage_name, done, recorded, touched, changing}
 use Rattle.machine_state.specs.CapAccess.{cap_access, cap_touch, cap_reached, cap_found, cap_stored}
-use Rattle.kernel_core.specs.Fault.{fault, misaligned, malformed}
+use Rattle.messages.specs.Fault.{fault, misaligned, malformed}
 
 -- a loadcap to register c`to` whose address is aligned
 abbrev pub cap_loaded_from : State → ℕ → ℕ → ℕ → Result Place WalkFault → Outcome

@@ -13,7 +13,7 @@ use Rattle.machine_state.specs.declared.record.Record.TheVariants.{Insn as InsnR
 use Rattle.machine_state.specs.State.{State, pc_of}
 use Rattle.machine_state.specs.Setters.{dispatch, ticked}
 use Rattle.machine_state.specs.Outcome.{Outcome, process_name, names_on, done, recorded, touched, changing}
-use Rattle.kernel_core.specs.Fault.{fault}
+use Rattle.messages.specs.Fault.{fault}
 use Rattle.machine_state.specs.DataAccess.{data_access, data_touch, reached, number_at}
 use Rattle.kernel_core.specs.Instruction.{perform}
 
@@ -41,10 +41,20 @@ stepped s (Some p) = instruction s p
 abbrev pub tick_of : State → Option ℕ → Outcome
 tick_of s on = record { state = ticked s on; records = []; touches = []; changed = names_on on }
 
+-- who performs an event of a machine that is not halted: the process that the hart has or takes, and at a tick the one
+-- that it has
+abbrev pub performer_by : State → Event → Option ℕ
+performer_by s (Step hart) = hart_of (dispatch s hart).queues hart
+performer_by s (Tick hart) = hart_of s.queues hart
+
+-- who performs an event, if anybody does
+abbrev pub performer : State → Event → Option ℕ
+performer s e = if s.halted then None else performer_by s e
+
 -- an event of a machine that is not halted
 unfoldable pub event_by : State → Event → Outcome
-event_by s (Step hart) = stepped (dispatch s hart) (hart_of (dispatch s hart).queues hart)
-event_by s (Tick hart) = tick_of s (hart_of s.queues hart)
+event_by s (Step hart) = stepped (dispatch s hart) (performer_by s (Step hart))
+event_by s (Tick hart) = tick_of s (performer_by s (Tick hart))
 
 -- an event: nothing happens to a machine that is halted
 abbrev pub event_of : State → Event → Outcome

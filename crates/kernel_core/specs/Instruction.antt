@@ -8,7 +8,7 @@ use Rattle.rv32_user.specs.Step.{effect_of, registers_after}
 use Rattle.machine_state.specs.State.{State, process, pc_of}
 use Rattle.machine_state.specs.Setters.{set_pc, set_registers}
 use Rattle.machine_state.specs.Outcome.{Outcome, done}
-use Rattle.kernel_core.specs.Fault.{fault, misaligned}
+use Rattle.messages.specs.Fault.{fault, misaligned}
 use Rattle.kernel_core.specs.LoadStore.{load, store}
 use Rattle.kernel_core.specs.SystemCall.{system_call}
 

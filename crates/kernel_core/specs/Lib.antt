@@ -3,11 +3,17 @@ pub use Rattle.machine_state.specs.State
 pub use Rattle.machine_state.specs.Setters
 pub use Rattle.machine_state.specs.Outcome
 pub use Rattle.machine_state.specs.Came
+pub use Rattle.machine_state.specs.Faulting
+pub use Rattle.machine_state.specs.Messaging
 pub use Rattle.machine_state.specs.DataAccess
 pub use Rattle.machine_state.specs.CapAccess
 pub use Rattle.machine_state.specs.Reply
 pub use Rattle.machine_state.specs.Operation
-pub mod Fault
+pub use Rattle.messages.specs.Followed
+pub use Rattle.messages.specs.Fault
+pub use Rattle.messages.specs.Strings
+pub use Rattle.messages.specs.Message
+pub use Rattle.messages.specs.Waiting
 pub mod LoadStore
 pub mod CapTransfer
 pub mod KernelOperation
@@ -15,3 +21,4 @@ pub mod SystemCall
 pub mod Instruction
 pub mod Event
 pub mod Run
+pub mod Laws

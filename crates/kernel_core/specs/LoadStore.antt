@@ -8,7 +8,7 @@ use Rattle.machine_state.specs.State.{State, process}
 use Rattle.machine_state.specs.Setters.{set_registers, advance}
 use Rattle.machine_state.specs.Outcome.{Outcome, page_name, done, recorded, touched, changing}
 use Rattle.machine_state.specs.DataAccess.{data_access, data_touch, reached, number_at, written}
-use Rattle.kernel_core.specs.Fault.{fault, misaligned}
+use Rattle.messages.specs.Fault.{fault, misaligned}
 
 -- a load that is aligned
 abbrev pub loaded_from : State → ℕ → ℕ → ℕ → Bool → ℕ → Result Hit WalkFault → Outcome

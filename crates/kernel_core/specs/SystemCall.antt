@@ -1,5 +1,5 @@
 -- System calls, by the number in x17. (Coyotos; the numbers are this project's.)
-use Rattle.std.specs.Prelude.{ℕ, ◌==◌, ◌&&◌, nat_le, if◌then◌else◌, Option, Some, None, Result, Ok, Err}
+use Rattle.std.specs.Prelude.{ℕ, ◌==◌, ◌&&◌, nat_le, Bool, false, if◌then◌else◌, Option, Some, None, Result, Ok, Err}
 use Rattle.cap_format.specs.declared.code.Code.{Code}
 use Rattle.cap_format.specs.declared.code.Code.TheVariants.{InvalidCap, WouldBlock}
 use Rattle.process_objects.specs.Process.{capreg_of}
@@ -14,10 +14,12 @@ use Rattle.kernel_core.specs.declared.system_call.SystemCall.TheVariants.{Invoke
 use Rattle.machine_state.specs.State.{State, process, register_of}
 use Rattle.machine_state.specs.Setters.{set_capreg, advance, yielded}
 use Rattle.machine_state.specs.Outcome.{Outcome, done}
-use Rattle.kernel_core.specs.Fault.{malformed}
+use Rattle.messages.specs.Followed.{followed}
+use Rattle.messages.specs.Fault.{malformed}
+use Rattle.messages.specs.Message.{send_open, is_delivered}
+use Rattle.messages.specs.Waiting.{wait_on, listen}
 use Rattle.kernel_core.specs.CapTransfer.{load_cap, store_cap}
-use Rattle.machine_state.specs.Reply.{set_reply}
-use Rattle.kernel_core.specs.KernelOperation.{kernel_op}
+use Rattle.kernel_core.specs.KernelOperation.{answered_call, kernel_op}
 
 -- the system call with this number
 abbrev pub call_with : ℕ → Option SystemCall
@@ -50,33 +52,52 @@ moved s p _ = malformed s p
 unfoldable pub move_cap : State → ℕ → Outcome
 move_cap s p = moved s p (call_with (register_of s p 17))
 
+-- ---- call 0, invoke
+
+-- a send phase: what comes of it, and whether it delivers a message
+pub record Sending : Type 0 where
+  pub outcome : Outcome
+  pub delivers : Bool
+
+-- a send phase that delivers no message
+abbrev pub no_message : Outcome → Sending
+no_message outcome = record { outcome = outcome; delivers = false }
+
 -- a send phase that is over with a code: the process goes on behind its instruction, with a reply
 abbrev pub refused_call : State → ℕ → InvocationValue → Code → Outcome
-refused_call s p inv code = done (set_reply (advance s p) p inv.accept (reply_of (refused code)))
+refused_call s p inv code = answered_call s p inv (reply_of (refused code))
 
--- a send phase by who answers: a message that is taken, and a wait, are not built (fewer cases than Coyotos)
-abbrev pub sent_to : State → ℕ → InvocationValue → Callee → Outcome
-sent_to s p inv (Kernel cap) = kernel_op s p inv cap
-sent_to s p inv Dead = refused_call s p inv InvalidCap
-sent_to s p inv (Busy q) = if inv.nonblocking then refused_call s p inv WouldBlock else malformed s p
-sent_to s p inv (Open e q) = malformed s p
+-- a recipient that is busy: the process is told so, or waits for it
+abbrev pub busy_call : State → ℕ → InvocationValue → ℕ → Outcome
+busy_call s p inv q = if inv.nonblocking then refused_call s p inv WouldBlock else wait_on s p q
+
+-- a send phase by who answers
+abbrev pub sent_to : State → ℕ → InvocationValue → Callee → Sending
+sent_to s p inv (Kernel cap) = no_message (kernel_op s p inv cap)
+sent_to s p inv Dead = no_message (refused_call s p inv InvalidCap)
+sent_to s p inv (Busy q) = no_message (busy_call s p inv q)
+sent_to s p inv (Open e q) = record { outcome = send_open s p e q inv; delivers = is_delivered s p inv }
 
 -- the send phase of an invocation
-unfoldable pub send : State → ℕ → InvocationValue → Outcome
+unfoldable pub send : State → ℕ → InvocationValue → Sending
 send s p inv = sent_to s p inv (callee s.store (capreg_of (process s p) inv.capreg))
 
--- the receive phase of an invocation, which is not built (fewer cases than Coyotos)
-unfoldable pub receive : State → ℕ → InvocationValue → Outcome
-receive s p inv = malformed s p
+-- what follows a send phase: a receive phase, where there is one and a message was delivered
+abbrev pub received_after : ℕ → InvocationValue → Sending → Outcome
+received_after p inv sending =
+    if sending.delivers && inv.receive then followed sending.outcome (listen sending.outcome.state p inv)
+    else sending.outcome
 
 -- an invocation, or registers that are none: the receive phase without a send phase comes at once
 abbrev pub invoked : State → ℕ → Result InvocationValue MalformedSyscall → Outcome
 invoked s p (Err malformed_is) = malformed s p
-invoked s p (Ok inv) = if inv.send then send s p inv else receive s p inv
+invoked s p (Ok inv) = if inv.send then received_after p inv (send s p inv) else listen s p inv
 
 -- call 0
 unfoldable pub invoke : State → ℕ → Outcome
 invoke s p = invoked s p (parsed (process s p).regs)
+
+-- ---- all
 
 -- what a system call comes to
 abbrev pub called : State → ℕ → Option SystemCall → Outcome

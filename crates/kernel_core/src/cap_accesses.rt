@@ -7,9 +7,9 @@ ghost use Rattle.machine_state.specs.Outcome.{process_name};
 ghost use Rattle.machine_state.specs.Came.{Came, CameUnasked, Leaves, HasRoom};
 ghost use Rattle.kernel_core.specs.CapTransfer.{load_cap, cap_loaded_from, store_cap, cap_stored_to};
 
-use crate::faults::{fault, malformed, misaligned};
 use cap_format::CapKind;
 use machine_state::{Machine, Record, Records};
+use messages::{fault, malformed, misaligned};
 use std::sync::ledger::Ledger;
 use steps::Steps;
 use walk_engine::Translator;

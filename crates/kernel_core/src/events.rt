@@ -9,10 +9,10 @@ ghost use Rattle.machine_state.specs.Came.{Came, Leaves, HasRoom};
 ghost use Rattle.machine_state.specs.Machine.{hart_in};
 ghost use Rattle.kernel_core.specs.Event.{decoded_to, instruction, event_by, event_of};
 
-use crate::faults::fault;
 use crate::instructions::perform;
 use cap_format::FaultCode;
 use machine_state::{Event, Machine, Record, Records};
+use messages::fault;
 use rv32_decode::decode;
 use std::sync::ledger::Ledger;
 use steps::Steps;
@@ -68,6 +68,24 @@ pub fn event_into<T: Translator, L: Ledger>(
     ensures harts { machine.new.objects.harts ≡ machine.old.objects.harts }
 {
     records.clear();
+    event_unless_halted(machine, e, records, fetches);
+}
+
+/// An event, of which nothing comes where the machine is halted.
+#[tactic(auto, using(object_store::proofs::Stays::stays_same))]
+fn event_unless_halted<T: Translator, L: Ledger>(
+    machine: &mut Machine<T>,
+    e: Event,
+    records: &mut Records,
+    fetches: &mut Steps<L>,
+)
+    requires hart { hart_in e < machine.old.objects.harts }
+    requires room { HasRoom 42 records.old }
+    ensures came { Came T.kept T.cost T.after T.without (event_of (state_of machine.old) e)
+        machine.old records.old fetches.old machine.new records.new fetches.new }
+    ensures leaves { let outcome = event_of (state_of machine.old) e in
+        Leaves outcome.changed machine.old machine.new }
+{
     if !machine.halted() {
         event_by(machine, e, records, fetches);
     }

@@ -8,12 +8,12 @@ ghost use Rattle.machine_state.specs.Outcome.{process_name};
 ghost use Rattle.machine_state.specs.Came.{Came, Leaves, HasRoom};
 ghost use Rattle.kernel_core.specs.Instruction.{perform};
 
-use crate::faults::{fault, misaligned};
 use crate::loads::{Wanted, load};
 use crate::stores::store;
 use crate::system_calls::system_call;
 use cap_format::FaultCode;
 use machine_state::{Machine, Records};
+use messages::{fault, misaligned};
 use rv32_decode::Insn;
 use rv32_user::{Effect, step};
 use std::sync::ledger::Ledger;

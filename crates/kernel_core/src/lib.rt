@@ -4,11 +4,16 @@
 //! what a translator keeps.
 #![tactic(auto)]
 
+mod answering;
 mod cap_accesses;
+mod controlling;
 mod events;
-mod faults;
+mod halting;
 mod instructions;
+mod invoking;
+mod laws;
 mod loads;
+mod logging;
 mod operating;
 pub mod parts;
 mod runs;
@@ -17,6 +22,7 @@ mod system_call;
 mod system_calls;
 
 pub use events::{event, event_into};
+pub use laws::few_records;
 pub use machine_state::{Event, LogBytes, Machine, Record, Records};
 pub use runs::{Listener, run};
 pub use system_call::SystemCall;

@@ -8,9 +8,9 @@ ghost use Rattle.machine_state.specs.Outcome.{process_name};
 ghost use Rattle.machine_state.specs.Came.{Came, CameUnasked, Leaves, HasRoom};
 ghost use Rattle.kernel_core.specs.LoadStore.{load, loaded_from};
 
-use crate::faults::{fault, misaligned};
 use cap_format::CapKind;
 use machine_state::{Machine, Record, Records};
+use messages::{fault, misaligned};
 use rv32_user::finish_load;
 use std::sync::ledger::Ledger;
 use steps::Steps;

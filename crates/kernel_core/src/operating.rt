@@ -1,26 +1,29 @@
-//! Operations of the kernel, with their replies.
+//! Operations of the kernel, with their replies: those on memory kinds, and the choice of the others.
 ghost use Rattle.std.specs.Prelude.{◌≡◌, ◌≢◌, ◌<◌, ◌∷◌, true, Ok};
 ghost use Rattle.cap_format.specs.declared.kind.CapKind.TheVariants.{Process, Entry};
+ghost use Rattle.cap_format.specs.Kind.{is_memory};
 ghost use Rattle.cap_format.specs.Capability.{bare};
 ghost use Rattle.object_store.specs.Store.{size_of};
 ghost use Rattle.object_store.specs.Meaning.{is_live};
 ghost use Rattle.invocation.specs.Invocation.{parsed};
 ghost use Rattle.machine_state.specs.State.{state_of, process, IsOnHart};
+ghost use Rattle.machine_state.specs.Setters.{advance};
 ghost use Rattle.machine_state.specs.Outcome.{process_name};
 ghost use Rattle.machine_state.specs.Came.{Came, Leaves, HasRoom};
-ghost use Rattle.kernel_core.specs.KernelOperation.{kernel_op};
+ghost use Rattle.kernel_core.specs.KernelOperation.{memory_op, kernel_op};
 
-use crate::faults::malformed;
-use cap_format::Cap;
+use crate::controlling::control_op;
+use crate::halting::sysctl_op;
+use crate::logging::kernlog_op;
+use cap_format::{Cap, CapKind};
 use invocation::Invocation;
 use machine_state::{Machine, Records};
 use std::sync::ledger::Ledger;
 use steps::Steps;
 use walk_engine::Translator;
 
-/// An operation of the kernel on a capability that is no entry, with its reply. Those on the kinds that are no memory
-/// kinds are not built.
-#[tactic(auto, unfolding(crate::specs::KernelOperation::kernel_op), using(machine_state::proofs::Changed::stays_around))]
+/// An operation of the kernel on a capability that is no entry, with its reply.
+#[tactic(auto, unfolding(crate::specs::KernelOperation::kernel_op))]
 pub fn kernel_op<T: Translator, L: Ledger>(
     machine: &mut Machine<T>,
     p: u16,
@@ -41,9 +44,39 @@ pub fn kernel_op<T: Translator, L: Ledger>(
     ensures leaves { let outcome = kernel_op (state_of machine.old) p inv.now (bare cap) in
         Leaves (process_name p ∷ outcome.changed) machine.old machine.new }
 {
-    if !cap.kind().is_memory() {
-        return malformed(machine, p, records, fetches);
+    match cap.kind() {
+        CapKind::KernLog => kernlog_op(machine, p, records, cap, inv, fetches),
+        CapKind::SysCtl => sysctl_op(machine, p, records, cap, inv, fetches),
+        kind => {
+            if kind.is_memory() {
+                memory_op(machine, p, records, cap, inv, fetches);
+            } else {
+                control_op(machine, p, records, cap, inv, fetches);
+            }
+        }
     }
+}
+
+/// A request to a capability of a memory kind.
+#[tactic(auto, using(machine_state::proofs::Changed::stays_around))]
+fn memory_op<T: Translator, L: Ledger>(
+    machine: &mut Machine<T>,
+    p: u16,
+    records: &mut Records,
+    cap: Cap,
+    inv: &Invocation,
+    fetches: &mut Steps<L>,
+)
+    requires there { p < size_of machine.old.objects.items Process }
+    requires live { is_live machine.old.objects.items cap ≡ true }
+    requires kind { is_memory cap.kind ≡ true }
+    ensures came { let outcome = memory_op (advance (state_of machine.old) p) p inv.now (bare cap) in
+        Came T.kept T.cost T.after T.without
+        outcome machine.old records.old fetches.old machine.new records.new fetches.new }
+    ensures leaves { let outcome = memory_op (advance (state_of machine.old) p) p inv.now (bare cap) in
+        Leaves (process_name p ∷ outcome.changed) machine.old machine.new }
+{
+    let _ = records;
     machine.advance(p);
     let request = machine.request(p, inv);
     let reply = machine.operate(cap, request, fetches);

@@ -8,10 +8,10 @@ ghost use Rattle.machine_state.specs.Outcome.{process_name};
 ghost use Rattle.machine_state.specs.Came.{Came, CameUnasked, Leaves, HasRoom};
 ghost use Rattle.kernel_core.specs.LoadStore.{store, stored_to};
 
-use crate::faults::{fault, misaligned};
 use crate::loads::is_aligned;
 use cap_format::CapKind;
 use machine_state::{Machine, Record, Records};
+use messages::{fault, misaligned};
 use std::sync::ledger::Ledger;
 use steps::Steps;
 use walk_engine::{Hit, Translator};

@@ -1,21 +1,17 @@
-//! System calls. Of messages nothing is built but refusals: the rest is malformed.
-ghost use Rattle.std.specs.Prelude.{◌≡◌, ◌<◌, ◌≤◌, ◌∷◌, false, Ok};
+//! System calls, by their numbers, and those that move a capability.
+ghost use Rattle.std.specs.Prelude.{◌<◌, ◌∷◌};
 ghost use Rattle.cap_format.specs.declared.kind.CapKind.TheVariants.{Process};
 ghost use Rattle.object_store.specs.Store.{size_of};
-ghost use Rattle.invocation.specs.Invocation.{parsed};
-ghost use Rattle.machine_state.specs.State.{state_of, process, IsOnHart};
+ghost use Rattle.machine_state.specs.State.{state_of, IsOnHart};
 ghost use Rattle.machine_state.specs.Outcome.{process_name};
 ghost use Rattle.machine_state.specs.Came.{Came, Leaves, HasRoom};
-ghost use Rattle.kernel_core.specs.SystemCall.{copy_cap, move_cap, invoke, refused_call, send, receive, system_call};
+ghost use Rattle.kernel_core.specs.SystemCall.{copy_cap, move_cap, system_call};
 
 use crate::cap_accesses::{load_cap, store_cap};
-use crate::faults::malformed;
-use crate::operating::kernel_op;
+use crate::invoking::invoke;
 use crate::system_call::SystemCall;
-use cap_format::Code;
-use invocation::{Callee, Invocation, parse};
 use machine_state::{Machine, Records};
-use operations::refuse;
+use messages::malformed;
 use std::sync::ledger::Ledger;
 use steps::Steps;
 use walk_engine::Translator;
@@ -89,7 +85,7 @@ fn copy_cap<T: Translator, L: Ledger>(
 )
     requires there { p < size_of machine.old.objects.items Process }
     requires on_hart { IsOnHart machine.old.queues p }
-    requires room { HasRoom 40 records.old }
+    requires room { HasRoom 1 records.old }
     ensures came { let outcome = copy_cap (state_of machine.old) p from to in
         Came T.kept T.cost T.after T.without
         outcome machine.old records.old fetches.old machine.new records.new fetches.new }
@@ -103,114 +99,4 @@ fn copy_cap<T: Translator, L: Ledger>(
     } else {
         malformed(machine, p, records, fetches);
     }
-}
-
-/// An invocation: its send phase, where it has one, and else its receive phase.
-#[tactic(auto, unfolding(crate::specs::SystemCall::invoke))]
-fn invoke<T: Translator, L: Ledger>(
-    machine: &mut Machine<T>,
-    p: u16,
-    records: &mut Records,
-    fetches: &mut Steps<L>,
-)
-    requires there { p < size_of machine.old.objects.items Process }
-    requires on_hart { IsOnHart machine.old.queues p }
-    requires room { HasRoom 40 records.old }
-    ensures came { let outcome = invoke (state_of machine.old) p in
-        Came T.kept T.cost T.after T.without
-        outcome machine.old records.old fetches.old machine.new records.new fetches.new }
-    ensures leaves { let outcome = invoke (state_of machine.old) p in
-        Leaves (process_name p ∷ outcome.changed) machine.old machine.new }
-{
-    match parse(&machine.registers(p)) {
-        Err(_) => malformed(machine, p, records, fetches),
-        Ok(inv) => {
-            if inv.send() {
-                let _delivered = send(machine, p, records, &inv, fetches);
-            } else {
-                receive(machine, p, records, &inv, fetches);
-            }
-        }
-    }
-}
-
-/// The send phase of an invocation. Whether a message was delivered: none is so far.
-#[tactic(auto, unfolding(crate::specs::SystemCall::send))]
-pub fn send<T: Translator, L: Ledger>(
-    machine: &mut Machine<T>,
-    p: u16,
-    records: &mut Records,
-    inv: &Invocation,
-    fetches: &mut Steps<L>,
-) -> bool
-    requires there { p < size_of machine.old.objects.items Process }
-    requires on_hart { IsOnHart machine.old.queues p }
-    requires room { HasRoom 40 records.old }
-    requires inv { parsed (process (state_of machine.old) p).regs ≡ Ok inv.now }
-    ensures delivered { result ≡ false }
-    ensures came { let outcome = send (state_of machine.old) p inv.now in
-        Came T.kept T.cost T.after T.without
-        outcome machine.old records.old fetches.old machine.new records.new fetches.new }
-    ensures leaves { let outcome = send (state_of machine.old) p inv.now in
-        Leaves (process_name p ∷ outcome.changed) machine.old machine.new }
-{
-    match machine.callee(p, inv.capreg()) {
-        Callee::Kernel(cap) => kernel_op(machine, p, records, cap, inv, fetches),
-        Callee::Dead => refuse_call(machine, p, records, inv, Code::InvalidCap, fetches),
-        Callee::Busy(_) => {
-            if inv.nonblocking() {
-                refuse_call(machine, p, records, inv, Code::WouldBlock, fetches);
-            } else {
-                malformed(machine, p, records, fetches);
-            }
-        }
-        Callee::Open { .. } => malformed(machine, p, records, fetches),
-    }
-    false
-}
-
-/// A send phase that is over with a code.
-#[tactic(auto, using(object_store::proofs::Stays::stays_then))]
-fn refuse_call<T: Translator, L: Ledger>(
-    machine: &mut Machine<T>,
-    p: u16,
-    records: &mut Records,
-    inv: &Invocation,
-    code: Code,
-    fetches: &mut Steps<L>,
-)
-    requires there { p < size_of machine.old.objects.items Process }
-    ensures came { let outcome = refused_call (state_of machine.old) p inv.now code in
-        Came T.kept T.cost T.after T.without
-        outcome machine.old records.old fetches.old machine.new records.new fetches.new }
-    ensures leaves { let outcome = refused_call (state_of machine.old) p inv.now code in
-        Leaves (process_name p ∷ outcome.changed) machine.old machine.new }
-{
-    let _ = records;
-    let _ = fetches;
-    machine.advance(p);
-    machine.reply(p, inv.accept(), refuse(code));
-}
-
-/// The receive phase of an invocation, which is not built.
-#[tactic(auto, unfolding(crate::specs::SystemCall::receive))]
-pub fn receive<T: Translator, L: Ledger>(
-    machine: &mut Machine<T>,
-    p: u16,
-    records: &mut Records,
-    inv: &Invocation,
-    fetches: &mut Steps<L>,
-)
-    requires there { p < size_of machine.old.objects.items Process }
-    requires on_hart { IsOnHart machine.old.queues p }
-    requires room { HasRoom 40 records.old }
-    requires inv { parsed (process (state_of machine.old) p).regs ≡ Ok inv.now }
-    ensures came { let outcome = receive (state_of machine.old) p inv.now in
-        Came T.kept T.cost T.after T.without
-        outcome machine.old records.old fetches.old machine.new records.new fetches.new }
-    ensures leaves { let outcome = receive (state_of machine.old) p inv.now in
-        Leaves (process_name p ∷ outcome.changed) machine.old machine.new }
-{
-    let _ = inv;
-    malformed(machine, p, records, fetches);
 }

@@ -1,5 +1,5 @@
 -- An operation on a memory kind: what it touches, and that a machine is still one.
-use Rattle.std.proofs.Common.{◌≡◌, ◌⊎◌, inl, inr, ℕ, zero, suc, ◌≤◌, true≢false, true, List, [], ◌∷◌, ◌++◌, length, slice_get, refl, sym, ap, ◌∙◌, arith, Option, Some, None}
+use Rattle.std.proofs.Common.{◌≡◌, ◌⊎◌, inl, inr, ℕ, ◌==◌, ◌&&◌, Bool, if◌then◌else◌, ◌≤◌, true≢false, true, false, List, [], ◌∷◌, ◌++◌, length, slice_get, refl, sym, ap, ◌∙◌, arith, Option, Some, None}
 use Rattle.std.specs.List.{All}
 use Rattle.cap_format.specs.declared.item.Item.{Item}
 use Rattle.cap_format.specs.declared.kind.CapKind.{CapKind}
@@ -19,21 +19,35 @@ use Rattle.walk_meaning.specs.declared.kind.Kind.{Kind}
 use Rattle.machine_state.specs.Machine.{MachineValue, IsMachine}
 use Rattle.machine_state.specs.Came.{Leaves}
 use Rattle.machine_state.specs.Outcome.{spent, kept_after}
-use Rattle.machine_state.specs.Operation.{read_touches, change_touches}
+use Rattle.machine_state.specs.Outcome.Touch.{GptCall}
+use Rattle.machine_state.specs.Operation.{gpt_touches, change_touches}
+use Rattle.operations.specs.Memory.{is_gpt, is_granted, reads}
+use Rattle.cap_format.specs.declared.code.Code.{Code}
 use Rattle.machine_state.proofs.Changed.{leaves_sizes}
 
 -- what a translator says of one access and of one change
 module _ {K : Type 0} (cost : K → Items → Capability → ℕ → Kind → ℕ) (after : K → Items → Capability → ℕ → Kind → K) (without : K → Item → K) where
-  -- slots that are read fetch one each, and a change nothing
-  pub spent_reads : (k : K) (n : ℕ) (item : Option Item) → spent cost after without k (read_touches n ++ change_touches item) ≡ n
-  spent_reads k zero None = refl
-  spent_reads k zero (Some item) = refl
-  spent_reads k (suc n) item = let rest = spent_reads k n item in omega (arith, rest)
+  -- an invocation of a GPT fetches the slot that it reads, and a change nothing
+  pub spent_reads : (k : K) (kind : CapKind) (number : ℕ) (code : Code) (item : Option Item) → spent cost after without k (gpt_touches kind number code ++ change_touches item) ≡ reads kind number code
+  spent_reads k kind number code item = by (is_gpt kind) (number == 8) (is_granted code) item
+    where
+      by : (gpt getslot granted : Bool) (item : Option Item) → spent cost after without k ((if gpt then GptCall (getslot && granted) ∷ [] else []) ++ change_touches item) ≡ (if gpt && getslot && granted then 1 else 0)
+      by true true true None = refl
+      by true true true (Some item) = refl
+      by true true false None = refl
+      by true true false (Some item) = refl
+      by true false granted None = refl
+      by true false granted (Some item) = refl
+      by false getslot granted None = refl
+      by false getslot granted (Some item) = refl
 
-  -- slots that are read leave what is kept
-  pub kept_reads : (k : K) (n : ℕ) (item : Option Item) → kept_after cost after without k (read_touches n ++ change_touches item) ≡ kept_after cost after without k (change_touches item)
-  kept_reads k zero item = refl
-  kept_reads k (suc n) item = kept_reads k n item
+  -- it leaves what is kept
+  pub kept_reads : (k : K) (kind : CapKind) (number : ℕ) (code : Code) (item : Option Item) → kept_after cost after without k (gpt_touches kind number code ++ change_touches item) ≡ kept_after cost after without k (change_touches item)
+  kept_reads k kind number code item = by (is_gpt kind)
+    where
+      by : (gpt : Bool) → kept_after cost after without k ((if gpt then GptCall (number == 8 && is_granted code) ∷ [] else []) ++ change_touches item) ≡ kept_after cost after without k (change_touches item)
+      by true = refl
+      by false = refl
 
 -- no change is of the harts
 applied-harts : (w : System) (change : Change) → (applied Stored w change).store.harts ≡ w.store.harts

@@ -1,6 +1,6 @@
 -- What comes of a part of an event: the state afterwards, what is told, what a translator was asked, and which objects
 -- change.
-use Rattle.std.specs.Prelude.{ℕ, ◌+◌, List, [], ◌∷◌, Option, Some, None}
+use Rattle.std.specs.Prelude.{ℕ, ◌+◌, Bool, if◌then◌else◌, List, [], ◌∷◌, Option, Some, None}
 use Rattle.cap_format.specs.Capability.{Capability}
 use Rattle.cap_format.specs.declared.item.Item.{Item}
 use Rattle.cap_format.specs.declared.kind.CapKind.TheVariants.{Page, CapPage, Process}
@@ -11,12 +11,13 @@ use Rattle.walk_meaning.specs.Trail.{slots}
 use Rattle.machine_state.specs.declared.record.Record.{Record}
 use Rattle.machine_state.specs.State.{State}
 
--- an access of data or of a capability over these items, of a space, an address and a kind; the read of one slot of a
--- GPT by an operation; and a change of an item, which is told to the translator (this project's)
+-- an access of data or of a capability over these items, of a space, an address and a kind; an invocation of a GPT's
+-- capability, and whether it read a slot of the GPT; and a change of an item, which is told to the translator (this
+-- project's)
 pub data Touch : Type 0 where
   DataAccess : Items → Capability → ℕ → Kind → Touch
   CapAccess : Items → Capability → ℕ → Kind → Touch
-  SlotRead : Touch
+  GptCall : Bool → Touch
   Changed : Item → Touch
 
 -- a state, the records in their order, the touches in their order, and the objects that change, besides those that stay
@@ -66,14 +67,14 @@ module _ {K : Type 0} (cost : K → Items → Capability → ℕ → Kind → �
   abbrev pub spent_at : K → Touch → ℕ
   spent_at k (DataAccess o space address kind) = cost k o space address kind
   spent_at k (CapAccess o space address kind) = slots o space address kind
-  spent_at k SlotRead = 1
+  spent_at k (GptCall reads) = if reads then 1 else 0
   spent_at k (Changed item) = 0
 
   -- what the translator keeps after a touch
   abbrev pub kept_at : K → Touch → K
   kept_at k (DataAccess o space address kind) = after k o space address kind
   kept_at k (CapAccess o space address kind) = k
-  kept_at k SlotRead = k
+  kept_at k (GptCall reads) = k
   kept_at k (Changed item) = without k item
 
   -- how many slots these touches fetch, one after the other

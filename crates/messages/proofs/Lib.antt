@@ -1,4 +1,4 @@
 pub mod Joined
 pub mod Sides
 pub mod Told
-mod Few
+pub mod Few

@@ -1,5 +1,5 @@
 -- The accesses to the spans of a string: what was done so far, and what comes of the rest.
-use Rattle.std.proofs.Common.{◌≡◌, ℕ, ◌+◌, ◌≤◌, List, [], ◌∷◌, ◌++◌, length, refl, sym, ap, ◌∙◌, append_assoc, append-nil, arith, Some, None, Result, Ok, Err}
+use Rattle.std.proofs.Common.{◌≡◌, ℕ, ◌+◌, ◌≤◌, List, [], ◌∷◌, ◌++◌, refl, sym, ap, ◌∙◌, append_assoc, append-nil, arith, Some, None, Result, Ok, Err}
 use Rattle.std.specs.List.{sum_by}
 use Rattle.std.proofs.lemmas.List.Sums.{sum_by-cons}
 use Rattle.cap_format.specs.Capability.{Capability}
@@ -153,13 +153,3 @@ string_whole s q kind at len none =
     let same = side_whole s q kind (spans at len) none in
     let all = covered_size (spans at len) at (at + len) (spans_cover at len) in
     omega (arith, same, all)
-
--- there is at most one record for a span
-pub side_records : (s : State) (q : ℕ) (kind : Kind) (ss : List Span) → length (side s q kind ss).records ≤ length ss
-unfolding side
-side_records s q kind [] = omega arith
-side_records s q kind (span ∷ rest) = by (data_access s q span.address kind) (side_records s q kind rest)
-  where
-    by : (r : Result Hit WalkFault) → length (side s q kind rest).records ≤ length rest → length (span_side s q kind span (side s q kind rest) r).records ≤ length (span ∷ rest)
-    by (Ok hit) below = omega (arith, below)
-    by (Err why) below = omega arith

@@ -34,7 +34,7 @@ returns-clause-counted g c =
     let i = c.self.inside in
     let settled : Settled = memory_operation (state_map i.objects) (bare c.args.cap) (request_map bare c.args.request) in
     let code : c.invoke-reply.result.code ≡ settled.code = ap (λ (r : Reply). r.code) c.invoke-reply.ensures.reply_means in
-    let most = spent_reads g.T.Translator.cost g.T.Translator.after g.T.Translator.without (g.T.Translator.kept i.translator) (reads c.args.cap.kind (w1 c.args.request) settled.code) (item_in settled.answer.changes) in
+    let most = spent_reads g.T.Translator.cost g.T.Translator.after g.T.Translator.without (g.T.Translator.kept i.translator) c.args.cap.kind (w1 c.args.request) settled.code (item_in settled.answer.changes) in
     rw (← c.self.view_is)
     (c.invoke-reply.ensures.counted
     ∙ (ap (λ (code : Code). c.args.fetches.now + reads c.args.cap.kind (w1 c.args.request) code) code
@@ -45,7 +45,7 @@ returns-clause-kept g c =
     let i = c.self.inside in
     let settled : Settled = memory_operation (state_map i.objects) (bare c.args.cap) (request_map bare c.args.request) in
     let item : c.invoke-reply.result.changed ≡ item_in settled.answer.changes = ap (λ (r : Reply). r.changed) c.invoke-reply.ensures.reply_means in
-    let same = kept_reads g.T.Translator.cost g.T.Translator.after g.T.Translator.without (g.T.Translator.kept i.translator) (reads c.args.cap.kind (w1 c.args.request) settled.code) (item_in settled.answer.changes) in
+    let same = kept_reads g.T.Translator.cost g.T.Translator.after g.T.Translator.without (g.T.Translator.kept i.translator) c.args.cap.kind (w1 c.args.request) settled.code (item_in settled.answer.changes) in
     rw (← c.self.view_is)
     (c.tell_changed.ensures.kept
     ∙ (ap (λ (changed : Option Item). kept_after g.T.Translator.cost g.T.Translator.after g.T.Translator.without (g.T.Translator.kept i.translator) (change_touches changed)) item

@@ -1,0 +1,143 @@
+//! Call 0: an operation of the kernel, or the phases of a message.
+ghost use Rattle.std.specs.Prelude.{◌≡◌, ◌<◌, [], ◌∷◌, true, Ok};
+ghost use Rattle.cap_format.specs.declared.kind.CapKind.TheVariants.{Process};
+ghost use Rattle.object_store.specs.Store.{size_of};
+ghost use Rattle.invocation.specs.Invocation.{parsed};
+ghost use Rattle.machine_state.specs.State.{state_of, process, IsOnHart};
+ghost use Rattle.machine_state.specs.Outcome.{process_name};
+ghost use Rattle.machine_state.specs.Came.{Came, Leaves, HasRoom};
+ghost use Rattle.kernel_core.specs.SystemCall.{invoke, received_after, refused_call, busy_call, send};
+
+use crate::answering::answer_call;
+use crate::operating::kernel_op;
+use cap_format::Code;
+use invocation::{Callee, Invocation, parse};
+use machine_state::{Machine, Records};
+use messages::{listen, malformed, send_open, wait_on};
+use operations::refuse;
+use std::sync::ledger::Ledger;
+use steps::Steps;
+use walk_engine::Translator;
+
+/// An invocation: its send phase, where it has one, and else its receive phase.
+#[tactic(auto, unfolding(crate::specs::SystemCall::invoke))]
+pub(crate) fn invoke<T: Translator, L: Ledger>(
+    machine: &mut Machine<T>,
+    p: u16,
+    records: &mut Records,
+    fetches: &mut Steps<L>,
+)
+    requires there { p < size_of machine.old.objects.items Process }
+    requires on_hart { IsOnHart machine.old.queues p }
+    requires room { HasRoom 40 records.old }
+    ensures came { let outcome = invoke (state_of machine.old) p in
+        Came T.kept T.cost T.after T.without
+        outcome machine.old records.old fetches.old machine.new records.new fetches.new }
+    ensures leaves { let outcome = invoke (state_of machine.old) p in
+        Leaves (process_name p ∷ outcome.changed) machine.old machine.new }
+{
+    match parse(&machine.registers(p)) {
+        Err(_) => malformed(machine, p, records, fetches),
+        Ok(inv) => {
+            if inv.send() {
+                send_and_receive(machine, p, records, &inv, fetches);
+            } else {
+                listen(machine, p, records, &inv, fetches);
+            }
+        }
+    }
+}
+
+/// A send phase, and where it delivered a message the receive phase, if there is one.
+#[tactic(auto, using(messages::proofs::Joined::came_followed))]
+fn send_and_receive<T: Translator, L: Ledger>(
+    machine: &mut Machine<T>,
+    p: u16,
+    records: &mut Records,
+    inv: &Invocation,
+    fetches: &mut Steps<L>,
+)
+    requires there { p < size_of machine.old.objects.items Process }
+    requires on_hart { IsOnHart machine.old.queues p }
+    requires room { HasRoom 40 records.old }
+    requires inv { parsed (process (state_of machine.old) p).regs ≡ Ok inv.now }
+    ensures came { let s = state_of machine.old in
+        let outcome = received_after p inv.now (send s p inv.now) in
+        Came T.kept T.cost T.after T.without
+        outcome machine.old records.old fetches.old machine.new records.new fetches.new }
+    ensures leaves { let s = state_of machine.old in
+        let outcome = received_after p inv.now (send s p inv.now) in
+        Leaves (process_name p ∷ outcome.changed) machine.old machine.new }
+{
+    let delivered = send(machine, p, records, inv, fetches);
+    if delivered && inv.receive() {
+        listen(machine, p, records, inv, fetches);
+    }
+}
+
+/// The send phase of an invocation, and whether it delivered a message.
+#[tactic(auto, unfolding(crate::specs::SystemCall::send))]
+pub fn send<T: Translator, L: Ledger>(
+    machine: &mut Machine<T>,
+    p: u16,
+    records: &mut Records,
+    inv: &Invocation,
+    fetches: &mut Steps<L>,
+) -> bool
+    requires there { p < size_of machine.old.objects.items Process }
+    requires on_hart { IsOnHart machine.old.queues p }
+    requires room { HasRoom 40 records.old }
+    requires inv { parsed (process (state_of machine.old) p).regs ≡ Ok inv.now }
+    ensures delivered { result ≡ (send (state_of machine.old) p inv.now).delivers }
+    ensures on_hart { result ≡ true → IsOnHart machine.new.queues p }
+    ensures came { let outcome = (send (state_of machine.old) p inv.now).outcome in
+        Came T.kept T.cost T.after T.without
+        outcome machine.old records.old fetches.old machine.new records.new fetches.new }
+    ensures leaves { let outcome = (send (state_of machine.old) p inv.now).outcome in
+        Leaves (process_name p ∷ outcome.changed) machine.old machine.new }
+{
+    match machine.callee(p, inv.capreg()) {
+        Callee::Kernel(cap) => kernel_op(machine, p, records, cap, inv, fetches),
+        Callee::Dead => refuse_call(machine, p, inv, Code::InvalidCap),
+        Callee::Busy(q) => wait_or_refuse(machine, p, records, inv, q, fetches),
+        Callee::Open { endpoint, process } => {
+            return send_open(machine, p, records, inv, endpoint, process, fetches);
+        }
+    }
+    false
+}
+
+/// A recipient that is busy: the process is told so, or waits for it.
+fn wait_or_refuse<T: Translator, L: Ledger>(
+    machine: &mut Machine<T>,
+    p: u16,
+    records: &mut Records,
+    inv: &Invocation,
+    q: u16,
+    fetches: &mut Steps<L>,
+)
+    requires there { p < size_of machine.old.objects.items Process }
+    requires on_hart { IsOnHart machine.old.queues p }
+    requires on { q < size_of machine.old.objects.items Process }
+    ensures came { let outcome = busy_call (state_of machine.old) p inv.now q in
+        Came T.kept T.cost T.after T.without
+        outcome machine.old records.old fetches.old machine.new records.new fetches.new }
+    ensures leaves { let outcome = busy_call (state_of machine.old) p inv.now q in
+        Leaves (process_name p ∷ outcome.changed) machine.old machine.new }
+{
+    if inv.nonblocking() {
+        refuse_call(machine, p, inv, Code::WouldBlock);
+    } else {
+        wait_on(machine, p, records, q, fetches);
+    }
+}
+
+/// A send phase that is over with a code.
+fn refuse_call<T: Translator>(machine: &mut Machine<T>, p: u16, inv: &Invocation, code: Code)
+    requires there { p < size_of machine.old.objects.items Process }
+    ensures state { state_of machine.new ≡ (refused_call (state_of machine.old) p inv.now code).state }
+    ensures leaves { Leaves (process_name p ∷ []) machine.old machine.new }
+    ensures translator { machine.new.translator ≡ machine.old.translator }
+{
+    answer_call(machine, p, inv, refuse(code));
+}
