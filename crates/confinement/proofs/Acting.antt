@@ -1,5 +1,5 @@
 -- What a process of one side may make of objects and queues: one law for each write.
-use Rattle.std.proofs.Common.{◌≡◌, ◌≢◌, ℕ, ◌⊎◌, inl, inr, Bool, true, false, ◌==◌, if◌then◌else◌, List, [], ◌∷◌, ◌++◌, map, get_or, set, Option, Some, None, refl, sym, ◌∙◌, ap, subst}
+use Rattle.std.proofs.Common.{◌≡◌, ℕ, inl, inr, Bool, true, false, ◌==◌, if◌then◌else◌, List, [], ◌∷◌, ◌++◌, get_or, set, Option, Some, None, refl, sym, ◌∙◌, ap, subst}
 use Rattle.std.proofs.Math.ListN.{get_or-map}
 use Rattle.cap_format.specs.declared.kind.CapKind.{CapKind}
 use Rattle.cap_format.specs.declared.kind.CapKind.TheVariants.{Page, CapPage, Gpt, Endpoint, Process}
@@ -10,15 +10,15 @@ use Rattle.page_store.specs.CapPage.{cap_at, empty_cappage}
 use Rattle.process_objects.specs.Process.{ProcessValue, capreg_of, slot_of, empty_process}
 use Rattle.endpoint_objects.specs.declared.endpoint.Endpoint.{Endpoint as EndpointValue}
 use Rattle.endpoint_objects.specs.Endpoint.{empty_endpoint}
-use Rattle.object_store.specs.Store.{Store, slot_at, gpt_at, process_at, endpoint_at, set_gpt, set_slot, set_header, with_items, with_page, with_cappage, with_process, with_endpoint}
-use Rattle.object_store.specs.Object.{ObjectName, object_name, SameObject, IsAmong, Stays}
+use Rattle.object_store.specs.Store.{Store, slot_at, gpt_at, process_at, set_gpt, set_slot, set_header, with_items, with_page, with_cappage, with_process, with_endpoint}
+use Rattle.object_store.specs.Object.{ObjectName, object_name, IsAmong, Stays}
 use Rattle.object_store.proofs.Lists.{get_or-set}
 use Rattle.object_store.proofs.Stays.{stays_process, stays_page, stays_cappage, stays_endpoint, stays_gpt}
 use Rattle.schedules.specs.Queues.{QueuesValue, sleepers_of, without, left, asleep, highest_below, taken_from, dispatched_by, dispatched, hart_of}
 use Rattle.schedules.specs.Ready.{readied, readied_process, readied_queues, readied_all, unslept, woken, runs_of}
 use Rattle.schedules.proofs.Waking.{sleepers-readied}
 use Rattle.operations.specs.System.{System, system, with_store, with_runs}
-use Rattle.confinement.specs.Cut.{Cut, side_of, MayHold, EachMayHold, AllOn, SleepApart, Holds}
+use Rattle.confinement.specs.Cut.{Cut, side_of, MayHold, AllOn, SleepApart, Holds}
 use Rattle.confinement.specs.Acts.{Spares, Acts, ProcessHeld}
 
 -- what holds of each element at its index holds after a write of what it holds of

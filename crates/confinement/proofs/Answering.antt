@@ -1,5 +1,5 @@
 -- Who answers what a side holds is of that side.
-use Rattle.std.proofs.Common.{◌≡◌, ◌≢◌, ℕ, inl, inr, Bool, true, false, if◌then◌else◌, Option, Some, None, refl, sym, ◌∙◌, ap, subst}
+use Rattle.std.proofs.Common.{◌≡◌, ℕ, Bool, true, false, if◌then◌else◌, refl, subst}
 use Rattle.cap_format.specs.declared.kind.CapKind.{CapKind}
 use Rattle.cap_format.specs.declared.kind.CapKind.TheVariants.{Endpoint, Entry, Process}
 use Rattle.cap_format.specs.Capability.{Capability}
@@ -8,8 +8,6 @@ use Rattle.process_objects.specs.declared.state.State.TheVariants.{Running, Rece
 use Rattle.object_store.specs.Store.{Store, process_at, endpoint_at}
 use Rattle.invocation.specs.Answerer.{Answer, takes, answered_by, asked, refuses, entered, answered, answerer}
 use Rattle.invocation.specs.Answerer.Answer.{Dead, Open, Busy}
-use Rattle.invocation.specs.declared.callee.Callee.{Callee}
-use Rattle.invocation.specs.declared.callee.Callee.TheVariants.{Kernel, Open as OpenCallee, Busy as BusyCallee, Dead as DeadCallee}
 use Rattle.invocation.specs.Target.{called_by, called, callee}
 use Rattle.confinement.specs.Cut.{Cut, side_of, MayHold, EachMayHold}
 use Rattle.confinement.specs.Acts.{AnswersOwn, CalleeOwn}

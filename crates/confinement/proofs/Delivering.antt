@@ -1,5 +1,5 @@
 -- Messages, waits and faults stay on the side of those that take part.
-use Rattle.std.proofs.Common.{◌≡◌, ◌≢◌, ℕ, inl, inr, Bool, true, false, ◌==◌, if◌then◌else◌, List, [], ◌∷◌, map, get_or, set, Option, Some, None, refl, sym, ◌∙◌, ap, subst}
+use Rattle.std.proofs.Common.{◌≡◌, ℕ, Bool, true, false, ◌==◌, if◌then◌else◌, List, [], ◌∷◌, map, get_or, set, Option, Some, None, refl, sym, ◌∙◌, subst}
 use Rattle.cap_format.specs.declared.fault.FaultCode.{FaultCode}
 use Rattle.cap_format.specs.declared.kind.CapKind.TheVariants.{Endpoint, Process}
 use Rattle.cap_format.specs.Capability.{Capability, null, to_object}
@@ -10,19 +10,19 @@ use Rattle.process_objects.specs.Process.{ProcessValue, capreg_of, slot_of, with
 use Rattle.endpoint_objects.specs.declared.endpoint.Endpoint.{Endpoint as EndpointValue}
 use Rattle.endpoint_objects.specs.Endpoint.{raised}
 use Rattle.object_store.specs.Store.{Store, process_at, endpoint_at, with_process}
-use Rattle.schedules.specs.Queues.{QueuesValue, left, asleep}
+use Rattle.schedules.specs.Queues.{left, asleep}
 use Rattle.schedules.specs.Ready.{readied, woken, runs_of}
 use Rattle.invocation.specs.declared.message.Message.{Message}
 use Rattle.invocation.specs.Answerer.{Answer, answerer}
 use Rattle.invocation.specs.Answerer.Answer.{Dead, Open, Busy}
-use Rattle.invocation.specs.Delivery.{sent_by, passed, passed_at, accepted, accepting, number_given, told as told_process, given, received, delivered}
+use Rattle.invocation.specs.Delivery.{passed, passed_at, accepted, accepting, number_given, told as told_process, given, received, delivered}
 use Rattle.operations.specs.System.{System, Reading, system, with_store, with_runs, schedule_by, count_in}
 use Rattle.message_path.specs.Messages.{told, waiting, receiving, listening}
 use Rattle.fault_path.specs.Fault.{is_answer, handler_of, fault_message, faulted, answered, heard_by, fault_of}
-use Rattle.confinement.specs.Cut.{Cut, side_of, MayHold, EachMayHold, SleepApart, Holds}
+use Rattle.confinement.specs.Cut.{Cut, side_of, MayHold, EachMayHold, Holds}
 use Rattle.confinement.specs.Acts.{Acts, ProcessHeld, MayHoldIf, AllMayHold, AnswersOwn}
 use Rattle.confinement.proofs.Held.{may-own}
-use Rattle.confinement.proofs.Acting.{each_set, acts-same, acts-then, acts-process, acts-endpoint, held-process, acts-queues, acts-left, acts-readied, acts-woken, apart-left, apart-asleep}
+use Rattle.confinement.proofs.Acting.{each_set, acts-then, acts-process, acts-endpoint, held-process, acts-queues, acts-left, acts-readied, acts-woken, apart-left, apart-asleep}
 use Rattle.confinement.proofs.Answering.{answerer-own}
 
 module _ (cut : Cut) (side : Bool) where

@@ -1,18 +1,18 @@
 -- Which capabilities a side may hold.
-use Rattle.std.proofs.Common.{◌≡◌, ◌≢◌, ℕ, ◌⊎◌, inl, inr, Bool, true, false, not, ◌&&◌, ◌||◌, if◌then◌else◌, min, max, refl, sym, ◌∙◌, ap, subst, arith}
+use Rattle.std.proofs.Common.{◌≡◌, ◌≢◌, ℕ, ◌⊎◌, inl, inr, Bool, true, false, ◌&&◌, if◌then◌else◌, refl, sym, ◌∙◌, ap, subst, arith}
 use Rattle.std.specs.Int.{bit_at}
-use Rattle.std.specs.Int.RustNames.{bit_and, bit_or}
+use Rattle.std.specs.Int.RustNames.{bit_or}
 use Rattle.std.proofs.lemmas.Bool.{eq-eqb, eqb-true, and_from, and_parts}
 use Rattle.std.proofs.lemmas.Nat.Bits.{bit_at_or, bit_at_and, same_from_bits}
 use Rattle.cap_format.specs.declared.kind.CapKind.{CapKind}
-use Rattle.cap_format.specs.declared.kind.CapKind.TheVariants.{Null, Page, CapPage, Gpt, Window, LocalWindow, Endpoint, Entry, Process, Schedule, Range, Discrim, KernLog, SysCtl}
+use Rattle.cap_format.specs.declared.kind.CapKind.TheVariants.{Null, Page, CapPage, Gpt, Window, LocalWindow, Endpoint, Entry, Process, Range, Discrim}
 use Rattle.cap_format.specs.Kind.{is_counted, object_kind}
 use Rattle.cap_format.specs.Restr.{has}
 use Rattle.cap_format.specs.Guard.{GuardValue}
 use Rattle.cap_format.specs.Capability.{Capability, null, with_guard}
 use Rattle.cap_format.specs.Weakening.{reduced, weakened_kind, weakened, harmless_kind, is_harmless}
 use Rattle.operations.specs.Weak.{read_through}
-use Rattle.confinement.specs.Cut.{Cut, side_of, NamesOwn, MayCross, MayHold}
+use Rattle.confinement.specs.Cut.{Cut, side_of, MayHold}
 
 -- ---- restrictions
 
@@ -86,7 +86,7 @@ module _ (cut : Cut) (side : Bool) where
   pub may-reduced : (c : Capability) (more : ℕ) → MayHold cut side c → MayHold cut side (reduced c more)
   may-reduced c more m = record {
     no_range = m.no_range;
-    own = elim m.own [ | inl own ↦ inl own | inr cross ↦ inr (cross.0, harmless_more c.kind c.restr more cross.1) ];
+    own = elim m.own [ inl own ↦ inl own | inr cross ↦ inr (cross.0, harmless_more c.kind c.restr more cross.1) ];
   }
 
   -- and with another guard

@@ -5,3 +5,6 @@ pub mod Answering
 pub mod Delivering
 pub mod Operating
 pub mod Machine
+pub mod Messaging
+pub mod Events
+pub mod Runs

@@ -1,6 +1,5 @@
 -- What a process of one side makes of a state by one change, one access or one message stays on its side.
-use Rattle.std.proofs.Common.{◌≡◌, ◌≢◌, ℕ, zero, suc, ◌⊎◌, inl, inr, Bool, true, false, if◌then◌else◌, List, [], ◌∷◌, take, drop, Option, Some, None, Result, Ok, Err, refl, sym, ◌∙◌, ap, subst}
-use Rattle.std.proofs.lemmas.Bool.{cond_both}
+use Rattle.std.proofs.Common.{◌≡◌, ℕ, ◌⊎◌, inl, inr, Bool, true, false, List, [], ◌∷◌, take, drop, Option, Some, Result, Ok, Err, sym, ◌∙◌, subst}
 use Rattle.cap_format.specs.declared.fault.FaultCode.{FaultCode}
 use Rattle.cap_format.specs.declared.kind.CapKind.{CapKind}
 use Rattle.cap_format.specs.declared.kind.CapKind.TheVariants.{Page, CapPage, Endpoint, Process}
@@ -9,8 +8,8 @@ use Rattle.cap_format.specs.Capability.{Capability, null}
 use Rattle.page_store.specs.Page.{with_bytes}
 use Rattle.page_store.specs.CapPage.{cap_at, with_cap}
 use Rattle.process_objects.specs.Accept.{AcceptValue}
-use Rattle.process_objects.specs.Process.{ProcessValue, capreg_of, slot_of, with_pc, with_reg, with_regs, with_capreg}
-use Rattle.object_store.specs.Store.{Store, page_at, cappage_at, process_at}
+use Rattle.process_objects.specs.Process.{capreg_of, with_pc, with_regs, with_capreg}
+use Rattle.object_store.specs.Store.{page_at, cappage_at}
 use Rattle.walk_meaning.specs.declared.kind.Kind.{Kind}
 use Rattle.walk_meaning.specs.declared.kind.Kind.TheVariants.{Fetch, Load, Store as Put, CapLoad, CapStore}
 use Rattle.walk_meaning.specs.declared.place.Place.{Place}
@@ -18,27 +17,24 @@ use Rattle.walk_meaning.specs.declared.place.WalkFault.{WalkFault}
 use Rattle.walk_meaning.specs.Walk.{access}
 use Rattle.walk_engine.specs.declared.hit.Hit.{Hit}
 use Rattle.walk_engine.specs.Answer.{hit_of}
-use Rattle.schedules.specs.Queues.{left}
-use Rattle.schedules.specs.Ready.{readied, runs_of}
 use Rattle.invocation.specs.declared.message.Message.{Message}
 use Rattle.string_move.specs.declared.piece.Piece.{Piece}
-use Rattle.string_move.specs.Move.{with_piece, piece_bytes, gathered, scattered, copied, size_of_pieces}
-use Rattle.operations.specs.System.{System, Meant, system, with_store}
+use Rattle.string_move.specs.Move.{with_piece, gathered, scattered, copied, size_of_pieces}
+use Rattle.operations.specs.System.{System, Meant, with_store}
 use Rattle.operations.specs.Change.{Change}
-use Rattle.operations.specs.Weak.{read_through}
 use Rattle.rv32_user.specs.Word.{next_of}
 use Rattle.machine_state.specs.State.{State, process, pc_of, space_of, schedule_slot}
 use Rattle.machine_state.specs.Setters.{set_store, set_pc, set_registers, set_capreg, advance, leave, ready, yielded, dispatch, ticked}
 use Rattle.machine_state.specs.Faulting.{fault_state}
 use Rattle.machine_state.specs.Messaging.{told_state, waiting_state, listening_state}
-use Rattle.machine_state.specs.DataAccess.{data_access, bytes_of, written}
-use Rattle.machine_state.specs.CapAccess.{cap_access, cap_found, cap_stored, slot_in}
+use Rattle.machine_state.specs.DataAccess.{bytes_of, written}
+use Rattle.machine_state.specs.CapAccess.{cap_found, cap_stored, slot_in}
 use Rattle.machine_state.specs.Operation.{changed_by}
 use Rattle.confinement.specs.Cut.{Cut, side_of, MayHold, Holds}
 use Rattle.confinement.specs.Acts.{Acts, ProcessHeld, AllPermitted, MayHoldIf, AllMayHold, system_of}
 use Rattle.confinement.specs.Reach.{ReadsWeakly, Reaches, Ends}
 use Rattle.confinement.proofs.Held.{may-read}
-use Rattle.confinement.proofs.Acting.{each_set, acts-same, acts-then, acts-process, acts-page, acts-cappage, acts-left, acts-readied, acts-queues, apart-dispatched, held-process}
+use Rattle.confinement.proofs.Acting.{each_set, acts-same, acts-then, acts-process, acts-page, acts-cappage, acts-left, acts-readied, apart-dispatched, held-process}
 use Rattle.confinement.proofs.Walks.{access_ends}
 use Rattle.confinement.proofs.Delivering.{held-capreg, acts-told, acts-waiting, acts-listening, acts-fault}
 use Rattle.confinement.proofs.Operating.{acts-applied_all}

@@ -1,8 +1,8 @@
 -- Operations: a permitted change stays on its side, and the changes of each row are permitted.
-use Rattle.std.proofs.Common.{◌≡◌, ◌≢◌, ℕ, zero, suc, ◌⊎◌, inl, inr, Bool, true, false, not, ◌&&◌, ◌||◌, ◌==◌, nat_lt, if◌then◌else◌, List, [], ◌∷◌, get_or, set, replicate, Option, Some, None, refl, sym, ◌∙◌, ap, subst}
+use Rattle.std.proofs.Common.{◌≡◌, ℕ, zero, suc, ◌⊎◌, inl, inr, Bool, true, false, ◌||◌, ◌==◌, if◌then◌else◌, List, [], ◌∷◌, get_or, replicate, Option, Some, None, refl, sym, ◌∙◌, ap, subst}
 use Rattle.std.proofs.lemmas.Bool.{and_parts, cond_both}
 use Rattle.cap_format.specs.declared.kind.CapKind.{CapKind}
-use Rattle.cap_format.specs.declared.kind.CapKind.TheVariants.{Null, Page, CapPage, Gpt, Window, LocalWindow, Endpoint, Entry, Process, Schedule, Range, Discrim, KernLog, SysCtl}
+use Rattle.cap_format.specs.declared.kind.CapKind.TheVariants.{Page, CapPage, Gpt, Window, LocalWindow, Endpoint, Process, Schedule, Range, Discrim}
 use Rattle.cap_format.specs.declared.code.Code.{Code}
 use Rattle.cap_format.specs.declared.code.Code.TheVariants.{InvalidCap, UnknownRequest, NoAccess, RequestError, CountSpent}
 use Rattle.cap_format.specs.declared.request.Request.{Request}
@@ -15,21 +15,20 @@ use Rattle.page_store.specs.CapPage.{cap_at, with_cap, empty_cappage}
 use Rattle.page_store.specs.Page.{empty_page}
 use Rattle.process_objects.specs.declared.state.State.{State as RunState}
 use Rattle.process_objects.specs.declared.state.State.TheVariants.{Running, Receiving, Faulted}
-use Rattle.process_objects.specs.Process.{ProcessValue, capreg_of, slot_of, with_pc, with_reg, with_state, stopped}
+use Rattle.process_objects.specs.Process.{ProcessValue, capreg_of, slot_of, with_pc, with_reg, stopped}
 use Rattle.endpoint_objects.specs.declared.endpoint.Endpoint.{Endpoint as EndpointValue}
-use Rattle.object_store.specs.Store.{Store, slot_at, page_at, cappage_at, process_at, endpoint_at}
-use Rattle.schedules.specs.Ready.{readied, woken, runs_of}
+use Rattle.object_store.specs.Store.{Store, slot_at, page_at, cappage_at}
 use Rattle.operations.specs.System.{System, Reading, schedule_by}
 use Rattle.operations.specs.Weak.{read_through}
 use Rattle.operations.specs.Change.{Change, PageIs, CapPageIs, SlotIs, HeaderIs, EndpointIs, ProcessIs, Left, Readied, Woken, Destroyed, applied, applied_all}
 use Rattle.operations.specs.Request.{w1, w2, w3, w4}
-use Rattle.operations.specs.Row.{Answer, Row, Settled, tells, gives, does, refused, settled, settled_row}
+use Rattle.operations.specs.Row.{Row, Settled, tells, gives, does, refused, settled, settled_row}
 use Rattle.operations.specs.Memory as memory
 use Rattle.operations.specs.Memory.{read_only, opaque, window_of, window_is_local, window_local_slot, window_restr, window_l2g}
 use Rattle.operations.specs.Control as control
 use Rattle.operations.specs.Control.{endpoint_of, process_of, number_in, with_number, tells_state, is_null}
-use Rattle.confinement.specs.Cut.{Cut, side_of, NamesOwn, MayCross, MayHold, EachMayHold, Holds}
-use Rattle.confinement.specs.Acts.{Acts, ProcessHeld, Permitted, AllPermitted, MayHoldIf, AnswerPermitted}
+use Rattle.confinement.specs.Cut.{Cut, side_of, MayHold, EachMayHold, Holds}
+use Rattle.confinement.specs.Acts.{Acts, ProcessHeld, Permitted, AllPermitted, AnswerPermitted}
 use Rattle.confinement.proofs.Held.{may-null, may-uncounted, may-own, may-reduced, may-with_guard, may-read, side-page, side-cappage, side-gpt, side-process, side-endpoint}
 use Rattle.confinement.proofs.Acting.{each_set, acts-same, acts-then, acts-process, acts-page, acts-cappage, acts-slot, acts-header, acts-endpoint, acts-left, acts-readied, acts-woken}
 use Rattle.confinement.proofs.Delivering.{held-state, held-capreg, held-slot}

@@ -1,13 +1,11 @@
 -- Where a walk ends that begins at a capability which this side may hold. Either the walk is weak for good, or the capability
 -- that is met may be held by this side, and the holding and the background GPT are of this side. The handler GPT is of
 -- this side in any case, since a walk that is weak has met NC.
-use Rattle.std.proofs.Common.{◌≡◌, ◌≢◌, ℕ, zero, suc, ◌⊎◌, inl, inr, Bool, true, false, not, ◌&&◌, if◌then◌else◌, Option, Some, None, Result, Ok, Err, refl, sym, ◌∙◌, ap, subst}
+use Rattle.std.proofs.Common.{◌≡◌, ℕ, zero, suc, ◌⊎◌, inl, inr, Bool, true, false, not, ◌&&◌, if◌then◌else◌, Option, Some, None, Result, refl, sym, ◌∙◌, ap, subst}
 use Rattle.std.proofs.lemmas.Bool.{and_parts}
 use Rattle.std.specs.Int.RustNames.{bit_or}
-use Rattle.cap_format.specs.declared.fault.FaultCode.{FaultCode}
-use Rattle.cap_format.specs.declared.fault.FaultCode.TheVariants.{MalformedSpace}
 use Rattle.cap_format.specs.declared.kind.CapKind.{CapKind}
-use Rattle.cap_format.specs.declared.kind.CapKind.TheVariants.{Page, CapPage, Gpt, Window, LocalWindow}
+use Rattle.cap_format.specs.declared.kind.CapKind.TheVariants.{Page, CapPage, Gpt}
 use Rattle.cap_format.specs.Kind.{is_counted, object_kind}
 use Rattle.cap_format.specs.Restr.{has}
 use Rattle.cap_format.specs.Capability.{Capability}
@@ -20,7 +18,7 @@ use Rattle.walk_meaning.specs.declared.place.Place.{Place}
 use Rattle.walk_meaning.specs.declared.place.WalkFault.{WalkFault}
 use Rattle.walk_meaning.specs.declared.step.Step.{Step}
 use Rattle.walk_meaning.specs.declared.step.Step.TheVariants.{Reach, Fault, Go}
-use Rattle.walk_meaning.specs.Walk.{handler_from, background_from, into_slot, through_window, reached_place, past, step, handler_of, fault, walk, start_at, access}
+use Rattle.walk_meaning.specs.Walk.{handler_from, into_slot, through_window, reached_place, past, step, handler_of, walk, start_at, access}
 use Rattle.walk_meaning.specs.After.{walk_after}
 use Rattle.walk_meaning.specs.Laws.{serving}
 use Rattle.walk_meaning.proofs.Walked.{walk-zero, walk-suc}

@@ -1,9 +1,7 @@
 -- Where the accesses of a process of one side end. (Own.)
-use Rattle.std.specs.Prelude.{◌≡◌, ℕ, ◌⊎◌, Bool, true, false, Result, Ok, Err}
+use Rattle.std.specs.Prelude.{◌≡◌, ◌⊎◌, Bool, true, false, Result, Ok, Err}
 use Rattle.cap_format.specs.declared.kind.CapKind.TheVariants.{CapPage}
 use Rattle.cap_format.specs.Restr.{has}
-use Rattle.cap_format.specs.Capability.{Capability}
-use Rattle.object_store.specs.Store.{Items}
 use Rattle.walk_meaning.specs.declared.kind.Kind.{Kind}
 use Rattle.walk_meaning.specs.declared.place.Place.{Place}
 use Rattle.walk_meaning.specs.declared.place.WalkFault.{WalkFault}
