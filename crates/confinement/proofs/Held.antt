@@ -1,0 +1,171 @@
+-- Which capabilities a side may hold.
+use Rattle.std.proofs.Common.{◌≡◌, ◌≢◌, ℕ, ◌⊎◌, inl, inr, Bool, true, false, ◌&&◌, if◌then◌else◌, refl, sym, ◌∙◌, ap, subst, arith}
+use Rattle.std.specs.Int.{bit_at}
+use Rattle.std.specs.Int.RustNames.{bit_or}
+use Rattle.std.proofs.lemmas.Bool.{eq-eqb, eqb-true, and_from, and_parts}
+use Rattle.std.proofs.lemmas.Nat.Bits.{bit_at_or, bit_at_and, same_from_bits}
+use Rattle.cap_format.specs.declared.kind.CapKind.{CapKind}
+use Rattle.cap_format.specs.declared.kind.CapKind.TheVariants.{Null, Page, CapPage, Gpt, Window, LocalWindow, Endpoint, Entry, Process, Range, Discrim}
+use Rattle.cap_format.specs.Kind.{is_counted, object_kind}
+use Rattle.cap_format.specs.Restr.{has}
+use Rattle.cap_format.specs.Guard.{GuardValue}
+use Rattle.cap_format.specs.Capability.{Capability, null, with_guard}
+use Rattle.cap_format.specs.Weakening.{reduced, weakened_kind, weakened, harmless_kind, is_harmless}
+use Rattle.operations.specs.Weak.{read_through}
+use Rattle.confinement.specs.Cut.{Cut, side_of, MayHold}
+
+-- ---- restrictions
+
+-- restrictions stay where more are added
+pub has-left : (a b k : ℕ) → has a k ≡ true → has (bit_or a b) k ≡ true
+has-left a b k h = eq-eqb _ _ (same_from_bits _ _ (λ i. let e = ap (λ n. bit_at n i) (eqb-true _ _ h) in omega (arith, e, bit_at_or a b i, bit_at_and a k i, bit_at_and (bit_or a b) k i)))
+
+-- and those that are added are there
+pub has-right : (a b k : ℕ) → has b k ≡ true → has (bit_or a b) k ≡ true
+has-right a b k h = eq-eqb _ _ (same_from_bits _ _ (λ i. let e = ap (λ n. bit_at n i) (eqb-true _ _ h) in omega (arith, e, bit_at_or a b i, bit_at_and b k i, bit_at_and (bit_or a b) k i)))
+
+-- the three that weakening adds
+pub has-weak_1 : (a : ℕ) → has (bit_or a 21) 1 ≡ true
+has-weak_1 a = has-right a 21 1 refl
+
+-- WK
+pub has-weak_4 : (a : ℕ) → has (bit_or a 21) 4 ≡ true
+has-weak_4 a = has-right a 21 4 refl
+
+-- NC
+pub has-weak_16 : (a : ℕ) → has (bit_or a 21) 16 ≡ true
+has-weak_16 a = has-right a 21 16 refl
+
+-- ---- harmless capabilities
+
+-- what is harmless stays so where restrictions are added
+harmless_more : (k : CapKind) (a b : ℕ) → harmless_kind k a ≡ true → harmless_kind k (bit_or a b) ≡ true
+harmless_more Null a b h = refl
+harmless_more Discrim a b h = refl
+harmless_more Page a b h = has-left a b 1 h
+harmless_more CapPage a b h = let p = and_parts _ _ h in and_from _ _ (has-left a b 1 p.0) (has-left a b 4 p.1)
+harmless_more Gpt a b h = let p = and_parts _ _ h in let q = and_parts _ _ p.0 in and_from _ _ (and_from _ _ (has-left a b 1 q.0) (has-left a b 4 q.1)) (has-left a b 16 p.1)
+harmless_more Window a b h = let p = and_parts _ _ h in let q = and_parts _ _ p.0 in and_from _ _ (and_from _ _ (has-left a b 1 q.0) (has-left a b 4 q.1)) (has-left a b 16 p.1)
+harmless_more LocalWindow a b h = let p = and_parts _ _ h in let q = and_parts _ _ p.0 in and_from _ _ (and_from _ _ (has-left a b 1 q.0) (has-left a b 4 q.1)) (has-left a b 16 p.1)
+harmless_more _ a b h = absurd (cc (h))
+
+all_three : (a : ℕ) → (has (bit_or a 21) 1 && has (bit_or a 21) 4 && has (bit_or a 21) 16) ≡ true
+all_three a = and_from _ _ (and_from _ _ (has-weak_1 a) (has-weak_4 a)) (has-weak_16 a)
+
+harmless_kind-weakened : (k : CapKind) (c : Capability) → c.kind ≡ k → is_harmless (weakened_kind k c) ≡ true
+harmless_kind-weakened Null c e = ap (λ (k : CapKind). harmless_kind k c.restr) e
+harmless_kind-weakened Discrim c e = ap (λ (k : CapKind). harmless_kind k c.restr) e
+harmless_kind-weakened Page c e = ap (λ (k : CapKind). harmless_kind k (bit_or c.restr 21)) e ∙ has-weak_1 c.restr
+harmless_kind-weakened CapPage c e = ap (λ (k : CapKind). harmless_kind k (bit_or c.restr 21)) e ∙ and_from _ _ (has-weak_1 c.restr) (has-weak_4 c.restr)
+harmless_kind-weakened Gpt c e = ap (λ (k : CapKind). harmless_kind k (bit_or c.restr 21)) e ∙ all_three c.restr
+harmless_kind-weakened Window c e = ap (λ (k : CapKind). harmless_kind k (bit_or c.restr 21)) e ∙ all_three c.restr
+harmless_kind-weakened LocalWindow c e = ap (λ (k : CapKind). harmless_kind k (bit_or c.restr 21)) e ∙ all_three c.restr
+harmless_kind-weakened _ c e = refl
+
+-- what is weakened is harmless
+pub is_harmless-weakened : (c : Capability) → is_harmless (weakened c) ≡ true
+is_harmless-weakened c = harmless_kind-weakened c.kind c refl
+
+module _ (cut : Cut) (side : Bool) where
+  -- Null may be held by each side
+  pub may-null : MayHold cut side null
+  may-null = record { no_range = λ e. cc; own = inl (λ e. absurd (cc (e))) }
+
+  -- so may what names no object and is no Range
+  pub may-uncounted : (c : Capability) (k : CapKind) → c.kind ≡ k → k ≢ Range → is_counted k ≡ false → MayHold cut side c
+  may-uncounted c k e other none = record {
+    no_range = λ h. other (sym e ∙ h);
+    own = inl (λ h. absurd (cc (h, none, e)));
+  }
+
+  -- and what names an object of this side
+  pub may-own : (c : Capability) → c.kind ≢ Range → side_of cut (object_kind c.kind) c.object ≡ side → MayHold cut side c
+  may-own c other own = record { no_range = other; own = inl (λ h. own) }
+
+  -- and what may be held with more restrictions
+  pub may-reduced : (c : Capability) (more : ℕ) → MayHold cut side c → MayHold cut side (reduced c more)
+  may-reduced c more m = record {
+    no_range = m.no_range;
+    own = elim m.own [ inl own ↦ inl own | inr cross ↦ inr (cross.0, harmless_more c.kind c.restr more cross.1) ];
+  }
+
+  -- and with another guard
+  pub may-with_guard : (c : Capability) (guard : GuardValue) → MayHold cut side c → MayHold cut side (with_guard c guard)
+  may-with_guard c guard m = record { no_range = m.no_range; own = m.own }
+
+  may-weakened_kind : (k : CapKind) (c : Capability) → c.kind ≡ k → MayHold cut side c → MayHold cut side (weakened_kind k c)
+  may-weakened_kind Null c e m = m
+  may-weakened_kind Discrim c e m = m
+  may-weakened_kind Page c e m = may-reduced c 21 m
+  may-weakened_kind CapPage c e m = may-reduced c 21 m
+  may-weakened_kind Gpt c e m = may-reduced c 21 m
+  may-weakened_kind Window c e m = may-reduced c 21 m
+  may-weakened_kind LocalWindow c e m = may-reduced c 21 m
+  may-weakened_kind _ c e m = may-null
+
+  -- weakened it is a weakened one of what it names, or Null
+  weak-no_range : (k : CapKind) (c : Capability) → c.kind ≡ k → (weakened_kind k c).kind ≢ Range
+  weak-no_range Null c e h = cc
+  weak-no_range Discrim c e h = cc
+  weak-no_range Page c e h = cc
+  weak-no_range CapPage c e h = cc
+  weak-no_range Gpt c e h = cc
+  weak-no_range Window c e h = cc
+  weak-no_range LocalWindow c e h = cc
+  weak-no_range _ c e h = cc
+
+  -- what is weakened may be held by each side, where what is harmless may cross
+  pub may-cross_weakened : (c : Capability) → cut.weakly ≡ true → MayHold cut side (weakened c)
+  may-cross_weakened c weakly = record { no_range = weak-no_range c.kind c refl; own = inr (weakly, is_harmless-weakened c) }
+
+  through : (c : Capability) (b : Bool) → MayHold cut side c → MayHold cut side (if b then weakened c else c)
+  through c true m = may-weakened_kind c.kind c refl m
+  through c false m = m
+
+  -- what is read of a capability that may be held may be held
+  pub may-read_own : (restr : ℕ) (c : Capability) → MayHold cut side c → MayHold cut side (read_through restr c)
+  may-read_own restr c m = through c (has restr 4) m
+
+  -- and so may what is read through WK of any capability
+  pub may-read_weak : (restr : ℕ) (c : Capability) → cut.weakly ≡ true → has restr 4 ≡ true → MayHold cut side (read_through restr c)
+  may-read_weak restr c weakly weak =
+      subst (λ (b : Bool). MayHold cut side (if b then weakened c else c)) (sym weak) (may-cross_weakened c weakly)
+
+  -- ---- whose objects a side's capabilities name
+
+  -- a capability of a kind that is not harmless names an object of the side that holds it
+  pub side_named : (c : Capability) (k : CapKind) → c.kind ≡ k → is_counted k ≡ true → harmless_kind k c.restr ≡ false → MayHold cut side c
+      → side_of cut (object_kind k) c.object ≡ side
+  side_named c k e counted harm m = elim m.own [
+    | inl own ↦ subst (λ (j : CapKind). side_of cut (object_kind j) c.object ≡ side) e (own (ap (λ (j : CapKind). is_counted j) e ∙ counted))
+    | inr cross ↦ let h = sym cross.1 ∙ (ap (λ (j : CapKind). harmless_kind j c.restr) e ∙ harm) in absurd (cc (h))
+  ]
+
+  -- a page that may be written
+  pub side-page : (c : Capability) → c.kind ≡ Page → has c.restr 1 ≡ false → MayHold cut side c → side_of cut Page c.object ≡ side
+  side-page c e writes m = side_named c Page e refl writes m
+
+  -- a capability page that may be written
+  pub side-cappage : (c : Capability) → c.kind ≡ CapPage → has c.restr 1 ≡ false → MayHold cut side c → side_of cut CapPage c.object ≡ side
+  side-cappage c e writes m = side_named c CapPage e refl (ap (λ b. b && has c.restr 4) writes) m
+
+  -- a GPT that may be written
+  pub side-gpt : (c : Capability) → c.kind ≡ Gpt → has c.restr 1 ≡ false → MayHold cut side c → side_of cut Gpt c.object ≡ side
+  side-gpt c e writes m = side_named c Gpt e refl (ap (λ b. b && has c.restr 4 && has c.restr 16) writes) m
+
+  -- a process, an endpoint, and the endpoint of an entry
+  pub side-process : (c : Capability) → c.kind ≡ Process → MayHold cut side c → side_of cut Process c.object ≡ side
+  side-process c e m = side_named c Process e refl refl m
+
+  -- an endpoint
+  pub side-endpoint : (c : Capability) → c.kind ≡ Endpoint → MayHold cut side c → side_of cut Endpoint c.object ≡ side
+  side-endpoint c e m = side_named c Endpoint e refl refl m
+
+  -- the endpoint of an entry
+  pub side-entry : (c : Capability) → c.kind ≡ Entry → MayHold cut side c → side_of cut Endpoint c.object ≡ side
+  side-entry c e m = side_named c Entry e refl refl m
+
+  -- the side's own read, or one through WK
+  pub may-read : (holder : Bool) (restr : ℕ) (c : Capability) → MayHold cut holder c → (holder ≡ side) ⊎ ((cut.weakly ≡ true) × (has restr 4 ≡ true)) → MayHold cut side (read_through restr c)
+  may-read holder restr c m (inl own) = may-read_own restr c (subst (λ b. MayHold cut b c) own m)
+  may-read holder restr c m (inr weak) = may-read_weak restr c weak.0 weak.1

@@ -1,0 +1,10 @@
+pub mod Held
+pub mod Acting
+pub mod Walks
+pub mod Answering
+pub mod Delivering
+pub mod Operating
+pub mod Machine
+pub mod Messaging
+pub mod Events
+pub mod Runs

@@ -1,0 +1,130 @@
+-- A message of a process of one side, its waits and its receiving stay on its side.
+use Rattle.std.proofs.Common.{◌≡◌, ℕ, Bool, true, false, min, List, [], ◌∷◌, slice_set, Option, Some, None, Result, Ok, Err, refl}
+use Rattle.std.proofs.lemmas.Bool.{cond_both}
+use Rattle.cap_format.specs.declared.fault.FaultCode.{FaultCode}
+use Rattle.cap_format.specs.declared.fault.FaultCode.TheVariants.{BadAlign, MalformedSyscall}
+use Rattle.cap_format.specs.declared.kind.CapKind.TheVariants.{Endpoint, Process}
+use Rattle.cap_format.specs.Capability.{Capability}
+use Rattle.walk_meaning.specs.declared.kind.Kind.{Kind}
+use Rattle.walk_meaning.specs.declared.kind.Kind.TheVariants.{Load, Store as Put}
+use Rattle.walk_meaning.specs.declared.place.WalkFault.{WalkFault}
+use Rattle.walk_meaning.specs.Walk.{access}
+use Rattle.walk_engine.specs.declared.hit.Hit.{Hit}
+use Rattle.invocation.specs.Invocation.{InvocationValue}
+use Rattle.string_move.specs.declared.piece.Piece.{Piece}
+use Rattle.string_move.specs.declared.span.Span.{Span}
+use Rattle.string_move.specs.Spans.{spans}
+use Rattle.string_move.specs.Move.{size_of_pieces}
+use Rattle.machine_state.specs.State.{State, process, pc_of, space_of}
+use Rattle.machine_state.specs.Setters.{advance}
+use Rattle.machine_state.specs.DataAccess.{data_access}
+use Rattle.machine_state.specs.Messaging.{told_state, listening_state}
+use Rattle.messages.specs.declared.string_fault.StringFault.{StringFault}
+use Rattle.messages.specs.Fault.{fault, misaligned, malformed}
+use Rattle.messages.specs.Strings.{Side, span_side, side}
+use Rattle.messages.specs.Message.{sent_side, accept_in, received_side, bytes_moved, message_of, sent_off, message_told, delivered, sent_on, sent_by_fault, send_open}
+use Rattle.messages.specs.Waiting.{wait_on, listening_from, listen}
+use Rattle.confinement.specs.Cut.{Cut, side_of, Holds}
+use Rattle.confinement.specs.Acts.{Acts, MayHoldIf, system_of}
+use Rattle.confinement.proofs.Delivering.{all-sent}
+use Rattle.confinement.proofs.Acting.{acts-same, held-process}
+use Rattle.confinement.proofs.Machine.{acts-next, acts-advance, acts-set_registers, acts-fault_state, acts-told_state, acts-waiting_state, acts-listening_state, acts-copied, ends-here, ends-hit, EndsHit, PiecesOwn}
+
+module _ (cut : Cut) (side_is : Bool) where
+  -- the fault of a string has a handler that this side may hold
+  abbrev pub StringFaultOwn : Option StringFault → Type 0
+  StringFaultOwn None = Unit {0}
+  StringFaultOwn (Some f) = MayHoldIf cut side_is f.why.handler
+
+  -- what comes of a string of this side: where it is written its pages are of this side
+  pub record SideOwn (kind : Kind) (string : Side) : Type 0 where
+    pub pieces : kind ≡ Put → PiecesOwn cut side_is string.pieces
+    pub fault : StringFaultOwn string.fault
+
+  span-own : (s : State) (q : ℕ) (kind : Kind) (span : Span) (rest : Side) (r : Result Hit WalkFault) → EndsHit cut side_is kind r → SideOwn kind rest → SideOwn kind (span_side s q kind span rest r)
+  span-own s q kind span rest (Ok hit) ends own = record { pieces = λ e. (ends e, own.pieces e); fault = own.fault }
+  span-own s q kind span rest (Err f) ends own = record { pieces = λ e. tt; fault = ends }
+
+  -- the accesses to the spans of a string of a process of this side
+  pub side-own : (q : ℕ) → side_of cut Process q ≡ side_is → (s : State) (kind : Kind) (spans : List Span) → Holds cut (system_of s) → SideOwn kind (side s q kind spans)
+  unfolding side
+  side-own q on s kind [] holds = record { pieces = λ e. tt; fault = tt }
+  side-own q on s kind (span ∷ spans) holds =
+      span-own s q kind span (side s q kind spans) (data_access s q span.address kind)
+      (ends-hit cut side_is kind (access s.store.items (space_of s q) span.address kind) (ends-here cut side_is q on s kind span.address holds))
+      (side-own q on s kind spans holds)
+
+  module _ (p : ℕ) (own : side_of cut Process p ≡ side_is) where
+    -- ---- faults
+
+    pub acts-fault_part : (s : State) (code : FaultCode) (address : ℕ) (handler : Option Capability) → MayHoldIf cut side_is handler → Holds cut (system_of s)
+        → Acts cut side_is (system_of s) (system_of (fault s p code address handler).state)
+    unfolding fault
+    acts-fault_part s code address handler may holds = acts-fault_state cut side_is p own s code address handler may holds
+
+    pub acts-misaligned : (s : State) (address : ℕ) → Holds cut (system_of s) → Acts cut side_is (system_of s) (system_of (misaligned s p address).state)
+    acts-misaligned s address holds = acts-fault_part s BadAlign address None tt holds
+
+    pub acts-malformed : (s : State) → Holds cut (system_of s) → Acts cut side_is (system_of s) (system_of (malformed s p).state)
+    acts-malformed s holds = acts-fault_part s MalformedSyscall (pc_of s p) None tt holds
+
+    -- ---- waiting and listening
+
+    pub acts-wait_on : (s : State) (q : ℕ) → side_of cut Process q ≡ side_is → Holds cut (system_of s) → Acts cut side_is (system_of s) (system_of (wait_on s p q).state)
+    unfolding wait_on
+    acts-wait_on s q on holds = acts-waiting_state cut side_is p own s q on holds
+
+    acts-from : (s : State) (inv : InvocationValue) → Holds cut (system_of s) → Acts cut side_is (system_of s) (system_of (listening_from s p inv))
+    acts-from s inv holds =
+        cond_both inv.send _ _ (λ (t : State). Acts cut side_is (system_of s) (system_of t)) (λ e. acts-same cut side_is (system_of s) holds) (λ e. acts-advance cut side_is p own s holds)
+
+    pub acts-listen : (s : State) (inv : InvocationValue) → Holds cut (system_of s) → Acts cut side_is (system_of s) (system_of (listen s p inv).state)
+    unfolding listen
+    acts-listen s inv holds =
+        let t = listening_from s p inv in
+        acts-next cut side_is s t (listening_state t p inv.accept) (acts-from s inv holds) (λ h. acts-listening_state cut side_is p own t inv.accept h)
+
+    -- ---- sending
+
+    acts-sent_off : (s : State) (b : Bool) → Holds cut (system_of s) → Acts cut side_is (system_of s) (system_of (sent_off s p b))
+    acts-sent_off s true holds = acts-advance cut side_is p own s holds
+    acts-sent_off s false holds =
+        let t = advance s p in
+        acts-next cut side_is s t (sent_off s p false) (acts-advance cut side_is p own s holds) (λ h. acts-set_registers cut side_is p own t (slice_set (process t p).regs 10 0) h)
+
+    module _ (e q : ℕ) (endpoint : side_of cut Endpoint e ≡ side_is) (recipient : side_of cut Process q ≡ side_is) (inv : InvocationValue) where
+      acts-message_told : (s : State) (length : ℕ) → Holds cut (system_of s) → Acts cut side_is (system_of s) (system_of (message_told s p e q inv length).state)
+      unfolding message_of
+      acts-message_told s length holds =
+          let message = message_of s p inv length in
+          let t = told_state s e q message in
+          acts-next cut side_is s t (sent_off t p inv.receive)
+          (acts-told_state cut side_is s e q message endpoint recipient (all-sent cut side_is (process s p) inv.sent (held-process cut side_is (system_of s) p own holds)) holds)
+          (λ h. acts-sent_off t inv.receive h)
+
+      acts-delivered_part : (s : State) (from to : List Piece) → PiecesOwn cut side_is to → Holds cut (system_of s) → Acts cut side_is (system_of s) (system_of (delivered s p e q inv from to).state)
+      acts-delivered_part s from to pieces holds =
+          let t = (bytes_moved s from to).state in
+          acts-next cut side_is s t (message_told t p e q inv (size_of_pieces to)).state
+          (acts-copied cut side_is s from to pieces holds)
+          (λ h. acts-message_told t (size_of_pieces to) h)
+
+      received-own : (s : State) (length : ℕ) → Holds cut (system_of s) → SideOwn Put (received_side s q length)
+      received-own s length holds = let accept = accept_in s q in side-own q recipient s Put (spans accept.at (min length accept.bound)) holds
+
+      acts-sent_on : (s : State) (from : List Piece) → Holds cut (system_of s) → Acts cut side_is (system_of s) (system_of (sent_on s p e q inv from).state)
+      acts-sent_on s from holds =
+          let to = received-own s inv.length holds in
+          acts-delivered_part s from (received_side s q inv.length).pieces (to.pieces refl) holds
+
+      acts-by_fault : (s : State) (from : List Piece) (f : Option StringFault) → StringFaultOwn f → Holds cut (system_of s) → Acts cut side_is (system_of s) (system_of (sent_by_fault s p e q inv from f).state)
+      acts-by_fault s from None may holds = acts-sent_on s from holds
+      acts-by_fault s from (Some f) may holds = acts-fault_part s f.why.code f.address f.why.handler may holds
+
+      -- a message to a process of the same side
+      pub acts-send_open : (s : State) → Holds cut (system_of s) → Acts cut side_is (system_of s) (system_of (send_open s p e q inv).state)
+      unfolding send_open
+      acts-send_open s holds =
+          let from = sent_side s p inv in
+          let string = side-own p own s Load (spans inv.at inv.length) holds in
+          acts-by_fault s from.pieces from.fault string.fault holds

@@ -1,0 +1,83 @@
+-- What a process of one side may do: the other side's objects stay as they are, and the cut holds afterwards. (Own.)
+use Rattle.std.specs.Prelude.{◌≡◌, ◌≢◌, ℕ, Bool, List, [], ◌∷◌, Option, Some, None}
+use Rattle.cap_format.specs.declared.kind.CapKind.{CapKind}
+use Rattle.cap_format.specs.declared.kind.CapKind.TheVariants.{Page, CapPage, Gpt, Endpoint, Process}
+use Rattle.cap_format.specs.Capability.{Capability}
+use Rattle.page_store.specs.CapPage.{cap_at}
+use Rattle.process_objects.specs.Process.{ProcessValue, capreg_of, slot_of}
+use Rattle.object_store.specs.Store.{Store}
+use Rattle.object_store.specs.Object.{SameObject}
+use Rattle.invocation.specs.Answerer.{Answer}
+use Rattle.invocation.specs.Answerer.Answer.{Dead, Open, Busy}
+use Rattle.invocation.specs.declared.callee.Callee.{Callee}
+use Rattle.invocation.specs.declared.callee.Callee.TheVariants.{Kernel, Open as OpenCallee, Busy as BusyCallee, Dead as DeadCallee}
+use Rattle.operations.specs.System.{System, system}
+use Rattle.operations.specs.Change.{Change, PageIs, CapPageIs, SlotIs, HeaderIs, EndpointIs, ProcessIs, Left, Readied, Woken, Destroyed}
+use Rattle.operations.specs.Row.{Answer as RowAnswer}
+use Rattle.machine_state.specs.State.{State}
+use Rattle.confinement.specs.Cut.{Cut, side_of, MayHold, Holds}
+
+-- each object that is not of this side is the same, its age and state included
+abbrev pub Spares : Cut → Bool → Store → Store → Type 0
+Spares cut side s t = (kind : CapKind) (n : ℕ) → side_of cut kind n ≢ side → SameObject kind n s t
+
+-- what a process of this side made of a system in which the cut held
+pub record Acts (cut : Cut) (side : Bool) (w v : System) : Type 0 where
+  pub holds : Holds cut v
+  pub spares : Spares cut side w.store v.store
+
+-- a process that this side may have: it may hold all of its capabilities
+pub record ProcessHeld (cut : Cut) (side : Bool) (process : ProcessValue) : Type 0 where
+  pub capregs : (i : ℕ) → MayHold cut side (capreg_of process i)
+  pub slots : (i : ℕ) → MayHold cut side (slot_of process i)
+
+-- a change that a process of this side may make: of an object of this side, and to capabilities that it may hold. It
+-- destroys nothing.
+abbrev pub Permitted : Cut → Bool → Change → Type 0
+Permitted cut side (PageIs n page) = side_of cut Page n ≡ side
+Permitted cut side (CapPageIs n page) = (side_of cut CapPage n ≡ side) × ((i : ℕ) → MayHold cut side (cap_at page i))
+Permitted cut side (SlotIs g i c) = (side_of cut Gpt g ≡ side) × MayHold cut side c
+Permitted cut side (HeaderIs g header) = side_of cut Gpt g ≡ side
+Permitted cut side (EndpointIs e endpoint) = (side_of cut Endpoint e ≡ side) × MayHold cut side endpoint.recipient
+Permitted cut side (ProcessIs p process) = (side_of cut Process p ≡ side) × ProcessHeld cut side process
+Permitted cut side (Left p) = side_of cut Process p ≡ side
+Permitted cut side (Readied p) = side_of cut Process p ≡ side
+Permitted cut side (Woken p) = side_of cut Process p ≡ side
+Permitted cut side (Destroyed kind n) = ⊥
+
+-- all of these changes are such
+abbrev pub AllPermitted : Cut → Bool → List Change → Type 0
+AllPermitted cut side [] = Unit {0}
+AllPermitted cut side (change ∷ changes) = Permitted cut side change × AllPermitted cut side changes
+
+-- a capability that is given, if there is one, may be held by this side
+abbrev pub MayHoldIf : Cut → Bool → Option Capability → Type 0
+MayHoldIf cut side None = Unit {0}
+MayHoldIf cut side (Some c) = MayHold cut side c
+
+-- all of these capabilities may be held by this side
+abbrev pub AllMayHold : Cut → Bool → List Capability → Type 0
+AllMayHold cut side [] = Unit {0}
+AllMayHold cut side (c ∷ cs) = MayHold cut side c × AllMayHold cut side cs
+
+-- who answers an entry, if anybody does, is of this side, and so is the endpoint
+abbrev pub AnswersOwn : Cut → Bool → Answer → Type 0
+AnswersOwn cut side Dead = Unit {0}
+AnswersOwn cut side (Open e q) = (side_of cut Endpoint e ≡ side) × (side_of cut Process q ≡ side)
+AnswersOwn cut side (Busy q) = side_of cut Process q ≡ side
+
+-- the same of what an invocation reaches: the kernel is asked through a capability that this side may hold
+abbrev pub CalleeOwn : Cut → Bool → Callee → Type 0
+CalleeOwn cut side (Kernel c) = MayHold cut side c
+CalleeOwn cut side (OpenCallee e q) = (side_of cut Endpoint e ≡ side) × (side_of cut Process q ≡ side)
+CalleeOwn cut side (BusyCallee q) = side_of cut Process q ≡ side
+CalleeOwn cut side DeadCallee = Unit {0}
+
+-- what an operation does and tells: its changes are permitted, and the capability that it gives may be held
+pub record AnswerPermitted (cut : Cut) (side : Bool) (answer : RowAnswer) : Type 0 where
+  pub changes : AllPermitted cut side answer.changes
+  pub cap : MayHoldIf cut side answer.cap
+
+-- the objects of a state with who stands where
+abbrev pub system_of : State → System
+system_of s = system s.store s.queues

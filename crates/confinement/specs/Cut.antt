@@ -1,0 +1,75 @@
+-- Cuts: a side for each object, and when a cut holds. They speak of the model's map, where no capability has a count and
+-- one that is not live is Null, so each is read as it stands. (Own.)
+use Rattle.std.specs.Prelude.{◌≡◌, ◌≢◌, ℕ, ◌⊎◌, Bool, true, false, List, [], ◌∷◌, slice_index_or}
+use Rattle.cap_format.specs.declared.kind.CapKind.{CapKind}
+use Rattle.cap_format.specs.declared.kind.CapKind.TheVariants.{Page, CapPage, Gpt, Endpoint, Process, Range}
+use Rattle.cap_format.specs.Kind.{is_counted, object_kind}
+use Rattle.cap_format.specs.Capability.{Capability}
+use Rattle.cap_format.specs.Weakening.{is_harmless}
+use Rattle.page_store.specs.CapPage.{cap_at}
+use Rattle.process_objects.specs.Process.{capreg_of, slot_of}
+use Rattle.object_store.specs.Store.{Store, slot_at, cappage_at, process_at, endpoint_at}
+use Rattle.schedules.specs.Queues.{QueuesValue, sleepers_of}
+use Rattle.operations.specs.System.{System}
+
+-- the side of each object, by its kind and number: true is left
+pub record Sides : Type 0 where
+  pub pages : List Bool
+  pub cappages : List Bool
+  pub gpts : List Bool
+  pub processes : List Bool
+  pub endpoints : List Bool
+
+-- the sides of the objects of a kind: none where objects of this kind do not exist
+abbrev pub sides_of : Sides → CapKind → List Bool
+sides_of sides Page = sides.pages
+sides_of sides CapPage = sides.cappages
+sides_of sides Gpt = sides.gpts
+sides_of sides Process = sides.processes
+sides_of sides Endpoint = sides.endpoints
+sides_of sides _ = []
+
+-- a cut: the sides, and whether capabilities that are harmless may cross it
+pub record Cut : Type 0 where
+  pub sides : Sides
+  pub weakly : Bool
+
+-- the side of object `n` of a kind: what stands in no list is on the right
+abbrev pub side_of : Cut → CapKind → ℕ → Bool
+side_of cut kind n = slice_index_or (sides_of cut.sides kind) n false
+
+-- what the capability names, if anything, is of this side; an entry names its endpoint, and windows name nothing
+abbrev pub NamesOwn : Cut → Bool → Capability → Type 0
+NamesOwn cut side c = is_counted c.kind ≡ true → side_of cut (object_kind c.kind) c.object ≡ side
+
+-- the capability can do nothing across the cut: it is harmless, and such may cross
+abbrev pub MayCross : Cut → Capability → Type 0
+MayCross cut c = (cut.weakly ≡ true) × (is_harmless c ≡ true)
+
+-- a capability that an object of this side may hold: no Range, and one that names what is of this side or that is
+-- harmless
+pub record MayHold (cut : Cut) (side : Bool) (c : Capability) : Type 0 where
+  pub no_range : c.kind ≢ Range
+  pub own : NamesOwn cut side c ⊎ MayCross cut c
+
+-- each capability that stands in an object may be held by the side of that object
+pub record EachMayHold (cut : Cut) (s : Store) : Type 0 where
+  pub slots : (g i : ℕ) → MayHold cut (side_of cut Gpt g) (slot_at s.items g i)
+  pub cappages : (n i : ℕ) → MayHold cut (side_of cut CapPage n) (cap_at (cappage_at s n) i)
+  pub capregs : (p i : ℕ) → MayHold cut (side_of cut Process p) (capreg_of (process_at s p) i)
+  pub process_slots : (p i : ℕ) → MayHold cut (side_of cut Process p) (slot_of (process_at s p) i)
+  pub recipients : (e : ℕ) → MayHold cut (side_of cut Endpoint e) (endpoint_at s e).recipient
+
+-- all of these processes are of this side
+abbrev pub AllOn : Cut → Bool → List ℕ → Type 0
+AllOn cut side [] = Unit {0}
+AllOn cut side (p ∷ ps) = (side_of cut Process p ≡ side) × AllOn cut side ps
+
+-- whoever sleeps is of the side of the process on which he sleeps
+abbrev pub SleepApart : Cut → QueuesValue → Type 0
+SleepApart cut q = (p : ℕ) → AllOn cut (side_of cut Process p) (sleepers_of q p)
+
+-- the cut holds: of objects as they mean, and of who stands where
+pub record Holds (cut : Cut) (w : System) : Type 0 where
+  pub each : EachMayHold cut w.store
+  pub sleepers : SleepApart cut w.queues

@@ -1,0 +1,5 @@
+pub mod Cut
+pub mod Acts
+pub mod Reach
+pub mod Laws
+pub mod Separation

@@ -1,0 +1,38 @@
+//! Confinement: what a cut between two sides of a machine is, and the theorem that it is never crossed.
+//!
+//! A cut gives each object a side. It holds where no object has a Range, where each capability that names an object of
+//! the other side is harmless, and where each sleeper is of the side of the process on which it sleeps. Then an event
+//! that a process of one side performs leaves every object of the other side as it is, and the cut holds again.
+//!
+//! There is no code here. Each function has a law as its contract; the definitions are in `specs/`.
+#![tactic(auto)]
+
+ghost use Rattle.confinement.specs.Laws.{AccessLaw, AnswerLaw, ChangeLaw, OperationLaw};
+ghost use Rattle.confinement.specs.Separation.{Separation};
+
+/// An access of a process ends at an object of its side, or at one that is read and no more; a fault's handler is one
+/// that its side may hold.
+pub fn access_law()
+    ensures { AccessLaw }
+{}
+
+/// Who answers what a side holds is of that side.
+pub fn answer_law()
+    ensures { AnswerLaw }
+{}
+
+/// A permitted change stays on its side.
+pub fn change_law()
+    ensures { ChangeLaw }
+{}
+
+/// The changes of each operation are permitted, and the capability that it gives may be held.
+pub fn operation_law()
+    ensures { OperationLaw }
+{}
+
+/// Where a cut holds, then behind any events each event leaves the objects as they are that are not of the side of the
+/// process which performs it, and the cut holds afterwards. Where nobody performs it no object changes.
+pub fn separation()
+    ensures { Separation }
+{}
