@@ -6,3 +6,4 @@ pub mod Operated
 pub mod Names
 pub mod Controlled
 pub mod Moved
+pub mod Saved

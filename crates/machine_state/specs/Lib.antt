@@ -9,3 +9,4 @@ pub mod DataAccess
 pub mod CapAccess
 pub mod Reply
 pub mod Operation
+pub mod Past

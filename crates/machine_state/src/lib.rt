@@ -16,13 +16,18 @@ mod machine;
 mod memory;
 mod messages;
 mod operating;
+mod past;
+mod places;
 mod record;
 mod records;
 mod replies;
+mod restoring;
 mod strings;
 
 pub use event::Event;
 pub use log_bytes::LogBytes;
 pub use machine::Machine;
+pub use past::Past;
+pub use places::Place;
 pub use record::Record;
 pub use records::Records;

@@ -1,0 +1,79 @@
+//! Bringing a machine back to what is remembered of it.
+ghost use Rattle.std.specs.Prelude.{◌≡◌, ◌<◌};
+ghost use Rattle.cap_format.specs.declared.kind.CapKind.{CapKind};
+ghost use Rattle.object_store.specs.Store.{size_of};
+ghost use Rattle.object_store.specs.Meaning.{map_of};
+ghost use Rattle.object_store.specs.Object.{object_at, with_object};
+ghost use Rattle.object_store.specs.Saved.{restored, AreThere};
+ghost use Rattle.machine_state.specs.Machine.{IsMachine};
+ghost use Rattle.machine_state.specs.Past.{names_in, saved_in};
+
+use crate::machine::Machine;
+use crate::past::Past;
+use crate::places::Place;
+use object_store::Objects;
+use std::sync::ledger::Ledger;
+use steps::Steps;
+use walk_engine::Translator;
+
+impl<T: Translator> Machine<T> {
+    /// Puts back what is remembered, and tells the translator each object that is put back. The queues and whether the
+    /// machine is halted are as they were then.
+    pub fn restore<L: Ledger>(&mut self, past: &Past, fetches: &mut Steps<L>)
+        requires there { AreThere self.old.objects (names_in past.now) }
+        requires machine { IsMachine (restored (saved_in past.now) self.old.objects) past.now.queues }
+        ensures objects { self.new.objects ≡ restored (saved_in past.now) self.old.objects }
+        ensures queues { self.new.queues ≡ past.now.queues }
+        ensures halted { self.new.halted ≡ past.now.halted }
+    {
+        put_back(&mut self.objects, &mut self.translator, past, fetches);
+        self.queues.copy_from(&past.queues);
+        self.halted = past.halted;
+    }
+}
+
+/// Puts back all objects that are remembered, one after the other.
+fn put_back<T: Translator, L: Ledger>(
+    objects: &mut Objects,
+    translator: &mut T,
+    past: &Past,
+    fetches: &mut Steps<L>,
+)
+    requires there { AreThere objects.old (names_in past.now) }
+    requires coherent { T.coherent translator.old (map_of objects.old.items) }
+    ensures objects { objects.new ≡ restored (saved_in past.now) objects.old }
+    ensures coherent { T.coherent translator.new (map_of objects.new.items) }
+    ensures harts { T.harts translator.new ≡ T.harts translator.old }
+{
+    let places = past.places.as_slice();
+    'each: for i in 0..places.len() {
+        put_one(objects, translator, past, places[i], fetches);
+    }
+}
+
+/// Puts one object back, and tells it in the same call.
+fn put_one<T: Translator, L: Ledger>(
+    objects: &mut Objects,
+    translator: &mut T,
+    past: &Past,
+    place: Place,
+    fetches: &mut Steps<L>,
+)
+    requires there { place.number < size_of objects.old.items place.kind }
+    requires copy { place.place < size_of past.now.copies.items place.kind }
+    requires coherent { T.coherent translator.old (map_of objects.old.items) }
+    ensures objects { objects.new ≡
+        with_object objects.old place.number (object_at past.now.copies place.kind place.place) }
+    ensures sizes { (k : CapKind) → size_of objects.new.items k ≡ size_of objects.old.items k }
+    ensures coherent { T.coherent translator.new (map_of objects.new.items) }
+    ensures harts { T.harts translator.new ≡ T.harts translator.old }
+{
+    let item = objects.copy_object(
+        place.kind,
+        place.number,
+        &past.copies,
+        place.place,
+        fetches,
+    );
+    translator.invalidate(item);
+}
