@@ -18,7 +18,7 @@ use Rattle.coyotos_cli.specs.Events.{line_events}
 use Rattle.kernel_core.specs.Outcome.{Touch}
 use Rattle.coyotos_cli.specs.Schedule.{finished, Course, preceded, ends_in, ends_at, line_course, course_of, course_output, last_fetches, ComesTo, OnParts, FailsBehind}
 use Rattle.coyotos_cli.specs.Told.{Progress, progress_behind, told, touches_on}
-use Rattle.coyotos_cli.specs.declared.command.Command.{Command}
+use Rattle.coyotos_words.specs.declared.command.Command.{Command}
 use Rattle.coyotos_cli.specs.declared.exit.Exit.{Exit}
 use Rattle.coyotos_cli.specs.declared.exit.Exit.TheVariants.{OutOfMemory, ReadFault, WriteFault}
 use Rattle.coyotos_cli.proofs.Endings.{outputs_text, outputs_behind, outputs_cut, outputs_none, read-memory, write-memory, ends-memory}

@@ -12,7 +12,7 @@ use Rattle.walk_meaning.specs.declared.kind.Kind.{Kind}
 use Rattle.cap_format.specs.Capability.{Capability}
 use Rattle.cap_format.specs.declared.item.Item.{Item}
 use Rattle.object_store.specs.Store.{Items}
-use Rattle.coyotos_cli.specs.declared.command.Command.{Command}
+use Rattle.coyotos_words.specs.declared.command.Command.{Command}
 use Rattle.coyotos_cli.specs.Told.{line_of, lines_of, runs, state_behind, told, touches_on}
 
 pub lines_of-nil : (command : Command) → lines_of command [] ≡ []

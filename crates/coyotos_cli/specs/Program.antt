@@ -8,12 +8,12 @@ use Rattle.listing_read.specs.Listing.{Listed, Good, Refused, Past, listing_of}
 use Rattle.listing_read.specs.declared.place.Place.TheVariants.{Header}
 use Rattle.image_builder.specs.Boot.{booted}
 use Rattle.walk_meaning.specs.Trail.{slots}
-use Rattle.coyotos_cli.specs.Command.{command_of, asks_input}
+use Rattle.coyotos_cli.specs.Command.{command_for, asks_input}
 use Rattle.coyotos_cli.specs.Ending.{Output, EndsNothing, usage_text, refused_listing, too_long}
 use Rattle.coyotos_cli.specs.Schedule.{Course, ends_in, course_of, course_output, course_fetches}
 use Rattle.coyotos_cli.specs.Told.{begun, runs}
-use Rattle.coyotos_cli.specs.declared.command.Command.{Command}
-use Rattle.coyotos_cli.specs.declared.command.Command.TheVariants.{Help}
+use Rattle.coyotos_words.specs.declared.command.Command.{Command}
+use Rattle.coyotos_words.specs.declared.command.Command.TheVariants.{Help}
 use Rattle.coyotos_cli.specs.declared.exit.Exit.{Exit}
 use Rattle.coyotos_cli.specs.declared.exit.Exit.TheVariants.{Done, Usage}
 
@@ -45,7 +45,7 @@ words_course (Some command) parts = command_course command parts
 
 -- what words come to with all bytes of the input
 abbrev pub whole_course : List (List ℕ) → List ℕ → Course
-whole_course words bytes = words_course (command_of words) (parts_of bytes)
+whole_course words bytes = words_course (command_for words) (parts_of bytes)
 
 -- what the program writes and how it ends
 abbrev pub out : List (List ℕ) → List ℕ → Output
@@ -71,7 +71,7 @@ asks_run (Some command) = asks_input command && runs command
 -- what bytes that were read make sure: the records of the whole lines in them, and the touches of these. What is written
 -- last is not among it
 abbrev pub sure : List (List ℕ) → List ℕ → Course
-sure words bytes = words_course (command_of words) (whole_lines [] bytes)
+sure words bytes = words_course (command_for words) (whole_lines [] bytes)
 
 -- reading failed behind these bytes, no whole line of which ended the call, and the records that they make sure were
 -- written, no more and no less

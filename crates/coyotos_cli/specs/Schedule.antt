@@ -19,8 +19,8 @@ use Rattle.run_text.specs.Walk.{walk_text, no_process_text}
 use Rattle.coyotos_cli.specs.Events.{line_events}
 use Rattle.coyotos_cli.specs.Ending.{Output, Outputs, Fetches, before, refused_schedule, too_long}
 use Rattle.coyotos_cli.specs.Told.{Progress, progress_behind, told, touches_on}
-use Rattle.coyotos_cli.specs.declared.command.Command.{Command}
-use Rattle.coyotos_cli.specs.declared.command.Command.TheVariants.{Check, Walk}
+use Rattle.coyotos_words.specs.declared.command.Command.{Command}
+use Rattle.coyotos_words.specs.declared.command.Command.TheVariants.{Check, Walk}
 use Rattle.coyotos_cli.specs.declared.exit.Exit.{Exit}
 use Rattle.coyotos_cli.specs.declared.exit.Exit.TheVariants.{Done}
 

@@ -11,8 +11,8 @@ use Rattle.kernel_core.specs.State.{State}
 use Rattle.kernel_core.specs.Run.{run_state, run_records, run_touches}
 use Rattle.walk_meaning.specs.declared.kind.Kind.{Kind}
 use Rattle.run_text.specs.Record.{record_text}
-use Rattle.coyotos_cli.specs.declared.command.Command.{Command}
-use Rattle.coyotos_cli.specs.declared.command.Command.TheVariants.{Check, Run, Trace}
+use Rattle.coyotos_words.specs.declared.command.Command.{Command}
+use Rattle.coyotos_words.specs.declared.command.Command.TheVariants.{Check, Run, Trace}
 
 -- an access or an instruction, which `run` leaves out
 abbrev pub is_detail : Record → Bool

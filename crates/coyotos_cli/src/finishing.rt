@@ -11,12 +11,12 @@ ghost use Rattle.object_store.specs.Meaning.{meaning};
 ghost use Rattle.object_store.specs.Store.{size_of};
 ghost use Rattle.cap_format.specs.declared.kind.CapKind.TheVariants.{Gpt, Process};
 
-use crate::command::Command;
 use crate::ending::end_with;
 use crate::exit::Exit;
 use cap_format::Cap;
 use coy_io::Sink;
 use coy_text::LineBuf;
+use coyotos_words::Command;
 use kernel_core::Machine;
 use run_text::{dump, walk_line};
 use std::sync::ledger::Ledger;

@@ -7,11 +7,11 @@ ghost use Rattle.coyotos_cli.specs.Program.{lines_course, walked, StandsSure};
 ghost use Rattle.coyotos_cli.specs.Schedule.{ComesTo};
 ghost use Rattle.coyotos_cli.specs.Told.{runs};
 
-use crate::command::Command;
 use crate::ending::{end_past_limit, refuse_listing};
 use crate::exit::Exit;
 use crate::schedule::schedule;
 use coy_io::{LineReader, Sink, Source};
+use coyotos_words::Command;
 use image_builder::boot;
 use listing_read::{Listing, ListingFault, read_listing};
 use std::alloc::Global;

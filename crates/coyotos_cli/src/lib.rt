@@ -3,7 +3,6 @@
 //! Nothing here knows of files, or of the machine on which the program runs.
 #![tactic(auto)]
 
-mod command;
 mod ending;
 mod events;
 mod exit;

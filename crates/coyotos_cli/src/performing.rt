@@ -9,10 +9,10 @@ ghost use Rattle.run_text.specs.Written.{Writes};
 ghost use Rattle.coyotos_cli.specs.Events.{line_events};
 ghost use Rattle.coyotos_cli.specs.Told.{is_told, line_of, lines_of, runs, state_behind, told, touches_on, Spends};
 
-use crate::command::Command;
 use crate::events::Events;
 use coy_io::{Sink, WriteFault, put_all};
 use coy_text::LineBuf;
+use coyotos_words::Command;
 use kernel_core::{Machine, Record, Records};
 use listing_read::Timed;
 use run_text::record_line;

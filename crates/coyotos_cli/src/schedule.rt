@@ -10,12 +10,12 @@ ghost use Rattle.coyotos_cli.specs.Events.{line_events};
 ghost use Rattle.coyotos_cli.specs.Told.{begun, runs};
 ghost use Rattle.coyotos_cli.specs.Schedule.{course_of, ComesTo, OnParts, FailsBehind};
 
-use crate::command::Command;
 use crate::ending::{end_past_limit, refuse_schedule};
 use crate::exit::Exit;
 use crate::finishing::finish;
 use crate::performing::perform;
 use coy_io::{LineFault, LineReader, Sink, Source};
+use coyotos_words::Command;
 use kernel_core::{Machine, Records};
 use listing_read::{ScheduleFault, Timed, read_event};
 use std::sync::ledger::Ledger;
