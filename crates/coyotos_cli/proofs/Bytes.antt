@@ -1,7 +1,6 @@
 -- From the lines of the input to its bytes.
-use Rattle.std.proofs.Common.{◌≡◌, ◌+◌, ◌++◌, [], ℕ, List, Option, None, Some, IfSome, true, false, true≢false, ◌&&◌, inl, inr, if◌then◌else◌, length, refl, sym, ap, ◌∙◌, subst, arith}
+use Rattle.std.proofs.Common.{◌≡◌, ◌+◌, ◌++◌, [], ℕ, List, Option, None, Some, IfSome, false, length, refl, sym, ap, subst, arith}
 use Rattle.std.specs.Io.KnownBytes.{Appends}
-use Rattle.coy_io.specs.Causes.{Rose}
 use Rattle.coy_io.specs.Lines.{Part, IsUnfinished, parts_of, whole_lines}
 use Rattle.coy_io.specs.Reader.{Reader, new_reader, ahead, bytes_ahead, GivesLines}
 use Rattle.coy_io.proofs.GivenLaws.{GivesLines-trans, GivesLines-taken}
@@ -11,18 +10,13 @@ use Rattle.listing_read.specs.Statement.{ListingValue}
 use Rattle.listing_read.specs.Listing.{Listed, Good, listing_of, IsListed}
 use Rattle.listing_read.specs.Reads.{GivesListing, GivesFront}
 use Rattle.listing_read.specs.declared.place.Place.TheVariants.{Header}
-use Rattle.coyotos_cli.specs.Command.{command_for, asks_input}
 use Rattle.kernel_core.specs.Outcome.{Touch}
-use Rattle.coyotos_cli.specs.Exit.{status_of}
-use Rattle.coyotos_cli.specs.Ending.{Output, EndsNothing, Outputs, Completes, Fetches, HasCauses}
-use Rattle.coyotos_cli.specs.Told.{begun, runs}
-use Rattle.coyotos_cli.specs.Schedule.{Course, course_of, course_output, course_fetches, ComesTo, OnParts, FailsBehind}
-use Rattle.coyotos_cli.specs.Program.{listed_course, lines_course, command_course, words_course, out, fetched, asks_run, walked, sure, StandsSure}
-use Rattle.coyotos_cli.specs.Contract.{bytes_for, Answers, FetchesFor}
+use Rattle.coyotos_cli.specs.Ending.{EndsNothing}
+use Rattle.coyotos_cli.specs.Told.{begun}
+use Rattle.coyotos_cli.specs.Schedule.{Course, course_of, ComesTo, OnParts, FailsBehind}
+use Rattle.coyotos_cli.specs.Program.{listed_course, lines_course, StandsSure}
 use Rattle.coyotos_words.specs.declared.command.Command.{Command}
 use Rattle.coyotos_cli.specs.declared.exit.Exit.{Exit}
-use Rattle.coyotos_cli.specs.declared.exit.Exit.TheVariants.{Done, Usage, ListingRefused, ScheduleRefused, ReadFault, WriteFault, OutOfMemory, TooLong}
-use Rattle.coyotos_words.specs.declared.command.Command.TheVariants.{Help, Check, Run, Trace, Tables, Walk, Make}
 
 module _ (command : Command) (held held' taken taken' : Option (List ℕ)) (fetches fetches' : ℕ) (count : List Touch → ℕ) where
   -- what bytes come to by their whole lines
@@ -74,110 +68,6 @@ module _ (command : Command) (held held' taken taken' : Option (List ℕ)) (fetc
       stands-given reader (front.given ++ fails.given) fails.going fails.unfinished
       (GivesLines-trans _ _ _ front.given fails.given front.gives fails.gives)
       (subst (Stands lines) (sym (front.makes fails.given)) stands)
-
--- a command that asks for input comes to what the lines of its input come to
-pub course-input : (command : Command) (parts : List Part) → asks_input command ≡ true → command_course command parts ≡ lines_course command parts
-course-input Help parts asks = absurd (true≢false (sym asks))
-course-input Check parts asks = refl
-course-input Run parts asks = refl
-course-input Trace parts asks = refl
-course-input Tables parts asks = refl
-course-input (Walk process kind address) parts asks = refl
-course-input (Make number summary) parts asks = refl
-
-module _ (words : List (List ℕ)) (command : Command) (asked : command_for words ≡ Some command) (asks : asks_input command ≡ true) where
-  -- the words come to what the command comes to
-  words-course : (parts : List Part) → words_course (command_for words) parts ≡ lines_course command parts
-  words-course parts = ap (λ asked. words_course asked parts) asked ∙ course-input command parts asks
-
-  -- all bytes of the input are read for them
-  bytes-read : (held : Option (List ℕ)) → bytes_for (command_for words) held ≡ held
-  bytes-read held = ap (λ asked. bytes_for asked held) asked ∙ ap (λ b. if b then held else Some []) asks
-
-  -- what was written is what the words come to
-  outputs-words : (held taken taken' : Option (List ℕ)) (fetches fetches' : ℕ) (exit : Exit)
-      → IfSome held (λ bytes. ComesTo taken taken' fetches fetches' exit walked (lines_course command (parts_of bytes)))
-      → IfSome held (λ bytes. Outputs taken taken' exit (out words bytes))
-  outputs-words None taken taken' fetches fetches' exit comes = tt
-  outputs-words (Some bytes) taken taken' fetches fetches' exit comes =
-      subst (Outputs taken taken' exit) (ap course_output (sym (words-course (parts_of bytes)))) comes.output
-
-  pub answers-words : (held taken taken' : Option (List ℕ)) (fetches fetches' : ℕ) (exit : Exit)
-      → IfSome held (λ bytes. ComesTo taken taken' fetches fetches' exit walked (lines_course command (parts_of bytes)))
-      → (exit ≡ OutOfMemory → taken' ≡ taken) → Answers words held taken taken' exit
-  answers-words held taken taken' fetches fetches' exit comes unwritten = record {
-    output = subst (λ told. IfSome told (λ bytes. Outputs taken taken' exit (out words bytes))) (sym (bytes-read held))
-        (outputs-words held taken taken' fetches fetches' exit comes);
-    unwritten = unwritten;
-  }
-
-  -- and the slots that were fetched are those that the words fetch
-  fetches-lines : (held taken taken' : Option (List ℕ)) (fetches fetches' : ℕ) (exit : Exit)
-      → IfSome held (λ bytes. ComesTo taken taken' fetches fetches' exit walked (lines_course command (parts_of bytes)))
-      → IfSome held (λ bytes. Fetches fetches fetches' exit (fetched words bytes))
-  fetches-lines None taken taken' fetches fetches' exit comes = tt
-  fetches-lines (Some bytes) taken taken' fetches fetches' exit comes =
-      subst (Fetches fetches fetches' exit) (ap (course_fetches walked) (sym (words-course (parts_of bytes)))) comes.fetched
-
-  pub fetches-words : (held taken taken' : Option (List ℕ)) (fetches fetches' : ℕ) (exit : Exit)
-      → IfSome held (λ bytes. ComesTo taken taken' fetches fetches' exit walked (lines_course command (parts_of bytes)))
-      → (runs command ≡ false → fetches' ≡ fetches) → (exit ≡ OutOfMemory → fetches' ≡ fetches)
-      → FetchesFor words held fetches fetches' exit
-  fetches-words held taken taken' fetches fetches' exit comes stays unspent = record {
-    counted = subst (λ told. IfSome told (λ bytes. Fetches fetches fetches' exit (fetched words bytes))) (sym (bytes-read held))
-        (fetches-lines held taken taken' fetches fetches' exit comes);
-    unfetched = λ off. stays (sym (ap (λ asks. asks && runs command) asks) ∙ sym (ap asks_run asked) ∙ off);
-    unspent = unspent;
-  }
-
--- an exit that no fault gave is that of the whole output, or memory was wanting
-completes : (old new : Option (List ℕ)) (exit : Exit) (o : Output) → (exit ≡ ReadFault → ⊥) → (exit ≡ WriteFault → ⊥) → Outputs old new exit o → Completes old new exit o
-completes old new exit o read write outputs = by_exit exit refl
-  where
-    given : (exit ≡ OutOfMemory → ⊥) → Completes old new exit o
-    given memory = inl (outputs.whole (record { read = read; write = write; memory = memory }))
-
-    by_exit : (e : Exit) → exit ≡ e → Completes old new exit o
-    by_exit Done is = given (λ none. let six : 0 ≡ 6 = ap status_of (sym is ∙ none) in absurd (omega (arith, six)))
-    by_exit Usage is = given (λ none. let six : 1 ≡ 6 = ap status_of (sym is ∙ none) in absurd (omega (arith, six)))
-    by_exit (ListingRefused line fault) is = given (λ none. let six : 2 ≡ 6 = ap status_of (sym is ∙ none) in absurd (omega (arith, six)))
-    by_exit (ScheduleRefused line fault) is = given (λ none. let six : 3 ≡ 6 = ap status_of (sym is ∙ none) in absurd (omega (arith, six)))
-    by_exit ReadFault is = absurd (read is)
-    by_exit WriteFault is = absurd (write is)
-    by_exit OutOfMemory is = inr (is, outputs.nothing is)
-    by_exit TooLong is = given (λ none. let six : 7 ≡ 6 = ap status_of (sym is ∙ none) in absurd (omega (arith, six)))
-
-completes-told : (told old new : Option (List ℕ)) (exit : Exit) (output : List ℕ → Output) → (exit ≡ ReadFault → ⊥) → (exit ≡ WriteFault → ⊥)
-    → IfSome told (λ bytes. Outputs old new exit (output bytes)) → IfSome told (λ bytes. Completes old new exit (output bytes))
-completes-told None old new exit output read write outputs = tt
-completes-told (Some bytes) old new exit output read write outputs = completes old new exit (output bytes) read write outputs
-
--- where neither count of faults rose, the answer is the whole output, or memory was wanting
-pub completes-words : (words : List (List ℕ)) (held taken taken' : Option (List ℕ)) (unread unread' unwritten unwritten' : ℕ) (exit : Exit)
-    → Answers words held taken taken' exit → HasCauses unread unread' unwritten unwritten' exit
-    → (Rose unread unread' → ⊥) → (Rose unwritten unwritten' → ⊥)
-    → IfSome (bytes_for (command_for words) held) (λ bytes. Completes taken taken' exit (out words bytes))
-completes-words words held taken taken' unread unread' unwritten unwritten' exit a causes read write =
-    completes-told (bytes_for (command_for words) held) taken taken' exit (out words)
-    (λ same. read (causes.read same)) (λ same. write (causes.write same)) a.output
-
--- what a command makes sure is what the words make sure that ask for it
-pub sure-words : (words : List (List ℕ)) (command : Command) (held held' taken taken' : Option (List ℕ)) (fetches fetches' : ℕ) (count : List Touch → ℕ)
-    → command_for words ≡ Some command → asks_input command ≡ true
-    → StandsSure held held' taken taken' fetches fetches' count (λ bytes. lines_course command (whole_lines [] bytes))
-    → StandsSure held held' taken taken' fetches fetches' count (sure words)
-sure-words words command held held' taken taken' fetches fetches' count asked asks s =
-    let same : sure words s.writes.bytes ≡ lines_course command (whole_lines [] s.writes.bytes) =
-    words-course words command asked asks (whole_lines [] s.writes.bytes) in
-    record {
-      writes = record {
-        bytes = s.writes.bytes;
-        read = s.writes.read;
-        goes_on = subst (λ course. EndsNothing (length (whole_lines [] s.writes.bytes)) course.last.exit) (sym same) s.writes.goes_on;
-        written = subst (λ course. Appends taken taken' course.records) (sym same) s.writes.written;
-      };
-      fetched = subst (λ course. fetches' ≡ fetches + count course.touches) (sym same) s.fetched;
-    }
 
 -- what is so of the known lines behind a listing is so of the known bytes
 on_listed : (held : Option (List ℕ)) (left : Option (List Part)) (listing : ListingValue) (last : ℕ) (P : Listed → Type 0) → IsListed Header 1 (ahead new_reader held) listing last left

@@ -3,5 +3,5 @@ pub mod Rounds
 pub mod Told
 pub mod Endings
 pub mod Lines
-pub mod Words
 pub mod Bytes
+pub mod Words

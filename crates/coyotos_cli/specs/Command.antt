@@ -4,19 +4,20 @@ use Rattle.coyotos_words.specs.Command.{command_of}
 use Rattle.coyotos_words.specs.declared.command.Command.{Command}
 use Rattle.coyotos_words.specs.declared.command.Command.TheVariants.{Help, Tables, Make}
 
--- a command, where it is answered: `tables` and `make` are not yet, and count as words of no form
+-- a command, where it is answered: `tables` and `make N summary` are not yet, and count as words of no form
 abbrev pub answered : Command → Option Command
 answered Tables = None
-answered (Make number summary) = None
+answered (Make number true) = None
 answered command = Some command
 
 -- what these words ask for, where that is answered
 abbrev pub command_for : List (List ℕ) → Option Command
 command_for words = option_and_then answered (command_of words)
 
--- whether a command asks for input; `--help` does not
+-- whether a command asks for input; `--help` and `make` do not
 abbrev pub asks_input : Command → Bool
 asks_input Help = false
+asks_input (Make number summary) = false
 asks_input _ = true
 
 -- whether the input is read for these words; for words of no form it is not

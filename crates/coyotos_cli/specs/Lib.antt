@@ -2,6 +2,7 @@ pub mod Exit
 pub mod Command
 pub mod Events
 pub mod Leaves
+pub mod Made
 pub mod Names
 pub mod Ending
 pub mod Told

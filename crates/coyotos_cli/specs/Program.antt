@@ -3,6 +3,7 @@
 use Rattle.std.specs.Prelude.{◌≡◌, ◌+◌, ℕ, Bool, false, ◌&&◌, List, [], length, Option, Some, None}
 use Rattle.std.specs.Io.KnownBytes.{Consumes, Appends}
 use Rattle.coy_io.specs.Lines.{Part, parts_of, whole_lines}
+use Rattle.generated_text.specs.Text.{make_text}
 use Rattle.kernel_core.specs.Outcome.{Touch, spent}
 use Rattle.listing_read.specs.Listing.{Listed, Good, Refused, Past, listing_of}
 use Rattle.listing_read.specs.declared.place.Place.TheVariants.{Header}
@@ -13,7 +14,7 @@ use Rattle.coyotos_cli.specs.Ending.{Output, EndsNothing, usage_text, refused_li
 use Rattle.coyotos_cli.specs.Schedule.{Course, ends_in, course_of, course_output, course_fetches}
 use Rattle.coyotos_cli.specs.Told.{begun, runs}
 use Rattle.coyotos_words.specs.declared.command.Command.{Command}
-use Rattle.coyotos_words.specs.declared.command.Command.TheVariants.{Help}
+use Rattle.coyotos_words.specs.declared.command.Command.TheVariants.{Help, Make}
 use Rattle.coyotos_cli.specs.declared.exit.Exit.{Exit}
 use Rattle.coyotos_cli.specs.declared.exit.Exit.TheVariants.{Done, Usage}
 
@@ -33,9 +34,10 @@ lines_course command parts = listed_course command (listing_of Header 1 parts)
 abbrev pub tells_usage : Exit → Course
 tells_usage exit = ends_in (record { text = usage_text; exit = exit })
 
--- the same of any command; `--help` tells how the program is used, whatever the input
+-- the same of any command; `--help` tells how the program is used and `make` writes the generated text, whatever the input
 abbrev pub command_course : Command → List Part → Course
 command_course Help parts = tells_usage Done
+command_course (Make number summary) parts = ends_in (record { text = make_text number; exit = Done })
 command_course command parts = lines_course command parts
 
 -- what words come to with the lines of the input; those of no form tell how the program is used

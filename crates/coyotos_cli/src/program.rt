@@ -3,14 +3,13 @@ ghost use Rattle.std.specs.Prelude.{◌≡◌, map, string_bytes, IfSome, IfOk, 
 ghost use Rattle.std.specs.List.{list_any};
 ghost use Rattle.coy_io.specs.Causes.{Rose};
 ghost use Rattle.coyotos_words.specs.Command.{is_dashed};
-ghost use Rattle.coyotos_cli.specs.Command.{answered, asks_input, command_for};
-ghost use Rattle.coyotos_cli.specs.Ending.{HasCauses, IsGiven, Completes, EndsIn, usage_text};
+ghost use Rattle.coyotos_cli.specs.Command.{answered, command_for};
+ghost use Rattle.coyotos_cli.specs.Ending.{HasCauses, Completes};
 ghost use Rattle.coyotos_cli.specs.Program.{out, sure, walked, StandsSure};
 ghost use Rattle.coyotos_cli.specs.Contract.{bytes_for, Answers, HasForm, ReadsInput, FetchesFor};
 
-use crate::ending::end_with;
+use crate::answering::{answer, usage};
 use crate::exit::Exit;
-use crate::input::answer_input;
 use cap_format::OutOfMemory;
 use coy_io::{Sink, Source};
 use coyotos_words::{Command, read_command};
@@ -60,10 +59,7 @@ pub fn coyotos<S: Source, K: Sink, L: Ledger>(
         Ok(None) => return usage(output, Exit::Usage),
         Err(_) => return Exit::OutOfMemory,
     };
-    if !asks_input(command) {
-        return usage(output, Exit::Done);
-    }
-    answer_input(alloc, command, input, output, fetches)
+    answer(alloc, command, input, output, fetches)
 }
 
 /// What the words ask for, where that is answered.
@@ -81,25 +77,7 @@ fn answered(command: Command) -> Option<Command>
     ensures { result ≡ answered command }
 {
     match command {
-        Command::Tables | Command::Make { .. } => None,
+        Command::Tables | Command::Make { summary: true, .. } => None,
         _ => Some(command),
     }
-}
-
-/// Whether the command asks for input.
-fn asks_input(command: Command) -> bool
-    ensures { result ≡ asks_input command }
-{
-    !matches!(command, Command::Help)
-}
-
-/// Writes how the program is used.
-fn usage<K: Sink>(output: &mut K, exit: Exit) -> Exit
-    requires { IsGiven exit }
-    ensures { EndsIn K.taken K.faults output.old output.new result
-        (record { text = usage_text; exit = exit }) }
-{
-    let line =
-        b"usage: coyotos check | run | trace | tables | walk P KIND ADDR | make N [summary]\n";
-    end_with(line.as_slice(), exit, output)
 }
