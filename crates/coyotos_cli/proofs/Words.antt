@@ -9,11 +9,12 @@ use Rattle.coyotos_words.specs.Command.{is_dashed, is_help}
 use Rattle.coyotos_words.specs.declared.command.Command.{Command}
 use Rattle.coyotos_words.specs.declared.command.Command.TheVariants.{Help, Check, Run, Trace, Tables, Walk, Make}
 use Rattle.coyotos_words.proofs.Dashed.{bytes_dashed}
-use Rattle.coyotos_cli.specs.Command.{command_for, asks_input}
+use Rattle.coyotos_cli.specs.Command.{command_for, asks_input, asks_run, runs, summary_number}
 use Rattle.coyotos_cli.specs.Exit.{status_of}
 use Rattle.coyotos_cli.specs.Ending.{Output, EndsNothing, Outputs, Completes, Ends, Fetches, HasCauses}
-use Rattle.coyotos_cli.specs.Schedule.{Course, ends_in, course_output, course_fetches, ComesTo}
-use Rattle.coyotos_cli.specs.Program.{lines_course, command_course, words_course, out, fetched, asks_run, walked, sure, StandsSure}
+use Rattle.coyotos_cli.specs.Course.{Course, ends_in, course_output, course_fetches, ComesTo}
+use Rattle.coyotos_cli.specs.Program.{lines_course, command_course, words_course, out, fetched, walked, sure, StandsSure}
+use Rattle.coyotos_cli.proofs.Concluding.{IsLast}
 use Rattle.coyotos_cli.specs.Contract.{bytes_for, Answers, HasForm, FetchesFor}
 use Rattle.coyotos_cli.specs.declared.exit.Exit.{Exit}
 use Rattle.coyotos_cli.specs.declared.exit.Exit.TheVariants.{Done, Usage, ListingRefused, ScheduleRefused, ReadFault, WriteFault, OutOfMemory, TooLong}
@@ -30,15 +31,69 @@ course-input Tables parts asks = refl
 course-input (Walk process kind address) parts asks = refl
 course-input (Make number summary) parts asks = cc
 
--- and no other command to what depends on them
-pub course-alone : (command : Command) (parts : List Part) → asks_input command ≡ false → command_course command parts ≡ ends_in (command_course command []).last
-course-alone Help parts asks = refl
-course-alone Check parts asks = cc
-course-alone Run parts asks = cc
-course-alone Trace parts asks = cc
-course-alone Tables parts asks = cc
-course-alone (Walk process kind address) parts asks = cc
-course-alone (Make number summary) parts asks = refl
+-- a command that asks for none comes to the same whatever the lines
+pub course-other : (command : Command) (parts : List Part) → asks_input command ≡ false → command_course command parts ≡ command_course command []
+course-other Help parts asks = refl
+course-other Check parts asks = cc
+course-other Run parts asks = cc
+course-other Trace parts asks = cc
+course-other Tables parts asks = cc
+course-other (Walk process kind address) parts asks = cc
+course-other (Make number summary) parts asks = refl
+
+-- and to its last text alone, where it asks for no run
+course-alone : (command : Command) → asks_input command ≡ false → asks_run (Some command) ≡ false → command_course command [] ≡ ends_in (command_course command []).last
+course-alone Help asks still = refl
+course-alone Check asks still = cc
+course-alone Run asks still = cc
+course-alone Trace asks still = cc
+course-alone Tables asks still = cc
+course-alone (Walk process kind address) asks still = cc
+course-alone (Make number false) asks still = refl
+course-alone (Make number true) asks still = cc
+
+-- and its exit is no fault
+pub alone-last : (command : Command) → asks_input command ≡ false → asks_run (Some command) ≡ false → IsLast (command_course command []).last
+alone-last Help asks still = record { usage = λ e. omega (arith, e); read = λ e. omega (arith, e); memory = λ e. omega (arith, e) }
+alone-last Check asks still = cc
+alone-last Run asks still = cc
+alone-last Trace asks still = cc
+alone-last Tables asks still = cc
+alone-last (Walk process kind address) asks still = cc
+alone-last (Make number false) asks still = record { usage = λ e. omega (arith, e); read = λ e. omega (arith, e); memory = λ e. omega (arith, e) }
+alone-last (Make number true) asks still = cc
+
+-- a command whose generated text is run
+pub summary-is : (command : Command) (number : ℕ) → summary_number command ≡ Some number → command ≡ Make number true
+summary-is Help number is = cc
+summary-is Check number is = cc
+summary-is Run number is = cc
+summary-is Trace number is = cc
+summary-is Tables number is = cc
+summary-is (Walk process kind address) number is = cc
+summary-is (Make n false) number is = cc
+summary-is (Make n true) number is = let same : n ≡ number = cc in ap (λ k. Make k true) same
+
+-- and one that asks for neither it nor input
+pub summary-none : (command : Command) → asks_input command ≡ false → summary_number command ≡ None → asks_run (Some command) ≡ false
+summary-none Help asks none = refl
+summary-none Check asks none = refl
+summary-none Run asks none = cc
+summary-none Trace asks none = cc
+summary-none Tables asks none = cc
+summary-none (Walk process kind address) asks none = cc
+summary-none (Make number false) asks none = refl
+summary-none (Make number true) asks none = cc
+
+-- a command that asks for input and lets nothing run asks for no run
+pub run-input : (command : Command) → asks_input command ≡ true → asks_run (Some command) ≡ false → runs command ≡ false
+run-input Help asks still = cc
+run-input Check asks still = refl
+run-input Run asks still = cc
+run-input Trace asks still = cc
+run-input Tables asks still = cc
+run-input (Walk process kind address) asks still = cc
+run-input (Make number summary) asks still = cc
 
 module _ (command : Command) (taken taken' : Option (List ℕ)) (fetches fetches' : ℕ) (exit : Exit) where
   -- what is so of the lines of the input is so of what the command comes to
@@ -54,14 +109,21 @@ module _ (command : Command) (taken taken' : Option (List ℕ)) (fetches fetches
       told None comes = tt
       told (Some bytes) comes = subst (ComesTo taken taken' fetches fetches' exit walked) (sym (course-input command (parts_of bytes) asks)) comes
 
-  -- a text by itself was written, and nothing fetched
-  pub comes-alone : (held : Option (List ℕ)) (faults faults' : ℕ) → asks_input command ≡ false
-      → Ends taken taken' faults faults' exit (command_course command []).last → fetches' ≡ fetches
+  -- a command that asks for none comes to the same whatever it is
+  pub comes-other : (held : Option (List ℕ)) → asks_input command ≡ false
+      → ComesTo taken taken' fetches fetches' exit walked (command_course command [])
       → IfSome (bytes_for (Some command) held) (λ bytes. ComesTo taken taken' fetches fetches' exit walked (command_course command (parts_of bytes)))
-  comes-alone held faults faults' asks e same =
+  comes-other held asks comes =
       subst (λ read. IfSome (if read then held else Some []) (λ bytes. ComesTo taken taken' fetches fetches' exit walked (command_course command (parts_of bytes)))) (sym asks)
-      (subst (ComesTo taken taken' fetches fetches' exit walked) (sym (course-alone command (parts_of []) asks))
-      (record { output = e.output; fetched = record { whole = λ given. omega (arith, same); most = omega (arith, same) } }))
+      (subst (ComesTo taken taken' fetches fetches' exit walked) (sym (course-other command (parts_of []) asks)) comes)
+
+  -- where its text by itself was written, and nothing fetched
+  pub comes-alone : (faults faults' : ℕ) → asks_input command ≡ false → asks_run (Some command) ≡ false
+      → Ends taken taken' faults faults' exit (command_course command []).last → fetches' ≡ fetches
+      → ComesTo taken taken' fetches fetches' exit walked (command_course command [])
+  comes-alone faults faults' asks still e same =
+      subst (ComesTo taken taken' fetches fetches' exit walked) (sym (course-alone command asks still))
+      (record { output = e.output; fetched = record { whole = λ given. omega (arith, same); most = omega (arith, same) } })
 
 -- what stands sure by what bytes come to stands so by another name of that
 stands-course : (held held' taken taken' : Option (List ℕ)) (fetches fetches' : ℕ) (count : List Touch → ℕ) (course other : List ℕ → Course)

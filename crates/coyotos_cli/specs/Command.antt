@@ -2,12 +2,13 @@
 use Rattle.std.specs.Prelude.{ℕ, Bool, true, false, List, Option, Some, None, option_and_then}
 use Rattle.coyotos_words.specs.Command.{command_of}
 use Rattle.coyotos_words.specs.declared.command.Command.{Command}
-use Rattle.coyotos_words.specs.declared.command.Command.TheVariants.{Help, Tables, Make}
+use Rattle.coyotos_words.specs.declared.command.Command.TheVariants.{Help, Check, Run, Trace as Traced, Tables, Make}
+use Rattle.coyotos_cli.specs.declared.mode.Mode.{Mode}
+use Rattle.coyotos_cli.specs.declared.mode.Mode.TheVariants.{Silent, Records, Trace}
 
--- a command, where it is answered: `tables` and `make N summary` are not yet, and count as words of no form
+-- a command, where it is answered: `tables` is not yet, and counts as words of no form
 abbrev pub answered : Command → Option Command
 answered Tables = None
-answered (Make number true) = None
 answered command = Some command
 
 -- what these words ask for, where that is answered
@@ -20,7 +21,31 @@ asks_input Help = false
 asks_input (Make number summary) = false
 asks_input _ = true
 
+-- whether the events of the lines are run for a command, or only counted, as for `check`
+abbrev pub runs : Command → Bool
+runs Check = false
+runs _ = true
+
+-- the records of the run that a command writes
+abbrev pub mode_of : Command → Mode
+mode_of Run = Records
+mode_of Traced = Trace
+mode_of _ = Silent
+
 -- whether the input is read for these words; for words of no form it is not
 abbrev pub reads_input : Option Command → Bool
 reads_input None = false
 reads_input (Some command) = asks_input command
+
+-- whether words ask for a run; others fetch nothing
+abbrev pub asks_run : Option Command → Bool
+asks_run None = false
+asks_run (Some Help) = false
+asks_run (Some Check) = false
+asks_run (Some (Make number summary)) = summary
+asks_run (Some command) = true
+
+-- the number whose generated text a command runs
+abbrev pub summary_number : Command → Option ℕ
+summary_number (Make number true) = Some number
+summary_number _ = None

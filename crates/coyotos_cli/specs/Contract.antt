@@ -3,9 +3,9 @@ use Rattle.std.specs.Prelude.{◌≡◌, ◌≢◌, ◌⊎◌, ℕ, true, false,
 use Rattle.std.specs.List.{list_any}
 use Rattle.std.specs.Io.KnownBytes.{IsAtEnd}
 use Rattle.coyotos_words.specs.Command.{is_dashed}
-use Rattle.coyotos_cli.specs.Command.{command_for, reads_input}
+use Rattle.coyotos_cli.specs.Command.{command_for, reads_input, asks_run}
 use Rattle.coyotos_cli.specs.Ending.{Outputs, Fetches}
-use Rattle.coyotos_cli.specs.Program.{out, fetched, asks_run}
+use Rattle.coyotos_cli.specs.Program.{out, fetched}
 use Rattle.coyotos_words.specs.declared.command.Command.{Command}
 use Rattle.coyotos_cli.specs.declared.exit.Exit.{Exit}
 use Rattle.coyotos_cli.specs.declared.exit.Exit.TheVariants.{Done, Usage, WriteFault, OutOfMemory}

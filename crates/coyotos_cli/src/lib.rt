@@ -4,15 +4,25 @@
 #![tactic(auto)]
 
 mod answering;
+mod counting;
+mod counts;
 mod ending;
 mod events;
 mod exit;
 mod finishing;
 mod input;
+mod lines;
 mod making;
-mod performing;
+mod mode;
 mod program;
+mod replayed;
+mod replaying;
 mod schedule;
+mod telling;
 
+pub use counts::Counts;
 pub use exit::Exit;
+pub use mode::Mode;
 pub use program::coyotos;
+pub use replayed::Replayed;
+pub use replaying::replay;

@@ -77,7 +77,7 @@ fn answered(command: Command) -> Option<Command>
     ensures { result ≡ answered command }
 {
     match command {
-        Command::Tables | Command::Make { summary: true, .. } => None,
+        Command::Tables => None,
         _ => Some(command),
     }
 }
