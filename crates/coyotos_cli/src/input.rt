@@ -2,16 +2,16 @@
 ghost use Rattle.std.specs.Prelude.{◌≡◌, ◌≢◌, [], false, IfSome};
 ghost use Rattle.std.specs.Io.KnownBytes.{IsAtEnd};
 ghost use Rattle.coy_io.specs.Lines.{parts_of, whole_lines};
+ghost use Rattle.coyotos_cli.specs.Command.{runs};
 ghost use Rattle.coyotos_cli.specs.Ending.{HasCauses};
 ghost use Rattle.coyotos_cli.specs.Program.{lines_course, walked, StandsSure};
-ghost use Rattle.coyotos_cli.specs.Schedule.{ComesTo};
-ghost use Rattle.coyotos_cli.specs.Told.{runs};
+ghost use Rattle.coyotos_cli.specs.Course.{ComesTo};
 
-use crate::command::Command;
 use crate::ending::{end_past_limit, refuse_listing};
 use crate::exit::Exit;
-use crate::schedule::schedule;
+use crate::schedule::answer_lines;
 use coy_io::{LineReader, Sink, Source};
+use coyotos_words::Command;
 use image_builder::boot;
 use listing_read::{Listing, ListingFault, read_listing};
 use std::alloc::Global;
@@ -57,14 +57,5 @@ pub(crate) fn answer_input<S: Source, K: Sink, L: Ledger>(
     let Ok(mut machine) = boot(alloc, &listing, Plain::new()) else {
         return Exit::OutOfMemory;
     };
-    let harts = listing.sizes().harts;
-    schedule(
-        command,
-        harts,
-        &mut machine,
-        &mut lines,
-        input,
-        output,
-        fetches,
-    )
+    answer_lines(command, &mut machine, &mut lines, input, output, fetches)
 }

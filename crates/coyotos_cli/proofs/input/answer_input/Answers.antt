@@ -11,9 +11,9 @@ returns-in-Err-ReadFault-clause-sure g c =
 pub returns-clause-comes : goal.returns-clause-comes
 returns-clause-comes g c =
     bytes-come _ _ _ c.new-lines.result c.read_listing.new.lines c.in-Ok.listing _ _ c.new-lines.ensures
-    (ap (λ sizes. sizes.harts) c.sizes-harts.ensures.value) c.in-Ok-boot.ensures.state c.in-Ok.ensures.listed _ _ _ _ _ _ c.schedule.ensures.comes
+    (ap (λ sizes. sizes.harts) c.in-Ok-boot.ensures.sizes) c.in-Ok-boot.ensures.state c.in-Ok.ensures.listed _ _ _ _ _ _ c.answer_lines.ensures.comes
 
 pub returns-clause-sure : goal.returns-clause-sure
 returns-clause-sure g c =
-    λ fault. sure-schedule _ _ _ _ _ _ _ _ _ c.new-lines.result c.read_listing.new.lines c.schedule.new.lines c.in-Ok.listing _ _ c.new-lines.ensures
-    (ap (λ sizes. sizes.harts) c.sizes-harts.ensures.value) c.in-Ok-boot.ensures.state c.in-Ok.ensures.given (c.schedule.ensures.sure fault)
+    λ fault. sure-schedule _ _ _ _ _ _ _ _ _ c.new-lines.result c.read_listing.new.lines c.answer_lines.new.lines c.in-Ok.listing _ _ c.new-lines.ensures
+    (ap (λ sizes. sizes.harts) c.in-Ok-boot.ensures.sizes) c.in-Ok-boot.ensures.state c.in-Ok.ensures.given (c.answer_lines.ensures.sure fault)

@@ -1,7 +1,7 @@
 use Rattle.std.proofs.Common.{◌≡◌}
 use Rattle.coyotos_cli.specs.Ending.{usage_text}
 use Rattle.coyotos_cli.proofs.Endings.{ends_text}
-use Rattle.coyotos_cli.proofs.program.usage.Goals as goal
+use Rattle.coyotos_cli.proofs.answering.usage.Goals as goal
 
 pub returns : goal.returns
 returns g c =
