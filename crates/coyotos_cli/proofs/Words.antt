@@ -13,7 +13,7 @@ use Rattle.coyotos_cli.specs.Command.{command_for, asks_input, asks_run, runs, s
 use Rattle.coyotos_cli.specs.Exit.{status_of}
 use Rattle.coyotos_cli.specs.Ending.{Output, EndsNothing, Outputs, Completes, Ends, Fetches, HasCauses}
 use Rattle.coyotos_cli.specs.Course.{Course, ends_in, course_output, course_fetches, ComesTo}
-use Rattle.coyotos_cli.specs.Program.{lines_course, command_course, words_course, out, fetched, walked, sure, StandsSure}
+use Rattle.coyotos_cli.specs.Program.{lines_course, command_course, words_course, out, fetched, cached, sure, StandsSure}
 use Rattle.coyotos_cli.proofs.Concluding.{IsLast}
 use Rattle.coyotos_cli.specs.Contract.{bytes_for, Answers, HasForm, FetchesFor}
 use Rattle.coyotos_cli.specs.declared.exit.Exit.{Exit}
@@ -98,31 +98,31 @@ run-input (Make number summary) asks still = cc
 module _ (command : Command) (taken taken' : Option (List ℕ)) (fetches fetches' : ℕ) (exit : Exit) where
   -- what is so of the lines of the input is so of what the command comes to
   pub comes-input : (held : Option (List ℕ)) → asks_input command ≡ true
-      → IfSome held (λ bytes. ComesTo taken taken' fetches fetches' exit walked (lines_course command (parts_of bytes)))
-      → IfSome (bytes_for (Some command) held) (λ bytes. ComesTo taken taken' fetches fetches' exit walked (command_course command (parts_of bytes)))
+      → IfSome held (λ bytes. ComesTo taken taken' fetches fetches' exit cached (lines_course command (parts_of bytes)))
+      → IfSome (bytes_for (Some command) held) (λ bytes. ComesTo taken taken' fetches fetches' exit cached (command_course command (parts_of bytes)))
   comes-input held asks comes =
-      subst (λ read. IfSome (if read then held else Some []) (λ bytes. ComesTo taken taken' fetches fetches' exit walked (command_course command (parts_of bytes)))) (sym asks)
+      subst (λ read. IfSome (if read then held else Some []) (λ bytes. ComesTo taken taken' fetches fetches' exit cached (command_course command (parts_of bytes)))) (sym asks)
       (told held comes)
     where
-      told : (held : Option (List ℕ)) → IfSome held (λ bytes. ComesTo taken taken' fetches fetches' exit walked (lines_course command (parts_of bytes)))
-          → IfSome held (λ bytes. ComesTo taken taken' fetches fetches' exit walked (command_course command (parts_of bytes)))
+      told : (held : Option (List ℕ)) → IfSome held (λ bytes. ComesTo taken taken' fetches fetches' exit cached (lines_course command (parts_of bytes)))
+          → IfSome held (λ bytes. ComesTo taken taken' fetches fetches' exit cached (command_course command (parts_of bytes)))
       told None comes = tt
-      told (Some bytes) comes = subst (ComesTo taken taken' fetches fetches' exit walked) (sym (course-input command (parts_of bytes) asks)) comes
+      told (Some bytes) comes = subst (ComesTo taken taken' fetches fetches' exit cached) (sym (course-input command (parts_of bytes) asks)) comes
 
   -- a command that asks for none comes to the same whatever it is
   pub comes-other : (held : Option (List ℕ)) → asks_input command ≡ false
-      → ComesTo taken taken' fetches fetches' exit walked (command_course command [])
-      → IfSome (bytes_for (Some command) held) (λ bytes. ComesTo taken taken' fetches fetches' exit walked (command_course command (parts_of bytes)))
+      → ComesTo taken taken' fetches fetches' exit cached (command_course command [])
+      → IfSome (bytes_for (Some command) held) (λ bytes. ComesTo taken taken' fetches fetches' exit cached (command_course command (parts_of bytes)))
   comes-other held asks comes =
-      subst (λ read. IfSome (if read then held else Some []) (λ bytes. ComesTo taken taken' fetches fetches' exit walked (command_course command (parts_of bytes)))) (sym asks)
-      (subst (ComesTo taken taken' fetches fetches' exit walked) (sym (course-other command (parts_of []) asks)) comes)
+      subst (λ read. IfSome (if read then held else Some []) (λ bytes. ComesTo taken taken' fetches fetches' exit cached (command_course command (parts_of bytes)))) (sym asks)
+      (subst (ComesTo taken taken' fetches fetches' exit cached) (sym (course-other command (parts_of []) asks)) comes)
 
   -- where its text by itself was written, and nothing fetched
   pub comes-alone : (faults faults' : ℕ) → asks_input command ≡ false → asks_run (Some command) ≡ false
       → Ends taken taken' faults faults' exit (command_course command []).last → fetches' ≡ fetches
-      → ComesTo taken taken' fetches fetches' exit walked (command_course command [])
+      → ComesTo taken taken' fetches fetches' exit cached (command_course command [])
   comes-alone faults faults' asks still e same =
-      subst (ComesTo taken taken' fetches fetches' exit walked) (sym (course-alone command asks still))
+      subst (ComesTo taken taken' fetches fetches' exit cached) (sym (course-alone command asks still))
       (record { output = e.output; fetched = record { whole = λ given. omega (arith, same); most = omega (arith, same) } })
 
 -- what stands sure by what bytes come to stands so by another name of that
@@ -159,7 +159,7 @@ module _ (words : List (List ℕ)) (command : Command) (asked : command_for word
 
   module _ (taken taken' : Option (List ℕ)) (fetches fetches' : ℕ) (exit : Exit) where
     abbrev Comes : List ℕ → Type 0
-    Comes bytes = ComesTo taken taken' fetches fetches' exit walked (command_course command (parts_of bytes))
+    Comes bytes = ComesTo taken taken' fetches fetches' exit cached (command_course command (parts_of bytes))
 
     outputs : (told : Option (List ℕ)) → IfSome told Comes → IfSome told (λ bytes. Outputs taken taken' exit (out words bytes))
     outputs None comes = tt
@@ -167,7 +167,7 @@ module _ (words : List (List ℕ)) (command : Command) (asked : command_for word
 
     fetches_all : (told : Option (List ℕ)) → IfSome told Comes → IfSome told (λ bytes. Fetches fetches fetches' exit (fetched words bytes))
     fetches_all None comes = tt
-    fetches_all (Some bytes) comes = subst (Fetches fetches fetches' exit) (ap (course_fetches walked) (sym (words-course (parts_of bytes)))) comes.fetched
+    fetches_all (Some bytes) comes = subst (Fetches fetches fetches' exit) (ap (course_fetches cached) (sym (words-course (parts_of bytes)))) comes.fetched
 
     -- what was written is what the words come to
     pub answers-words : (held : Option (List ℕ)) → IfSome (bytes_for (Some command) held) Comes → (exit ≡ OutOfMemory → taken' ≡ taken) → Answers words held taken taken' exit

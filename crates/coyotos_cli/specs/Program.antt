@@ -4,11 +4,12 @@ use Rattle.std.specs.Prelude.{◌≡◌, ◌+◌, ℕ, Bool, true, false, List, 
 use Rattle.std.specs.Io.KnownBytes.{Consumes, Appends}
 use Rattle.coy_io.specs.Lines.{Part, parts_of, whole_lines}
 use Rattle.generated_text.specs.Text.{make_text}
-use Rattle.kernel_core.specs.Outcome.{Touch, spent}
+use Rattle.kernel_core.specs.Outcome.{Touch}
+use Rattle.map_cache.specs.Kept.{nothing}
+use Rattle.fetch_economy.specs.Counts.{fetched_by}
 use Rattle.listing_read.specs.Listing.{Listed, Good, Refused, Past, listing_of}
 use Rattle.listing_read.specs.declared.place.Place.TheVariants.{Header}
 use Rattle.image_builder.specs.Boot.{booted}
-use Rattle.walk_meaning.specs.Trail.{slots}
 use Rattle.coyotos_cli.specs.Command.{command_for}
 use Rattle.coyotos_cli.specs.Ending.{Output, EndsNothing, usage_text, refused_listing, too_long}
 use Rattle.coyotos_cli.specs.Scheduled.{scheduled}
@@ -58,15 +59,13 @@ whole_course words bytes = words_course (command_for words) (parts_of bytes)
 abbrev pub out : List (List ℕ) → List ℕ → Output
 out words bytes = course_output (whole_course words bytes)
 
--- how many slots touches fetch where each access of data is a walk, as in the program
-abbrev pub walked : List Touch → ℕ
-walked touches =
-    spent {K = Unit {0}} (λ kept o space address kind. slots o space address kind)
-    (λ kept o space address kind. kept) (λ kept item. kept) tt touches
+-- how many slots touches fetch over the program's translator: a mapping cache that keeps nothing at first
+abbrev pub cached : List Touch → ℕ
+cached touches = fetched_by nothing touches
 
 -- how many slots the program fetches
 abbrev pub fetched : List (List ℕ) → List ℕ → ℕ
-fetched words bytes = course_fetches walked (whole_course words bytes)
+fetched words bytes = course_fetches cached (whole_course words bytes)
 
 -- ---- what stands where reading failed
 

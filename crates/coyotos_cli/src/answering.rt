@@ -6,7 +6,7 @@ ghost use Rattle.coyotos_words.specs.declared.command.Command.TheVariants.{Help}
 ghost use Rattle.coyotos_cli.specs.Command.{asks_input, asks_run, summary_number};
 ghost use Rattle.coyotos_cli.specs.Contract.{bytes_for};
 ghost use Rattle.coyotos_cli.specs.Ending.{HasCauses, IsGiven, EndsIn, usage_text};
-ghost use Rattle.coyotos_cli.specs.Program.{command_course, make_course, walked, StandsSure};
+ghost use Rattle.coyotos_cli.specs.Program.{command_course, make_course, cached, StandsSure};
 ghost use Rattle.coyotos_cli.specs.Course.{ComesTo};
 
 use crate::ending::end_with;
@@ -30,13 +30,13 @@ pub(crate) fn answer<S: Source, K: Sink, L: Ledger>(
 ) -> Exit
     // What the command comes to with the known bytes, and where the source stands then.
     ensures comes { IfSome (bytes_for (Some command) (S.held input.old)) (λ bytes.
-        ComesTo (K.taken output.old) (K.taken output.new) fetches.old fetches.new result walked
+        ComesTo (K.taken output.old) (K.taken output.new) fetches.old fetches.new result cached
         (command_course command (parts_of bytes))) }
     ensures end { result ≡ Exit.Done → asks_input command ≡ true → IsAtEnd (S.held input.new) }
     ensures unread { asks_input command ≡ false → input.new ≡ input.old }
     ensures sure { result ≡ Exit.ReadFault →
         StandsSure (S.held input.old) (S.held input.new) (K.taken output.old) (K.taken output.new)
-        fetches.old fetches.new walked (λ bytes. command_course command (whole_lines [] bytes)) }
+        fetches.old fetches.new cached (λ bytes. command_course command (whole_lines [] bytes)) }
 
     // Why it may end otherwise.
     ensures usage { result ≢ Exit.Usage }
@@ -64,7 +64,7 @@ fn answer_other<K: Sink, L: Ledger>(
 ) -> Exit
     requires { asks_input command ≡ false }
     ensures comes { ComesTo (K.taken output.old) (K.taken output.new) fetches.old fetches.new
-        result walked (command_course command []) }
+        result cached (command_course command []) }
     ensures usage { result ≢ Exit.Usage }
     ensures read { result ≢ Exit.ReadFault }
     ensures memory { command ≡ Help → result ≢ Exit.OutOfMemory }
@@ -97,7 +97,7 @@ fn summarize<K: Sink, L: Ledger>(
     fetches: &mut Steps<L>,
 ) -> Exit
     ensures comes { ComesTo (K.taken output.old) (K.taken output.new) fetches.old fetches.new
-        result walked (make_course number true) }
+        result cached (make_course number true) }
     ensures usage { result ≢ Exit.Usage }
     ensures read { result ≢ Exit.ReadFault }
     ensures causes { HasCauses 0 0 (K.faults output.old) (K.faults output.new) result }

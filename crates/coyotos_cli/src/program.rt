@@ -5,7 +5,7 @@ ghost use Rattle.coy_io.specs.Causes.{Rose};
 ghost use Rattle.coyotos_words.specs.Command.{is_dashed};
 ghost use Rattle.coyotos_cli.specs.Command.{answered, command_for};
 ghost use Rattle.coyotos_cli.specs.Ending.{HasCauses, Completes};
-ghost use Rattle.coyotos_cli.specs.Program.{out, sure, walked, StandsSure};
+ghost use Rattle.coyotos_cli.specs.Program.{out, sure, cached, StandsSure};
 ghost use Rattle.coyotos_cli.specs.Contract.{bytes_for, Answers, HasForm, ReadsInput, FetchesFor};
 
 use crate::answering::{answer, usage};
@@ -40,7 +40,7 @@ pub fn coyotos<S: Source, K: Sink, L: Ledger>(
     // lines come to.
     ensures sure { let course = sure (map string_bytes words.now) in result ≡ Exit.ReadFault →
         StandsSure (S.held input.old) (S.held input.new) (K.taken output.old) (K.taken output.new)
-        fetches.old fetches.new walked course }
+        fetches.old fetches.new cached course }
 
     // How much of the input is read.
     ensures reads { ReadsInput S.held (map string_bytes words.now) input.old input.new result }
