@@ -9,4 +9,5 @@ pub mod Counted
 pub mod Endings
 pub mod Concluding
 pub mod Bytes
+pub mod Bounded
 pub mod Words

@@ -13,7 +13,9 @@ use Rattle.coyotos_cli.specs.Command.{command_for, asks_input, asks_run, runs, s
 use Rattle.coyotos_cli.specs.Exit.{status_of}
 use Rattle.coyotos_cli.specs.Ending.{Output, EndsNothing, Outputs, Completes, Ends, Fetches, HasCauses}
 use Rattle.coyotos_cli.specs.Course.{Course, ends_in, course_output, course_fetches, ComesTo}
-use Rattle.coyotos_cli.specs.Program.{lines_course, command_course, words_course, out, fetched, cached, sure, StandsSure}
+use Rattle.coyotos_cli.specs.Bounds.{IsBounded}
+use Rattle.coyotos_cli.specs.Program.{lines_course, command_course, words_course, whole_course, out, fetched, cached, sure, StandsSure}
+use Rattle.coyotos_cli.proofs.Bounded.{course-bounded}
 use Rattle.coyotos_cli.proofs.Concluding.{IsLast}
 use Rattle.coyotos_cli.specs.Contract.{bytes_for, Answers, HasForm, FetchesFor}
 use Rattle.coyotos_cli.specs.declared.exit.Exit.{Exit}
@@ -169,6 +171,10 @@ module _ (words : List (List ℕ)) (command : Command) (asked : command_for word
     fetches_all None comes = tt
     fetches_all (Some bytes) comes = subst (Fetches fetches fetches' exit) (ap (course_fetches cached) (sym (words-course (parts_of bytes)))) comes.fetched
 
+    bounded_all : (told : Option (List ℕ)) → IfSome told Comes → IfSome told (λ bytes. IsBounded fetches fetches' (whole_course words bytes))
+    bounded_all None comes = tt
+    bounded_all (Some bytes) comes = subst (IsBounded fetches fetches') (sym (words-course (parts_of bytes))) (course-bounded command (parts_of bytes) fetches fetches' comes.fetched.most)
+
     -- what was written is what the words come to
     pub answers-words : (held : Option (List ℕ)) → IfSome (bytes_for (Some command) held) Comes → (exit ≡ OutOfMemory → taken' ≡ taken) → Answers words held taken taken' exit
     answers-words held comes unwritten = record {
@@ -181,6 +187,7 @@ module _ (words : List (List ℕ)) (command : Command) (asked : command_for word
         → (asks_run (Some command) ≡ false → fetches' ≡ fetches) → (exit ≡ OutOfMemory → fetches' ≡ fetches) → FetchesFor words held fetches fetches' exit
     fetches-words held comes stays unspent = record {
       counted = subst (λ told. IfSome told (λ bytes. Fetches fetches fetches' exit (fetched words bytes))) (sym (bytes-read held)) (fetches_all (bytes_for (Some command) held) comes);
+      bounded = subst (λ told. IfSome told (λ bytes. IsBounded fetches fetches' (whole_course words bytes))) (sym (bytes-read held)) (bounded_all (bytes_for (Some command) held) comes);
       unfetched = λ off. stays (sym (ap asks_run asked) ∙ off);
       unspent = unspent;
     }

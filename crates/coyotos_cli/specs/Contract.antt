@@ -5,7 +5,8 @@ use Rattle.std.specs.Io.KnownBytes.{IsAtEnd}
 use Rattle.coyotos_words.specs.Command.{is_dashed}
 use Rattle.coyotos_cli.specs.Command.{command_for, reads_input, asks_run}
 use Rattle.coyotos_cli.specs.Ending.{Outputs, Fetches}
-use Rattle.coyotos_cli.specs.Program.{out, fetched}
+use Rattle.coyotos_cli.specs.Bounds.{IsBounded}
+use Rattle.coyotos_cli.specs.Program.{out, fetched, whole_course}
 use Rattle.coyotos_words.specs.declared.command.Command.{Command}
 use Rattle.coyotos_cli.specs.declared.exit.Exit.{Exit}
 use Rattle.coyotos_cli.specs.declared.exit.Exit.TheVariants.{Done, Usage, WriteFault, OutOfMemory}
@@ -31,9 +32,10 @@ pub record ReadsInput {S : Type 0} (held : S → Option (List ℕ)) (words : Lis
   pub end : exit ≡ Done → reads_input (command_for words) ≡ true → IsAtEnd (held new)
   pub unread : reads_input (command_for words) ≡ false → new ≡ old
 
--- how many slots are fetched: those of the whole run and never more, and none for words that let nothing run or where
--- memory was wanting
+-- how many slots are fetched: those of the whole run and never more, no more than the bounds on it, and none for words
+-- that let nothing run or where memory was wanting
 pub record FetchesFor (words : List (List ℕ)) (held : Option (List ℕ)) (fetches fetches' : ℕ) (exit : Exit) : Type 0 where
   pub counted : IfSome (bytes_for (command_for words) held) (λ bytes. Fetches fetches fetches' exit (fetched words bytes))
+  pub bounded : IfSome (bytes_for (command_for words) held) (λ bytes. IsBounded fetches fetches' (whole_course words bytes))
   pub unfetched : asks_run (command_for words) ≡ false → fetches' ≡ fetches
   pub unspent : exit ≡ OutOfMemory → fetches' ≡ fetches

@@ -62,6 +62,18 @@ fetches_for (Walk process kind address) s =
 fetches_for (Make number summary) s = 0
 fetches_for _ s = 16 * size_of s.store.items Gpt
 
+-- the accesses that are made for it
+abbrev pub accesses_for : Command → State → ℕ
+accesses_for (Walk process kind address) s = if nat_lt process (size_of s.store.items Process) then 1 else 0
+accesses_for _ s = 0
+
+-- the GPTs that are printed
+abbrev pub printed_for : Command → State → ℕ
+printed_for Check s = 0
+printed_for (Walk process kind address) s = 0
+printed_for (Make number summary) s = 0
+printed_for _ s = size_of s.store.items Gpt
+
 -- what is written last, and how the program ends, by the answer of a run that came to this state
 abbrev pub finished : Command → State → Replayed → Output
 finished command s (answers.Ended counts) = record { text = last_text command s counts; exit = Done }
@@ -75,6 +87,16 @@ abbrev pub last_fetches : Command → State → Replayed → ℕ
 last_fetches command s (answers.Ended counts) = fetches_for command s
 last_fetches command s _ = 0
 
+-- the accesses that are made for it
+abbrev pub last_accesses : Command → State → Replayed → ℕ
+last_accesses command s (answers.Ended counts) = accesses_for command s
+last_accesses command s _ = 0
+
+-- the GPTs that are printed
+abbrev pub last_printed : Command → State → Replayed → ℕ
+last_printed command s (answers.Ended counts) = printed_for command s
+last_printed command s _ = 0
+
 -- a fault of reading or of writing ends the program by itself, and for any other answer the last text is written
 abbrev pub Concludes : {K : Type 0} → (K → Option (List ℕ)) → (K → ℕ) → Command → State → Replayed → K → K → ℕ → ℕ → Exit → Type 0
 Concludes taken faults command s answers.ReadFault old new fetches fetches' exit = (exit ≡ ReadFault) × (new ≡ old) × (fetches' ≡ fetches)
@@ -85,16 +107,18 @@ Concludes taken faults command s answer old new fetches fetches' exit =
 -- ---- the lines behind a listing
 
 -- what lines come to: the records that are written, and what the translator is asked for them; then what is written last,
--- how the program ends, and the slots that are fetched for that
+-- how the program ends, and the slots that are fetched for that, the accesses made and the GPTs printed
 pub record Course : Type 0 where
   pub records : List ℕ
   pub touches : List Touch
   pub last : Output
   pub last_fetches : ℕ
+  pub last_accesses : ℕ
+  pub printed : ℕ
 
 -- nothing comes but this
 abbrev pub ends_in : Output → Course
-ends_in last = record { records = []; touches = []; last = last; last_fetches = 0 }
+ends_in last = record { records = []; touches = []; last = last; last_fetches = 0; last_accesses = 0; printed = 0 }
 
 -- the events of a run come first, and then what its answer comes to
 abbrev pub course_behind : Command → State → List Event → Replayed → Course
@@ -103,6 +127,8 @@ course_behind command s events answer = record {
   touches = run_touches s events;
   last = finished command (run_state s events) answer;
   last_fetches = last_fetches command (run_state s events) answer;
+  last_accesses = last_accesses command (run_state s events) answer;
+  printed = last_printed command (run_state s events) answer;
 }
 
 -- what a command comes to with what the lines ask for; `check` runs nothing, and counts their events

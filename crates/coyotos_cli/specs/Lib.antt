@@ -10,5 +10,6 @@ pub mod Told
 pub mod Counts
 pub mod Replay
 pub mod Course
+pub mod Bounds
 pub mod Program
 pub mod Contract
