@@ -1,5 +1,3 @@
-use Rattle.std.proofs.Common.{◌∙◌, sym, ap}
-use Rattle.listing_read.specs.Schedule.{schedule_line}
 use Rattle.coyotos_cli.proofs.Reading.{end-here, long-here, past-here, next-line}
 use Rattle.coyotos_cli.proofs.lines.next_line.Goals as goal
 
