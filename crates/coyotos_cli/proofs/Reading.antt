@@ -10,8 +10,9 @@ use Rattle.listing_read.specs.Reads.{IsStopped}
 use Rattle.listing_read.specs.declared.fault.ScheduleFault.{ScheduleFault}
 use Rattle.listing_read.specs.declared.fault.ScheduleFault.TheVariants.{LineTooLong}
 use Rattle.listing_read.specs.declared.schedule.Timed.{Timed}
+use Rattle.coyotos_cli.specs.declared.lines.Stop.{Stop}
 use Rattle.coyotos_cli.specs.Replay.{FailsBehind}
-use Rattle.coyotos_cli.specs.Scheduled.{Scheduled, AtEnd, AtFault, AtLimit, ends, preceded, asked_events, asked_with, scheduled, OnParts, Reads, EndHere}
+use Rattle.coyotos_cli.specs.Scheduled.{Scheduled, AtEnd, AtFault, AtLimit, ends, preceded, asked_events, asked_alone, asked_with, scheduled, OnParts, Reads, EndHere, IsNextLine}
 
 -- ---- what lines ask for
 
@@ -128,6 +129,19 @@ reads-line harts n old new held held' asked next spent line ended number is = re
   bytes = λ going. GivesLines-line n new (bytes_ahead old held) (bytes_ahead new held') going line spent;
   asks = λ rest. scheduled-asked harts old.number new.number new.line asked rest is number;
 }
+
+-- the next line, whatever it asks for
+pub next-line : {X : Type 0} (harts n k : ℕ) (old new : Reader) (held held' : Option (List ℕ)) (line : List ℕ) (answer : Result (Option Timed) Stop)
+    → k ≡ old.number → line ≡ new.line → answer ≡ asked_alone (k + 1) (schedule_line harts line)
+    → IsNext (Ok (Some n)) new.line (ahead old held) (ahead new held') → IsSpent (Ok (Some n)) new (bytes_ahead old held) (bytes_ahead new held')
+    → IsLine n new.line → (old.ended ≡ true → (gave n ≡ gave_none) × X) → new.number ≡ old.number + 1
+    → IsNextLine harts old new held held' answer
+next-line harts n k old new held held' line answer is same by next spent whole ended number =
+    subst (IsNextLine harts old new held held') (sym by) (by_line (schedule_line harts line) refl)
+  where
+    by_line : (asked : Result (Option Timed) ScheduleFault) → schedule_line harts line ≡ asked → IsNextLine harts old new held held' (asked_alone (k + 1) asked)
+    by_line (Ok asked) asks = reads-line harts n old new held held' asked next spent whole ended number (ap (schedule_line harts) (sym same) ∙ asks)
+    by_line (Err fault) asks = refused-here harts k old held held' new new.line fault is next (ap (schedule_line harts) (sym same) ∙ asks)
 
 -- no line
 pub reads-none : (harts : ℕ) (reader : Reader) (held : Option (List ℕ)) → Reads harts reader reader held held []

@@ -127,6 +127,15 @@ module _ (command : Command) (taken taken' : Option (List ℕ)) (fetches fetches
       subst (ComesTo taken taken' fetches fetches' exit cached) (sym (course-alone command asks still))
       (record { output = e.output; fetched = record { whole = λ given. omega (arith, same); most = omega (arith, same) } })
 
+-- no source is at fault where none was asked
+pub causes-other : (unread unwritten unwritten' : ℕ) (exit : Exit) → exit ≢ ReadFault → HasCauses 0 0 unwritten unwritten' exit → HasCauses unread unread unwritten unwritten' exit
+causes-other unread unwritten unwritten' exit never causes = record {
+  read = λ same. absurd (never same);
+  read_quiet = λ other. refl;
+  write = causes.write;
+  write_quiet = causes.write_quiet;
+}
+
 -- what stands sure by what bytes come to stands so by another name of that
 stands-course : (held held' taken taken' : Option (List ℕ)) (fetches fetches' : ℕ) (count : List Touch → ℕ) (course other : List ℕ → Course)
     → (s : StandsSure held held' taken taken' fetches fetches' count course) → course s.writes.bytes ≡ other s.writes.bytes

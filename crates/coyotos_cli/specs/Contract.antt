@@ -9,7 +9,7 @@ use Rattle.coyotos_cli.specs.Bounds.{IsBounded}
 use Rattle.coyotos_cli.specs.Program.{out, fetched, whole_course}
 use Rattle.coyotos_words.specs.declared.command.Command.{Command}
 use Rattle.coyotos_cli.specs.declared.exit.Exit.{Exit}
-use Rattle.coyotos_cli.specs.declared.exit.Exit.TheVariants.{Done, Usage, WriteFault, OutOfMemory}
+use Rattle.coyotos_cli.specs.declared.exit.Exit.TheVariants.{Done, Usage, ReadFault, WriteFault, OutOfMemory}
 
 -- the bytes that are read for words, where they are known: those that the source tells, and none where it is not read
 abbrev pub bytes_for : Option Command → Option (List ℕ) → Option (List ℕ)
@@ -27,10 +27,12 @@ pub record HasForm (words : List (List ℕ)) (exit : Exit) : Type 0 where
   pub no_form : command_for words ≡ None → (exit ≡ Usage) ⊎ ((exit ≡ WriteFault) ⊎ (exit ≡ OutOfMemory))
   pub early : list_any is_dashed words ≡ true → exit ≢ OutOfMemory
 
--- where all was done the input was read to its end, and where it is not read the source stays as it was
+-- where all was done the input was read to its end, and where it is not read the source stays as it was and no reading
+-- fails
 pub record ReadsInput {S : Type 0} (held : S → Option (List ℕ)) (words : List (List ℕ)) (old new : S) (exit : Exit) : Type 0 where
   pub end : exit ≡ Done → reads_input (command_for words) ≡ true → IsAtEnd (held new)
   pub unread : reads_input (command_for words) ≡ false → new ≡ old
+  pub unfailed : reads_input (command_for words) ≡ false → exit ≢ ReadFault
 
 -- how many slots are fetched: those of the whole run and never more, no more than the bounds on it, and none for words
 -- that let nothing run or where memory was wanting

@@ -42,6 +42,11 @@ abbrev pub asked_with : ℕ → ℕ → Result (Option Timed) ScheduleFault → 
 asked_with harts n (Ok asked) behind = preceded (asked_events harts asked) behind
 asked_with harts n (Err fault) behind = ends (AtFault n fault)
 
+-- what a line asks for, line `n`, where it is read by itself: a line that is refused is the last that is read
+abbrev pub asked_alone : ℕ → Result (Option Timed) ScheduleFault → Result (Option Timed) Stop
+asked_alone n (Ok asked) = Ok asked
+asked_alone n (Err fault) = Err (stops.Refused n fault)
+
 -- what the lines behind line `n` ask for, on a machine with so many harts
 unfoldable pub scheduled : ℕ → ℕ → List Part → Scheduled
 scheduled harts n [] = ends AtEnd

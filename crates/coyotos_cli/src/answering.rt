@@ -34,6 +34,7 @@ pub(crate) fn answer<S: Source, K: Sink, L: Ledger>(
         (command_course command (parts_of bytes))) }
     ensures end { result ≡ Exit.Done → asks_input command ≡ true → IsAtEnd (S.held input.new) }
     ensures unread { asks_input command ≡ false → input.new ≡ input.old }
+    ensures unfailed { asks_input command ≡ false → result ≢ Exit.ReadFault }
     ensures sure { result ≡ Exit.ReadFault →
         StandsSure (S.held input.old) (S.held input.new) (K.taken output.old) (K.taken output.new)
         fetches.old fetches.new cached (λ bytes. command_course command (whole_lines [] bytes)) }

@@ -3,8 +3,8 @@ ghost use Rattle.std.specs.Prelude.{◌≡◌, ◌≢◌, ◌<◌, ◌≤◌, �
 ghost use Rattle.coy_io.specs.declared.TheConstants.{INPUT_LIMIT};
 ghost use Rattle.coy_io.specs.Causes.{Rose};
 ghost use Rattle.coy_io.specs.Reader.{TellsEnd};
-ghost use Rattle.listing_read.specs.Schedule.{IsTimed};
-ghost use Rattle.coyotos_cli.specs.Scheduled.{IsNextLine};
+ghost use Rattle.listing_read.specs.Schedule.{IsTimed, schedule_line};
+ghost use Rattle.coyotos_cli.specs.Scheduled.{asked_alone, IsNextLine};
 
 use coy_io::{LineFault, LineReader, Source};
 use listing_read::{ScheduleFault, Timed, read_event};
@@ -46,13 +46,21 @@ pub(crate) fn next_line<S: Source>(
 {
     let number = lines.number();
     match lines.next(source) {
-        Ok(Some(_)) => {}
-        Ok(None) => return Err(Stop::End),
-        Err(LineFault::ReadFault) => return Err(Stop::ReadFault),
-        Err(LineFault::LineTooLong) => return Err(refused(number, ScheduleFault::LineTooLong)),
-        Err(LineFault::TooLong) => return Err(Stop::TooLong),
+        Ok(Some(_)) => asked_by(number, lines.line(), harts),
+        Ok(None) => Err(Stop::End),
+        Err(LineFault::ReadFault) => Err(Stop::ReadFault),
+        Err(LineFault::LineTooLong) => Err(refused(number, ScheduleFault::LineTooLong)),
+        Err(LineFault::TooLong) => Err(Stop::TooLong),
     }
-    match read_event(lines.line(), harts) {
+}
+
+/// What the line behind so many asks for.
+fn asked_by(number: u32, line: &[u8], harts: u8) -> Result<Option<Timed>, Stop>
+    requires { number < 4294967295 }
+    ensures value { result ≡ asked_alone (number + 1) (schedule_line harts line.now) }
+    ensures timed { IfOk result (λ asked. IfSome asked (IsTimed harts)) }
+{
+    match read_event(line, harts) {
         Ok(asked) => Ok(asked),
         Err(fault) => Err(refused(number, fault)),
     }

@@ -1,5 +1,5 @@
-use Rattle.std.proofs.Common.{◌∙◌, sym}
-use Rattle.coyotos_cli.proofs.Words.{comes-input, comes-other, run-input, sure-input}
+use Rattle.std.proofs.Common.{◌∙◌, refl, sym}
+use Rattle.coyotos_cli.proofs.Words.{causes-other, comes-input, comes-other, run-input, sure-input}
 use Rattle.coyotos_cli.proofs.answering.answer.Goals as goal
 
 pub returns-then-asks_input-clause-comes : goal.returns-then-asks_input-clause-comes
@@ -17,3 +17,9 @@ returns-then-asks_input-clause-stays g c =
 pub returns-clause-comes : goal.returns-clause-comes
 returns-clause-comes g c =
     comes-other c.args.command _ _ _ _ _ _ (sym c.asks_input.ensures ∙ c.if-asks_input.false) c.answer_other.ensures.comes
+
+pub returns-clause-unread : goal.returns-clause-unread
+returns-clause-unread g c = λ off. refl
+
+pub returns-clause-causes : goal.returns-clause-causes
+returns-clause-causes g c = causes-other _ _ _ _ c.answer_other.ensures.read c.answer_other.ensures.causes
