@@ -1,26 +1,25 @@
 -- From the lines of the input to its bytes.
-use Rattle.std.proofs.Common.{◌≡◌, ◌+◌, ◌++◌, [], ℕ, List, Option, None, Some, IfSome, true, false, true≢false, if◌then◌else◌, length, refl, sym, ap, ◌∙◌, subst, arith}
+use Rattle.std.proofs.Common.{◌≡◌, ◌+◌, ◌++◌, [], ℕ, List, Bool, Option, None, Some, IfSome, true, false, length, refl, sym, ap, ◌∙◌, subst, arith}
 use Rattle.std.specs.Io.KnownBytes.{Appends}
 use Rattle.coy_io.specs.Lines.{Part, IsUnfinished, parts_of, whole_lines}
 use Rattle.coy_io.specs.Reader.{Reader, new_reader, ahead, bytes_ahead, GivesLines}
 use Rattle.coy_io.proofs.GivenLaws.{GivesLines-trans, GivesLines-taken}
+use Rattle.machine_state.specs.declared.event.Event.{Event}
+use Rattle.kernel_core.specs.Outcome.{Touch}
 use Rattle.kernel_core.specs.State.{State}
 use Rattle.image_builder.specs.Boot.{booted}
 use Rattle.listing_read.specs.Statement.{ListingValue}
 use Rattle.listing_read.specs.Listing.{Listed, Good, listing_of, IsListed}
 use Rattle.listing_read.specs.Reads.{GivesListing, GivesFront}
 use Rattle.listing_read.specs.declared.place.Place.TheVariants.{Header}
-use Rattle.coyotos_cli.specs.Command.{command_of, asks_input}
-use Rattle.kernel_core.specs.Outcome.{Touch}
-use Rattle.coyotos_cli.specs.Ending.{EndsNothing, Outputs}
-use Rattle.coyotos_cli.specs.Told.{begun}
-use Rattle.coyotos_cli.specs.Schedule.{Course, course_of, course_output, ComesTo, OnParts, FailsBehind}
-use Rattle.coyotos_cli.specs.Program.{listed_course, lines_course, command_course, words_course, out, walked, sure, StandsSure}
-use Rattle.coyotos_cli.specs.Contract.{bytes_for, Answers}
-use Rattle.coyotos_cli.specs.declared.command.Command.{Command}
+use Rattle.coyotos_words.specs.declared.command.Command.{Command}
+use Rattle.coyotos_cli.specs.Command.{runs}
+use Rattle.coyotos_cli.specs.Ending.{EndsNothing}
+use Rattle.coyotos_cli.specs.Scheduled.{AtEnd, OnParts, ends, preceded, scheduled}
+use Rattle.coyotos_cli.specs.Course.{Course, course_of, ComesTo, StandsBehind}
+use Rattle.coyotos_cli.specs.Program.{listed_course, lines_course, StandsSure}
 use Rattle.coyotos_cli.specs.declared.exit.Exit.{Exit}
-use Rattle.coyotos_cli.specs.declared.exit.Exit.TheVariants.{OutOfMemory}
-use Rattle.coyotos_cli.specs.declared.command.Command.TheVariants.{Help, Check, Run, Trace, Walk}
+use Rattle.coyotos_cli.specs.declared.exit.Exit.TheVariants.{Done}
 
 module _ (command : Command) (held held' taken taken' : Option (List ℕ)) (fetches fetches' : ℕ) (count : List Touch → ℕ) where
   -- what bytes come to by their whole lines
@@ -56,74 +55,33 @@ module _ (command : Command) (held held' taken taken' : Option (List ℕ)) (fetc
       (subst (Stands (length front.given)) (sym front.ends_early)
       (record { goes_on = ap (λ n. n + 1) number; written = written; fetched = omega (arith, same, none) }))
 
+  -- lines that end nothing leave the program to go on
+  goes-on : (s : State) (events : List Event) (runs_for : Bool) → runs command ≡ runs_for → (course_of command s (preceded events (ends AtEnd))).last.exit ≡ Done
+  goes-on s events true on = rw on refl
+  goes-on s events false off = rw off refl
+
   -- reading failed behind it
   pub sure-schedule : (mid : Option (List ℕ)) (first middle reader : Reader) (listing : ListingValue) (harts : ℕ) (s : State) → first ≡ new_reader → harts ≡ listing.sizes.harts → s ≡ booted listing
       → (middle.ended ≡ false → GivesListing first middle held mid listing)
-      → FailsBehind middle reader mid held' taken taken' fetches fetches' count (course_of command harts middle.number (begun s))
+      → StandsBehind harts middle reader mid held' taken taken' fetches fetches' count (course_of command s)
       → StandsSure held held' taken taken' fetches fetches' count whole
-  sure-schedule mid first middle reader listing harts s new few state listed fails =
+  sure-schedule mid first middle reader listing harts s new few state listed behind =
+      let fails = behind.fails in
       let front = subst (λ r. GivesListing r middle held mid listing) new (listed fails.before) in
-      let from : ℕ → State → Course = λ harts s. course_of command harts middle.number (begun s) fails.given in
+      let from : ℕ → State → Course = λ harts s. course_of command s (scheduled harts middle.number fails.given) in
       let same : from harts s ≡ from listing.sizes.harts (booted listing) = rw (few, state) refl in
+      let asks : course_of command s (preceded behind.events (ends AtEnd)) ≡ from harts s = ap (course_of command s) (sym fails.asks) in
       let lines : ℕ = length (front.given ++ fails.given) in
       let stands : IsDone lines (from listing.sizes.harts (booted listing)) =
-      subst (IsDone lines) same
-      (record { goes_on = subst (EndsNothing lines) (sym fails.goes_on) tt; written = fails.written; fetched = fails.fetched }) in
+      subst (IsDone lines) (asks ∙ same)
+      (record {
+        goes_on = subst (EndsNothing lines) (sym (goes-on s behind.events (runs command) refl)) tt;
+        written = behind.written;
+        fetched = behind.fetched;
+      }) in
       stands-given reader (front.given ++ fails.given) fails.going fails.unfinished
       (GivesLines-trans _ _ _ front.given fails.given front.gives fails.gives)
       (subst (Stands lines) (sym (front.makes fails.given)) stands)
-
--- a command that asks for input comes to what the lines of its input come to
-pub course-input : (command : Command) (parts : List Part) → asks_input command ≡ true → command_course command parts ≡ lines_course command parts
-course-input Help parts asks = absurd (true≢false (sym asks))
-course-input Check parts asks = refl
-course-input Run parts asks = refl
-course-input Trace parts asks = refl
-course-input (Walk process kind address) parts asks = refl
-
-module _ (words : List (List ℕ)) (command : Command) (asked : command_of words ≡ Some command) (asks : asks_input command ≡ true) where
-  -- the words come to what the command comes to
-  words-course : (parts : List Part) → words_course (command_of words) parts ≡ lines_course command parts
-  words-course parts = ap (λ asked. words_course asked parts) asked ∙ course-input command parts asks
-
-  -- all bytes of the input are read for them
-  bytes-read : (held : Option (List ℕ)) → bytes_for (command_of words) held ≡ held
-  bytes-read held = ap (λ asked. bytes_for asked held) asked ∙ ap (λ b. if b then held else Some []) asks
-
-  -- what was written is what the words come to
-  outputs-words : (held taken taken' : Option (List ℕ)) (fetches fetches' : ℕ) (exit : Exit)
-      → IfSome held (λ bytes. ComesTo taken taken' fetches fetches' exit walked (lines_course command (parts_of bytes)))
-      → IfSome held (λ bytes. Outputs taken taken' exit (out words bytes))
-  outputs-words None taken taken' fetches fetches' exit comes = tt
-  outputs-words (Some bytes) taken taken' fetches fetches' exit comes =
-      subst (Outputs taken taken' exit) (ap course_output (sym (words-course (parts_of bytes)))) comes.output
-
-  pub answers-words : (held taken taken' : Option (List ℕ)) (fetches fetches' : ℕ) (exit : Exit)
-      → IfSome held (λ bytes. ComesTo taken taken' fetches fetches' exit walked (lines_course command (parts_of bytes)))
-      → (exit ≡ OutOfMemory → taken' ≡ taken) → Answers words held taken taken' exit
-  answers-words held taken taken' fetches fetches' exit comes unwritten = record {
-    output = subst (λ told. IfSome told (λ bytes. Outputs taken taken' exit (out words bytes))) (sym (bytes-read held))
-        (outputs-words held taken taken' fetches fetches' exit comes);
-    unwritten = unwritten;
-  }
-
--- what a command makes sure is what the words make sure that ask for it
-pub sure-words : (words : List (List ℕ)) (command : Command) (held held' taken taken' : Option (List ℕ)) (fetches fetches' : ℕ) (count : List Touch → ℕ)
-    → command_of words ≡ Some command → asks_input command ≡ true
-    → StandsSure held held' taken taken' fetches fetches' count (λ bytes. lines_course command (whole_lines [] bytes))
-    → StandsSure held held' taken taken' fetches fetches' count (sure words)
-sure-words words command held held' taken taken' fetches fetches' count asked asks s =
-    let same : sure words s.writes.bytes ≡ lines_course command (whole_lines [] s.writes.bytes) =
-    words-course words command asked asks (whole_lines [] s.writes.bytes) in
-    record {
-      writes = record {
-        bytes = s.writes.bytes;
-        read = s.writes.read;
-        goes_on = subst (λ course. EndsNothing (length (whole_lines [] s.writes.bytes)) course.last.exit) (sym same) s.writes.goes_on;
-        written = subst (λ course. Appends taken taken' course.records) (sym same) s.writes.written;
-      };
-      fetched = subst (λ course. fetches' ≡ fetches + count course.touches) (sym same) s.fetched;
-    }
 
 -- what is so of the known lines behind a listing is so of the known bytes
 on_listed : (held : Option (List ℕ)) (left : Option (List Part)) (listing : ListingValue) (last : ℕ) (P : Listed → Type 0) → IsListed Header 1 (ahead new_reader held) listing last left
@@ -140,14 +98,14 @@ module _ (command : Command) (held mid : Option (List ℕ)) (first middle : Read
       on_listed held (ahead middle mid) listing middle.number P
       (subst (λ reader. IsListed Header (reader.number + 1) (ahead reader held) listing middle.number (ahead middle mid)) starts listed) all
 
-  at_listing : (Q : Course → Type 0) → OnParts (ahead middle mid) (λ parts. Q (course_of command harts middle.number (begun s) parts))
-      → OnParts (ahead middle mid) (λ parts. Q (course_of command listing.sizes.harts middle.number (begun (booted listing)) parts))
+  at_listing : (Q : Course → Type 0) → OnParts (ahead middle mid) (λ parts. Q (course_of command s (scheduled harts middle.number parts)))
+      → OnParts (ahead middle mid) (λ parts. Q (course_of command (booted listing) (scheduled listing.sizes.harts middle.number parts)))
   at_listing Q all =
-      subst (λ s. OnParts (ahead middle mid) (λ parts. Q (course_of command listing.sizes.harts middle.number (begun s) parts))) state
-      (subst (λ harts. OnParts (ahead middle mid) (λ parts. Q (course_of command harts middle.number (begun s) parts))) few all)
+      subst (λ s. OnParts (ahead middle mid) (λ parts. Q (course_of command s (scheduled listing.sizes.harts middle.number parts)))) state
+      (subst (λ harts. OnParts (ahead middle mid) (λ parts. Q (course_of command s (scheduled harts middle.number parts)))) few all)
 
   pub bytes-come : (old new : Option (List ℕ)) (fetches fetches' : ℕ) (exit : Exit) (count : List Touch → ℕ)
-      → OnParts (ahead middle mid) (λ parts. ComesTo old new fetches fetches' exit count (course_of command harts middle.number (begun s) parts))
+      → OnParts (ahead middle mid) (λ parts. ComesTo old new fetches fetches' exit count (course_of command s (scheduled harts middle.number parts)))
       → IfSome held (λ bytes. ComesTo old new fetches fetches' exit count (lines_course command (parts_of bytes)))
   bytes-come old new fetches fetches' exit count all =
       on_bytes (λ listed. ComesTo old new fetches fetches' exit count (listed_course command listed)) (at_listing (ComesTo old new fetches fetches' exit count) all)

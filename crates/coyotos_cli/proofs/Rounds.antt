@@ -1,12 +1,14 @@
 -- Rounds, event by event.
-use Rattle.std.proofs.Common.{◌≡◌, ◌<◌, ◌≤◌, ◌+◌, ◌-◌, ℕ, zero, suc, List, [], ◌∷◌, ◌++◌, ◌*◌, length, replicate, refl, sym, ap, ◌∙◌, arith}
+use Rattle.std.proofs.Common.{◌≡◌, ◌<◌, ◌≤◌, ◌+◌, ◌-◌, ℕ, zero, suc, List, [], ◌∷◌, Option, None, Some, IfSome, ◌++◌, ◌*◌, length, replicate, refl, sym, ap, subst, ◌∙◌, arith}
 use Rattle.std.proofs.Math.Nat.{add_comm, suc-mul}
+use Rattle.std.proofs.lemmas.Nat.{mul-le}
 use Rattle.std.proofs.lemmas.List.{length-append, length-replicate}
 use Rattle.machine_state.specs.declared.event.Event.{Event}
 use Rattle.machine_state.specs.declared.event.Event.TheVariants.{Step}
 use Rattle.listing_read.specs.Schedule.{IsTimed}
 use Rattle.listing_read.specs.declared.schedule.Timed.{Timed}
 use Rattle.listing_read.specs.declared.schedule.Timed.TheVariants.{Step as Steps, Tick as TimerTick, Round}
+use Rattle.coyotos_cli.specs.Scheduled.{asked_events}
 use Rattle.coyotos_cli.specs.Events.{steps_from, rounds, line_events, OfHarts}
 
 -- a round that is not over goes on with the step of its hart
@@ -60,6 +62,10 @@ line_events_of_harts harts (Steps hart times) h = steps_of_harts harts hart time
 line_events_of_harts harts (TimerTick hart) h = (h, tt)
 line_events_of_harts harts (Round times) h = rounds_of_harts harts times
 
+pub asked_of_harts : (harts : ℕ) (asked : Option Timed) → IfSome asked (IsTimed harts) → OfHarts harts (asked_events harts asked)
+asked_of_harts harts None h = tt
+asked_of_harts harts (Some timed) h = line_events_of_harts harts timed h
+
 -- ---- how many events a line stands for
 
 pub length_steps : (times : ℕ) (event : Event) → length (replicate times event) ≡ times
@@ -76,3 +82,16 @@ length_rounds harts (suc times) =
     ∙ ap (λ n. n + length (rounds harts times)) (length_round 0 harts)
     ∙ ap (λ n. harts + n) (length_rounds harts times)
     ∙ (add_comm harts (times * harts) ∙ sym (suc-mul times harts))
+
+-- a line asks for few enough events to count them
+pub few_events : (harts : ℕ) (timed : Timed) → harts ≤ 255 → IsTimed harts timed → length (line_events harts timed) ≤ 255000000
+few_events harts (Steps hart times) h t = let size = length_steps times (Step hart) in let most = t.2 in omega (arith, size, most)
+few_events harts (TimerTick hart) h t = omega arith
+few_events harts (Round times) h t =
+    let size = length_rounds harts times in
+    let most : times * harts ≤ 1000000 * 255 = mul-le times harts 1000000 255 t.1 h in
+    omega (arith, size, most)
+
+-- the rounds that are left where none has begun
+pub few_rounds : (harts times : ℕ) → harts ≤ 255 → IsTimed harts (Round times) → length (steps_from harts (harts - harts) ++ rounds harts times) ≤ 255000000
+few_rounds harts times h t = subst (λ events. length events ≤ 255000000) (sym (round_is_over harts harts times (omega arith))) (few_events harts (Round times) h t)

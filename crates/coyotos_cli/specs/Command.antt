@@ -1,66 +1,51 @@
--- The forms of the program's words. A word that begins with `-` stands in none of them but for `--help` by itself.
-use Rattle.std.specs.Prelude.{ℕ, Bool, true, false, List, [], ◌∷◌, Option, Some, None, codes, nat_le, if◌then◌else◌}
-use Rattle.std.specs.Option.{option_and_then}
-use Rattle.std.specs.Str.{bytes_eq}
-use Rattle.coy_text.specs.Numeral.{dec_of, hex_of}
-use Rattle.walk_meaning.specs.declared.kind.Kind.{Kind}
-use Rattle.walk_meaning.specs.declared.kind.Kind.TheVariants.{Fetch, Load, Store, CapLoad, CapStore}
-use Rattle.coyotos_cli.specs.declared.command.Command.{Command}
-use Rattle.coyotos_cli.specs.declared.command.Command.TheVariants.{Help, Check, Run, Trace, Walk}
+-- Which commands are answered, and which of these ask for input. The forms of the words are those of `coyotos_words`.
+use Rattle.std.specs.Prelude.{ℕ, Bool, true, false, List, Option, Some, None, option_and_then}
+use Rattle.coyotos_words.specs.Command.{command_of}
+use Rattle.coyotos_words.specs.declared.command.Command.{Command}
+use Rattle.coyotos_words.specs.declared.command.Command.TheVariants.{Help, Check, Run, Trace as Traced, Tables, Make}
+use Rattle.coyotos_cli.specs.declared.mode.Mode.{Mode}
+use Rattle.coyotos_cli.specs.declared.mode.Mode.TheVariants.{Silent, Records, Trace}
 
--- what a single word asks for
-abbrev pub named_command : List ℕ → Option Command
-named_command word =
-    if bytes_eq word (codes "--help") then Some Help
-    else (if bytes_eq word (codes "check") then Some Check
-    else (if bytes_eq word (codes "run") then Some Run
-    else (if bytes_eq word (codes "trace") then Some Trace
-    else None)))
+-- a command, where it is answered: `tables` is not yet, and counts as words of no form
+abbrev pub answered : Command → Option Command
+answered Tables = None
+answered command = Some command
 
--- the number of a process: decimal, and at most 255
-abbrev pub in_byte : ℕ → Option ℕ
-in_byte n = if nat_le n 255 then Some n else None
+-- what these words ask for, where that is answered
+abbrev pub command_for : List (List ℕ) → Option Command
+command_for words = option_and_then answered (command_of words)
 
--- the number of a process that a word gives
-abbrev pub process_named : List ℕ → Option ℕ
-process_named word = option_and_then in_byte (dec_of word)
-
--- a kind of accesses
-abbrev pub kind_named : List ℕ → Option Kind
-kind_named word =
-    if bytes_eq word (codes "fetch") then Some Fetch
-    else (if bytes_eq word (codes "load") then Some Load
-    else (if bytes_eq word (codes "store") then Some Store
-    else (if bytes_eq word (codes "capload") then Some CapLoad
-    else (if bytes_eq word (codes "capstore") then Some CapStore
-    else None))))
-
--- the access that three words name: a process, a kind and an address
-abbrev pub access_named : Option ℕ → Option Kind → Option ℕ → Option Command
-access_named (Some process) (Some kind) (Some address) = Some (Walk process kind address)
-access_named _ _ _ = None
-
--- what four words ask for
-abbrev pub walk_command : List ℕ → List ℕ → List ℕ → List ℕ → Option Command
-walk_command word process kind address =
-    if bytes_eq word (codes "walk") then access_named (process_named process) (kind_named kind) (hex_of address)
-    else None
-
--- what these words ask for
-abbrev pub command_of : List (List ℕ) → Option Command
-command_of [] = None
-command_of (word ∷ []) = named_command word
-command_of (word ∷ process ∷ []) = None
-command_of (word ∷ process ∷ kind ∷ []) = None
-command_of (word ∷ process ∷ kind ∷ address ∷ []) = walk_command word process kind address
-command_of (word ∷ process ∷ kind ∷ address ∷ other ∷ words) = None
-
--- whether a command asks for input; `--help` does not
+-- whether a command asks for input; `--help` and `make` do not
 abbrev pub asks_input : Command → Bool
 asks_input Help = false
+asks_input (Make number summary) = false
 asks_input _ = true
+
+-- whether the events of the lines are run for a command, or only counted, as for `check`
+abbrev pub runs : Command → Bool
+runs Check = false
+runs _ = true
+
+-- the records of the run that a command writes
+abbrev pub mode_of : Command → Mode
+mode_of Run = Records
+mode_of Traced = Trace
+mode_of _ = Silent
 
 -- whether the input is read for these words; for words of no form it is not
 abbrev pub reads_input : Option Command → Bool
 reads_input None = false
 reads_input (Some command) = asks_input command
+
+-- whether words ask for a run; others fetch nothing
+abbrev pub asks_run : Option Command → Bool
+asks_run None = false
+asks_run (Some Help) = false
+asks_run (Some Check) = false
+asks_run (Some (Make number summary)) = summary
+asks_run (Some command) = true
+
+-- the number whose generated text a command runs
+abbrev pub summary_number : Command → Option ℕ
+summary_number (Make number true) = Some number
+summary_number _ = None

@@ -1,12 +1,15 @@
 -- What one call of the program promises, in the words that its clauses cite.
-use Rattle.std.specs.Prelude.{◌≡◌, ◌⊎◌, ℕ, true, false, if◌then◌else◌, List, [], Option, Some, None, IfSome}
+use Rattle.std.specs.Prelude.{◌≡◌, ◌≢◌, ◌⊎◌, ℕ, true, false, if◌then◌else◌, List, [], Option, Some, None, IfSome}
+use Rattle.std.specs.List.{list_any}
 use Rattle.std.specs.Io.KnownBytes.{IsAtEnd}
-use Rattle.coyotos_cli.specs.Command.{command_of, reads_input}
+use Rattle.coyotos_words.specs.Command.{is_dashed}
+use Rattle.coyotos_cli.specs.Command.{command_for, reads_input, asks_run}
 use Rattle.coyotos_cli.specs.Ending.{Outputs, Fetches}
-use Rattle.coyotos_cli.specs.Program.{out, fetched, asks_run}
-use Rattle.coyotos_cli.specs.declared.command.Command.{Command}
+use Rattle.coyotos_cli.specs.Bounds.{IsBounded}
+use Rattle.coyotos_cli.specs.Program.{out, fetched, whole_course}
+use Rattle.coyotos_words.specs.declared.command.Command.{Command}
 use Rattle.coyotos_cli.specs.declared.exit.Exit.{Exit}
-use Rattle.coyotos_cli.specs.declared.exit.Exit.TheVariants.{Done, Usage, WriteFault, OutOfMemory}
+use Rattle.coyotos_cli.specs.declared.exit.Exit.TheVariants.{Done, Usage, ReadFault, WriteFault, OutOfMemory}
 
 -- the bytes that are read for words, where they are known: those that the source tells, and none where it is not read
 abbrev pub bytes_for : Option Command → Option (List ℕ) → Option (List ℕ)
@@ -14,22 +17,27 @@ bytes_for asked held = if reads_input asked then held else Some []
 
 -- what was written and how it ended is what the words and the bytes that are read for them come to
 pub record Answers (words : List (List ℕ)) (held taken taken' : Option (List ℕ)) (exit : Exit) : Type 0 where
-  pub output : IfSome (bytes_for (command_of words) held) (λ bytes. Outputs taken taken' exit (out words bytes))
+  pub output : IfSome (bytes_for (command_for words) held) (λ bytes. Outputs taken taken' exit (out words bytes))
   pub unwritten : exit ≡ OutOfMemory → taken' ≡ taken
 
--- words of no form are answered as such, and no others
+-- words of no form are answered as such, and no others, but where there was no memory to read them; a word that begins
+-- with `-` is answered without any
 pub record HasForm (words : List (List ℕ)) (exit : Exit) : Type 0 where
-  pub usage : exit ≡ Usage → command_of words ≡ None
-  pub no_form : command_of words ≡ None → (exit ≡ Usage) ⊎ (exit ≡ WriteFault)
+  pub usage : exit ≡ Usage → command_for words ≡ None
+  pub no_form : command_for words ≡ None → (exit ≡ Usage) ⊎ ((exit ≡ WriteFault) ⊎ (exit ≡ OutOfMemory))
+  pub early : list_any is_dashed words ≡ true → exit ≢ OutOfMemory
 
--- where all was done the input was read to its end, and where it is not read the source stays as it was
+-- where all was done the input was read to its end, and where it is not read the source stays as it was and no reading
+-- fails
 pub record ReadsInput {S : Type 0} (held : S → Option (List ℕ)) (words : List (List ℕ)) (old new : S) (exit : Exit) : Type 0 where
-  pub end : exit ≡ Done → reads_input (command_of words) ≡ true → IsAtEnd (held new)
-  pub unread : reads_input (command_of words) ≡ false → new ≡ old
+  pub end : exit ≡ Done → reads_input (command_for words) ≡ true → IsAtEnd (held new)
+  pub unread : reads_input (command_for words) ≡ false → new ≡ old
+  pub unfailed : reads_input (command_for words) ≡ false → exit ≢ ReadFault
 
--- how many slots are fetched: those of the whole run and never more, and none for words that let nothing run or where
--- memory was wanting
+-- how many slots are fetched: those of the whole run and never more, no more than the bounds on it, and none for words
+-- that let nothing run or where memory was wanting
 pub record FetchesFor (words : List (List ℕ)) (held : Option (List ℕ)) (fetches fetches' : ℕ) (exit : Exit) : Type 0 where
-  pub counted : IfSome (bytes_for (command_of words) held) (λ bytes. Fetches fetches fetches' exit (fetched words bytes))
-  pub unfetched : asks_run (command_of words) ≡ false → fetches' ≡ fetches
+  pub counted : IfSome (bytes_for (command_for words) held) (λ bytes. Fetches fetches fetches' exit (fetched words bytes))
+  pub bounded : IfSome (bytes_for (command_for words) held) (λ bytes. IsBounded fetches fetches' (whole_course words bytes))
+  pub unfetched : asks_run (command_for words) ≡ false → fetches' ≡ fetches
   pub unspent : exit ≡ OutOfMemory → fetches' ≡ fetches

@@ -2,9 +2,14 @@ pub mod Exit
 pub mod Command
 pub mod Events
 pub mod Leaves
+pub mod Made
 pub mod Names
 pub mod Ending
+pub mod Scheduled
 pub mod Told
-pub mod Schedule
+pub mod Counts
+pub mod Replay
+pub mod Course
+pub mod Bounds
 pub mod Program
 pub mod Contract

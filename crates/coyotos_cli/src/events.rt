@@ -3,6 +3,7 @@ ghost use Rattle.std.specs.Prelude.{◌≡◌, ◌<◌, ◌≤◌, ◌∷◌, []
 ghost use Rattle.kernel_core.specs.Machine.{hart_in};
 ghost use Rattle.listing_read.specs.Schedule.{IsTimed};
 ghost use Rattle.coyotos_cli.specs.Events.{line_events, left, IsTaken};
+ghost use Rattle.coyotos_cli.specs.Scheduled.{asked_events};
 
 use kernel_core::Event;
 use listing_read::Timed;
@@ -20,9 +21,22 @@ pub enum Events {
 }
 
 impl Events {
-    /// All events of a line, on a machine with so many harts.
-    pub(crate) fn new(harts: u8, timed: Timed) -> Events
-        ensures { left result ≡ line_events harts timed }
+    /// All events that a line asks for, on a machine with so many harts: none where it is skipped.
+    pub(crate) fn new(harts: u8, asked: Option<Timed>) -> Events
+        requires { IfSome asked (IsTimed harts) }
+        ensures value { left result ≡ asked_events harts asked }
+        ensures few { length (left result) ≤ 255000000 }
+    {
+        match asked {
+            None => Events::NoneLeft,
+            Some(timed) => Events::of_line(harts, timed),
+        }
+    }
+
+    fn of_line(harts: u8, timed: Timed) -> Events
+        requires { IsTimed harts timed }
+        ensures value { left result ≡ line_events harts timed }
+        ensures few { length (left result) ≤ 255000000 }
     {
         match timed {
             Timed::Step { hart, times } => Events::StepsLeft { hart, times },

@@ -1,9 +1,9 @@
 //! What comes behind the records.
-ghost use Rattle.std.specs.Prelude.{◌≡◌, ◌<◌, ◌+◌, ◌*◌, false};
+ghost use Rattle.std.specs.Prelude.{◌≡◌, ◌<◌, ◌≤◌, ◌+◌, ◌*◌, ◌++◌, [], decimal, length, false};
 ghost use Rattle.kernel_core.specs.State.{state_of, space_of};
+ghost use Rattle.coyotos_cli.specs.Command.{runs};
 ghost use Rattle.coyotos_cli.specs.Ending.{EndsIn, Fetches};
-ghost use Rattle.coyotos_cli.specs.Schedule.{finished, count_text, access_text, last_state_text, last_fetches};
-ghost use Rattle.coyotos_cli.specs.Told.{runs};
+ghost use Rattle.coyotos_cli.specs.Course.{finished, count_text, summary_text, access_text, last_state_text, fetches_for, Concludes};
 ghost use Rattle.walk_meaning.specs.Trail.{slots};
 ghost use Rattle.walk_meaning.specs.Walk.{access};
 ghost use Rattle.run_text.specs.Walk.{walk_text};
@@ -11,12 +11,14 @@ ghost use Rattle.object_store.specs.Meaning.{meaning};
 ghost use Rattle.object_store.specs.Store.{size_of};
 ghost use Rattle.cap_format.specs.declared.kind.CapKind.TheVariants.{Gpt, Process};
 
-use crate::command::Command;
-use crate::ending::end_with;
+use crate::counts::Counts;
+use crate::ending::{end_past_limit, end_with, refuse_schedule};
 use crate::exit::Exit;
+use crate::replayed::Replayed;
 use cap_format::Cap;
 use coy_io::Sink;
 use coy_text::LineBuf;
+use coyotos_words::Command;
 use kernel_core::Machine;
 use run_text::{dump, walk_line};
 use std::sync::ledger::Ledger;
@@ -24,22 +26,45 @@ use steps::Steps;
 use walk_engine::{Trail, Translator, walk};
 use walk_meaning::Kind;
 
-/// Writes what comes behind the records: the number of events, the last state, or where a walk ends.
-pub(crate) fn finish<T: Translator, K: Sink, L: Ledger>(
+/// Writes what comes behind the records, by the answer of the lines.
+pub(crate) fn conclude<T: Translator, K: Sink, L: Ledger>(
     command: Command,
-    events: u64,
+    answer: Replayed,
+    machine: &Machine<T>,
+    output: &mut K,
+    fetches: &mut Steps<L>,
+) -> Exit
+    ensures concludes { Concludes K.taken K.faults command (state_of machine.now) answer
+        output.old output.new fetches.old fetches.new result }
+    ensures stays { runs command ≡ false → fetches.new ≡ fetches.old }
+{
+    match answer {
+        Replayed::Ended(counts) => finish(command, counts, machine, output, fetches),
+        Replayed::Refused { line, fault } => refuse_schedule(line, fault, output),
+        Replayed::TooLong => end_past_limit(output),
+        Replayed::ReadFault => Exit::ReadFault,
+        Replayed::WriteFault => Exit::WriteFault,
+    }
+}
+
+/// Writes what comes last where all lines were read: the number of events, the counts, the last state, or where a walk
+/// ends.
+fn finish<T: Translator, K: Sink, L: Ledger>(
+    command: Command,
+    counts: Counts,
     machine: &Machine<T>,
     output: &mut K,
     fetches: &mut Steps<L>,
 ) -> Exit
     ensures ends { EndsIn K.taken K.faults output.old output.new result
-        (finished command (record { state = state_of machine.now; events = events })) }
-    ensures fetched { let all = last_fetches command (state_of machine.now) in
-        Fetches fetches.old fetches.new result all }
+        (finished command (state_of machine.now) (Replayed.Ended counts)) }
+    ensures fetched { Fetches fetches.old fetches.new result
+        (fetches_for command (state_of machine.now)) }
     ensures stays { runs command ≡ false → fetches.new ≡ fetches.old }
 {
     match command {
-        Command::Check => count(events, output),
+        Command::Check => count(counts.events, output),
+        Command::Make { .. } => summary(counts, output),
         Command::Walk {
             process,
             kind,
@@ -62,6 +87,41 @@ fn count<K: Sink>(events: u64, output: &mut K) -> Exit
     end_with(line.as_bytes(), Exit::Done, output)
 }
 
+/// Writes the counts of a run.
+fn summary<K: Sink>(counts: Counts, output: &mut K) -> Exit
+    ensures { EndsIn K.taken K.faults output.old output.new result
+        (record { text = summary_text counts; exit = Exit.Done }) }
+{
+    let mut line = LineBuf::new();
+    push_summary(&mut line, counts);
+    end_with(line.as_bytes(), Exit::Done, output)
+}
+
+/// Makes the line of the counts of a run.
+#[tactic(auto, unfolding(crate::specs::Course::summary_text))]
+fn push_summary(line: &mut LineBuf, counts: Counts)
+    requires empty { line.old ≡ [] }
+    ensures text { line.new ≡ summary_text counts }
+{
+    push_numbered(line, "summary events=", counts.events);
+    push_numbered(line, " messages=", counts.messages);
+    push_numbered(line, " faults=", counts.faults);
+    push_numbered(line, " logs=", counts.logs);
+    push_numbered(line, " destroys=", counts.destroys);
+    line.push_word("\n");
+}
+
+/// Appends a word and a number.
+#[tactic(auto, using(coy_text::proofs::NumeralLaws::length_decimal))]
+fn push_numbered(line: &mut LineBuf, word: &str, number: u64)
+    requires { length line.old + length word.now ≤ 1000 }
+    ensures text { line.new ≡ line.old ++ word.now ++ decimal number }
+    ensures len { length line.new ≤ length line.old + length word.now + 20 }
+{
+    line.push_word(word);
+    line.push_dec(number);
+}
+
 /// Writes where an access of a process's space ends, by a walk at this moment.
 fn access<T: Translator, K: Sink, L: Ledger>(
     machine: &Machine<T>,
@@ -74,7 +134,7 @@ fn access<T: Translator, K: Sink, L: Ledger>(
     ensures ends { EndsIn K.taken K.faults output.old output.new result
         (record { text = access_text (state_of machine.now) process kind address; exit = Exit.Done }) }
     ensures counted { let command = Command.Walk process kind address in
-        fetches.new ≡ fetches.old + last_fetches command (state_of machine.now) }
+        fetches.new ≡ fetches.old + fetches_for command (state_of machine.now) }
 {
     let mut line = LineBuf::new();
     if process < machine.objects().sizes().processes {

@@ -2,22 +2,22 @@
 ghost use Rattle.std.specs.Prelude.{◌≡◌, ◌≢◌, [], false, IfSome};
 ghost use Rattle.std.specs.Io.KnownBytes.{IsAtEnd};
 ghost use Rattle.coy_io.specs.Lines.{parts_of, whole_lines};
+ghost use Rattle.coyotos_cli.specs.Command.{runs};
 ghost use Rattle.coyotos_cli.specs.Ending.{HasCauses};
-ghost use Rattle.coyotos_cli.specs.Program.{lines_course, walked, StandsSure};
-ghost use Rattle.coyotos_cli.specs.Schedule.{ComesTo};
-ghost use Rattle.coyotos_cli.specs.Told.{runs};
+ghost use Rattle.coyotos_cli.specs.Program.{lines_course, cached, StandsSure};
+ghost use Rattle.coyotos_cli.specs.Course.{ComesTo};
 
-use crate::command::Command;
 use crate::ending::{end_past_limit, refuse_listing};
 use crate::exit::Exit;
-use crate::schedule::schedule;
+use crate::schedule::answer_lines;
 use coy_io::{LineReader, Sink, Source};
+use coyotos_words::Command;
 use image_builder::boot;
 use listing_read::{Listing, ListingFault, read_listing};
+use map_cache::MapCache;
 use std::alloc::Global;
 use std::sync::ledger::Ledger;
 use steps::Steps;
-use walk_engine::Plain;
 
 /// Reads a listing and its schedule, and does with them what the command says.
 pub(crate) fn answer_input<S: Source, K: Sink, L: Ledger>(
@@ -29,12 +29,12 @@ pub(crate) fn answer_input<S: Source, K: Sink, L: Ledger>(
 ) -> Exit
     // What the known bytes come to, and where the source stands then.
     ensures comes { IfSome (S.held input.old) (λ bytes.
-        ComesTo (K.taken output.old) (K.taken output.new) fetches.old fetches.new result walked
+        ComesTo (K.taken output.old) (K.taken output.new) fetches.old fetches.new result cached
         (lines_course command (parts_of bytes))) }
     ensures end { result ≡ Exit.Done → IsAtEnd (S.held input.new) }
     ensures sure { result ≡ Exit.ReadFault →
         StandsSure (S.held input.old) (S.held input.new) (K.taken output.old) (K.taken output.new)
-        fetches.old fetches.new walked (λ bytes. lines_course command (whole_lines [] bytes)) }
+        fetches.old fetches.new cached (λ bytes. lines_course command (whole_lines [] bytes)) }
 
     // Why it may end otherwise.
     ensures usage { result ≢ Exit.Usage }
@@ -54,17 +54,11 @@ pub(crate) fn answer_input<S: Source, K: Sink, L: Ledger>(
         Err(ListingFault::TooLong) => return end_past_limit(output),
         Err(ListingFault::OutOfMemory) => return Exit::OutOfMemory,
     };
-    let Ok(mut machine) = boot(alloc, &listing, Plain::new()) else {
+    let Ok(cache) = MapCache::new(alloc, listing.sizes().harts) else {
         return Exit::OutOfMemory;
     };
-    let harts = listing.sizes().harts;
-    schedule(
-        command,
-        harts,
-        &mut machine,
-        &mut lines,
-        input,
-        output,
-        fetches,
-    )
+    let Ok(mut machine) = boot(alloc, &listing, cache) else {
+        return Exit::OutOfMemory;
+    };
+    answer_lines(command, &mut machine, &mut lines, input, output, fetches)
 }

@@ -1,31 +1,29 @@
-//! The lines behind a listing, and what the machine does by them.
-ghost use Rattle.std.specs.Prelude.{◌≡◌, ◌≢◌, ◌≤◌, false, length};
+//! The lines behind a listing, and what is written of them and behind them.
+ghost use Rattle.std.specs.Prelude.{◌≡◌, ◌≢◌, false};
 ghost use Rattle.std.specs.Io.KnownBytes.{IsAtEnd};
 ghost use Rattle.coy_io.specs.Reader.{TellsEnd, ahead};
 ghost use Rattle.kernel_core.specs.Outcome.{spent};
 ghost use Rattle.kernel_core.specs.State.{state_of};
+ghost use Rattle.coyotos_cli.specs.Command.{mode_of, runs};
 ghost use Rattle.coyotos_cli.specs.Ending.{HasCauses};
-ghost use Rattle.listing_read.specs.Schedule.{IsTimed};
-ghost use Rattle.coyotos_cli.specs.Events.{line_events};
-ghost use Rattle.coyotos_cli.specs.Told.{begun, runs};
-ghost use Rattle.coyotos_cli.specs.Schedule.{course_of, ComesTo, OnParts, FailsBehind};
+ghost use Rattle.coyotos_cli.specs.Course.{course_of, ComesTo, StandsBehind};
+ghost use Rattle.coyotos_cli.specs.Scheduled.{OnParts, scheduled};
 
-use crate::command::Command;
-use crate::ending::{end_past_limit, refuse_schedule};
+use crate::counting::count_lines;
 use crate::exit::Exit;
-use crate::finishing::finish;
-use crate::performing::perform;
-use coy_io::{LineFault, LineReader, Sink, Source};
-use kernel_core::{Machine, Records};
-use listing_read::{ScheduleFault, Timed, read_event};
+use crate::finishing::conclude;
+use crate::mode::Mode;
+use crate::replaying::replay;
+use coy_io::{LineReader, Sink, Source};
+use coyotos_words::Command;
+use kernel_core::Machine;
 use std::sync::ledger::Ledger;
 use steps::Steps;
 use walk_engine::Translator;
 
-/// Reads the lines behind the listing, and lets the machine run by them.
-pub(crate) fn schedule<T: Translator, S: Source, K: Sink, L: Ledger>(
+/// Runs the lines behind a listing, or counts their events, and writes what the command says.
+pub(crate) fn answer_lines<T: Translator, S: Source, K: Sink, L: Ledger>(
     command: Command,
-    harts: u8,
     machine: &mut Machine<T>,
     lines: &mut LineReader,
     input: &mut S,
@@ -33,22 +31,18 @@ pub(crate) fn schedule<T: Translator, S: Source, K: Sink, L: Ledger>(
     fetches: &mut Steps<L>,
 ) -> Exit
     requires reader { lines.old.failed ≡ false }
-    requires harts { machine.old.objects.harts ≡ harts }
-    requires few { harts ≤ 8 }
     requires told { TellsEnd lines.old (S.held input.old) }
 
     // What the known lines come to, and where the source stands then.
-    ensures comes { let run = begun (state_of machine.old) in
-        let count = spent T.cost T.after T.without (T.kept machine.old.translator) in
+    ensures comes { let count = spent T.cost T.after T.without (T.kept machine.old.translator) in
         OnParts (ahead lines.old (S.held input.old)) (λ parts.
         ComesTo (K.taken output.old) (K.taken output.new) fetches.old fetches.new result count
-        (course_of command harts lines.old.number run parts)) }
+        (course_of command (state_of machine.old) (scheduled machine.old.objects.harts lines.old.number parts))) }
     ensures end { result ≡ Exit.Done → IsAtEnd (S.held input.new) }
-    ensures sure { let run = begun (state_of machine.old) in
-        let count = spent T.cost T.after T.without (T.kept machine.old.translator) in
-        result ≡ Exit.ReadFault → FailsBehind lines.old lines.new (S.held input.old) (S.held input.new)
-        (K.taken output.old) (K.taken output.new) fetches.old fetches.new count
-        (course_of command harts lines.old.number run) }
+    ensures sure { let count = spent T.cost T.after T.without (T.kept machine.old.translator) in
+        result ≡ Exit.ReadFault → StandsBehind machine.old.objects.harts lines.old lines.new
+        (S.held input.old) (S.held input.new) (K.taken output.old) (K.taken output.new)
+        fetches.old fetches.new count (course_of command (state_of machine.old)) }
 
     // Why it may end otherwise.
     ensures usage { result ≢ Exit.Usage }
@@ -59,51 +53,29 @@ pub(crate) fn schedule<T: Translator, S: Source, K: Sink, L: Ledger>(
     // Where no slot is fetched.
     ensures stays { runs command ≡ false → fetches.new ≡ fetches.old }
 {
-    let mut records = Records::new();
-    let mut events: u64 = 0;
-    'lines: loop {
-        let number = lines.number();
-        match lines.next(input) {
-            Ok(Some(_)) => {}
-            Ok(None) => return finish(command, events, machine, output, fetches),
-            Err(LineFault::ReadFault) => return Exit::ReadFault,
-            Err(LineFault::LineTooLong) => {
-                return refuse_schedule(number + 1, ScheduleFault::LineTooLong, output);
-            }
-            Err(LineFault::TooLong) => return end_past_limit(output),
-        }
-        match read_event(lines.line(), harts) {
-            Ok(None) => {}
-            Ok(Some(timed)) => {
-                match perform(
-                    command,
-                    timed,
-                    harts,
-                    machine,
-                    &mut records,
-                    output,
-                    fetches,
-                ) {
-                    Ok(()) => events += events_in(timed, harts),
-                    Err(_) => return Exit::WriteFault,
-                }
-            }
-            Err(fault) => return refuse_schedule(number + 1, fault, output),
-        }
+    if !runs(command) {
+        let harts = machine.objects().sizes().harts;
+        let counted = count_lines(lines, input, harts);
+        return conclude(command, counted, machine, output, fetches);
     }
+    let replayed = replay(machine, lines, input, mode_of(command), output, fetches);
+    conclude(command, replayed, machine, output, fetches)
 }
 
-/// How many events a line stands for.
-#[tactic(auto, using(crate::proofs::Rounds::length_rounds, crate::proofs::Rounds::length_steps))]
-fn events_in(timed: Timed, harts: u8) -> u64
-    requires timed { IsTimed harts timed }
-    requires few { harts ≤ 8 }
-    ensures count { result ≡ length (line_events harts timed) }
-    ensures most { result ≤ 8000000 }
+/// Whether the events of the lines are run for a command.
+fn runs(command: Command) -> bool
+    ensures { result ≡ runs command }
 {
-    match timed {
-        Timed::Step { times, .. } => times as u64,
-        Timed::Tick { .. } => 1,
-        Timed::Round { times } => times as u64 * harts as u64,
+    !matches!(command, Command::Check)
+}
+
+/// The records of the run that a command writes.
+fn mode_of(command: Command) -> Mode
+    ensures { result ≡ mode_of command }
+{
+    match command {
+        Command::Run => Mode::Records,
+        Command::Trace => Mode::Trace,
+        _ => Mode::Silent,
     }
 }

@@ -10,6 +10,10 @@ pub dashed_bytes : {X : Type 0} (bytes : X → List ℕ) (words : List X) (b : B
     → list_any is_dashed (map bytes words) ≡ b
 dashed_bytes bytes words b e = sym (list_any-map is_dashed bytes words) ∙ e
 
+pub bytes_dashed : {X : Type 0} (bytes : X → List ℕ) (words : List X) (b : Bool) → list_any is_dashed (map bytes words) ≡ b
+    → list_any (λ word. is_dashed (bytes word)) words ≡ b
+bytes_dashed bytes words b e = list_any-map is_dashed bytes words ∙ e
+
 -- `--help` by itself is answered first
 pub help_first : (words : List (List ℕ)) → is_help words ≡ true → Some Help ≡ command_of words
 help_first words help = rw help refl

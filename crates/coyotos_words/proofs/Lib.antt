@@ -1,5 +1,5 @@
 mod Chosen
-mod Dashed
+pub mod Dashed
 mod Entered
 mod Leaves
 mod Plain

@@ -33,6 +33,20 @@ impl MakeSource {
         }
     }
 
+    /// Fills the front of `buf` with the next bytes of the text, and answers how many: none only where
+    /// no byte is left, or none fits.
+    pub fn fill(&mut self, buf: &mut [u8]) -> usize
+        ensures bound { result ≤ length buf.new }
+        ensures bytes { let s = self.old in let t = self.new in
+            let left = ahead_of t.n t.done t.piece t.at in
+            ahead_of s.n s.done s.piece s.at ≡ take result buf.new ++ left }
+        ensures end { let t = self.new in result ≡ 0 → 0 < length buf.new →
+            ahead_of t.n t.done t.piece t.at ≡ [] }
+    {
+        self.refill();
+        self.give(buf)
+    }
+
     /// Goes on to the next piece, where this one was given and there is one.
     #[tactic(auto, using(crate::proofs::Pieces::renewed, crate::proofs::Pieces::used_up))]
     fn refill(&mut self)
@@ -82,8 +96,7 @@ impl Source for MakeSource {
         ensures never_fails { IsOk result }
         ensures cause { HasCause 0 0 result }
     {
-        self.refill();
-        Ok(self.give(buf))
+        Ok(self.fill(buf))
     }
 }
 

@@ -12,4 +12,5 @@ mod Forgotten
 mod Accesses
 mod Listed
 mod Entries
+mod Held
 mod Translated

@@ -3,4 +3,5 @@ pub mod Kept
 pub mod Cache
 pub mod Coherent
 pub mod Mappings
+pub mod Held
 pub mod Effects

@@ -13,6 +13,7 @@ ghost use Rattle.map_cache.specs.Kept.{cost_of, kept_after, kept_without, nothin
 ghost use Rattle.map_cache.specs.Cache.{IsBacked, kept_of, root_at, tlb_at};
 ghost use Rattle.map_cache.specs.Coherent.{IsCoherent};
 ghost use Rattle.map_cache.specs.Effects.{AnswersHeld, IsBlank, value_of};
+ghost use Rattle.map_cache.specs.Held.{AreRight, held_entries};
 ghost use Rattle.map_cache.specs.Mappings.{AreMappings, mappings_left, mappings_of};
 
 use crate::mapping::{Mapping, MappingPlace};
@@ -108,9 +109,13 @@ impl MapCache {
         Some(next.0)
     }
 
-    /// The entries are the leaves of spaces, each once, and those of a space in order of address.
+    /// The entries are the leaves of spaces, each once, and those of a space in order of address. Where the cache agrees
+    /// with a map of objects, each is right and its space is live, and they follow from the map and what is kept.
     pub fn listed(&self)
-        ensures { AreMappings self.now (mappings_of self.now) }
+        ensures each { AreMappings self.now (mappings_of self.now) }
+        ensures right { (o : Items) → IsCoherent self.now o → AreRight o (mappings_of self.now) }
+        ensures held { (o : Items) → IsCoherent self.now o
+            → mappings_of self.now ≡ held_entries o (kept_of self.now) }
     {
         let _mappings = &self.mappings;
     }

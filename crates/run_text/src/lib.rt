@@ -3,6 +3,7 @@
 //! Nothing here knows where the text goes.
 #![tactic(auto)]
 
+mod mapping;
 mod names;
 mod objects;
 mod parts;
@@ -14,6 +15,7 @@ mod statements;
 mod walk;
 mod writing;
 
+pub use mapping::mapping_line;
 pub use objects::put_objects;
 pub use record::record_line;
 pub use state::{dump, put_front};

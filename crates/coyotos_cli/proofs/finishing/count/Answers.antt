@@ -1,6 +1,6 @@
 use Rattle.std.proofs.Common.{◌≡◌, codes, append_assoc}
 use Rattle.std.specs.Prelude.{decimal}
-use Rattle.coyotos_cli.specs.Schedule.{count_text}
+use Rattle.coyotos_cli.specs.Course.{count_text}
 use Rattle.coyotos_cli.proofs.Endings.{ends_text}
 use Rattle.coyotos_cli.proofs.finishing.count.Goals as goal
 

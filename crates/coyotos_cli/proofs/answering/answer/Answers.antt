@@ -1,0 +1,25 @@
+use Rattle.std.proofs.Common.{◌∙◌, refl, sym}
+use Rattle.coyotos_cli.proofs.Words.{causes-other, comes-input, comes-other, run-input, sure-input}
+use Rattle.coyotos_cli.proofs.answering.answer.Goals as goal
+
+pub returns-then-asks_input-clause-comes : goal.returns-then-asks_input-clause-comes
+returns-then-asks_input-clause-comes g c =
+    comes-input c.args.command _ _ _ _ _ _ (sym c.asks_input.ensures ∙ c.if-asks_input.true) c.answer_input.ensures.comes
+
+pub returns-then-asks_input-clause-sure : goal.returns-then-asks_input-clause-sure
+returns-then-asks_input-clause-sure g c =
+    λ fault. sure-input c.args.command _ _ _ _ _ _ _ (sym c.asks_input.ensures ∙ c.if-asks_input.true) (c.answer_input.ensures.sure fault)
+
+pub returns-then-asks_input-clause-stays : goal.returns-then-asks_input-clause-stays
+returns-then-asks_input-clause-stays g c =
+    λ still. c.answer_input.ensures.stays (run-input c.args.command (sym c.asks_input.ensures ∙ c.if-asks_input.true) still)
+
+pub returns-clause-comes : goal.returns-clause-comes
+returns-clause-comes g c =
+    comes-other c.args.command _ _ _ _ _ _ (sym c.asks_input.ensures ∙ c.if-asks_input.false) c.answer_other.ensures.comes
+
+pub returns-clause-unread : goal.returns-clause-unread
+returns-clause-unread g c = λ off. refl
+
+pub returns-clause-causes : goal.returns-clause-causes
+returns-clause-causes g c = causes-other _ _ _ _ c.answer_other.ensures.read c.answer_other.ensures.causes

@@ -1,0 +1,7 @@
+use Rattle.std.proofs.Common.{◌∙◌, refl, sym}
+use Rattle.coyotos_cli.proofs.Words.{comes-alone, summary-none}
+use Rattle.coyotos_cli.proofs.answering.answer_other.Goals as goal
+
+pub returns-in-None-clause-comes : goal.returns-in-None-clause-comes
+returns-in-None-clause-comes g c =
+    comes-alone c.args.command _ _ _ _ _ _ _ c.requires (summary-none c.args.command c.requires (sym c.summary_number.ensures ∙ c.in-None.is)) c.answer_alone.ensures refl

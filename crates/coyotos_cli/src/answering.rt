@@ -1,0 +1,144 @@
+//! A command, with the input or without.
+ghost use Rattle.std.specs.Prelude.{◌≡◌, ◌≢◌, true, false, [], IfSome, Some};
+ghost use Rattle.std.specs.Io.KnownBytes.{IsAtEnd};
+ghost use Rattle.coy_io.specs.Lines.{parts_of, whole_lines};
+ghost use Rattle.coyotos_words.specs.declared.command.Command.TheVariants.{Help};
+ghost use Rattle.coyotos_cli.specs.Command.{asks_input, asks_run, summary_number};
+ghost use Rattle.coyotos_cli.specs.Contract.{bytes_for};
+ghost use Rattle.coyotos_cli.specs.Ending.{HasCauses, IsGiven, EndsIn, usage_text};
+ghost use Rattle.coyotos_cli.specs.Program.{command_course, make_course, cached, StandsSure};
+ghost use Rattle.coyotos_cli.specs.Course.{ComesTo};
+
+use crate::ending::end_with;
+use crate::exit::Exit;
+use crate::input::answer_input;
+use crate::making::make;
+use coy_io::{Sink, Source};
+use coyotos_words::Command;
+use generated_text::MakeSource;
+use std::alloc::Global;
+use std::sync::ledger::Ledger;
+use steps::Steps;
+
+/// Does what a command asks for, with the bytes of the source where it asks for input.
+pub(crate) fn answer<S: Source, K: Sink, L: Ledger>(
+    alloc: Global,
+    command: Command,
+    input: &mut S,
+    output: &mut K,
+    fetches: &mut Steps<L>,
+) -> Exit
+    // What the command comes to with the known bytes, and where the source stands then.
+    ensures comes { IfSome (bytes_for (Some command) (S.held input.old)) (λ bytes.
+        ComesTo (K.taken output.old) (K.taken output.new) fetches.old fetches.new result cached
+        (command_course command (parts_of bytes))) }
+    ensures end { result ≡ Exit.Done → asks_input command ≡ true → IsAtEnd (S.held input.new) }
+    ensures unread { asks_input command ≡ false → input.new ≡ input.old }
+    ensures unfailed { asks_input command ≡ false → result ≢ Exit.ReadFault }
+    ensures sure { result ≡ Exit.ReadFault →
+        StandsSure (S.held input.old) (S.held input.new) (K.taken output.old) (K.taken output.new)
+        fetches.old fetches.new cached (λ bytes. command_course command (whole_lines [] bytes)) }
+
+    // Why it may end otherwise.
+    ensures usage { result ≢ Exit.Usage }
+    ensures memory { command ≡ Help → result ≢ Exit.OutOfMemory }
+    ensures causes { HasCauses (S.faults input.old) (S.faults input.new)
+        (K.faults output.old) (K.faults output.new) result }
+    ensures unwritten { result ≡ Exit.OutOfMemory → K.taken output.new ≡ K.taken output.old }
+
+    // Where no slot is fetched.
+    ensures stays { asks_run (Some command) ≡ false → fetches.new ≡ fetches.old }
+    ensures unspent { result ≡ Exit.OutOfMemory → fetches.new ≡ fetches.old }
+{
+    if asks_input(command) {
+        return answer_input(alloc, command, input, output, fetches);
+    }
+    answer_other(alloc, command, output, fetches)
+}
+
+/// Does what a command asks for that asks for no input.
+fn answer_other<K: Sink, L: Ledger>(
+    alloc: Global,
+    command: Command,
+    output: &mut K,
+    fetches: &mut Steps<L>,
+) -> Exit
+    requires { asks_input command ≡ false }
+    ensures comes { ComesTo (K.taken output.old) (K.taken output.new) fetches.old fetches.new
+        result cached (command_course command []) }
+    ensures usage { result ≢ Exit.Usage }
+    ensures read { result ≢ Exit.ReadFault }
+    ensures memory { command ≡ Help → result ≢ Exit.OutOfMemory }
+    ensures causes { HasCauses 0 0 (K.faults output.old) (K.faults output.new) result }
+    ensures unwritten { result ≡ Exit.OutOfMemory → K.taken output.new ≡ K.taken output.old }
+    ensures stays { asks_run (Some command) ≡ false → fetches.new ≡ fetches.old }
+    ensures unspent { result ≡ Exit.OutOfMemory → fetches.new ≡ fetches.old }
+{
+    match summary_number(command) {
+        Some(number) => summarize(alloc, number, output, fetches),
+        None => answer_alone(command, output),
+    }
+}
+
+/// The number whose generated text a command runs.
+fn summary_number(command: Command) -> Option<u32>
+    ensures { result ≡ summary_number command }
+{
+    match command {
+        Command::Make { number, summary } if summary => Some(number),
+        _ => None,
+    }
+}
+
+/// Runs the generated text of a number in the place of the input, and writes its counts.
+fn summarize<K: Sink, L: Ledger>(
+    alloc: Global,
+    number: u32,
+    output: &mut K,
+    fetches: &mut Steps<L>,
+) -> Exit
+    ensures comes { ComesTo (K.taken output.old) (K.taken output.new) fetches.old fetches.new
+        result cached (make_course number true) }
+    ensures usage { result ≢ Exit.Usage }
+    ensures read { result ≢ Exit.ReadFault }
+    ensures causes { HasCauses 0 0 (K.faults output.old) (K.faults output.new) result }
+    ensures unwritten { result ≡ Exit.OutOfMemory → K.taken output.new ≡ K.taken output.old }
+    ensures unspent { result ≡ Exit.OutOfMemory → fetches.new ≡ fetches.old }
+{
+    let command = Command::Make {
+        number,
+        summary: true,
+    };
+    let mut source = MakeSource::new(number);
+    answer_input(alloc, command, &mut source, output, fetches)
+}
+
+/// Does what a command asks for that asks for no input and no run.
+fn answer_alone<K: Sink>(command: Command, output: &mut K) -> Exit
+    requires still { asks_run (Some command) ≡ false }
+    requires alone { asks_input command ≡ false }
+    ensures { EndsIn K.taken K.faults output.old output.new result (command_course command []).last }
+{
+    match command {
+        Command::Make { number, .. } => make(number, output),
+        _ => usage(output, Exit::Done),
+    }
+}
+
+/// Whether the command asks for input.
+fn asks_input(command: Command) -> bool
+    ensures { result ≡ asks_input command }
+{
+    !matches!(command, Command::Help | Command::Make { .. })
+}
+
+/// Writes how the program is used.
+pub(crate) fn usage<K: Sink>(output: &mut K, exit: Exit) -> Exit
+    requires { IsGiven exit }
+    ensures { EndsIn K.taken K.faults output.old output.new result
+        (record { text = usage_text; exit = exit }) }
+{
+    let line =
+        b"usage: coyotos check | run | trace | tables | walk P KIND ADDR | make N [summary]\n";
+    end_with(line.as_slice(), exit, output)
+}

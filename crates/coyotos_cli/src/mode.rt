@@ -1,0 +1,12 @@
+//! What is written of a run.
+
+/// Which records are written.
+#[derive(Clone, Copy, Debug, PartialEq, Eq)]
+pub enum Mode {
+    /// None.
+    Silent,
+    /// All but those of accesses and instructions.
+    Records,
+    /// All.
+    Trace,
+}
