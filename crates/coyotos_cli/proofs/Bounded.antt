@@ -74,9 +74,9 @@ behind-sound command s events answer =
 of-sound : (command : Command) (s : State) (all : Scheduled) → IsSound (course_of command s all)
 of-sound command s all = on (runs command)
   where
-    on : (run : Bool) → IsSound (if run then course_behind command s all.events (run_answer s all) else ends_in (finished command s (count_answer all)))
+    on : (run : Bool) → IsSound (if run then course_behind command s all.events (run_answer s all) else ends_in (finished command s nothing (count_answer all)))
     on true = behind-sound command s all.events (run_answer s all)
-    on false = ends-sound (finished command s (count_answer all))
+    on false = ends-sound (finished command s nothing (count_answer all))
 
 listed-sound : (command : Command) (listed : Listed) → IsSound (listed_course command listed)
 listed-sound command (Good listing last rest) = of-sound command (booted listing) (scheduled listing.sizes.harts last rest)

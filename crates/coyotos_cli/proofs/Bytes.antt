@@ -16,7 +16,7 @@ use Rattle.coyotos_words.specs.declared.command.Command.{Command}
 use Rattle.coyotos_cli.specs.Command.{runs}
 use Rattle.coyotos_cli.specs.Ending.{EndsNothing}
 use Rattle.coyotos_cli.specs.Scheduled.{AtEnd, OnParts, ends, preceded, scheduled}
-use Rattle.coyotos_cli.specs.Course.{Course, course_of, ComesTo, StandsBehind}
+use Rattle.coyotos_cli.specs.Course.{Course, course_of, ComesTo, HasEntries, StandsBehind}
 use Rattle.coyotos_cli.specs.Program.{listed_course, lines_course, StandsSure}
 use Rattle.coyotos_cli.specs.declared.exit.Exit.{Exit}
 use Rattle.coyotos_cli.specs.declared.exit.Exit.TheVariants.{Done}
@@ -109,3 +109,8 @@ module _ (command : Command) (held mid : Option (List ℕ)) (first middle : Read
       → IfSome held (λ bytes. ComesTo old new fetches fetches' exit count (lines_course command (parts_of bytes)))
   bytes-come old new fetches fetches' exit count all =
       on_bytes (λ listed. ComesTo old new fetches fetches' exit count (listed_course command listed)) (at_listing (ComesTo old new fetches fetches' exit count) all)
+
+  -- so are the entries at the end
+  pub bytes-entries : OnParts (ahead middle mid) (λ parts. HasEntries (course_of command s (scheduled harts middle.number parts)))
+      → IfSome held (λ bytes. HasEntries (lines_course command (parts_of bytes)))
+  bytes-entries all = on_bytes (λ listed. HasEntries (listed_course command listed)) (at_listing HasEntries all)

@@ -1,4 +1,5 @@
 pub mod Leaves
+pub mod Entries
 pub mod Rounds
 pub mod Told
 pub mod Tallies

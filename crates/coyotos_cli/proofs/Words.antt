@@ -12,11 +12,11 @@ use Rattle.coyotos_words.proofs.Dashed.{bytes_dashed}
 use Rattle.coyotos_cli.specs.Command.{command_for, asks_input, asks_run, runs, summary_number}
 use Rattle.coyotos_cli.specs.Exit.{status_of}
 use Rattle.coyotos_cli.specs.Ending.{Output, EndsNothing, Outputs, Completes, Ends, Fetches, HasCauses}
-use Rattle.coyotos_cli.specs.Course.{Course, ends_in, course_output, course_fetches, ComesTo}
+use Rattle.coyotos_cli.specs.Course.{Course, ends_in, course_output, course_fetches, ComesTo, HasEntries}
 use Rattle.coyotos_cli.specs.Bounds.{IsBounded}
 use Rattle.coyotos_cli.specs.Program.{lines_course, command_course, words_course, whole_course, out, fetched, cached, sure, StandsSure}
 use Rattle.coyotos_cli.proofs.Bounded.{course-bounded}
-use Rattle.coyotos_cli.proofs.Concluding.{IsLast}
+use Rattle.coyotos_cli.proofs.Concluding.{IsLast, none-entries}
 use Rattle.coyotos_cli.specs.Contract.{bytes_for, Answers, HasForm, FetchesFor}
 use Rattle.coyotos_cli.specs.declared.exit.Exit.{Exit}
 use Rattle.coyotos_cli.specs.declared.exit.Exit.TheVariants.{Done, Usage, ListingRefused, ScheduleRefused, ReadFault, WriteFault, OutOfMemory, TooLong}
@@ -126,6 +126,35 @@ module _ (command : Command) (taken taken' : Option (List ℕ)) (fetches fetches
   comes-alone faults faults' asks still e same =
       subst (ComesTo taken taken' fetches fetches' exit cached) (sym (course-alone command asks still))
       (record { output = e.output; fetched = record { whole = λ given. omega (arith, same); most = omega (arith, same) } })
+
+-- ---- the entries
+
+-- those of the lines of the input are those of the command
+pub entries-input : (command : Command) (held : Option (List ℕ)) → asks_input command ≡ true → IfSome held (λ bytes. HasEntries (lines_course command (parts_of bytes)))
+    → IfSome (bytes_for (Some command) held) (λ bytes. HasEntries (command_course command (parts_of bytes)))
+entries-input command held asks entries =
+    subst (λ read. IfSome (if read then held else Some []) (λ bytes. HasEntries (command_course command (parts_of bytes)))) (sym asks) (told held entries)
+  where
+    told : (held : Option (List ℕ)) → IfSome held (λ bytes. HasEntries (lines_course command (parts_of bytes))) → IfSome held (λ bytes. HasEntries (command_course command (parts_of bytes)))
+    told None entries = tt
+    told (Some bytes) entries = subst HasEntries (sym (course-input command (parts_of bytes) asks)) entries
+
+pub entries-other : (command : Command) (held : Option (List ℕ)) → asks_input command ≡ false → HasEntries (command_course command [])
+    → IfSome (bytes_for (Some command) held) (λ bytes. HasEntries (command_course command (parts_of bytes)))
+entries-other command held asks entries =
+    subst (λ read. IfSome (if read then held else Some []) (λ bytes. HasEntries (command_course command (parts_of bytes)))) (sym asks)
+    (subst HasEntries (sym (course-other command (parts_of []) asks)) entries)
+
+-- a text by itself has none
+pub entries-alone : (command : Command) → asks_input command ≡ false → asks_run (Some command) ≡ false → HasEntries (command_course command [])
+entries-alone command asks still = subst HasEntries (sym (course-alone command asks still)) (none-entries (command_course command []).last)
+
+-- words that ask for a command have its entries
+pub entries-words : (words : List (List ℕ)) (command : Command) → command_for words ≡ Some command → (held : Option (List ℕ))
+    → IfSome (bytes_for (Some command) held) (λ bytes. HasEntries (command_course command (parts_of bytes)))
+    → IfSome (bytes_for (command_for words) held) (λ bytes. HasEntries (whole_course words bytes))
+entries-words words command asked held entries =
+    subst (λ a. IfSome (bytes_for a held) (λ bytes. HasEntries (words_course a (parts_of bytes)))) (sym asked) entries
 
 -- no source is at fault where none was asked
 pub causes-other : (unread unwritten unwritten' : ℕ) (exit : Exit) → exit ≢ ReadFault → HasCauses 0 0 unwritten unwritten' exit → HasCauses unread unread unwritten unwritten' exit

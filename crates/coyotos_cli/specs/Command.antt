@@ -1,19 +1,14 @@
--- Which commands are answered, and which of these ask for input. The forms of the words are those of `coyotos_words`.
-use Rattle.std.specs.Prelude.{ℕ, Bool, true, false, List, Option, Some, None, option_and_then}
+-- What commands ask for. The forms of the words are those of `coyotos_words`.
+use Rattle.std.specs.Prelude.{ℕ, Bool, true, false, List, Option, Some, None}
 use Rattle.coyotos_words.specs.Command.{command_of}
 use Rattle.coyotos_words.specs.declared.command.Command.{Command}
 use Rattle.coyotos_words.specs.declared.command.Command.TheVariants.{Help, Check, Run, Trace as Traced, Tables, Make}
 use Rattle.coyotos_cli.specs.declared.mode.Mode.{Mode}
 use Rattle.coyotos_cli.specs.declared.mode.Mode.TheVariants.{Silent, Records, Trace}
 
--- a command, where it is answered: `tables` is not yet, and counts as words of no form
-abbrev pub answered : Command → Option Command
-answered Tables = None
-answered command = Some command
-
--- what these words ask for, where that is answered
+-- what these words ask for
 abbrev pub command_for : List (List ℕ) → Option Command
-command_for words = option_and_then answered (command_of words)
+command_for words = command_of words
 
 -- whether a command asks for input; `--help` and `make` do not
 abbrev pub asks_input : Command → Bool
@@ -29,6 +24,7 @@ runs _ = true
 -- the records of the run that a command writes
 abbrev pub mode_of : Command → Mode
 mode_of Run = Records
+mode_of Tables = Records
 mode_of Traced = Trace
 mode_of _ = Silent
 

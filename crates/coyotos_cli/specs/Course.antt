@@ -3,7 +3,7 @@ use Rattle.std.specs.Prelude.{◌≡◌, ℕ, ◌+◌, ◌*◌, nat_lt, if◌the
 use Rattle.std.specs.Io.KnownBytes.{Appends}
 use Rattle.coy_io.specs.Reader.{Reader}
 use Rattle.cap_format.specs.declared.kind.CapKind.TheVariants.{Gpt, Process}
-use Rattle.object_store.specs.Store.{size_of}
+use Rattle.object_store.specs.Store.{Items, size_of}
 use Rattle.walk_meaning.specs.Trail.{slots}
 use Rattle.walk_meaning.specs.Walk.{access}
 use Rattle.walk_meaning.specs.declared.kind.Kind.{Kind}
@@ -11,10 +11,15 @@ use Rattle.machine_state.specs.declared.event.Event.{Event}
 use Rattle.kernel_core.specs.Outcome.{Touch}
 use Rattle.kernel_core.specs.Run.{run_state, run_touches}
 use Rattle.kernel_core.specs.State.{State, space_of}
+use Rattle.map_cache.specs.declared.mapping.Mapping.{Mapping}
+use Rattle.map_cache.specs.Held.{held_entries}
+use Rattle.map_cache.specs.Kept.{KeptValue, nothing}
+use Rattle.fetch_economy.specs.Counts.{kept_by}
 use Rattle.run_text.specs.State.{state_text}
 use Rattle.run_text.specs.Walk.{walk_text, no_process_text}
 use Rattle.coyotos_cli.specs.Command.{runs, mode_of}
 use Rattle.coyotos_cli.specs.Ending.{Output, Outputs, Fetches, EndsIn, before, refused_schedule, too_long}
+use Rattle.coyotos_cli.specs.Tables.{AreEntriesBehind, entries_text, no_items}
 use Rattle.coyotos_cli.specs.Told.{told}
 use Rattle.coyotos_cli.specs.Scheduled.{Scheduled, AtEnd, preceded, ends}
 use Rattle.coyotos_cli.specs.Replay.{FailsBehind, run_answer, count_answer}
@@ -22,7 +27,7 @@ use Rattle.coyotos_cli.specs.declared.counts.Counts.{Counts}
 use Rattle.coyotos_cli.specs.declared.replayed.Replayed.{Replayed}
 use Rattle.coyotos_cli.specs.declared.replayed.Replayed.TheVariants as answers
 use Rattle.coyotos_words.specs.declared.command.Command.{Command}
-use Rattle.coyotos_words.specs.declared.command.Command.TheVariants.{Check, Walk, Make}
+use Rattle.coyotos_words.specs.declared.command.Command.TheVariants.{Check, Tables, Walk, Make}
 use Rattle.coyotos_cli.specs.declared.exit.Exit.{Exit}
 use Rattle.coyotos_cli.specs.declared.exit.Exit.TheVariants.{Done, ReadFault, WriteFault}
 
@@ -46,12 +51,17 @@ summary_text counts =
 abbrev pub last_state_text : State → List ℕ
 last_state_text s = state_text s
 
--- what comes behind the records where all lines were read, by the last state and the counts of the run
-abbrev pub last_text : Command → State → Counts → List ℕ
-last_text Check s counts = count_text counts.events
-last_text (Walk process kind address) s counts = access_text s process kind address
-last_text (Make number summary) s counts = summary_text counts
-last_text _ s counts = last_state_text s
+-- what `tables` writes of it, and of what the mapping cache keeps then
+abbrev pub tables_text : State → KeptValue → List ℕ
+tables_text s kept = last_state_text s ++ entries_text (held_entries s.store.items kept)
+
+-- what comes behind the records where all lines were read, by the last state, what is kept then, and the counts of the run
+abbrev pub last_text : Command → State → KeptValue → Counts → List ℕ
+last_text Check s kept counts = count_text counts.events
+last_text (Walk process kind address) s kept counts = access_text s process kind address
+last_text (Make number summary) s kept counts = summary_text counts
+last_text Tables s kept counts = tables_text s kept
+last_text _ s kept counts = last_state_text s
 
 -- the slots that are fetched for it: all of each GPT to print a state, and those that the access of `walk` reads
 abbrev pub fetches_for : Command → State → ℕ
@@ -74,13 +84,13 @@ printed_for (Walk process kind address) s = 0
 printed_for (Make number summary) s = 0
 printed_for _ s = size_of s.store.items Gpt
 
--- what is written last, and how the program ends, by the answer of a run that came to this state
-abbrev pub finished : Command → State → Replayed → Output
-finished command s (answers.Ended counts) = record { text = last_text command s counts; exit = Done }
-finished command s (answers.Refused line fault) = refused_schedule line fault
-finished command s answers.TooLong = too_long
-finished command s answers.ReadFault = record { text = []; exit = ReadFault }
-finished command s answers.WriteFault = record { text = []; exit = WriteFault }
+-- what is written last, and how the program ends, by the answer of a run that came to this state and left this kept
+abbrev pub finished : Command → State → KeptValue → Replayed → Output
+finished command s kept (answers.Ended counts) = record { text = last_text command s kept counts; exit = Done }
+finished command s kept (answers.Refused line fault) = refused_schedule line fault
+finished command s kept answers.TooLong = too_long
+finished command s kept answers.ReadFault = record { text = []; exit = ReadFault }
+finished command s kept answers.WriteFault = record { text = []; exit = WriteFault }
 
 -- the slots that are fetched for it
 abbrev pub last_fetches : Command → State → Replayed → ℕ
@@ -98,16 +108,17 @@ last_printed command s (answers.Ended counts) = printed_for command s
 last_printed command s _ = 0
 
 -- a fault of reading or of writing ends the program by itself, and for any other answer the last text is written
-abbrev pub Concludes : {K : Type 0} → (K → Option (List ℕ)) → (K → ℕ) → Command → State → Replayed → K → K → ℕ → ℕ → Exit → Type 0
-Concludes taken faults command s answers.ReadFault old new fetches fetches' exit = (exit ≡ ReadFault) × (new ≡ old) × (fetches' ≡ fetches)
-Concludes taken faults command s answers.WriteFault old new fetches fetches' exit = (exit ≡ WriteFault) × (new ≡ old) × (fetches' ≡ fetches)
-Concludes taken faults command s answer old new fetches fetches' exit =
-    EndsIn taken faults old new exit (finished command s answer) × Fetches fetches fetches' exit (last_fetches command s answer)
+abbrev pub Concludes : {K : Type 0} → (K → Option (List ℕ)) → (K → ℕ) → Command → State → KeptValue → Replayed → K → K → ℕ → ℕ → Exit → Type 0
+Concludes taken faults command s kept answers.ReadFault old new fetches fetches' exit = (exit ≡ ReadFault) × (new ≡ old) × (fetches' ≡ fetches)
+Concludes taken faults command s kept answers.WriteFault old new fetches fetches' exit = (exit ≡ WriteFault) × (new ≡ old) × (fetches' ≡ fetches)
+Concludes taken faults command s kept answer old new fetches fetches' exit =
+    EndsIn taken faults old new exit (finished command s kept answer) × Fetches fetches fetches' exit (last_fetches command s answer)
 
 -- ---- the lines behind a listing
 
 -- what lines come to: the records that are written, and what the translator is asked for them; then what is written last,
--- how the program ends, and the slots that are fetched for that, the accesses made and the GPTs printed
+-- how the program ends, and the slots that are fetched for that, the accesses made and the GPTs printed; and the items at
+-- the end, with the entries that the mapping cache has then
 pub record Course : Type 0 where
   pub records : List ℕ
   pub touches : List Touch
@@ -115,27 +126,44 @@ pub record Course : Type 0 where
   pub last_fetches : ℕ
   pub last_accesses : ℕ
   pub printed : ℕ
+  pub end : Items
+  pub entries : List Mapping
 
 -- nothing comes but this
 abbrev pub ends_in : Output → Course
-ends_in last = record { records = []; touches = []; last = last; last_fetches = 0; last_accesses = 0; printed = 0 }
+ends_in last = record {
+  records = [];
+  touches = [];
+  last = last;
+  last_fetches = 0;
+  last_accesses = 0;
+  printed = 0;
+  end = no_items;
+  entries = [];
+}
 
 -- the events of a run come first, and then what its answer comes to
 abbrev pub course_behind : Command → State → List Event → Replayed → Course
 course_behind command s events answer = record {
   records = told (mode_of command) s events;
   touches = run_touches s events;
-  last = finished command (run_state s events) answer;
+  last = finished command (run_state s events) (kept_by nothing (run_touches s events)) answer;
   last_fetches = last_fetches command (run_state s events) answer;
   last_accesses = last_accesses command (run_state s events) answer;
   printed = last_printed command (run_state s events) answer;
+  end = (run_state s events).store.items;
+  entries = held_entries (run_state s events).store.items (kept_by nothing (run_touches s events));
 }
 
 -- what a command comes to with what the lines ask for; `check` runs nothing, and counts their events
 abbrev pub course_of : Command → State → Scheduled → Course
 course_of command s all =
     if runs command then course_behind command s all.events (run_answer s all)
-    else ends_in (finished command s (count_answer all))
+    else ends_in (finished command s nothing (count_answer all))
+
+-- the entries are right, and whole where the need fits
+abbrev pub HasEntries : Course → Type 0
+HasEntries course = AreEntriesBehind course.end course.touches course.entries
 
 -- the records, what is written last, and how the program ends
 abbrev pub course_output : Course → Output

@@ -9,6 +9,7 @@ pub mod Scheduled
 pub mod Told
 pub mod Counts
 pub mod Replay
+pub mod Tables
 pub mod Course
 pub mod Bounds
 pub mod Program

@@ -7,7 +7,7 @@ ghost use Rattle.coyotos_cli.specs.Command.{asks_input, asks_run, summary_number
 ghost use Rattle.coyotos_cli.specs.Contract.{bytes_for};
 ghost use Rattle.coyotos_cli.specs.Ending.{HasCauses, IsGiven, EndsIn, usage_text};
 ghost use Rattle.coyotos_cli.specs.Program.{command_course, make_course, cached, StandsSure};
-ghost use Rattle.coyotos_cli.specs.Course.{ComesTo};
+ghost use Rattle.coyotos_cli.specs.Course.{ComesTo, HasEntries};
 
 use crate::ending::end_with;
 use crate::exit::Exit;
@@ -39,6 +39,11 @@ pub(crate) fn answer<S: Source, K: Sink, L: Ledger>(
         StandsSure (S.held input.old) (S.held input.new) (K.taken output.old) (K.taken output.new)
         fetches.old fetches.new cached (λ bytes. command_course command (whole_lines [] bytes)) }
 
+    // What the entries of the mapping cache say then.
+    ensures entries { result ≡ Exit.Done →
+        IfSome (bytes_for (Some command) (S.held input.old)) (λ bytes.
+        HasEntries (command_course command (parts_of bytes))) }
+
     // Why it may end otherwise.
     ensures usage { result ≢ Exit.Usage }
     ensures memory { command ≡ Help → result ≢ Exit.OutOfMemory }
@@ -66,6 +71,7 @@ fn answer_other<K: Sink, L: Ledger>(
     requires { asks_input command ≡ false }
     ensures comes { ComesTo (K.taken output.old) (K.taken output.new) fetches.old fetches.new
         result cached (command_course command []) }
+    ensures entries { result ≡ Exit.Done → HasEntries (command_course command []) }
     ensures usage { result ≢ Exit.Usage }
     ensures read { result ≢ Exit.ReadFault }
     ensures memory { command ≡ Help → result ≢ Exit.OutOfMemory }
@@ -99,6 +105,7 @@ fn summarize<K: Sink, L: Ledger>(
 ) -> Exit
     ensures comes { ComesTo (K.taken output.old) (K.taken output.new) fetches.old fetches.new
         result cached (make_course number true) }
+    ensures entries { result ≡ Exit.Done → HasEntries (make_course number true) }
     ensures usage { result ≢ Exit.Usage }
     ensures read { result ≢ Exit.ReadFault }
     ensures causes { HasCauses 0 0 (K.faults output.old) (K.faults output.new) result }

@@ -4,6 +4,7 @@ ghost use Rattle.kernel_core.specs.State.{state_of, space_of};
 ghost use Rattle.coyotos_cli.specs.Command.{runs};
 ghost use Rattle.coyotos_cli.specs.Ending.{EndsIn, Fetches};
 ghost use Rattle.coyotos_cli.specs.Course.{finished, count_text, summary_text, access_text, last_state_text, fetches_for, Concludes};
+ghost use Rattle.map_cache.specs.Cache.{kept_of};
 ghost use Rattle.walk_meaning.specs.Trail.{slots};
 ghost use Rattle.walk_meaning.specs.Walk.{access};
 ghost use Rattle.run_text.specs.Walk.{walk_text};
@@ -15,11 +16,13 @@ use crate::counts::Counts;
 use crate::ending::{end_past_limit, end_with, refuse_schedule};
 use crate::exit::Exit;
 use crate::replayed::Replayed;
+use crate::tables::tables;
 use cap_format::Cap;
 use coy_io::Sink;
 use coy_text::LineBuf;
 use coyotos_words::Command;
 use kernel_core::Machine;
+use map_cache::MapCache;
 use run_text::{dump, walk_line};
 use std::sync::ledger::Ledger;
 use steps::Steps;
@@ -27,14 +30,15 @@ use walk_engine::{Trail, Translator, walk};
 use walk_meaning::Kind;
 
 /// Writes what comes behind the records, by the answer of the lines.
-pub(crate) fn conclude<T: Translator, K: Sink, L: Ledger>(
+pub(crate) fn conclude<K: Sink, L: Ledger>(
     command: Command,
     answer: Replayed,
-    machine: &Machine<T>,
+    machine: &Machine<MapCache>,
     output: &mut K,
     fetches: &mut Steps<L>,
 ) -> Exit
-    ensures concludes { Concludes K.taken K.faults command (state_of machine.now) answer
+    ensures concludes { let kept = kept_of machine.now.translator in
+        Concludes K.taken K.faults command (state_of machine.now) kept answer
         output.old output.new fetches.old fetches.new result }
     ensures stays { runs command ≡ false → fetches.new ≡ fetches.old }
 {
@@ -47,17 +51,18 @@ pub(crate) fn conclude<T: Translator, K: Sink, L: Ledger>(
     }
 }
 
-/// Writes what comes last where all lines were read: the number of events, the counts, the last state, or where a walk
-/// ends.
-fn finish<T: Translator, K: Sink, L: Ledger>(
+/// Writes what comes last where all lines were read: the number of events, the counts, the last state with the entries of
+/// the mapping cache or without, or where a walk ends.
+fn finish<K: Sink, L: Ledger>(
     command: Command,
     counts: Counts,
-    machine: &Machine<T>,
+    machine: &Machine<MapCache>,
     output: &mut K,
     fetches: &mut Steps<L>,
 ) -> Exit
-    ensures ends { EndsIn K.taken K.faults output.old output.new result
-        (finished command (state_of machine.now) (Replayed.Ended counts)) }
+    ensures ends { let kept = kept_of machine.now.translator in
+        EndsIn K.taken K.faults output.old output.new result
+        (finished command (state_of machine.now) kept (Replayed.Ended counts)) }
     ensures fetched { Fetches fetches.old fetches.new result
         (fetches_for command (state_of machine.now)) }
     ensures stays { runs command ≡ false → fetches.new ≡ fetches.old }
@@ -70,6 +75,7 @@ fn finish<T: Translator, K: Sink, L: Ledger>(
             kind,
             address,
         } => access(machine, process as u16, kind, address, output, fetches),
+        Command::Tables => tables(machine, output, fetches),
         _ => last_state(machine, output, fetches),
     }
 }

@@ -5,7 +5,7 @@ ghost use Rattle.coy_io.specs.Lines.{parts_of, whole_lines};
 ghost use Rattle.coyotos_cli.specs.Command.{runs};
 ghost use Rattle.coyotos_cli.specs.Ending.{HasCauses};
 ghost use Rattle.coyotos_cli.specs.Program.{lines_course, cached, StandsSure};
-ghost use Rattle.coyotos_cli.specs.Course.{ComesTo};
+ghost use Rattle.coyotos_cli.specs.Course.{ComesTo, HasEntries};
 
 use crate::ending::{end_past_limit, refuse_listing};
 use crate::exit::Exit;
@@ -35,6 +35,10 @@ pub(crate) fn answer_input<S: Source, K: Sink, L: Ledger>(
     ensures sure { result ≡ Exit.ReadFault →
         StandsSure (S.held input.old) (S.held input.new) (K.taken output.old) (K.taken output.new)
         fetches.old fetches.new cached (λ bytes. lines_course command (whole_lines [] bytes)) }
+
+    // What the entries of the mapping cache say then.
+    ensures entries { result ≡ Exit.Done → IfSome (S.held input.old) (λ bytes.
+        HasEntries (lines_course command (parts_of bytes))) }
 
     // Why it may end otherwise.
     ensures usage { result ≢ Exit.Usage }

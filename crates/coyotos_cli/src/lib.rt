@@ -18,6 +18,7 @@ mod program;
 mod replayed;
 mod replaying;
 mod schedule;
+mod tables;
 mod telling;
 
 pub use counts::Counts;

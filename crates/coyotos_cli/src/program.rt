@@ -1,18 +1,16 @@
 //! The top call.
-ghost use Rattle.std.specs.Prelude.{◌≡◌, map, string_bytes, IfSome, IfOk, IsOk, true};
-ghost use Rattle.std.specs.List.{list_any};
+ghost use Rattle.std.specs.Prelude.{◌≡◌, map, string_bytes, IfSome};
 ghost use Rattle.coy_io.specs.Causes.{Rose};
-ghost use Rattle.coyotos_words.specs.Command.{is_dashed};
-ghost use Rattle.coyotos_cli.specs.Command.{answered, command_for};
+ghost use Rattle.coyotos_cli.specs.Command.{command_for};
+ghost use Rattle.coyotos_cli.specs.Course.{HasEntries};
 ghost use Rattle.coyotos_cli.specs.Ending.{HasCauses, Completes};
-ghost use Rattle.coyotos_cli.specs.Program.{out, sure, cached, StandsSure};
+ghost use Rattle.coyotos_cli.specs.Program.{out, sure, cached, whole_course, StandsSure};
 ghost use Rattle.coyotos_cli.specs.Contract.{bytes_for, Answers, HasForm, ReadsInput, FetchesFor};
 
 use crate::answering::{answer, usage};
 use crate::exit::Exit;
-use cap_format::OutOfMemory;
 use coy_io::{Sink, Source};
-use coyotos_words::{Command, read_command};
+use coyotos_words::read_command;
 use std::alloc::Global;
 use std::sync::ledger::Ledger;
 use steps::Steps;
@@ -50,34 +48,20 @@ pub fn coyotos<S: Source, K: Sink, L: Ledger>(
     ensures causes { HasCauses (S.faults input.old) (S.faults input.new)
         (K.faults output.old) (K.faults output.new) result }
 
+    // What the mapping lines of `tables` say: each is right and its space live, none comes twice, those of a space are in
+    // order of address, and where the need of the run fits, each covered pair of the last state has one.
+    ensures entries { let words = map string_bytes words.now in
+        result ≡ Exit.Done → IfSome (bytes_for (command_for words) (S.held input.old)) (λ bytes.
+        HasEntries (whole_course words bytes)) }
+
     // How many slots are fetched.
     ensures fetches { FetchesFor (map string_bytes words.now) (S.held input.old)
         fetches.old fetches.new result }
 {
-    let command = match command_for(alloc, words) {
+    let command = match read_command(alloc, words) {
         Ok(Some(command)) => command,
         Ok(None) => return usage(output, Exit::Usage),
         Err(_) => return Exit::OutOfMemory,
     };
     answer(alloc, command, input, output, fetches)
-}
-
-/// What the words ask for, where that is answered.
-fn command_for(alloc: Global, words: &[String]) -> Result<Option<Command>, OutOfMemory>
-    ensures asked { IfOk result (λ command. command ≡ command_for (map string_bytes words.now)) }
-    ensures early { list_any (λ word. is_dashed (string_bytes word)) words.now ≡ true →
-        IsOk result }
-{
-    let command = read_command(alloc, words)?;
-    Ok(command.and_then(answered))
-}
-
-/// A command, where it is answered.
-fn answered(command: Command) -> Option<Command>
-    ensures { result ≡ answered command }
-{
-    match command {
-        Command::Tables => None,
-        _ => Some(command),
-    }
 }

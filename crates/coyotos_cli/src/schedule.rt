@@ -1,12 +1,14 @@
-//! The lines behind a listing, and what is written of them and behind them.
+//! The lines behind a listing, run over a mapping cache, and what is written of them and behind them.
 ghost use Rattle.std.specs.Prelude.{◌≡◌, ◌≢◌, false};
 ghost use Rattle.std.specs.Io.KnownBytes.{IsAtEnd};
 ghost use Rattle.coy_io.specs.Reader.{TellsEnd, ahead};
-ghost use Rattle.kernel_core.specs.Outcome.{spent};
+ghost use Rattle.map_cache.specs.Cache.{kept_of};
+ghost use Rattle.map_cache.specs.Kept.{nothing};
 ghost use Rattle.kernel_core.specs.State.{state_of};
 ghost use Rattle.coyotos_cli.specs.Command.{mode_of, runs};
 ghost use Rattle.coyotos_cli.specs.Ending.{HasCauses};
-ghost use Rattle.coyotos_cli.specs.Course.{course_of, ComesTo, StandsBehind};
+ghost use Rattle.coyotos_cli.specs.Course.{course_of, ComesTo, HasEntries, StandsBehind};
+ghost use Rattle.coyotos_cli.specs.Program.{cached};
 ghost use Rattle.coyotos_cli.specs.Scheduled.{OnParts, scheduled};
 
 use crate::counting::count_lines;
@@ -14,17 +16,18 @@ use crate::exit::Exit;
 use crate::finishing::conclude;
 use crate::mode::Mode;
 use crate::replaying::replay;
+use crate::tables::tell_entries;
 use coy_io::{LineReader, Sink, Source};
 use coyotos_words::Command;
 use kernel_core::Machine;
+use map_cache::MapCache;
 use std::sync::ledger::Ledger;
 use steps::Steps;
-use walk_engine::Translator;
 
 /// Runs the lines behind a listing, or counts their events, and writes what the command says.
-pub(crate) fn answer_lines<T: Translator, S: Source, K: Sink, L: Ledger>(
+pub(crate) fn answer_lines<S: Source, K: Sink, L: Ledger>(
     command: Command,
-    machine: &mut Machine<T>,
+    machine: &mut Machine<MapCache>,
     lines: &mut LineReader,
     input: &mut S,
     output: &mut K,
@@ -32,17 +35,21 @@ pub(crate) fn answer_lines<T: Translator, S: Source, K: Sink, L: Ledger>(
 ) -> Exit
     requires reader { lines.old.failed ≡ false }
     requires told { TellsEnd lines.old (S.held input.old) }
+    requires nothing { kept_of machine.old.translator ≡ nothing }
 
     // What the known lines come to, and where the source stands then.
-    ensures comes { let count = spent T.cost T.after T.without (T.kept machine.old.translator) in
-        OnParts (ahead lines.old (S.held input.old)) (λ parts.
-        ComesTo (K.taken output.old) (K.taken output.new) fetches.old fetches.new result count
+    ensures comes { OnParts (ahead lines.old (S.held input.old)) (λ parts.
+        ComesTo (K.taken output.old) (K.taken output.new) fetches.old fetches.new result cached
         (course_of command (state_of machine.old) (scheduled machine.old.objects.harts lines.old.number parts))) }
     ensures end { result ≡ Exit.Done → IsAtEnd (S.held input.new) }
-    ensures sure { let count = spent T.cost T.after T.without (T.kept machine.old.translator) in
-        result ≡ Exit.ReadFault → StandsBehind machine.old.objects.harts lines.old lines.new
+    ensures sure { result ≡ Exit.ReadFault →
+        StandsBehind machine.old.objects.harts lines.old lines.new
         (S.held input.old) (S.held input.new) (K.taken output.old) (K.taken output.new)
-        fetches.old fetches.new count (course_of command (state_of machine.old)) }
+        fetches.old fetches.new cached (course_of command (state_of machine.old)) }
+
+    // What the entries of the mapping cache say then.
+    ensures entries { result ≡ Exit.Done → OnParts (ahead lines.old (S.held input.old)) (λ parts.
+        HasEntries (course_of command (state_of machine.old) (scheduled machine.old.objects.harts lines.old.number parts))) }
 
     // Why it may end otherwise.
     ensures usage { result ≢ Exit.Usage }
@@ -59,6 +66,7 @@ pub(crate) fn answer_lines<T: Translator, S: Source, K: Sink, L: Ledger>(
         return conclude(command, counted, machine, output, fetches);
     }
     let replayed = replay(machine, lines, input, mode_of(command), output, fetches);
+    tell_entries(machine);
     conclude(command, replayed, machine, output, fetches)
 }
 
@@ -74,7 +82,7 @@ fn mode_of(command: Command) -> Mode
     ensures { result ≡ mode_of command }
 {
     match command {
-        Command::Run => Mode::Records,
+        Command::Run | Command::Tables => Mode::Records,
         Command::Trace => Mode::Trace,
         _ => Mode::Silent,
     }

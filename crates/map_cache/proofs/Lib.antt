@@ -10,7 +10,7 @@ mod Installing
 pub mod Blank
 mod Forgotten
 mod Accesses
-mod Listed
+pub mod Listed
 mod Entries
 mod Held
 mod Translated

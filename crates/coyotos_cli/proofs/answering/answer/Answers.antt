@@ -1,5 +1,5 @@
 use Rattle.std.proofs.Common.{◌∙◌, refl, sym}
-use Rattle.coyotos_cli.proofs.Words.{causes-other, comes-input, comes-other, run-input, sure-input}
+use Rattle.coyotos_cli.proofs.Words.{causes-other, comes-input, entries-input, entries-other, comes-other, run-input, sure-input}
 use Rattle.coyotos_cli.proofs.answering.answer.Goals as goal
 
 pub returns-then-asks_input-clause-comes : goal.returns-then-asks_input-clause-comes
@@ -23,3 +23,11 @@ returns-clause-unread g c = λ off. refl
 
 pub returns-clause-causes : goal.returns-clause-causes
 returns-clause-causes g c = causes-other _ _ _ _ c.answer_other.ensures.read c.answer_other.ensures.causes
+
+pub returns-then-asks_input-clause-entries : goal.returns-then-asks_input-clause-entries
+returns-then-asks_input-clause-entries g c =
+    λ done. entries-input c.args.command _ (sym c.asks_input.ensures ∙ c.if-asks_input.true) (c.answer_input.ensures.entries done)
+
+pub returns-clause-entries : goal.returns-clause-entries
+returns-clause-entries g c =
+    λ done. entries-other c.args.command _ (sym c.asks_input.ensures ∙ c.if-asks_input.false) (c.answer_other.ensures.entries done)

@@ -1,9 +1,9 @@
 use Rattle.std.proofs.Common.{◌∙◌, sym, map, string_bytes}
-use Rattle.coyotos_cli.proofs.Words.{answers-words, completes-words, fetches-words, sure-words, form-words, form-memory}
+use Rattle.coyotos_cli.proofs.Words.{answers-words, completes-words, entries-words, fetches-words, sure-words, form-words, form-memory}
 use Rattle.coyotos_cli.proofs.program.coyotos.Goals as goal
 
 pub returns-in-Err-clause-form : goal.returns-in-Err-clause-form
-returns-in-Err-clause-form g c = form-memory string_bytes c.args.words.now c.command_for.result _ c.in-Err.is c.command_for.ensures.early
+returns-in-Err-clause-form g c = form-memory string_bytes c.args.words.now c.read_command.result _ c.in-Err.is c.read_command.ensures.early
 
 pub returns-clause-answers : goal.returns-clause-answers
 returns-clause-answers g c =
@@ -30,3 +30,8 @@ pub returns-clause-fetches : goal.returns-clause-fetches
 returns-clause-fetches g c =
     let asked = sym c.in-Ok-Some.ensures.asked ∙ c.in-Ok-Some.field-0-is in
     fetches-words (map string_bytes c.args.words.now) _ asked _ _ _ _ _ _ c.answer.ensures.comes c.answer.ensures.stays c.answer.ensures.unspent
+
+pub returns-clause-entries : goal.returns-clause-entries
+returns-clause-entries g c =
+    let asked = sym c.in-Ok-Some.ensures.asked ∙ c.in-Ok-Some.field-0-is in
+    λ done. entries-words (map string_bytes c.args.words.now) _ asked _ (c.answer.ensures.entries done)
