@@ -59,11 +59,11 @@ same_number places kind n m place own next = absurd (omega (arith, own, next))
 pub placed_push : (copies more : Store) (places : List Place) (kind : CapKind) (number place : ℕ) → ((k : CapKind) → size_of more.items k ≡ size_of copies.items k) → place ≡ next_place kind number places → place < size_of copies.items kind → IsPlaced copies places → IsPlaced more (places ++ place_of kind number place ∷ [])
 placed_push copies more places kind number place sizes next there placed = record {
   there = All-push (λ (p : Place). p.place < size_of more.items p.kind) places (place_of kind number place)
-    (λ i d within. subst (λ (n : ℕ). (get_or places i d).place < n) (sym (sizes (get_or places i d).kind)) (placed.there i d within))
-    (subst (λ (n : ℕ). place < n) (sym (sizes kind)) there);
+      (λ i d within. subst (λ (n : ℕ). (get_or places i d).place < n) (sym (sizes (get_or places i d).kind)) (placed.there i d within))
+      (subst (λ (n : ℕ). place < n) (sym (sizes kind)) there);
   own = All-push (λ (p : Place). IsOwnPlace (places ++ place_of kind number place ∷ []) p.kind p.number p.place) places (place_of kind number place)
-    (λ i d within. older (get_or places i d) (placed.own i d within))
-    (rw next (own_next places kind number));
+      (λ i d within. older (get_or places i d) (placed.own i d within))
+      (rw next (own_next places kind number));
 }
   where
     older : (p : Place) → IsOwnPlace places p.kind p.number p.place → IsOwnPlace (places ++ place_of kind number place ∷ []) p.kind p.number p.place

@@ -68,12 +68,6 @@ fn put_one<T: Translator, L: Ledger>(
     ensures coherent { T.coherent translator.new (map_of objects.new.items) }
     ensures harts { T.harts translator.new ≡ T.harts translator.old }
 {
-    let item = objects.copy_object(
-        place.kind,
-        place.number,
-        &past.copies,
-        place.place,
-        fetches,
-    );
+    let item = objects.copy_object(place.kind, place.number, &past.copies, place.place, fetches);
     translator.invalidate(item);
 }

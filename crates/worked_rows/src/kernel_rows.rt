@@ -97,7 +97,9 @@ fn meets(text: &str, wanted: &str) -> bool {
         Some(whole) => text == whole,
         None => {
             let output = output_of(text);
-            let records = wanted.lines().any(|statement| statement.starts_with("record "));
+            let records = wanted
+                .lines()
+                .any(|statement| statement.starts_with("record "));
             (!records || tells(output, wanted))
                 && wanted.lines().all(|statement| holds(output, statement))
         }
