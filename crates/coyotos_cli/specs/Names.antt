@@ -1,7 +1,7 @@
 -- The names of faults, as a refusal prints them.
 use Rattle.std.specs.Prelude.{ℕ, List, codes}
 use Rattle.listing_read.specs.declared.fault.Fault.{Fault}
-use Rattle.listing_read.specs.declared.fault.Fault.TheVariants.{LineTooLong, BadByte, BadHeader, BadMachine, NoEnd, UnknownStatement, WrongWords, BadNumber, NoObject, BadValue, BadHex, BadInstruction, BadCap, BadGuard}
+use Rattle.listing_read.specs.declared.fault.Fault.TheVariants.{LineTooLong, BadByte, BadHeader, BadMachine, NoEnd, UnknownStatement, WrongWords, BadNumber, NoObject, BadValue, BadHex, BadInstruction, BadCap, BadGuard, BadName, NameTaken, NameUnknown}
 use Rattle.listing_read.specs.declared.fault.ScheduleFault.{ScheduleFault}
 use Rattle.listing_read.specs.declared.fault.ScheduleFault.TheVariants.{LineTooLong as TooLong, BadByte as NotVisible, UnknownEvent, WrongWords as OtherWords, BadNumber as NoNumber, NoHart, BadRepeat}
 
@@ -21,6 +21,9 @@ fault_name BadHex = codes "BadHex"
 fault_name BadInstruction = codes "BadInstruction"
 fault_name BadCap = codes "BadCap"
 fault_name BadGuard = codes "BadGuard"
+fault_name BadName = codes "BadName"
+fault_name NameTaken = codes "NameTaken"
+fault_name NameUnknown = codes "NameUnknown"
 
 -- a fault of a schedule
 abbrev pub schedule_fault_name : ScheduleFault → List ℕ

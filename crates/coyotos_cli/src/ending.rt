@@ -81,6 +81,9 @@ fn fault_name(fault: Fault) -> &'static str
         Fault::BadInstruction => "BadInstruction",
         Fault::BadCap => "BadCap",
         Fault::BadGuard => "BadGuard",
+        Fault::BadName => "BadName",
+        Fault::NameTaken => "NameTaken",
+        Fault::NameUnknown => "NameUnknown",
     }
 }
 
