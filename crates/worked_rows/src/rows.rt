@@ -119,12 +119,6 @@ fn rows_give_what_is_written_down_for_them(rt: HostRuntime) -> Result<(), Fail> 
             2,
         ),
         (
-            "tables",
-            "coyotos 1\nmachine 1 2 0 1 1 0\npage 0 000 93005000371100002320110083210100\ngpt 0 12\nslot 0 0 page:0@12/0+r\nslot 0 1 page:1@12/0\nprocess 0 00000000 gpt:0@16/0 schedule:3 null run\nend\nstep 0 4\n",
-            "usage: coyotos check | run | trace | tables | walk P KIND ADDR | make N [summary]\n",
-            1,
-        ),
-        (
             "check",
             "coyotos 1\nmachine 1 2 0 1 1 0\npage 0 000 93005000371100002320110083210100\ngpt 0 12\nslot 0 0 page:0@12/0+r\nslot 0 1 page:1@12/0\nprocess 0 00000000 gpt:0@16/0 schedule:3 null run\nend\nstep 0 4\n",
             "ok events=4\n",
