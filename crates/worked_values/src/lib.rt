@@ -21,6 +21,8 @@ mod faults;
 #[cfg(test)]
 mod instructions;
 #[cfg(test)]
+mod invocations;
+#[cfg(test)]
 mod lines;
 #[cfg(test)]
 mod listings;
@@ -32,8 +34,6 @@ mod mappings;
 mod meetings;
 #[cfg(test)]
 mod memory_rows;
-#[cfg(test)]
-mod messages;
 #[cfg(test)]
 mod numbers;
 #[cfg(test)]
