@@ -8,3 +8,4 @@ pub mod Statements
 pub mod Listed
 mod Events
 mod Texts
+mod HasLines

@@ -1,11 +1,12 @@
 -- Text that is read as what it was written for.
-use Rattle.std.specs.Prelude.{ℕ, ◌≡◌, ◌≤◌, ⊤, true, List, ◌++◌, length, Ok}
+use Rattle.std.specs.Prelude.{ℕ, ◌≡◌, ◌≤◌, ◌<◌, ⊤, true, List, ◌++◌, length, Ok}
 use Rattle.coy_io.specs.declared.TheConstants.{LINE_LIMIT}
 use Rattle.coy_io.specs.Lines.{IsUnfinished}
+use Rattle.rv32_decode.specs.InRange.{InRange}
 use Rattle.listing_read.specs.declared.place.Place.TheVariants.{Statements}
 use Rattle.listing_read.specs.declared.place.Said.TheVariants.{Says}
 use Rattle.listing_read.specs.declared.statement.Statement.{Statement}
-use Rattle.listing_read.specs.declared.statement.Statement.TheVariants.{Region}
+use Rattle.listing_read.specs.declared.statement.Statement.TheVariants.{Page, Code, Region}
 use Rattle.listing_read.specs.declared.terms.Terms.{Terms}
 use Rattle.listing_read.specs.declared.terms.Version.{Version}
 use Rattle.listing_read.specs.Terms.{has_names}
@@ -20,6 +21,12 @@ pub record ReadsBack (terms : Terms) (text : List ℕ) (statement : Statement) :
   pub short : length line ≤ LINE_LIMIT
   pub whole : IsUnfinished line
   pub said : judged (Statements terms) line ≡ Ok (Says statement)
+
+-- the statement has a line: its offset is one of a page, and its instruction is one of the assembler's
+abbrev pub HasLine : Statement → Type 0
+HasLine (Page number at bytes) = at < 4096
+HasLine (Code number at insn) = (at < 4096) × InRange insn
+HasLine _ = ⊤
 
 -- a listing of this version may say the statement
 abbrev pub IsSayable : Version → Statement → Type 0

@@ -1,6 +1,6 @@
 //! The migrated text of a listing.
 ghost use Rattle.std.specs.Prelude.{◌≡◌, ◌≤◌, ◌++◌, length};
-ghost use Rattle.listing_read.specs.Statement.{IsStatement};
+ghost use Rattle.statement_text.specs.ReadsBack.{HasLine};
 ghost use Rattle.listing_read.specs.declared.terms.Version.TheVariants.{Two};
 ghost use Rattle.statement_text.specs.Text.{format_text, machine_text, statement_text, statements_text, end_text, listing_text};
 ghost use Rattle.statement_text.specs.Written.{WroteTo};
@@ -89,24 +89,22 @@ fn put_statements<K: Sink>(
     ensures { WroteTo K.taken K.faults output.old output.new result
         (statements_text listing.now.statements) }
 {
-    let sizes = listing.sizes();
     'each: for statement in listing.statements() {
-        put_statement(sizes, statement, line, output)?;
+        put_statement(statement, line, output)?;
     }
     Ok(())
 }
 
-/// Writes the line of a statement of a machine of these sizes.
+/// Writes the line of a statement, which is made in `line` first.
 fn put_statement<K: Sink>(
-    sizes: Sizes,
     statement: &Statement,
     line: &mut LineBuf,
     output: &mut K,
 ) -> Result<(), WriteFault>
-    requires { IsStatement sizes statement.now }
+    requires { HasLine statement.now }
     ensures { WroteTo K.taken K.faults output.old output.new result (statement_text statement.now) }
 {
     line.clear();
-    push_statement(line, sizes, statement);
+    push_statement(line, statement);
     put_line(line, output)
 }

@@ -1,13 +1,10 @@
 //! The line of a statement.
 ghost use Rattle.std.specs.Prelude.{◌≡◌, ◌≤◌, ◌<◌, ◌+◌, ◌*◌, ◌++◌, ◌∷◌, [], length, decimal};
 ghost use Rattle.coy_text.specs.Numeral.{hex_text};
-ghost use Rattle.cap_format.specs.Kind.{is_object};
-ghost use Rattle.cap_format.specs.Capability.{IsCapability};
 ghost use Rattle.rv32_decode.specs.InRange.{InRange};
 ghost use Rattle.cap_words.specs.Text.{cap_text};
 ghost use Rattle.rv32_asm.specs.Text.{words_from};
-ghost use Rattle.listing_read.specs.Statement.{IsStatement};
-ghost use Rattle.object_store.specs.declared.sizes.Sizes.{Sizes};
+ghost use Rattle.statement_text.specs.ReadsBack.{HasLine};
 ghost use Rattle.statement_text.specs.Words.{kind_word, bytes_text, flag_words, letter_words, match_word, run_word};
 ghost use Rattle.statement_text.specs.Text.{behind, line_feed, statement_text};
 
@@ -17,17 +14,15 @@ use cap_words::{push_capability, push_letters, push_numbered, push_value};
 use coy_text::LineBuf;
 use gpt_objects::GptHeader;
 use listing_read::Statement;
-use object_store::Sizes;
 use rv32_asm::disassemble;
 use rv32_decode::Insn;
 
-/// Appends the line of a statement of a machine of these sizes, with its line feed.
-pub fn push_statement(line: &mut LineBuf, sizes: Sizes, statement: &Statement)
+/// Appends the line of a statement, with its line feed.
+pub fn push_statement(line: &mut LineBuf, statement: &Statement)
     requires room { length line.old ≤ 100 }
-    requires said { IsStatement sizes statement.now }
+    requires line { HasLine statement.now }
     ensures { line.new ≡ line.old ++ statement_text statement.now }
 {
-    let _sizes = sizes;
     match statement {
         Statement::Page { number, at, bytes } => push_page(line, *number, *at, bytes.as_slice()),
         Statement::Code { number, at, insn } => push_code(line, *number, *at, *insn),

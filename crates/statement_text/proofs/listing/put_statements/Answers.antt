@@ -2,10 +2,16 @@ use Rattle.std.proofs.Common.{◌≤◌, length, refl, arith}
 use Rattle.std.proofs.KnownBytes.{Appends-nil}
 use Rattle.statement_text.specs.Text.{statement_text}
 use Rattle.statement_text.proofs.Texts.{member_more, member_stops, members_done}
+use Rattle.statement_text.proofs.HasLines.{stated_has_line}
 use Rattle.statement_text.proofs.listing.put_statements.Goals as goal
 
 pub each-init : goal.each-init
 each-init g c = record { bytes = Appends-nil _; quiet = refl }
+
+pub put_statement-requires : goal.put_statement-requires
+put_statement-requires g c =
+    let told = c.statements-statement-items.ensures in
+    stated_has_line _ _ _ _ _ told.value c.each-test.true c.statement-item.is told.range
 
 pub each-preserved : goal.each-preserved
 each-preserved g c =
