@@ -351,8 +351,8 @@ module _ (command : Command) (m n : MachineValue CacheValue) (f g : ℕ) (events
       record {
         are = subst (AreRight end) same (subst (λ o. AreRight o (mappings_of n.translator)) items tells.right);
         whole = λ fits space page covered.
-        subst (λ entries. HasEntry entries (counted_space end space) page) same
-        (covered_have_entries s.store.items end touches n.translator (mappings_of n.translator) (run-ages s events) fits keeps tells.each space page covered);
+            subst (λ entries. HasEntry entries (counted_space end space) page) same
+            (covered_have_entries s.store.items end touches n.translator (mappings_of n.translator) (run-ages s events) fits keeps tells.each space page covered);
       }
 
 -- so are those of the course of the known lines, where all of these were run

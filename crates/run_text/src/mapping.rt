@@ -8,14 +8,7 @@ use coy_text::LineBuf;
 
 /// Makes the line of a page of a space at an address, with its line feed: the number of the page, and whether it may be
 /// written and executed. A space is shown without its count.
-pub fn mapping_line(
-    space: Cap,
-    va: u32,
-    page: u16,
-    write: bool,
-    execute: bool,
-    line: &mut LineBuf,
-)
+pub fn mapping_line(space: Cap, va: u32, page: u16, write: bool, execute: bool, line: &mut LineBuf)
     ensures { line.new ≡ mapping_text space va page write execute }
 {
     line.clear();
