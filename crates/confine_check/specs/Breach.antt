@@ -1,0 +1,132 @@
+-- What breaks a cut: the first capability that may not stand where it does, or the least process that sleeps on one of
+-- the other side. (Own; the order is that in which a state is printed.)
+use Rattle.std.specs.Prelude.{ℕ, zero, suc, ◌+◌, ◌-◌, ◌==◌, nat_lt, Bool, true, false, not, ◌&&◌, ◌||◌, if◌then◌else◌, List, length, slice_index, Option, Some, None}
+use Rattle.std.specs.Option.{option_or}
+use Rattle.cap_format.specs.declared.kind.CapKind.{CapKind}
+use Rattle.cap_format.specs.declared.kind.CapKind.TheVariants.{Page, CapPage, Gpt, Endpoint, Process, Range}
+use Rattle.cap_format.specs.Kind.{is_counted, object_kind}
+use Rattle.cap_format.specs.Capability.{Capability, null}
+use Rattle.cap_format.specs.Weakening.{is_harmless}
+use Rattle.page_store.specs.CapPage.{cap_at}
+use Rattle.process_objects.specs.Process.{capreg_of, slot_of}
+use Rattle.object_store.specs.Store.{Store, size_of, slot_at, cappage_at, process_at, endpoint_at}
+use Rattle.object_store.specs.Meaning.{live}
+use Rattle.schedules.specs.Queues.{QueuesValue, sleepers_of}
+use Rattle.confinement.specs.Cut.{Cut, side_of}
+use Rattle.confine_check.specs.declared.verdict.Verdict.{Verdict}
+use Rattle.confine_check.specs.declared.verdict.Verdict.TheVariants.{Yes, Capability as CapabilityBreaks, Sleeper}
+
+-- the first of `n` answers, from number `i` on
+unfoldable pub first_from : {A : Type 0} → (ℕ → Option A) → ℕ → ℕ → Option A
+first_from f i zero = None
+first_from f i (suc n) = option_or (f i) (first_from f (suc i) n)
+
+-- ---- capabilities
+
+-- whether two sides are one
+abbrev pub same_side : Bool → Bool → Bool
+same_side true b = b
+same_side false b = not b
+
+-- whether a capability is a Range
+abbrev pub is_range : CapKind → Bool
+is_range Range = true
+is_range _ = false
+
+-- whether an object of this side may hold a capability: one that names nothing, or what is of this side, or that is
+-- harmless; and no Range
+abbrev pub may_hold : Cut → Bool → Capability → Bool
+may_hold cut side c =
+    if is_range c.kind then false
+    else (if is_counted c.kind then same_side (side_of cut (object_kind c.kind) c.object) side || (cut.weakly && is_harmless c)
+    else true)
+
+-- how many places for capabilities an object of a kind has
+abbrev pub places_in : CapKind → ℕ
+places_in CapPage = 256
+places_in Gpt = 16
+places_in Endpoint = 1
+places_in Process = 35
+places_in _ = 0
+
+-- the capability in a place of an object, as it is stored: the slots of a process stand before its registers
+abbrev pub cap_in : Store → CapKind → ℕ → ℕ → Capability
+cap_in s CapPage n i = cap_at (cappage_at s n) i
+cap_in s Gpt n i = slot_at s.items n i
+cap_in s Endpoint n i = (endpoint_at s n).recipient
+cap_in s Process n i = if nat_lt i 3 then slot_of (process_at s n) i else capreg_of (process_at s n) (i - 3)
+cap_in s _ n i = null
+
+-- what a capability breaks that means this, where it may not stand there
+abbrev pub breach_by : Cut → CapKind → ℕ → ℕ → Capability → Option Verdict
+breach_by cut kind n i c = if may_hold cut (side_of cut kind n) c then None else Some (CapabilityBreaks kind n i c)
+
+-- the same of the one that stands there
+abbrev pub breach_at : Cut → Store → CapKind → ℕ → ℕ → Option Verdict
+breach_at cut s kind n i = breach_by cut kind n i (live s.items (cap_in s kind n i))
+
+-- the first of an object
+abbrev pub breach_of_object : Cut → Store → CapKind → ℕ → Option Verdict
+breach_of_object cut s kind n = first_from (breach_at cut s kind n) 0 (places_in kind)
+
+-- the first of the objects of a kind
+abbrev pub breach_of_kind : Cut → Store → CapKind → Option Verdict
+breach_of_kind cut s kind = first_from (breach_of_object cut s kind) 0 (size_of s.items kind)
+
+-- the first of all objects; pages hold none
+abbrev pub breach_of : Cut → Store → Option Verdict
+breach_of cut s =
+    option_or (breach_of_kind cut s CapPage)
+    (option_or (breach_of_kind cut s Gpt)
+    (option_or (breach_of_kind cut s Endpoint) (breach_of_kind cut s Process)))
+
+-- ---- sleepers
+
+-- the lesser of two numbers, where there are two
+abbrev pub lesser : Option ℕ → Option ℕ → Option ℕ
+lesser None b = b
+lesser (Some a) None = Some a
+lesser (Some a) (Some b) = if nat_lt b a then Some b else Some a
+
+-- the least of the first `n` answers
+unfoldable pub least_below : (ℕ → Option ℕ) → ℕ → Option ℕ
+least_below f zero = None
+least_below f (suc n) = lesser (least_below f n) (f n)
+
+-- process `p`, where it sleeps on process `on` of the other side
+abbrev pub across : Cut → ℕ → ℕ → Option ℕ
+across cut on p = if same_side (side_of cut Process p) (side_of cut Process on) then None else Some p
+
+-- the sleeper at place `i` of process `on`, where it is of the other side
+abbrev pub across_at : Cut → QueuesValue → ℕ → ℕ → Option ℕ
+across_at cut q on i = across cut on (slice_index (sleepers_of q on) i)
+
+-- the least of its sleepers that is
+abbrev pub least_on : Cut → QueuesValue → ℕ → Option ℕ
+least_on cut q on = least_below (across_at cut q on) (length (sleepers_of q on))
+
+-- the least of all sleepers that is of the other side than the process on which it sleeps
+abbrev pub sleeper_of : Cut → QueuesValue → Option ℕ
+sleeper_of cut q = least_below (least_on cut q) (length q.sleepers)
+
+-- ---- the verdict
+
+-- a capability that breaks the cut, or else a sleeper that does, or that it holds
+abbrev pub found_by : Option Verdict → Option ℕ → Verdict
+found_by (Some found) sleeper = found
+found_by None (Some p) = Sleeper p
+found_by None None = Yes
+
+-- what is found of a cut, of stored objects and of who stands where: capabilities before sleepers
+abbrev pub verdict_of : Cut → Store → QueuesValue → Verdict
+verdict_of cut s q = found_by (breach_of cut s) (sleeper_of cut q)
+
+-- how many slots of GPTs are read for one place of an object
+abbrev pub reads_in : CapKind → ℕ
+reads_in Gpt = 1
+reads_in _ = 0
+
+-- and for all of its places
+abbrev pub object_reads : CapKind → ℕ
+object_reads Gpt = 16
+object_reads _ = 0

@@ -1,0 +1,5 @@
+pub mod Sides
+pub mod CutLine
+pub mod Breach
+pub mod Full
+pub mod Laws

@@ -1,0 +1,51 @@
+-- The sides that lines give to the objects of a machine. (Own.)
+use Rattle.std.specs.Prelude.{ℕ, ◌+◌, ◌-◌, ◌<◌, ◌^◌, Bool, true, false, List, ◌++◌, length, take, drop, replicate}
+use Rattle.cap_format.specs.declared.kind.CapKind.{CapKind}
+use Rattle.cap_format.specs.declared.kind.CapKind.TheVariants.{Page, CapPage, Gpt, Endpoint, Process}
+use Rattle.object_store.specs.declared.sizes.Sizes.{Sizes}
+use Rattle.confinement.specs.Cut.{Sides, Cut}
+use Rattle.confine_check.specs.declared.block.Block.{Block}
+
+-- the sides of all objects, by the lists of the five kinds
+abbrev pub sides_by_kind : List Bool → List Bool → List Bool → List Bool → List Bool → Sides
+sides_by_kind pages cappages gpts processes endpoints =
+    record { pages = pages; cappages = cappages; gpts = gpts; processes = processes; endpoints = endpoints }
+
+-- the cut with these sides, over which harmless capabilities may lead
+abbrev pub cut_of : Sides → Cut
+cut_of sides = record { sides = sides; weakly = true }
+
+-- as many objects of each kind as a number of 16 bits counts
+pub record AreSized (sides : Sides) : Type 0 where
+  pub pages : length sides.pages < 2 ^ 16
+  pub cappages : length sides.cappages < 2 ^ 16
+  pub gpts : length sides.gpts < 2 ^ 16
+  pub processes : length sides.processes < 2 ^ 16
+  pub endpoints : length sides.endpoints < 2 ^ 16
+
+-- all objects of a machine of these sizes are on the right
+abbrev pub all_right : Sizes → Sides
+all_right sizes = record {
+  pages = replicate sizes.pages false;
+  cappages = replicate sizes.cappages false;
+  gpts = replicate sizes.gpts false;
+  processes = replicate sizes.processes false;
+  endpoints = replicate sizes.endpoints false;
+}
+
+-- the elements from `from` to `to` are on the left
+abbrev pub left_between : List Bool → ℕ → ℕ → List Bool
+left_between sides from to = take from sides ++ replicate (to + 1 - from) true ++ drop (to + 1) sides
+
+-- the objects of these numbers of a kind are on the left
+abbrev pub with_left_of : Sides → CapKind → ℕ → ℕ → Sides
+with_left_of sides Page from to = record sides { pages = left_between sides.pages from to }
+with_left_of sides CapPage from to = record sides { cappages = left_between sides.cappages from to }
+with_left_of sides Gpt from to = record sides { gpts = left_between sides.gpts from to }
+with_left_of sides Process from to = record sides { processes = left_between sides.processes from to }
+with_left_of sides Endpoint from to = record sides { endpoints = left_between sides.endpoints from to }
+with_left_of sides _ from to = sides
+
+-- the objects of a block are on the left
+abbrev pub with_left : Sides → Block → Sides
+with_left sides block = with_left_of sides block.kind block.from block.to

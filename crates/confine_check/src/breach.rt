@@ -1,0 +1,189 @@
+//! Capabilities that may not stand where they do.
+ghost use Rattle.std.specs.Prelude.{ℕ, ◌≡◌, ◌<◌, ◌≤◌, ◌+◌, ◌-◌, ◌*◌, nat_lt, if◌then◌else◌, None};
+ghost use Rattle.cap_format.specs.declared.kind.CapKind.TheVariants.{Gpt};
+ghost use Rattle.process_objects.specs.Process.{slot_of, capreg_of};
+ghost use Rattle.object_store.specs.Store.{size_of};
+ghost use Rattle.confine_check.specs.Sides.{cut_of};
+ghost use Rattle.confine_check.specs.Breach.{same_side, may_hold, places_in, cap_in, breach_at, breach_of_object, breach_of_kind, breach_of, reads_in, object_reads};
+
+use crate::cut::Cut;
+use crate::verdict::Verdict;
+use cap_format::{Cap, CapKind, is_harmless};
+use object_store::Objects;
+use process_objects::Process;
+use std::sync::ledger::Ledger;
+use steps::Steps;
+
+/// Whether two sides are one.
+pub(crate) fn is_same(one: bool, other: bool) -> bool
+    ensures { result ≡ same_side one other }
+{
+    if one { other } else { !other }
+}
+
+/// Whether an object of this side may hold a capability.
+fn may_hold(cut: &Cut, side: bool, cap: Cap) -> bool
+    ensures { result ≡ may_hold (cut_of cut.now) side cap }
+{
+    let kind = cap.kind();
+    if kind == CapKind::Range {
+        return false;
+    }
+    if !kind.is_counted() {
+        return true;
+    }
+    is_same(cut.is_left(kind.object_kind(), cap.object()), side) || is_harmless(cap)
+}
+
+/// How many places for capabilities an object of a kind has.
+fn places(kind: CapKind) -> u16
+    ensures { result ≡ places_in kind }
+{
+    match kind {
+        CapKind::CapPage => 256,
+        CapKind::Gpt => 16,
+        CapKind::Endpoint => 1,
+        CapKind::Process => 35,
+        _ => 0,
+    }
+}
+
+/// The capability in a place of a process: its slots stand before its registers.
+fn held_by(process: &Process, i: u8) -> Cap
+    requires { i < 35 }
+    ensures { result ≡
+        (if nat_lt i 3 then slot_of process.now i else capreg_of process.now (i - 3)) }
+{
+    if i < 3 {
+        process.slot(i)
+    } else {
+        process.capreg(i - 3)
+    }
+}
+
+/// The capability in a place of an object, as it is stored.
+fn cap_in<L: Ledger>(
+    objects: &Objects,
+    kind: CapKind,
+    n: u16,
+    i: u16,
+    fetches: &mut Steps<L>,
+) -> Cap
+    requires there { n < size_of objects.now.items kind }
+    requires place { i < places_in kind }
+    ensures value { result ≡ cap_in objects.now kind n i }
+    ensures counted { fetches.new ≡ fetches.old + reads_in kind }
+{
+    match kind {
+        CapKind::CapPage => objects.cappage(n).get(i as u8),
+        CapKind::Gpt => objects.gpt_slot(n, i as u8, fetches),
+        CapKind::Endpoint => objects.endpoint(n).recipient,
+        CapKind::Process => held_by(objects.process(n), i as u8),
+        _ => Cap::null(),
+    }
+}
+
+/// What the capability in a place of an object breaks.
+fn breach_at<L: Ledger>(
+    objects: &Objects,
+    cut: &Cut,
+    kind: CapKind,
+    n: u16,
+    i: u16,
+    fetches: &mut Steps<L>,
+) -> Option<Verdict>
+    requires there { n < size_of objects.now.items kind }
+    requires place { i < places_in kind }
+    ensures value { result ≡ breach_at (cut_of cut.now) objects.now kind n i }
+    ensures counted { fetches.new ≡ fetches.old + reads_in kind }
+{
+    let cap = objects.live(cap_in(objects, kind, n, i, fetches));
+    if may_hold(cut, cut.is_left(kind, n as u32), cap) {
+        return None;
+    }
+    Some(Verdict::Capability {
+        kind,
+        number: n,
+        place: i,
+        cap,
+    })
+}
+
+/// The first that breaks the cut in an object.
+fn breach_of_object<L: Ledger>(
+    objects: &Objects,
+    cut: &Cut,
+    kind: CapKind,
+    n: u16,
+    fetches: &mut Steps<L>,
+) -> Option<Verdict>
+    requires { n < size_of objects.now.items kind }
+    ensures value { result ≡ breach_of_object (cut_of cut.now) objects.now kind n }
+    ensures counted { result ≡ None → fetches.new ≡ fetches.old + object_reads kind }
+    ensures most { fetches.new ≤ fetches.old + object_reads kind }
+{
+    'each: for i in 0..places(kind) {
+        if let Some(found) = breach_at(objects, cut, kind, n, i, fetches) {
+            return Some(found);
+        }
+    }
+    None
+}
+
+/// How many objects of a kind there are.
+fn size(objects: &Objects, kind: CapKind) -> u16
+    ensures { result ≡ size_of objects.now.items kind }
+{
+    let sizes = objects.sizes();
+    match kind {
+        CapKind::Page => sizes.pages,
+        CapKind::CapPage => sizes.cappages,
+        CapKind::Gpt => sizes.gpts,
+        CapKind::Endpoint => sizes.endpoints,
+        CapKind::Process => sizes.processes,
+        _ => 0,
+    }
+}
+
+/// The first that breaks the cut in the objects of a kind.
+fn breach_of_kind<L: Ledger>(
+    objects: &Objects,
+    cut: &Cut,
+    kind: CapKind,
+    fetches: &mut Steps<L>,
+) -> Option<Verdict>
+    ensures value { result ≡ breach_of_kind (cut_of cut.now) objects.now kind }
+    ensures counted { result ≡ None →
+        fetches.new ≡ fetches.old + object_reads kind * size_of objects.now.items kind }
+    ensures most { fetches.new ≤ fetches.old + object_reads kind * size_of objects.now.items kind }
+{
+    'each: for n in 0..size(objects, kind) {
+        if let Some(found) = breach_of_object(objects, cut, kind, n, fetches) {
+            return Some(found);
+        }
+    }
+    None
+}
+
+/// The first capability that breaks the cut. Each slot of a GPT is read at most once.
+pub(crate) fn breach_of<L: Ledger>(
+    objects: &Objects,
+    cut: &Cut,
+    fetches: &mut Steps<L>,
+) -> Option<Verdict>
+    ensures value { result ≡ breach_of (cut_of cut.now) objects.now }
+    ensures counted { result ≡ None →
+        fetches.new ≡ fetches.old + 16 * size_of objects.now.items Gpt }
+    ensures most { fetches.new ≤ fetches.old + 16 * size_of objects.now.items Gpt }
+{
+    if let Some(found) = breach_of_kind(objects, cut, CapKind::CapPage, fetches) {
+        return Some(found);
+    }
+    if let Some(found) = breach_of_kind(objects, cut, CapKind::Gpt, fetches) {
+        return Some(found);
+    }
+    if let Some(found) = breach_of_kind(objects, cut, CapKind::Endpoint, fetches) {
+        return Some(found);
+    }
+    breach_of_kind(objects, cut, CapKind::Process, fetches)
+}

@@ -1,0 +1,108 @@
+//! The side of each object.
+ghost use Rattle.std.specs.Prelude.{◌≡◌, ◌≤◌, ◌<◌, length, IfOk};
+ghost use Rattle.confinement.specs.Cut.{sides_of, side_of};
+ghost use Rattle.confine_check.specs.Sides.{cut_of, all_right, with_left, left_between};
+
+use crate::block::Block;
+use cap_format::{CapKind, OutOfMemory};
+use object_store::Sizes;
+use std::alloc::Global;
+use std::marker::Model;
+
+/// One side for each object, by its kind and number: true is left.
+#[derive(Drop)]
+pub struct Cut {
+    pages: Vec<bool>,
+    cappages: Vec<bool>,
+    gpts: Vec<bool>,
+    processes: Vec<bool>,
+    endpoints: Vec<bool>,
+}
+
+impl Model for Cut {
+    ghost use Rattle.confinement.specs.Cut.{Sides};
+    ghost use Rattle.confine_check.specs.Sides.{sides_by_kind, AreSized};
+
+    ghost Value = { Sides };
+
+    ghost view = { λ c. sides_by_kind c.pages.items c.cappages.items c.gpts.items
+        c.processes.items c.endpoints.items };
+
+    ghost invariant = { λ c. AreSized (sides_by_kind c.pages.items c.cappages.items c.gpts.items
+        c.processes.items c.endpoints.items) };
+}
+
+impl Cut {
+    /// All objects of a machine of these sizes are on the right.
+    pub fn new(alloc: Global, sizes: Sizes) -> Result<Cut, OutOfMemory>
+        ensures { IfOk result (λ cut. cut ≡ all_right sizes) }
+    {
+        Ok(Cut {
+            pages: vec![in alloc; false; sizes.pages as usize]?,
+            cappages: vec![in alloc; false; sizes.cappages as usize]?,
+            gpts: vec![in alloc; false; sizes.gpts as usize]?,
+            processes: vec![in alloc; false; sizes.processes as usize]?,
+            endpoints: vec![in alloc; false; sizes.endpoints as usize]?,
+        })
+    }
+
+    /// The sides of the objects of a kind, none where it is no kind of objects.
+    fn of(&self, kind: CapKind) -> &[bool]
+        ensures value { result.now ≡ sides_of self.now kind }
+        ensures small { length result.now < 65536 }
+    {
+        match kind {
+            CapKind::Page => &self.pages,
+            CapKind::CapPage => &self.cappages,
+            CapKind::Gpt => &self.gpts,
+            CapKind::Process => &self.processes,
+            CapKind::Endpoint => &self.endpoints,
+            _ => &[],
+        }
+    }
+
+    /// How many objects of a kind have a side.
+    pub(crate) fn size(&self, kind: CapKind) -> usize
+        ensures value { result ≡ length (sides_of self.now kind) }
+        ensures small { result < 65536 }
+    {
+        self.of(kind).len()
+    }
+
+    /// The side of an object. One that has none is on the right.
+    pub fn is_left(&self, kind: CapKind, number: u32) -> bool
+        ensures { result ≡ side_of (cut_of self.now) kind number }
+    {
+        match self.of(kind).get(number as usize) {
+            Some(side) => *side,
+            None => false,
+        }
+    }
+
+    /// Puts objects on the left.
+    pub(crate) fn put_left(&mut self, block: Block)
+        requires order { block.from ≤ block.to }
+        requires there { block.to < length (sides_of self.old block.kind) }
+        ensures { self.new ≡ with_left self.old block }
+    {
+        let from = block.from as usize;
+        let to = block.to as usize;
+        match block.kind {
+            CapKind::Page => put_between(&mut self.pages, from, to),
+            CapKind::CapPage => put_between(&mut self.cappages, from, to),
+            CapKind::Gpt => put_between(&mut self.gpts, from, to),
+            CapKind::Process => put_between(&mut self.processes, from, to),
+            CapKind::Endpoint => put_between(&mut self.endpoints, from, to),
+            _ => {}
+        }
+    }
+}
+
+/// Puts the elements from `from` to `to` on the left.
+fn put_between(sides: &mut [bool], from: usize, to: usize)
+    requires order { from ≤ to }
+    requires there { to < length sides.old }
+    ensures { sides.new ≡ left_between sides.old from to }
+{
+    sides[from..=to].fill(true);
+}

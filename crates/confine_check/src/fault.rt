@@ -1,0 +1,22 @@
+//! What can be wrong with a line of a cut.
+
+/// What is wrong with a line of a cut. Where several hold, the first of the line counts.
+#[derive(Clone, Copy, Debug, PartialEq, Eq)]
+pub enum CutFault {
+    /// The line has more than 512 bytes.
+    LineTooLong,
+    /// A byte is neither a space nor a visible character of ASCII.
+    BadByte,
+    /// The first word is not `left`.
+    UnknownCut,
+    /// The line has another number of words.
+    WrongWords,
+    /// The second word is that of no kind of objects.
+    BadValue,
+    /// A field is no number.
+    BadNumber,
+    /// The machine has no object of this number.
+    NoObject,
+    /// The last object stands before the first.
+    BadOrder,
+}

@@ -1,0 +1,22 @@
+//! A checker of a stated cut: which objects are on the left, and whether the two sides of a machine are kept apart.
+//!
+//! A cut gives each object a side, by lines that are read one at a time. `confined` says whether the cut holds; where it
+//! does, no event of any run leads across it. Nothing here runs a machine or prints.
+#![tactic(auto)]
+
+mod block;
+mod breach;
+mod checking;
+mod cut;
+mod fault;
+mod laws;
+mod line;
+mod sleeping;
+mod verdict;
+
+pub use checking::confined;
+pub use cut::Cut;
+pub use fault::CutFault;
+pub use laws::verdict_law;
+pub use line::read_cut;
+pub use verdict::Verdict;

@@ -1,0 +1,19 @@
+//! What is found of a cut.
+use cap_format::{Cap, CapKind};
+
+/// Whether a cut holds, or the first that breaks it.
+#[derive(Clone, Copy, Debug, PartialEq, Eq)]
+pub enum Verdict {
+    /// The cut holds.
+    Yes,
+    /// This capability may not stand where it does: in place `place` of object `number` of this kind. The places of a
+    /// process are its slots, 0 to 2, and then its capability registers; an endpoint's one place is its recipient.
+    Capability {
+        kind: CapKind,
+        number: u16,
+        place: u16,
+        cap: Cap,
+    },
+    /// No capability breaks the cut, but this process sleeps on one of the other side.
+    Sleeper { process: u16 },
+}
