@@ -12,3 +12,5 @@ mod machines;
 mod rows;
 #[cfg(test)]
 mod starts;
+#[cfg(test)]
+mod turns;

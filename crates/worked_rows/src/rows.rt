@@ -256,6 +256,78 @@ fn rows_give_what_is_written_down_for_them(rt: HostRuntime) -> Result<(), Fail> 
             "usage: coyotos check | run | trace | tables | walk P KIND ADDR | make N [summary]\n",
             0,
         ),
+        (
+            "make 0",
+            "a source that is not read\n",
+            "coyotos 1\nmachine 1 2 0 2 2 2\ncode 0 000 lui x10 0x10\ncode 0 004 addi x10 x10 0x61\ncode 0 008 addi x11 x5 0\ncode 0 00c ecall\ncode 0 010 add x6 x6 x11\ncode 0 014 addi x5 x5 -1\ncode 0 018 bne x5 x0 -24\ncode 0 01c addi x10 x0 64\ncode 0 020 ecall\ncode 1 000 lui x10 0x80\ncode 1 004 addi x10 x10 0x40\ncode 1 008 ecall\ncode 1 00c add x11 x11 x11\ncode 1 010 addi x9 x9 1\ncode 1 014 lui x10 0x80\ncode 1 018 addi x10 x10 0x65\ncode 1 01c jal x0 -20\nslot 0 0 page:0@12/0\nslot 1 0 page:1@12/0\nendpoint 0 process:1 00000000 00000000 plain\nendpoint 1 process:0 00000000 00000000 plain\nprocess 0 0 gpt:0@16/0 schedule:3 null run\nprocess 1 0 gpt:1@16/0 schedule:3 null run\nreg 0 5 00000001\nreg 0 18 00000002\ncapreg 0 1 entry:0:00000000\ncapreg 0 2 entry:1:00000000\nreg 1 19 00000005\nend\nround 33\n",
+            0,
+        ),
+        (
+            "tr",
+            "",
+            "usage: coyotos check | run | trace | tables | walk P KIND ADDR | make N [summary]\n",
+            1,
+        ),
+        (
+            "help",
+            "",
+            "usage: coyotos check | run | trace | tables | walk P KIND ADDR | make N [summary]\n",
+            1,
+        ),
+        (
+            "--help run",
+            "",
+            "usage: coyotos check | run | trace | tables | walk P KIND ADDR | make N [summary]\n",
+            1,
+        ),
+        (
+            "make -- 7",
+            "",
+            "usage: coyotos check | run | trace | tables | walk P KIND ADDR | make N [summary]\n",
+            1,
+        ),
+        (
+            "make 7 verbose",
+            "",
+            "usage: coyotos check | run | trace | tables | walk P KIND ADDR | make N [summary]\n",
+            1,
+        ),
+        (
+            "make 4294967296",
+            "",
+            "usage: coyotos check | run | trace | tables | walk P KIND ADDR | make N [summary]\n",
+            1,
+        ),
+        (
+            "walk 0 load 0 0",
+            "",
+            "usage: coyotos check | run | trace | tables | walk P KIND ADDR | make N [summary]\n",
+            1,
+        ),
+        (
+            "walk 256 load 0",
+            "",
+            "usage: coyotos check | run | trace | tables | walk P KIND ADDR | make N [summary]\n",
+            1,
+        ),
+        (
+            "make 0 summary",
+            "a source that is not read\n",
+            "summary events=33 messages=2 faults=0 logs=0 destroys=0\n",
+            0,
+        ),
+        (
+            "make 64 summary",
+            "",
+            "summary events=92 messages=8 faults=0 logs=0 destroys=0\n",
+            0,
+        ),
+        (
+            "run",
+            "coyotos 2\nmachine 1 1 0 1 1 0\nname code page 0\nregion 0 0 1 $data r\nend\n",
+            "refused 4 NameUnknown\n",
+            2,
+        ),
     ];
     for (words, input, output, status) in cases {
         for piece in [1, 7, 513, 65536] {

@@ -1,0 +1,109 @@
+//! Records are written before the next line is read: a source and a sink that share a count, so that the source sees how
+//! many lines were told when it is asked for the next.
+ghost use Rattle.std.specs.Prelude.{◌≡◌, ◌≤◌, None};
+ghost use Rattle.steps.specs.Permit.{permit_for};
+
+use crate::rows::words_of;
+use coy_io::{Failed, MemSource, Sink, Source};
+use coyotos_cli::{Exit, coyotos};
+use std::alloc::Global;
+use std::cell::Cell;
+use std::marker::Brand;
+use std::rc::Rc;
+use std::sync::ledger::Ledger;
+use std::test::Fail;
+use steps::{Permit, Steps};
+
+/// A sink that counts its calls and tells no bytes. A line is told by one call.
+#[derive(Drop)]
+struct TurnSink {
+    told: Rc<Cell<u64>>,
+}
+
+impl Sink for TurnSink {
+    ghost taken = { λ _. None };
+
+    ghost faults = { λ _. 0 };
+
+    fn put(&mut self, bytes: &[u8]) -> Result<usize, Failed> {
+        self.told.set(self.told.get().saturating_add(1));
+        Ok(bytes.len())
+    }
+}
+
+/// A source that gives a line a call and tells no bytes. At each call it notes whether fewer lines were told than two for
+/// each line of the schedule that it has given.
+#[derive(Drop)]
+struct TurnSource {
+    lines: MemSource,
+    told: Rc<Cell<u64>>,
+    /// The number of the call that gives the first line of the schedule.
+    first: u64,
+    late: bool,
+}
+
+impl Source for TurnSource {
+    ghost held = { λ _. None };
+
+    ghost faults = { λ s. s.lines.faults };
+
+    fn take(&mut self, buf: &mut [u8]) -> Result<usize, Failed> {
+        let given = self
+            .lines
+            .calls
+            .saturating_add(1)
+            .saturating_sub(self.first);
+        if self.told.get() < given.saturating_mul(2) {
+            self.late = true;
+        }
+        self.lines.take(buf)
+    }
+}
+
+/// The same over a trace of three lines, of which the last is refused: a step tells a fetch and an instruction.
+#[test]
+fn a_line_is_run_before_the_next_is_read(rt: HostRuntime) -> Result<(), Fail> {
+    let input =
+        "coyotos 1\nmachine 1 2 0 1 1 0\npage 0 000 93005000371100002320110083210100\ngpt 0 12\nslot 0 0 page:0@12/0+r\nslot 0 1 page:1@12/0\nprocess 0 00000000 gpt:0@16/0 schedule:3 null run\nend\nstep 0 1\nstep 0 1\ntick 9\n";
+    let told = Rc::new(rt.alloc(), Cell::new(0u64))?;
+    let mut source = TurnSource {
+        lines: MemSource {
+            bytes: input.as_bytes().to_vec(rt.alloc())?,
+            at: 0,
+            calls: 0,
+            failing: Vec::new(rt.alloc()),
+            piece: 65536,
+            by_line: true,
+            faults: 0,
+        },
+        told: told.clone()?,
+        first: 9,
+        late: false,
+    };
+    let mut sink = TurnSink {
+        told: told.clone()?,
+    };
+    let words = words_of(rt.alloc(), "trace")?;
+    let exit = run::<Brand>(rt.alloc(), words, &mut source, &mut sink, Permit::new(&rt));
+    assert!(rt; exit.status() == 3, "the last line is refused");
+    assert!(rt; source.lines.calls == 11, "each line is asked for once");
+    assert!(rt; told.get() == 5, "four records, and the refusal");
+    assert!(rt;
+        !source.late,
+        "a line was asked for before the records of the line before it were told"
+    );
+    Ok(())
+}
+
+fn run<L: Ledger>(
+    alloc: Global,
+    words: Vec<String>,
+    source: &mut TurnSource,
+    sink: &mut TurnSink,
+    permit: Permit,
+) -> Exit
+    requires ledger { permit ≡ permit_for L.name L.parts }
+{
+    let mut fetches = Steps::<L>::new(permit);
+    coyotos(alloc, words.as_slice(), source, sink, &mut fetches)
+}
