@@ -43,23 +43,20 @@ fn shows_like(output: Output<'_>, wanted: &str) -> bool {
     output.state.lines().any(|line| is_like(line, wanted))
 }
 
-/// Whether the parts between the stars stand in the line in their order, the first of them at its head.
-fn is_like(line: &str, wanted: &str) -> bool {
-    let mut rest = line;
-    for (place, part) in wanted.split('*').enumerate() {
-        if place == 0 {
-            match rest.strip_prefix(part) {
-                Some(behind) => rest = behind,
-                None => return false,
-            }
-        } else {
-            match rest.split_once(part) {
-                Some((_, behind)) => rest = behind,
-                None => return false,
+/// Whether the line begins as the form does before its star, and ends or goes on as it does behind it.
+fn is_like(line: &str, form: &str) -> bool {
+    match form.split_once('*') {
+        Some((head, tail)) => {
+            match line.strip_prefix(head) {
+                Some(rest) => match tail.strip_suffix('*') {
+                    Some(part) => rest.contains(part),
+                    None => rest.ends_with(tail),
+                },
+                None => false,
             }
         }
+        None => line == form,
     }
-    true
 }
 
 /// Whether no line of the state consists of these words or begins with them.
