@@ -1,6 +1,5 @@
 -- A verdict is Yes exactly where the cut holds.
-use Rattle.std.proofs.Common.{◌≡◌, ◌≢◌, ℕ, zero, suc, ◌+◌, ◌-◌, ◌<◌, ◌≤◌, ◌⊎◌, ◌↔◌, inl, inr, Bool, true, false, not, ◌&&◌, ◌||◌, nat_lt, if◌then◌else◌, List, [], ◌∷◌, length, get_or, replicate, map, Option, Some, None, refl, sym, ◌∙◌, ap, subst, arith}
-use Rattle.std.specs.List.{All}
+use Rattle.std.proofs.Common.{◌≡◌, ◌≢◌, ℕ, zero, suc, ◌+◌, ◌-◌, ◌<◌, ◌≤◌, ◌⊎◌, inl, inr, Bool, true, false, ◌&&◌, ◌||◌, nat_lt, if◌then◌else◌, List, [], ◌∷◌, length, get_or, replicate, map, Option, Some, None, refl, sym, ◌∙◌, ap, subst, arith}
 use Rattle.std.specs.Option.{option_or}
 use Rattle.std.proofs.lemmas.Bool.{cases_lt, and_parts, lt-ltb, ltb-true}
 use Rattle.std.proofs.lemmas.List.{get_or_past}
@@ -10,7 +9,7 @@ use Rattle.cap_format.specs.declared.kind.CapKind.TheVariants.{Null, Page, CapPa
 use Rattle.cap_format.specs.Kind.{is_counted, object_kind}
 use Rattle.cap_format.specs.Capability.{Capability, null, bare}
 use Rattle.cap_format.specs.Weakening.{is_harmless}
-use Rattle.confinement.specs.Cut.{Cut, side_of, NamesOwn, MayCross, MayHold, EachMayHold, AllOn, SleepApart}
+use Rattle.confinement.specs.Cut.{Cut, side_of, MayHold, EachMayHold, AllOn, SleepApart}
 use Rattle.gpt_objects.specs.Gpt.{GptValue, slot_of as gpt_slot_of, empty_gpt, empty_slots as empty_gpt_slots}
 use Rattle.page_store.specs.CapPage.{cap_at, empty_cappage}
 use Rattle.process_objects.specs.Process.{ProcessValue, capreg_of, slot_of, empty_process, empty_capregs, empty_slots as empty_process_slots}
@@ -21,7 +20,7 @@ use Rattle.object_store.proofs.Means.{slot_at-map_of, cappage_at-state_map, proc
 use Rattle.schedules.specs.Queues.{QueuesValue, sleepers_of}
 use Rattle.object_store.specs.Meaning.{is_live, live, meaning, state_map}
 use Rattle.confine_check.specs.declared.verdict.Verdict.{Verdict}
-use Rattle.confine_check.specs.declared.verdict.Verdict.TheVariants.{Yes, Capability as CapabilityBreaks, Sleeper}
+use Rattle.confine_check.specs.declared.verdict.Verdict.TheVariants.{Yes, Capability as CapabilityBreaks}
 use Rattle.confine_check.specs.Breach.{first_from, same_side, is_range, may_hold, places_in, cap_in, breach_at, breach_of_object, breach_of_kind, breach_of, found_by, across_at, least_on, sleeper_of}
 use Rattle.confine_check.specs.Full.{AreFull}
 use Rattle.confinement.proofs.Held.{may-null}
@@ -173,8 +172,8 @@ module _ (cut : Cut) (s : Store) where
   kind-not kind v e =
       first_holds (λ v. v ≢ Yes) (breach_of_object cut s kind)
       (λ n w f. first_holds (λ v. v ≢ Yes) (breach_at cut s kind n)
-        (λ i u g. breach_by-not kind n i (live s.items (cap_in s kind n i)) (may_hold cut (side_of cut kind n) (live s.items (cap_in s kind n i))) u g)
-        (places_in kind) 0 w f)
+      (λ i u g. breach_by-not kind n i (live s.items (cap_in s kind n i)) (may_hold cut (side_of cut kind n) (live s.items (cap_in s kind n i))) u g)
+      (places_in kind) 0 w f)
       (size_of s.items kind) 0 v e
 
   pub breach-not : (v : Verdict) → breach_of cut s ≡ Some v → v ≢ Yes
@@ -305,23 +304,23 @@ module _ (cut : Cut) (s : Store) where
     slot-held : (g i : ℕ) → MayHold cut (side_of cut Gpt g) (Means (slot_at s.items g i))
     slot-held g i = elim (cases_lt g (size_of s.items Gpt)) [
       | inl there ↦
-        let each = full.is_store.ranged.each in
-        let inside : g < length s.items.gpts = omega (arith, each, there) in
-        let is = full.is_store.ranged.gpts g empty_gpt inside in
-        below (side_of cut Gpt g) 16 (gpt_at s.items g).slots i is.sixteen (λ place. all.gpts g i there place)
+          let each = full.is_store.ranged.each in
+          let inside : g < length s.items.gpts = omega (arith, each, there) in
+          let is = full.is_store.ranged.gpts g empty_gpt inside in
+          below (side_of cut Gpt g) 16 (gpt_at s.items g).slots i is.sixteen (λ place. all.gpts g i there place)
       | inr past ↦
-        let each = full.is_store.ranged.each in
-        let outside : length s.items.gpts ≤ g = omega (arith, each, past) in
-        null-held (side_of cut Gpt g) (slot_at s.items g i) (ap (λ (v : GptValue). gpt_slot_of v i) (get_or_past s.items.gpts g empty_gpt outside) ∙ empty-gpt i)
+          let each = full.is_store.ranged.each in
+          let outside : length s.items.gpts ≤ g = omega (arith, each, past) in
+          null-held (side_of cut Gpt g) (slot_at s.items g i) (ap (λ (v : GptValue). gpt_slot_of v i) (get_or_past s.items.gpts g empty_gpt outside) ∙ empty-gpt i)
     ]
 
     cappage-held : (n i : ℕ) → MayHold cut (side_of cut CapPage n) (Means (cap_at (cappage_at s n) i))
     cappage-held n i = elim (cases_lt n (size_of s.items CapPage)) [
       | inl there ↦ below (side_of cut CapPage n) 256 (cappage_at s n) i (full.cappages n there) (λ place. all.cappages n i there place)
       | inr past ↦
-        let each = full.is_store.sized.cappages in
-        let outside : length s.contents.cappages ≤ n = omega (arith, each, past) in
-        null-held (side_of cut CapPage n) (cap_at (cappage_at s n) i) (ap (λ (v : List Capability). cap_at v i) (get_or_past s.contents.cappages n empty_cappage outside) ∙ empty-cappage i)
+          let each = full.is_store.sized.cappages in
+          let outside : length s.contents.cappages ≤ n = omega (arith, each, past) in
+          null-held (side_of cut CapPage n) (cap_at (cappage_at s n) i) (ap (λ (v : List Capability). cap_at v i) (get_or_past s.contents.cappages n empty_cappage outside) ∙ empty-cappage i)
     ]
 
     empty-there : (p : ℕ) → size_of s.items Process ≤ p → process_at s p ≡ empty_process
@@ -333,18 +332,18 @@ module _ (cut : Cut) (s : Store) where
     capreg-held : (p i : ℕ) → MayHold cut (side_of cut Process p) (Means (capreg_of (process_at s p) i))
     capreg-held p i = elim (cases_lt p (size_of s.items Process)) [
       | inl there ↦
-        let size = full.processes p there in
-        below (side_of cut Process p) 32 (process_at s p).capregs i size.0 (λ place.
-        subst (λ (c : Capability). MayHold cut (side_of cut Process p) (Means c)) (cap-capreg p i) (all.processes p (i + 3) there (omega (arith, place))))
+          let size = full.processes p there in
+          below (side_of cut Process p) 32 (process_at s p).capregs i size.0 (λ place.
+          subst (λ (c : Capability). MayHold cut (side_of cut Process p) (Means c)) (cap-capreg p i) (all.processes p (i + 3) there (omega (arith, place))))
       | inr past ↦ null-held (side_of cut Process p) (capreg_of (process_at s p) i) (ap (λ (v : ProcessValue). capreg_of v i) (empty-there p past) ∙ empty-capreg i)
     ]
 
     process_slot-held : (p i : ℕ) → MayHold cut (side_of cut Process p) (Means (slot_of (process_at s p) i))
     process_slot-held p i = elim (cases_lt p (size_of s.items Process)) [
       | inl there ↦
-        let size = full.processes p there in
-        below (side_of cut Process p) 3 (process_at s p).slots i size.1 (λ place.
-        subst (λ (c : Capability). MayHold cut (side_of cut Process p) (Means c)) (cap-slot p i place) (all.processes p i there (omega (arith, place))))
+          let size = full.processes p there in
+          below (side_of cut Process p) 3 (process_at s p).slots i size.1 (λ place.
+          subst (λ (c : Capability). MayHold cut (side_of cut Process p) (Means c)) (cap-slot p i place) (all.processes p i there (omega (arith, place))))
       | inr past ↦ null-held (side_of cut Process p) (slot_of (process_at s p) i) (ap (λ (v : ProcessValue). slot_of v i) (empty-there p past) ∙ empty-slot i)
     ]
 
@@ -352,9 +351,9 @@ module _ (cut : Cut) (s : Store) where
     recipient-held e = elim (cases_lt e (size_of s.items Endpoint)) [
       | inl there ↦ all.endpoints e 0 there (omega arith)
       | inr past ↦
-        let each = full.is_store.sized.endpoints in
-        let outside : length s.contents.endpoints ≤ e = omega (arith, each, past) in
-        null-held (side_of cut Endpoint e) (endpoint_at s e).recipient (ap (λ (v : EndpointValue). v.recipient) (get_or_past s.contents.endpoints e empty_endpoint outside))
+          let each = full.is_store.sized.endpoints in
+          let outside : length s.contents.endpoints ≤ e = omega (arith, each, past) in
+          null-held (side_of cut Endpoint e) (endpoint_at s e).recipient (ap (λ (v : EndpointValue). v.recipient) (get_or_past s.contents.endpoints e empty_endpoint outside))
     ]
 
     -- so each capability of the map may stand where it does
@@ -406,9 +405,9 @@ module _ (cut : Cut) where
   none-apart : (q : QueuesValue) → sleeper_of cut q ≡ None → SleepApart cut q
   none-apart q e on = elim (cases_lt on (length q.sleepers)) [
     | inl there ↦
-      let none = least-each (least_on cut q) (length q.sleepers) e on there in
-      all_on (side_of cut Process on) (sleepers_of q on) (λ i lt.
-      same_side-tells _ _ (if_same _ _ (least-each (across_at cut q on) (length (sleepers_of q on)) none i lt)))
+        let none = least-each (least_on cut q) (length q.sleepers) e on there in
+        all_on (side_of cut Process on) (sleepers_of q on) (λ i lt.
+        same_side-tells _ _ (if_same _ _ (least-each (across_at cut q on) (length (sleepers_of q on)) none i lt)))
     | inr past ↦ subst (λ (xs : List ℕ). AllOn cut (side_of cut Process on) xs) (sym (get_or_past q.sleepers on [] past)) tt
   ]
 
@@ -424,6 +423,6 @@ module _ (cut : Cut) where
 pub verdict_law : VerdictLaw
 verdict_law cut s q full = (
   λ e. let none = found-none (breach_of cut s) (sleeper_of cut q) (breach-not cut s) e in
-    record { each = each-held cut s full (none-all cut s none.0); sleepers = none-apart cut q none.1 },
+      record { each = each-held cut s full (none-all cut s none.0); sleepers = none-apart cut q none.1 },
   λ holds. none-found (breach_of cut s) (sleeper_of cut q) (all-none cut s (held-all cut s holds.each)) (apart-none cut q holds.sleepers),
 )

@@ -15,5 +15,7 @@ pub enum Verdict {
         cap: Cap,
     },
     /// No capability breaks the cut, but this process sleeps on one of the other side.
-    Sleeper { process: u16 },
+    Sleeper {
+        process: u16,
+    },
 }

@@ -1,4 +1,4 @@
-use Rattle.std.proofs.Common.{◌≡◌, ◌<◌, ◌≤◌, sym, ◌∙◌, arith}
+use Rattle.std.proofs.Common.{◌<◌, ◌≤◌, sym, ◌∙◌, arith}
 use Rattle.object_store.specs.Store.{size_of}
 use Rattle.confine_check.specs.Sides.{cut_of}
 use Rattle.confine_check.specs.Breach.{breach_of_object}

@@ -1,4 +1,4 @@
-use Rattle.std.proofs.Common.{◌≡◌, ℕ, ◌+◌, ◌*◌, ◌<◌, ◌≤◌, None, sym, ap, ◌∙◌, arith}
+use Rattle.std.proofs.Common.{◌≡◌, ℕ, ◌*◌, ◌<◌, ◌≤◌, sym, ap, ◌∙◌, arith}
 use Rattle.confine_check.specs.Sides.{cut_of}
 use Rattle.confine_check.specs.Breach.{places_in, reads_in, object_reads, breach_at}
 use Rattle.confine_check.proofs.First.{first_next, first_here, first_past, reads-places}

@@ -1,4 +1,4 @@
-use Rattle.std.proofs.Common.{sym, ◌∙◌}
+use Rattle.std.proofs.Common.{sym}
 use Rattle.confine_check.specs.Sides.{cut_of}
 use Rattle.confine_check.proofs.Decided.{breach-not}
 use Rattle.confine_check.proofs.checking.verdict.Goals as goal

@@ -1,4 +1,4 @@
-use Rattle.std.proofs.Common.{◌≡◌, ◌<◌, ◌≤◌, length, slice_index, refl, sym, ap, ◌∙◌, arith}
+use Rattle.std.proofs.Common.{◌≡◌, ◌≤◌, length, slice_index, refl, sym, ap, ◌∙◌, arith}
 use Rattle.std.proofs.lemmas.Option.{slice_get_within, get_or_from_slice_get}
 use Rattle.schedules.specs.Queues.{sleepers_of}
 use Rattle.confine_check.specs.Sides.{cut_of}
@@ -17,7 +17,7 @@ each-preserved c =
     record {
       least = c.lesser-least.ensures
           ∙ least_more (across_at (cut_of c.args.cut.now) c.args.queues.now c.args.on) c.each.n _ c.each.least c.across.result refl c.each.invariant.least
-            (c.across.ensures ∙ ap (λ p. across (cut_of c.args.cut.now) c.args.on p) (sym it));
+          (c.across.ensures ∙ ap (λ p. across (cut_of c.args.cut.now) c.args.on p) (sym it));
       within = omega (arith, inside);
       bound = λ some. c.sleeper_at.ensures.bound;
     }

@@ -1,4 +1,4 @@
-use Rattle.std.proofs.Common.{◌≡◌, ◌≤◌, length, refl, sym, ap, ◌∙◌, arith}
+use Rattle.std.proofs.Common.{◌≡◌, length, refl, sym, ap, ◌∙◌, arith}
 use Rattle.confine_check.specs.Sides.{cut_of}
 use Rattle.confine_check.specs.Breach.{least_below, least_on}
 use Rattle.confine_check.proofs.Least.{least_zero, least_more}
