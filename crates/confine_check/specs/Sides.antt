@@ -1,5 +1,6 @@
 -- The sides that lines give to the objects of a machine. (Own.)
-use Rattle.std.specs.Prelude.{ℕ, ◌+◌, ◌-◌, ◌<◌, ◌^◌, Bool, true, false, List, ◌++◌, length, take, drop, replicate}
+use Rattle.std.specs.Prelude.{ℕ, ◌+◌, ◌-◌, ◌<◌, ◌^◌, Bool, true, false, not, List, ◌++◌, length, take, drop, replicate}
+use Rattle.std.specs.List.{count_by}
 use Rattle.cap_format.specs.declared.kind.CapKind.{CapKind}
 use Rattle.cap_format.specs.declared.kind.CapKind.TheVariants.{Page, CapPage, Gpt, Endpoint, Process}
 use Rattle.object_store.specs.declared.sizes.Sizes.{Sizes}
@@ -49,3 +50,19 @@ with_left_of sides _ from to = sides
 -- the objects of a block are on the left
 abbrev pub with_left : Sides → Block → Sides
 with_left sides block = with_left_of sides block.kind block.from block.to
+
+-- how many of these are on the left
+abbrev pub lefts_in : List Bool → ℕ
+lefts_in sides = count_by (λ side. side) sides
+
+-- how many are on the right
+abbrev pub rights_in : List Bool → ℕ
+rights_in sides = count_by not sides
+
+-- how many objects are on the left
+abbrev pub left_count : Sides → ℕ
+left_count sides = lefts_in sides.pages + lefts_in sides.cappages + lefts_in sides.gpts + lefts_in sides.processes + lefts_in sides.endpoints
+
+-- how many objects are on the right
+abbrev pub right_count : Sides → ℕ
+right_count sides = rights_in sides.pages + rights_in sides.cappages + rights_in sides.gpts + rights_in sides.processes + rights_in sides.endpoints

@@ -1,7 +1,7 @@
 //! The side of each object.
 ghost use Rattle.std.specs.Prelude.{◌≡◌, ◌≤◌, ◌<◌, length, IfOk};
 ghost use Rattle.confinement.specs.Cut.{sides_of, side_of};
-ghost use Rattle.confine_check.specs.Sides.{cut_of, all_right, with_left, left_between};
+ghost use Rattle.confine_check.specs.Sides.{cut_of, all_right, with_left, left_between, lefts_in, rights_in, left_count, right_count};
 
 use crate::block::Block;
 use cap_format::{CapKind, OutOfMemory};
@@ -79,6 +79,28 @@ impl Cut {
         }
     }
 
+    /// How many objects are on the left.
+    pub fn left_count(&self) -> u32
+        ensures { result ≡ left_count self.now }
+    {
+        lefts(&self.pages)
+            + lefts(&self.cappages)
+            + lefts(&self.gpts)
+            + lefts(&self.processes)
+            + lefts(&self.endpoints)
+    }
+
+    /// How many objects are on the right.
+    pub fn right_count(&self) -> u32
+        ensures { result ≡ right_count self.now }
+    {
+        rights(&self.pages)
+            + rights(&self.cappages)
+            + rights(&self.gpts)
+            + rights(&self.processes)
+            + rights(&self.endpoints)
+    }
+
     /// Puts objects on the left.
     pub(crate) fn put_left(&mut self, block: Block)
         requires order { block.from ≤ block.to }
@@ -105,4 +127,22 @@ fn put_between(sides: &mut [bool], from: usize, to: usize)
     ensures { sides.new ≡ left_between sides.old from to }
 {
     sides[from..=to].fill(true);
+}
+
+/// How many of these are on the left.
+fn lefts(sides: &[bool]) -> u32
+    requires { length sides.now < 65536 }
+    ensures value { result ≡ lefts_in sides.now }
+    ensures most { result ≤ length sides.now }
+{
+    sides.iter().filter(|side| **side).count() as u32
+}
+
+/// How many of these are on the right.
+fn rights(sides: &[bool]) -> u32
+    requires { length sides.now < 65536 }
+    ensures value { result ≡ rights_in sides.now }
+    ensures most { result ≤ length sides.now }
+{
+    sides.iter().filter(|side| !**side).count() as u32
 }
