@@ -62,7 +62,9 @@ enum {
 enum { COY_ASK_KIND = 0, COY_REDUCE = 1, COY_GETGUARD = 2, COY_SETGUARD = 3, COY_GETRESTR = 4 };
 enum { COY_PAGE_CLEAR = 8, COY_PAGE_COPY = 9 };
 enum { COY_CAPPAGE_CLEAR = 8, COY_CAPPAGE_GET = 9, COY_CAPPAGE_SET = 10 };
-enum { COY_GPT_GETSLOT = 8, COY_GPT_SETSLOT = 9, COY_GPT_GETHEADER = 10, COY_GPT_SETHEADER = 11, COY_GPT_SETWINDOW = 12 };
+enum {
+    COY_GPT_GETSLOT = 8, COY_GPT_SETSLOT = 9, COY_GPT_GETHEADER = 10, COY_GPT_SETHEADER = 11, COY_GPT_SETWINDOW = 12
+};
 enum {
     COY_ENDPOINT_SETRECIPIENT = 8, COY_ENDPOINT_GETID = 9, COY_ENDPOINT_SETID = 10, COY_ENDPOINT_SETMATCH = 11,
     COY_ENDPOINT_MAKEENTRY = 12, COY_ENDPOINT_SETPAYLOAD = 13
@@ -203,7 +205,9 @@ static inline coy_word coy_first(struct coy_answer answer, coy_word *result) {
 /* ---- operations: each returns the code of the reply */
 
 /* all kinds but null and entry */
-static inline coy_word coy_kind(coy_cap c, coy_word *kind) { return coy_first(coy_ask(c, COY_ASK_KIND, 0, 0, 0), kind); }
+static inline coy_word coy_kind(coy_cap c, coy_word *kind) {
+    return coy_first(coy_ask(c, COY_ASK_KIND, 0, 0, 0), kind);
+}
 
 /* memory kinds */
 static inline coy_word coy_reduce(coy_cap c, coy_word restrictions, coy_cap into) {
@@ -309,8 +313,12 @@ static inline coy_word coy_process_getstate(coy_cap process, coy_word *state, co
     *address = answer.words[3];
     return coy_first(answer, state);
 }
-static inline coy_word coy_process_resume(coy_cap process) { return coy_ask(process, COY_PROCESS_RESUME, 0, 0, 0).words[0]; }
-static inline coy_word coy_process_stop(coy_cap process) { return coy_ask(process, COY_PROCESS_STOP, 0, 0, 0).words[0]; }
+static inline coy_word coy_process_resume(coy_cap process) {
+    return coy_ask(process, COY_PROCESS_RESUME, 0, 0, 0).words[0];
+}
+static inline coy_word coy_process_stop(coy_cap process) {
+    return coy_ask(process, COY_PROCESS_STOP, 0, 0, 0).words[0];
+}
 
 /* schedules */
 static inline coy_word coy_schedule_priority(coy_cap schedule, coy_word *priority) {
@@ -324,7 +332,9 @@ static inline coy_word coy_schedule_lower(coy_cap schedule, coy_word priority, c
 static inline coy_word coy_range_getcap(coy_cap range, coy_word kind, coy_word number, coy_cap into) {
     return coy_get(range, COY_RANGE_GETCAP, kind, number, into);
 }
-static inline coy_word coy_range_destroy(coy_cap range, coy_cap sent) { return coy_give(range, COY_RANGE_DESTROY, 0, sent).words[0]; }
+static inline coy_word coy_range_destroy(coy_cap range, coy_cap sent) {
+    return coy_give(range, COY_RANGE_DESTROY, 0, sent).words[0];
+}
 static inline coy_word coy_discrim_classify(coy_cap discrim, coy_cap sent, coy_word *kind, coy_word *harmless) {
     struct coy_answer answer = coy_give(discrim, COY_DISCRIM_CLASSIFY, 0, sent);
     *harmless = answer.words[2];
