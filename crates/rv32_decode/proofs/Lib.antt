@@ -1,4 +1,4 @@
 mod Agreement
 mod Back
-mod RoundTrip
+pub mod RoundTrip
 mod OneRow
