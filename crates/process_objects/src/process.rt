@@ -2,7 +2,7 @@
 ghost use Rattle.std.specs.Prelude.{◌≡◌, ◌≤◌, ◌%◌};
 ghost use Rattle.cap_format.specs.Capability.{IsCapability};
 ghost use Rattle.process_objects.specs.State.{IsState};
-ghost use Rattle.process_objects.specs.Process.{IsProcess, reg_of, capreg_of, slot_of, with_pc, with_reg, with_regs, with_capreg, with_slot, with_state, empty_process};
+ghost use Rattle.process_objects.specs.Process.{IsProcess, reg_of, reg_set, capreg_of, slot_of, with_pc, with_reg, with_regs, with_capreg, with_slot, with_state, empty_process};
 
 use crate::state::State;
 use cap_format::{Cap, FaultCode};
@@ -83,6 +83,7 @@ impl Process {
     pub fn set_reg(&mut self, i: u8, v: u32)
         requires { i ≤ 31 }
         ensures reg { self.new ≡ with_reg self.old i v }
+        ensures whole { self.new ≡ with_regs self.old (reg_set self.old.regs i v) }
         ensures range { IsProcess self.new }
     {
         if i != 0 {
@@ -96,6 +97,14 @@ impl Process {
         ensures range { IsProcess self.now }
     {
         self.regs
+    }
+
+    /// All registers, x0 first, where they stand.
+    pub fn registers(&self) -> &[u32; 32]
+        ensures value { result.now ≡ self.now.regs }
+        ensures range { IsProcess self.now }
+    {
+        &self.regs
     }
 
     /// Writes all registers; x0 stays 0.
