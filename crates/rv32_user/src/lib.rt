@@ -10,4 +10,5 @@ mod machine;
 mod word;
 
 pub use effect::Effect;
-pub use machine::{finish_load, step};
+pub use machine::{Outcome, evaluate, finish_load, step};
+pub use word::extended;
