@@ -13,3 +13,6 @@ mod Cleared
 mod Walked
 mod Blocks
 mod Histories
+mod SharedWords
+mod SharedWrites
+mod SharedHistories

@@ -1,12 +1,12 @@
 -- The walk of the Privileged ISA over a pool's words reaches the page of the leaf found.
-use Rattle.std.proofs.Common.{◌≡◌, inl, inr, ℕ, ◌+◌, ◌-◌, ◌/◌, ◌%◌, ◌<◌, ◌^◌, ◌&&◌, ◌||◌, not, if◌then◌else◌, List, Option, Some, None, refl, ap, sym, ◌∙◌, arith, Bool, true, false}
+use Rattle.std.proofs.Common.{◌≡◌, inl, inr, ℕ, ◌+◌, ◌-◌, ◌/◌, ◌%◌, ◌<◌, ◌^◌, ◌&&◌, ◌||◌, not, if◌then◌else◌, ◌⊎◌, List, [], Option, Some, None, refl, ap, sym, ◌∙◌, arith, Bool, true, false}
 use Rattle.std.specs.List.{slice_get}
 use Rattle.std.proofs.lemmas.Bool.Decides.{nat_tests}
 use Rattle.sv32_tables.specs.declared.leaf.Leaf.{Leaf}
 use Rattle.sv32_tables.specs.declared.frame_use.FrameUse.{FrameUse}
 use Rattle.sv32_tables.specs.declared.frame_use.FrameUse.TheVariants.{Root}
-use Rattle.sv32_tables.specs.Word.{has, leaf_of, leaf_word, number_of, pointer}
-use Rattle.sv32_tables.specs.Pool.{IsFirstWord, IsLeafWord, IsPool, leaf_at, pool_of, word_at}
+use Rattle.sv32_tables.specs.Word.{has, leaf_of, leaf_word, number_of, pointer, table_of}
+use Rattle.sv32_tables.specs.Pool.{IsFirstWord, IsLeafWord, IsPool, leaf_at, leaf_below, pool_of, word_at}
 use Rattle.sv32_tables.specs.Sv32.{Access, Fetch, Load, Store, first_level, last_level, memory_word, reached, superpage, through}
 use Rattle.sv32_tables.proofs.Leaves.{leaf_at-led, leaf_at-zero}
 use Rattle.sv32_tables.proofs.WordLaws.{SaysLeaf-leaf_word, leaf_of-leaf_word}
@@ -58,22 +58,36 @@ last_level-word access word (inr leaf) =
         let w : ℕ = leaf_word leaf in
         stored leaf (has w 1) (has w 2) (has w 4) (has w 8) (has w 16) (has w 64) (has w 128) (number_of w) says.valid says.read says.writes says.user says.accessed says.dirty says.number
 
-pub reached-leaf_at : (words : List ℕ) (uses : List FrameUse) (root page : ℕ) → IsPool words uses → slice_get uses root ≡ Some Root → page < 2 ^ 20
-    → (access : Access) → reached words root page access ≡ through access (leaf_at (pool_of words uses) root page)
-reached-leaf_at words uses root page pool made inside access =
-    ap (λ (f : ℕ). first_level words access page (word_at words f (page / 1024))) here
-    ∙ on (pool.first root (page / 1024) made (omega (arith, inside)))
+-- what is always true of the words on the way to a page: the first is 0, or leads to a frame whose word is 0 or a leaf's
+abbrev pub IsWay : List ℕ → ℕ → ℕ → Type 0
+IsWay words root page =
+    (word_at words root (page / 1024) ≡ 0)
+    ⊎ ((frame : ℕ) × (word_at words root (page / 1024) ≡ pointer frame) × IsLeafWord (word_at words frame (page % 1024)))
+
+-- the walk over such words reaches what the leaf lets through
+pub reached-way : (words : List ℕ) (root page : ℕ) → IsWay words root page
+    → (access : Access) → reached words root page access ≡ through access (leaf_below words (page % 1024) (table_of (word_at words root (page / 1024))))
+reached-way words root page way access =
+    ap (λ (f : ℕ). first_level words access page (word_at words f (page / 1024))) here ∙ on way
   where
     here : 4096 + root - 4096 ≡ root
     here = omega arith
 
-    on : IsFirstWord uses root (page / 1024) (word_at words root (page / 1024))
-        → first_level words access page (word_at words root (page / 1024)) ≡ through access (leaf_at (pool_of words uses) root page)
+    on : IsWay words root page
+        → first_level words access page (word_at words root (page / 1024)) ≡ through access (leaf_below words (page % 1024) (table_of (word_at words root (page / 1024))))
     on (inl zeroed) =
         ap (λ (w : ℕ). first_level words access page w) zeroed
-        ∙ sym (ap (λ (l : Option Leaf). through access l) (leaf_at-zero words uses root page zeroed))
+        ∙ sym (ap (λ (l : Option Leaf). through access l) (leaf_at-zero words [] root page zeroed))
     on (inr led) =
-        ap (λ (w : ℕ). first_level words access page w) led.2
+        ap (λ (w : ℕ). first_level words access page w) led.1
         ∙ (first_level-pointer words access page led.0
-        ∙ (last_level-word access (word_at words led.0 (page % 1024)) (pool.second led.0 root (page / 1024) (page % 1024) led.1 (omega arith))
-        ∙ sym (ap (λ (l : Option Leaf). through access l) (leaf_at-led words uses root page led.0 led.2))))
+        ∙ (last_level-word access (word_at words led.0 (page % 1024)) led.2
+        ∙ sym (ap (λ (l : Option Leaf). through access l) (leaf_at-led words [] root page led.0 led.1))))
+
+pub reached-leaf_at : (words : List ℕ) (uses : List FrameUse) (root page : ℕ) → IsPool words uses → slice_get uses root ≡ Some Root → page < 2 ^ 20
+    → (access : Access) → reached words root page access ≡ through access (leaf_at (pool_of words uses) root page)
+reached-leaf_at words uses root page pool made inside = reached-way words root page (way (pool.first root (page / 1024) made (omega (arith, inside))))
+  where
+    way : IsFirstWord uses root (page / 1024) (word_at words root (page / 1024)) → IsWay words root page
+    way (inl zeroed) = inl zeroed
+    way (inr led) = inr (led.0, led.2, pool.second led.0 root (page / 1024) (page % 1024) led.1 (omega arith))

@@ -2,3 +2,5 @@ pub mod Word
 pub mod Pool
 pub mod Sv32
 pub mod History
+pub mod Shared
+pub mod SharedHistory
