@@ -4,3 +4,4 @@ mod Listed
 mod Linked
 mod Tables
 mod Searched
+mod Relinked

@@ -54,3 +54,21 @@ item_of_place (Slot g s) (Slot h t) isa isb same =
     let gpts : g ≡ h = omega (arith, same, isa.1, isb.1) in
     let slots : s ≡ t = omega (arith, same, gpts) in
     ap (λ (x : ℕ). Slot x s) gpts ∙ ap (λ (x : ℕ). Slot h x) slots
+
+-- each item's place is one of those that there are
+pub place_small : (a : Item) → IsItem a → place_of a < 23040
+place_small (Header Page n) is = let low = is.1 in omega (arith, low)
+place_small (Header CapPage n) is = let low = is.1 in omega (arith, low)
+place_small (Header Gpt n) is = let low = is.1 in omega (arith, low)
+place_small (Header Endpoint n) is = let low = is.1 in omega (arith, low)
+place_small (Header Process n) is = let low = is.1 in omega (arith, low)
+place_small (Header Null n) is = absurd (let no = is.0 in cc)
+place_small (Header Window n) is = absurd (let no = is.0 in cc)
+place_small (Header LocalWindow n) is = absurd (let no = is.0 in cc)
+place_small (Header Entry n) is = absurd (let no = is.0 in cc)
+place_small (Header Schedule n) is = absurd (let no = is.0 in cc)
+place_small (Header Range n) is = absurd (let no = is.0 in cc)
+place_small (Header Discrim n) is = absurd (let no = is.0 in cc)
+place_small (Header KernLog n) is = absurd (let no = is.0 in cc)
+place_small (Header SysCtl n) is = absurd (let no = is.0 in cc)
+place_small (Slot g s) is = omega (arith, is.0, is.1)

@@ -11,16 +11,30 @@ use Rattle.depend_table.specs.declared.chain.Node.{Node}
 use Rattle.depend_table.specs.Depend.{Adds, Depend, Takes, has, same}
 use Rattle.depend_table.proofs.Members.{same_itself, same_tells}
 use Rattle.depend_table.specs.Place.{place_of}
-use Rattle.depend_table.specs.Chain.{IsTable, chain_at, no_chain, record_of, records_of}
+use Rattle.depend_table.specs.Chain.{IsLinked, IsTable, chain_at, no_chain, record_of, records_of}
 use Rattle.depend_table.proofs.Listed.{Noted, equal_tests, has-noted, length-records, noted-has}
 use Rattle.depend_table.proofs.Linked.{linked-noted, linked-taken, one_more, one_or_not}
 
 -- no chain stands among empty ones
-chain_at-replicate : (n place : ℕ) → chain_at (replicate n no_chain) place ≡ no_chain
+pub chain_at-replicate : (n place : ℕ) → chain_at (replicate n no_chain) place ≡ no_chain
 chain_at-replicate n place = elim (leb_tells n place) [
   | inl past ↦ get_or_past (replicate n no_chain) place no_chain (omega (arith, past.1, length-replicate n no_chain))
   | inr low ↦ get_or-replicate n place no_chain no_chain low.1
 ]
+
+-- no nodes are linked with chains of no record
+pub linked_none : (node : ℕ → Option Node) (chain : ℕ → Chain) → ((k : ℕ) → node k ≡ None) → ((place : ℕ) → chain place ≡ no_chain) → IsLinked node chain
+linked_none node chain vacant empty = record {
+  items = λ k m is. absurd (none k m is);
+  chains = λ place. rw (empty place) refl;
+  rests = λ k m is. absurd (none k m is);
+  within = λ k m is. absurd (none k m is);
+  apart = λ j k a b isa isb place long. absurd (none j a isa);
+  once = λ j k a b isa isb same. absurd (none j a isa);
+}
+  where
+    none : (k : ℕ) (m : Node) → node k ≢ Some m
+    none k m is = let here = vacant k in cc
 
 pub table_empty : (nodes : Slab Node) (chains : List Chain) (n : ℕ) → nodes.slots ≡ [] → 16384 ≤ nodes.capacity → n ≡ 23040 → chains ≡ replicate n no_chain → IsTable nodes chains
 table_empty nodes chains n empty room places are = record {
@@ -28,21 +42,19 @@ table_empty nodes chains n empty room places are = record {
   most = omega (arith, none_there);
   places = ap length are ∙ length-replicate n no_chain ∙ places;
   total = ap (sum_by (λ (c : Chain). c.length)) are ∙ sum_by-replicate (λ (c : Chain). c.length) n no_chain ∙ omega (arith, none_there);
-  linked = record {
-    items = λ k m is. absurd (none k m is);
-    chains = λ place. let here : chain_at chains place ≡ no_chain = ap (λ (cs : List Chain). chain_at cs place) are ∙ chain_at-replicate n place in rw here refl;
-    rests = λ k m is. absurd (none k m is);
-    within = λ k m is. absurd (none k m is);
-    apart = λ j k a b isa isb place long. absurd (none j a isa);
-    once = λ j k a b isa isb same. absurd (none j a isa);
-  };
+  linked = linked_none (get nodes) (chain_at chains)
+      (λ k. ap (λ (slots : List (Option Node)). get_or slots k None) empty)
+      (λ place. ap (λ (cs : List Chain). chain_at cs place) are ∙ chain_at-replicate n place);
 }
   where
     none_there : slab_len nodes ≡ 0
     none_there = rw empty refl
 
-    none : (k : ℕ) (m : Node) → get nodes k ≢ Some m
-    none k m is = let here : get nodes k ≡ None = ap (λ (slots : List (Option Node)). get_or slots k None) empty in cc
+-- a chain is no longer than all records
+pub chain_fits : (nodes : Slab Node) (chains : List Chain) (place : ℕ) → IsTable nodes chains → place < 23040 → (chain_at chains place).length ≤ 16384
+chain_fits nodes chains place table inside =
+    let sums = sum_by-set (λ (c : Chain). c.length) chains place no_chain no_chain (omega (arith, inside, table.places)) in
+    omega (arith, sums, table.total, table.most)
 
 module _ (old new : Slab Node) (chains : List Chain) (key : ℕ) (m : Node)
     (table : IsTable old chains) (at : get old key ≡ Some m) (updates : Updates old new key None)

@@ -1,9 +1,9 @@
 -- Records of what was read on the way to pages, as a list whose order says nothing (this project's own).
-use Rattle.std.specs.Prelude.{◌≡◌, ℕ, ◌+◌, Bool, true, false, not, ◌&&◌, ◌||◌, ◌==◌, if◌then◌else◌, List, [], ◌∷◌, length}
+use Rattle.std.specs.Prelude.{◌≡◌, ℕ, ◌+◌, Bool, true, false, not, ◌&&◌, ◌||◌, ◌==◌, nat_le, if◌then◌else◌, List, [], ◌∷◌, length}
 use Rattle.cap_format.specs.Kind.{number_of}
 use Rattle.cap_format.specs.declared.item.Item.{Item}
 use Rattle.cap_format.specs.declared.item.Item.TheVariants.{Header, Slot}
-use Rattle.guard_math.specs.Block.{BlockValue}
+use Rattle.guard_math.specs.Block.{BlockValue, first_page, page_count}
 
 -- on the way to a page of the block under the root the item was read
 pub record Depend : Type 0 where
@@ -45,3 +45,12 @@ pub record Takes (old new : List Depend) (d : Depend) : Type 0 where
   pub there : has old d ≡ true
   pub records : (e : Depend) → has new e ≡ (not (same d e) && has old e)
   pub count : length new + 1 ≡ length old
+
+-- whether every page of a block is one of another's
+abbrev pub lies_in : BlockValue → BlockValue → Bool
+lies_in inner outer =
+    nat_le (first_page outer) (first_page inner) && nat_le (first_page inner + page_count inner) (first_page outer + page_count outer)
+
+-- whether a record is of this root, and its block lies in this one
+abbrev pub is_within : ℕ → BlockValue → Depend → Bool
+is_within root block d = (d.root == root) && lies_in d.block block

@@ -1,11 +1,12 @@
 //! The table of records.
 
-ghost use Rattle.std.specs.Prelude.{◌≡◌, ◌≤◌, ◌<◌, ◌↔◌, [], length, ℕ, true, false, IsTrue, IsNone, IsErr, IfSome, IfOk, OnOk, OnErr};
+ghost use Rattle.std.specs.Prelude.{◌≡◌, ◌≤◌, ◌<◌, ◌↔◌, [], filter, length, not, ℕ, true, false, IsTrue, IsNone, IsErr, IfSome, IfOk, OnOk, OnErr};
 ghost use Rattle.cap_format.specs.Item.{IsItem};
 ghost use Rattle.guard_math.specs.Block.{BlockValue};
-ghost use Rattle.depend_table.specs.Depend.{Adds, Takes, depend, has};
+ghost use Rattle.depend_table.specs.Depend.{Adds, Takes, depend, has, is_within};
 
-use crate::chain::{Chain, Node, chain_at, clear_chains, empty_chains, node_of, set_chain};
+use crate::chain::{Chain, Node, chain_at, clear_chains, empty_chains, set_chain};
+use crate::linking::{drop_nodes, link};
 use crate::place::{PLACES, is_item, place_of};
 use cap_format::{Item, OutOfMemory};
 use guard_math::Block;
@@ -93,6 +94,14 @@ impl Depends {
         Some((node.root, node.block))
     }
 
+    /// Takes the records of a root out whose block lies in the given one, and no others. It goes through
+    /// all records.
+    pub fn drop_within(&mut self, root: u16, block: Block)
+        ensures { self.new ≡ filter (λ d. not (is_within root block d)) self.old }
+    {
+        drop_nodes(&mut self.nodes, &mut self.chains, root, block);
+    }
+
     /// Takes all records out, in time that goes by how many items there may be.
     pub fn clear_all(&mut self)
         ensures { self.new ≡ [] }
@@ -138,13 +147,6 @@ impl Depends {
         requires room { length self.old < RECORDS }
         ensures { Adds self.old self.new (depend item root block) }
     {
-        let place = place_of(item);
-        let rest = chain_at(&self.chains, place);
-        let key = self.nodes.insert_reserved(node_of(item, root, block, rest));
-        let chain = Chain {
-            first: Some(key),
-            length: rest.length + 1,
-        };
-        set_chain(&mut self.chains, place, chain);
+        link(&mut self.nodes, &mut self.chains, item, root, block);
     }
 }

@@ -5,6 +5,7 @@
 
 mod chain;
 mod depends;
+mod linking;
 mod place;
 
 pub use depends::{Depends, Full, RECORDS};
