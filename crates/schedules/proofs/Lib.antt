@@ -9,3 +9,4 @@ pub mod Waking
 pub mod OnHart
 pub mod Next
 pub mod Meant
+pub mod Nowhere

@@ -1,5 +1,5 @@
 //! Harts, each with its process or none: changes of one hart or of all, and looking through them.
-ghost use Rattle.std.specs.Prelude.{◌≡◌, ◌<◌, length, map, replicate, false, slice_index_or, slice_set, Some, None, IfSome, IfOk, IsNone, IsTrue};
+ghost use Rattle.std.specs.Prelude.{◌≡◌, ◌≤◌, ◌<◌, length, map, replicate, false, slice_index_or, Some, None, IfSome, IfOk, IsNone, IsTrue};
 ghost use Rattle.std.specs.List.{sum_by};
 ghost use Rattle.schedules.specs.Queues.{hart_without};
 ghost use Rattle.schedules.specs.Standing.{times_on};
@@ -25,33 +25,17 @@ pub(crate) fn process_on(harts: &Vec<Option<u16>>, i: usize) -> Option<u16>
     harts[i]
 }
 
-/// Takes the process off this hart, where it is there.
-fn clear_at(harts: &mut Vec<Option<u16>>, i: usize, p: u16)
-    requires { i < length harts.old.items }
-    ensures { let hart = slice_index_or harts.old.items i None in
-        harts.new.items ≡ slice_set harts.old.items i (hart_without p hart) }
+/// Takes the process off the harts, of which it is on one at most, and says whether it was on one.
+pub(crate) fn take_off(harts: &mut Vec<Option<u16>>, p: u16) -> bool
+    requires { sum_by (times_on p) harts.old.items ≤ 1 }
+    ensures harts { harts.new.items ≡ map (hart_without p) harts.old.items }
+    ensures there { IsTrue result → 1 ≤ sum_by (times_on p) harts.old.items }
 {
-    let hart = harts[i];
-    harts[i] = without_process(hart, p);
-}
-
-/// What is on a hart once the process is taken off.
-fn without_process(hart: Option<u16>, p: u16) -> Option<u16>
-    ensures { result ≡ hart_without p hart }
-{
-    match hart {
-        Some(other) => { if other == p { None } else { Some(other) } }
-        None => None,
-    }
-}
-
-/// Takes the process off all harts.
-pub(crate) fn take_off(harts: &mut Vec<Option<u16>>, p: u16)
-    ensures { harts.new.items ≡ map (hart_without p) harts.old.items }
-{
-    for i in 0..harts.len() {
-        clear_at(harts, i, p);
-    }
+    let Some(i) = hart_with(harts, p) else {
+        return false;
+    };
+    harts[i] = None;
+    true
 }
 
 /// The harts get the processes of as many others.
@@ -77,7 +61,7 @@ pub(crate) fn hart_with(harts: &[Option<u16>], p: u16) -> Option<usize>
 }
 
 /// Whether this is what a hart with the process has.
-fn has_process(hart: Option<u16>, p: u16) -> bool
+pub(crate) fn has_process(hart: Option<u16>, p: u16) -> bool
     ensures is_there { IsTrue result → hart ≡ Some p }
     ensures absent { result ≡ false → times_on p hart ≡ 0 }
 {

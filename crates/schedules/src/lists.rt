@@ -1,6 +1,6 @@
 //! Lists of processes, as the ready queues and the sleepers of each process are: changes of one list or of all, and
 //! looking through them.
-ghost use Rattle.std.specs.Prelude.{◌≡◌, ◌==◌, ◌++◌, ◌∷◌, not, ◌<◌, ◌≤◌, [], length, map, replicate, true, false, slice_index_or, slice_set, IfSome, IfOk, IsNone};
+ghost use Rattle.std.specs.Prelude.{◌≡◌, ◌==◌, ◌++◌, ◌∷◌, not, ◌<◌, ◌≤◌, [], length, map, replicate, true, false, slice_index_or, slice_set, IfSome, IfOk, IsNone, IsTrue};
 ghost use Rattle.std.specs.List.{sum_by};
 ghost use Rattle.schedules.specs.Queues.{without, stands_in, highest_below, first_of, rest_of};
 ghost use Rattle.schedules.specs.Standing.{times_in};
@@ -93,13 +93,18 @@ pub(crate) fn copy_lists(lists: &mut Vec<ProcessList>, from: &[ProcessList])
     }
 }
 
-/// Takes the process out of all lists.
-pub(crate) fn take_out(lists: &mut Vec<ProcessList>, p: u16)
-    ensures { lists.new.items ≡ map (without p) lists.old.items }
+/// Takes the process out of the lists, in which it stands once at most, and says whether it stood there.
+#[tactic(auto, using(crate::proofs::Nowhere::without_one, crate::proofs::OnHart::in_lists))]
+pub(crate) fn take_out(lists: &mut Vec<ProcessList>, p: u16) -> bool
+    requires { sum_by (times_in p) lists.old.items ≤ 1 }
+    ensures lists { lists.new.items ≡ map (without p) lists.old.items }
+    ensures there { IsTrue result → 1 ≤ sum_by (times_in p) lists.old.items }
 {
-    for i in 0..lists.len() {
-        remove_at(lists, i, p);
-    }
+    let Some(i) = list_with(lists, p) else {
+        return false;
+    };
+    remove_at(lists, i, p);
+    true
 }
 
 /// The first of these lists in which the process stands.

@@ -1,12 +1,13 @@
-ghost use Rattle.std.specs.Prelude.{◌≡◌, ◌+◌, ◌==◌, ◌<◌, ◌≤◌, ℕ, List, cond, length, slice_index_or, slice_get, Some, IfSome, IfOk};
-ghost use Rattle.schedules.specs.Queues.{enqueued, asleep, left, dispatched, hart_of, ready_queue, sleepers_of};
-ghost use Rattle.schedules.specs.Standing.{IsSpot, standing, times_in, empty_queues};
+ghost use Rattle.std.specs.Prelude.{◌≡◌, ◌+◌, ◌==◌, ◌<◌, ◌≤◌, ℕ, List, cond, length, map, slice_index_or, slice_get, Some, None, IfSome, IfOk, IsTrue};
+ghost use Rattle.std.specs.List.{sum_by};
+ghost use Rattle.schedules.specs.Queues.{without, hart_without, enqueued, asleep, left, dispatched, hart_of, ready_queue, sleepers_of};
+ghost use Rattle.schedules.specs.Standing.{IsSpot, standing, times_in, times_on, empty_queues};
 ghost use Rattle.schedules.specs.Ready.{unslept, runs, places_due, Agrees, AgreesBut};
 ghost use Rattle.process_objects.specs.Process.{ProcessValue, empty_process};
 
 mod ready;
 
-use crate::harts::{copy_harts, empty_harts, hart_with, process_on, take_off};
+use crate::harts::{copy_harts, empty_harts, hart_with, has_process, process_on, take_off};
 use crate::lists::{
     copy_lists, empty_at, empty_lists, first_at, highest, list_with, pop_at, push_at, take_out,
 };
@@ -21,6 +22,8 @@ pub struct Queues {
     ready: Vec<ProcessList>,
     sleepers: Vec<ProcessList>,
     harts: Vec<Option<u16>>,
+    /// The hart that was dispatched last, on which a process is looked for first.
+    last: u8,
 }
 
 impl Model for Queues {
@@ -48,6 +51,7 @@ impl Queues {
             ready,
             sleepers,
             harts,
+            last: 0,
         })
     }
 
@@ -86,6 +90,9 @@ impl Queues {
         ensures there { IsSpot self.now p result }
         ensures on_hart { (hart : ℕ) → hart_of self.now hart ≡ Some p → result ≡ Spot.Hart hart }
     {
+        if is_on(&self.harts, self.last, p) {
+            return Spot::Hart(self.last);
+        }
         if let Some(hart) = hart_with(&self.harts, p) {
             return Spot::Hart(hart as u8);
         }
@@ -98,8 +105,7 @@ impl Queues {
         Spot::Nowhere
     }
 
-    /// The process leaves the place where it stands, if any. Not in constant time: it goes through all lists, which
-    /// have each process at most once.
+    /// The process leaves the place where it stands, if any. It is looked for on the harts first, and then in the lists.
     pub fn leave(&mut self, p: u16)
         requires { p < length self.old.sleepers }
         ensures after { self.new ≡ left self.old p }
@@ -109,9 +115,7 @@ impl Queues {
         ensures agrees { (processes : List ProcessValue) →
             Agrees (runs processes self.old) → AgreesBut p (runs processes self.new) }
     {
-        take_out(&mut self.ready, p);
-        take_out(&mut self.sleepers, p);
-        take_off(&mut self.harts, p);
+        take_away(&mut self.ready, &mut self.sleepers, &mut self.harts, p);
     }
 
     /// The process becomes the last sleeper of `on`, in constant time.
@@ -140,6 +144,7 @@ impl Queues {
         ensures agrees { (processes : List ProcessValue) →
             Agrees (runs processes self.old) → Agrees (runs processes self.new) }
     {
+        self.last = hart;
         if let Some(p) = self.harts[hart as usize] {
             return Some(p);
         }
@@ -207,4 +212,34 @@ impl Queues {
     {
         push_at(&mut self.ready, priority as usize, p);
     }
+}
+
+/// Whether this is a hart that has the process.
+fn is_on(harts: &[Option<u16>], hart: u8, p: u16) -> bool
+    ensures { IsTrue result → slice_index_or harts.now hart None ≡ Some p }
+{
+    (hart as usize) < harts.len() && has_process(harts[hart as usize], p)
+}
+
+/// Takes the process out of the place where it stands, which is one at most.
+#[tactic(auto, using(crate::proofs::Nowhere::without_absent_all))]
+fn take_away(
+    ready: &mut Vec<ProcessList>,
+    sleepers: &mut Vec<ProcessList>,
+    harts: &mut Vec<Option<u16>>,
+    p: u16,
+)
+    requires { let lists = sum_by (times_in p) ready.old.items + sum_by (times_in p) sleepers.old.items in
+        lists + sum_by (times_on p) harts.old.items ≤ 1 }
+    ensures ready { ready.new.items ≡ map (without p) ready.old.items }
+    ensures sleepers { sleepers.new.items ≡ map (without p) sleepers.old.items }
+    ensures harts { harts.new.items ≡ map (hart_without p) harts.old.items }
+{
+    if take_off(harts, p) {
+        return;
+    }
+    if take_out(ready, p) {
+        return;
+    }
+    take_out(sleepers, p);
 }

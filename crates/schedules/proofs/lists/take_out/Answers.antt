@@ -1,7 +1,6 @@
-use Rattle.std.proofs.Common.{rules}
-use Rattle.schedules.specs.Queues.{without}
-use Rattle.schedules.proofs.Mapped.{mapped_more}
+use Rattle.std.proofs.Common.{sym, refl}
+use Rattle.schedules.proofs.Nowhere.{without_absent_all}
 use Rattle.schedules.proofs.lists.take_out.Goals as goal
 
-pub loop-i-preserved : goal.loop-i-preserved
-loop-i-preserved c = rw c.remove_at.ensures (mapped_more (without c.args.p) c.loop-i.i c.args.lists.now.items c.loop-i.lists.items _ c.loop-i.invariant (search rules))
+pub returns-in_default-clause-lists : goal.returns-in_default-clause-lists
+returns-in_default-clause-lists c = sym (without_absent_all c.args.p c.args.lists.now.items (rw (← c.deref.ensures.value) (c.in_default.ensures.none refl)))

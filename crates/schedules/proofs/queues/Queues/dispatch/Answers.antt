@@ -4,8 +4,8 @@ use Rattle.schedules.proofs.Kept.{kept_taken}
 use Rattle.schedules.proofs.Agreement.{agrees-taken}
 use Rattle.schedules.proofs.queues.Queues.dispatch.Goals as goal
 
-pub invariant_of-self : goal.invariant_of-self
-invariant_of-self c =
+pub invariant_of-self-2 : goal.invariant_of-self-2
+invariant_of-self-2 c =
     let i = c.self.inside in
     let q : QueuesValue = record { ready = i.ready.items; sleepers = i.sleepers.items; harts = i.harts.items } in
     let Within : QueuesValue → Type 0 = λ v. c.args.hart < length v.harts in
