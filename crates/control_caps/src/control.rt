@@ -39,7 +39,8 @@ pub fn invoke(objects: &mut Objects, queues: &mut Queues, cap: Cap, request: Req
     requires agrees { Agrees (runs_of objects.old queues.old) }
     ensures reply { result ≡ reply_of (control_operation Stored objects.old cap request) }
     ensures after { let settled = control_operation Stored objects.old cap request in
-        applied_all Stored (system objects.old queues.old) settled.answer.changes ≡ system objects.new queues.new }
+        applied_all Stored (system objects.old queues.old) settled.answer.changes ≡
+        system objects.new queues.new }
 
     // As it means: the same request to the model's map.
     ensures reply_means { let map = state_map objects.old in
@@ -74,7 +75,8 @@ fn answer(objects: &mut Objects, queues: &mut Queues, cap: Cap, request: Request
     requires agrees { Agrees (runs_of objects.old queues.old) }
     ensures reply { result ≡ reply_of (control_operation Stored objects.old cap request) }
     ensures after { let settled = control_operation Stored objects.old cap request in
-        applied_all Stored (system objects.old queues.old) settled.answer.changes ≡ system objects.new queues.new }
+        applied_all Stored (system objects.old queues.old) settled.answer.changes ≡
+        system objects.new queues.new }
     ensures agrees { Agrees (runs_of objects.new queues.new) }
 {
     if is_null(cap.kind()) {
@@ -101,10 +103,13 @@ fn own(objects: &mut Objects, queues: &mut Queues, cap: Cap, request: Request) -
     requires none_ahead { NoneAhead objects.old }
     requires sizes { length queues.old.sleepers ≡ size_of objects.old.items Process }
     requires agrees { Agrees (runs_of objects.old queues.old) }
-    ensures reply { let settled = settled_row (own_table Stored objects.old cap request cap.kind (w1 request)) in
+    ensures reply { let settled =
+        settled_row (own_table Stored objects.old cap request cap.kind (w1 request)) in
         result ≡ reply_of settled }
-    ensures after { let settled = settled_row (own_table Stored objects.old cap request cap.kind (w1 request)) in
-        applied_all Stored (system objects.old queues.old) settled.answer.changes ≡ system objects.new queues.new }
+    ensures after { let settled =
+        settled_row (own_table Stored objects.old cap request cap.kind (w1 request)) in
+        applied_all Stored (system objects.old queues.old) settled.answer.changes ≡
+        system objects.new queues.new }
     ensures agrees { Agrees (runs_of objects.new queues.new) }
 {
     match cap.kind() {

@@ -26,10 +26,13 @@ pub(crate) fn range(objects: &mut Objects, queues: &mut Queues, request: Request
     requires none_ahead { NoneAhead objects.old }
     requires sizes { length queues.old.sleepers ≡ size_of objects.old.items Process }
     requires agrees { Agrees (runs_of objects.old queues.old) }
-    ensures reply { let settled = settled_row (range_table Stored objects.old request (w1 request)) in
+    ensures reply { let settled =
+        settled_row (range_table Stored objects.old request (w1 request)) in
         result ≡ reply_of settled }
-    ensures after { let settled = settled_row (range_table Stored objects.old request (w1 request)) in
-        applied_all Stored (system objects.old queues.old) settled.answer.changes ≡ system objects.new queues.new }
+    ensures after { let settled =
+        settled_row (range_table Stored objects.old request (w1 request)) in
+        applied_all Stored (system objects.old queues.old) settled.answer.changes ≡
+        system objects.new queues.new }
     ensures agrees { Agrees (runs_of objects.new queues.new) }
 {
     match request.words[0] {

@@ -18,10 +18,13 @@ use operations::{done, hand_over, refuse, tell};
 pub(crate) fn endpoint(objects: &mut Objects, cap: Cap, request: Request) -> Reply
     requires kind { cap.kind ≡ Endpoint }
     requires live { is_live objects.old.items cap ≡ true }
-    ensures reply { let settled = settled_row (endpoint_table objects.old cap request (w1 request)) in
+    ensures reply { let settled =
+        settled_row (endpoint_table objects.old cap request (w1 request)) in
         result ≡ reply_of settled }
-    ensures objects { let settled = settled_row (endpoint_table objects.old cap request (w1 request)) in
-        (q : QueuesValue) → applied_all Stored (system objects.old q) settled.answer.changes ≡ system objects.new q }
+    ensures objects { let settled =
+        settled_row (endpoint_table objects.old cap request (w1 request)) in
+        (q : QueuesValue) → applied_all Stored (system objects.old q) settled.answer.changes ≡
+        system objects.new q }
     ensures processes { objects.new.contents.processes ≡ objects.old.contents.processes }
 {
     match request.words[0] {
@@ -42,7 +45,8 @@ fn set_recipient(objects: &mut Objects, cap: Cap, request: Request) -> Reply
     requires live { is_live objects.old.items cap ≡ true }
     ensures reply { result ≡ reply_of (settled (setrecipient_row objects.old cap request)) }
     ensures objects { let settled = settled (setrecipient_row objects.old cap request) in
-        (q : QueuesValue) → applied_all Stored (system objects.old q) settled.answer.changes ≡ system objects.new q }
+        (q : QueuesValue) → applied_all Stored (system objects.old q) settled.answer.changes ≡
+        system objects.new q }
     ensures processes { objects.new.contents.processes ≡ objects.old.contents.processes }
 {
     match request.sent.kind() {
@@ -73,7 +77,8 @@ fn set_id(objects: &mut Objects, cap: Cap, request: Request) -> Reply
     requires live { is_live objects.old.items cap ≡ true }
     ensures reply { result ≡ reply_of (settled (setid_row objects.old cap request)) }
     ensures objects { let settled = settled (setid_row objects.old cap request) in
-        (q : QueuesValue) → applied_all Stored (system objects.old q) settled.answer.changes ≡ system objects.new q }
+        (q : QueuesValue) → applied_all Stored (system objects.old q) settled.answer.changes ≡
+        system objects.new q }
     ensures processes { objects.new.contents.processes ≡ objects.old.contents.processes }
 {
     objects.endpoint_mut(cap.object() as u16).id = request.words[1];
@@ -87,7 +92,8 @@ fn set_match(objects: &mut Objects, cap: Cap, request: Request) -> Reply
     requires live { is_live objects.old.items cap ≡ true }
     ensures reply { result ≡ reply_of (settled (setmatch_row objects.old cap request)) }
     ensures objects { let settled = settled (setmatch_row objects.old cap request) in
-        (q : QueuesValue) → applied_all Stored (system objects.old q) settled.answer.changes ≡ system objects.new q }
+        (q : QueuesValue) → applied_all Stored (system objects.old q) settled.answer.changes ≡
+        system objects.new q }
     ensures processes { objects.new.contents.processes ≡ objects.old.contents.processes }
 {
     let flag = request.words[1];
@@ -115,7 +121,8 @@ fn set_payload(objects: &mut Objects, cap: Cap, request: Request) -> Reply
     requires live { is_live objects.old.items cap ≡ true }
     ensures reply { result ≡ reply_of (settled (setpayload_row objects.old cap request)) }
     ensures objects { let settled = settled (setpayload_row objects.old cap request) in
-        (q : QueuesValue) → applied_all Stored (system objects.old q) settled.answer.changes ≡ system objects.new q }
+        (q : QueuesValue) → applied_all Stored (system objects.old q) settled.answer.changes ≡
+        system objects.new q }
     ensures processes { objects.new.contents.processes ≡ objects.old.contents.processes }
 {
     objects.endpoint_mut(cap.object() as u16).payload = request.words[1];

@@ -32,10 +32,13 @@ pub(crate) fn process(
     requires live { is_live objects.old.items cap ≡ true }
     requires sizes { length queues.old.sleepers ≡ size_of objects.old.items Process }
     requires agrees { Agrees (runs_of objects.old queues.old) }
-    ensures reply { let settled = settled_row (process_table objects.old cap request (w1 request)) in
+    ensures reply { let settled =
+        settled_row (process_table objects.old cap request (w1 request)) in
         result ≡ reply_of settled }
-    ensures after { let settled = settled_row (process_table objects.old cap request (w1 request)) in
-        applied_all Stored (system objects.old queues.old) settled.answer.changes ≡ system objects.new queues.new }
+    ensures after { let settled =
+        settled_row (process_table objects.old cap request (w1 request)) in
+        applied_all Stored (system objects.old queues.old) settled.answer.changes ≡
+        system objects.new queues.new }
     ensures agrees { Agrees (runs_of objects.new queues.new) }
 {
     match request.words[0] {
@@ -105,7 +108,8 @@ pub(crate) fn put_away(objects: &mut Objects, queues: &mut Queues, p: u16)
     requires there { p < size_of objects.old.items Process }
     requires sizes { length queues.old.sleepers ≡ size_of objects.old.items Process }
     requires agrees { Agrees (runs_of objects.old queues.old) }
-    ensures objects { objects.new ≡ with_process objects.old p (with_state (process_at objects.old p) stopped) }
+    ensures objects { objects.new ≡
+        with_process objects.old p (with_state (process_at objects.old p) stopped) }
     ensures queues { queues.new ≡ left queues.old p }
     ensures nowhere { standing queues.new p ≡ 0 }
     ensures sizes { length queues.new.sleepers ≡ length queues.old.sleepers }

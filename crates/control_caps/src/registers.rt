@@ -42,8 +42,10 @@ pub(crate) fn set_reg(objects: &mut Objects, cap: Cap, request: Request) -> Repl
     requires live { is_live objects.old.items cap ≡ true }
     ensures reply { result ≡ reply_of (settled (setreg_row objects.old cap request)) }
     ensures objects { let settled = settled (setreg_row objects.old cap request) in
-        (q : QueuesValue) → applied_all Stored (system objects.old q) settled.answer.changes ≡ system objects.new q }
-    ensures agrees { (q : QueuesValue) → Agrees (runs_of objects.old q) → Agrees (runs_of objects.new q) }
+        (q : QueuesValue) → applied_all Stored (system objects.old q) settled.answer.changes ≡
+        system objects.new q }
+    ensures agrees { (q : QueuesValue) →
+        Agrees (runs_of objects.old q) → Agrees (runs_of objects.new q) }
 {
     let i = request.words[1];
     let value = request.words[2];
@@ -81,8 +83,10 @@ pub(crate) fn set_capreg(objects: &mut Objects, cap: Cap, request: Request) -> R
     requires live { is_live objects.old.items cap ≡ true }
     ensures reply { result ≡ reply_of (settled (setcapreg_row objects.old cap request)) }
     ensures objects { let settled = settled (setcapreg_row objects.old cap request) in
-        (q : QueuesValue) → applied_all Stored (system objects.old q) settled.answer.changes ≡ system objects.new q }
-    ensures agrees { (q : QueuesValue) → Agrees (runs_of objects.old q) → Agrees (runs_of objects.new q) }
+        (q : QueuesValue) → applied_all Stored (system objects.old q) settled.answer.changes ≡
+        system objects.new q }
+    ensures agrees { (q : QueuesValue) →
+        Agrees (runs_of objects.old q) → Agrees (runs_of objects.new q) }
 {
     let i = request.words[1];
     if i == 0 || 31 < i {
@@ -116,8 +120,10 @@ pub(crate) fn set_slot(objects: &mut Objects, cap: Cap, request: Request) -> Rep
     requires live { is_live objects.old.items cap ≡ true }
     ensures reply { result ≡ reply_of (settled (setslot_row objects.old cap request)) }
     ensures objects { let settled = settled (setslot_row objects.old cap request) in
-        (q : QueuesValue) → applied_all Stored (system objects.old q) settled.answer.changes ≡ system objects.new q }
-    ensures agrees { (q : QueuesValue) → Agrees (runs_of objects.old q) → Agrees (runs_of objects.new q) }
+        (q : QueuesValue) → applied_all Stored (system objects.old q) settled.answer.changes ≡
+        system objects.new q }
+    ensures agrees { (q : QueuesValue) →
+        Agrees (runs_of objects.old q) → Agrees (runs_of objects.new q) }
 {
     let i = request.words[1];
     if 2 < i {
