@@ -58,7 +58,7 @@ pub number_itself : (n : ℕ) → (n == n) ≡ true
 number_itself n = grind (arith, nat_tests)
 
 -- capabilities of the same numbers are one
-code_of-apart : (s t : Capability) (rest more : List ℕ) → code_of s ++ rest ≡ code_of t ++ more → s ≡ t
+pub code_of-apart : (s t : Capability) (rest more : List ℕ) → code_of s ++ rest ≡ code_of t ++ more → s ≡ t
 code_of-apart s t rest more e = λ i. record {
   kind = kind_of_number s.kind t.kind (ap (λ (l : List ℕ). slice_index l 0) e) i;
   restr = ap (λ (l : List ℕ). slice_index l 1) e i;

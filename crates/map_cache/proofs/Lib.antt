@@ -1,15 +1,15 @@
 pub mod Codes
-mod Records
+pub mod Records
 mod Keyed
 mod Notes
 mod Invariant
 mod Leaves
-mod Coherence
+pub mod Coherence
 pub mod Economy
 mod Installing
 pub mod Blank
 mod Forgotten
-mod Accesses
+pub mod Accesses
 pub mod Listed
 mod Entries
 mod Held

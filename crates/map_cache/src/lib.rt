@@ -17,3 +17,4 @@ mod translating;
 pub use key::Key;
 pub use map_cache::MapCache;
 pub use mapping::{Mapping, MappingPlace};
+pub use tlbs::{drop_all, empty_tlbs, hold, seek};

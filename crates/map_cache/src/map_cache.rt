@@ -167,6 +167,7 @@ impl Translator for MapCache {
 
     ghost spared = { λ k o c a kind entries. tlb_after k o c a kind entries };
 
+    #[inline(always)]
     fn translate<L: Ledger>(
         &mut self,
         objects: &Objects,

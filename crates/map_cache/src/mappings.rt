@@ -51,6 +51,7 @@ impl Mappings {
     }
 
     /// The leaf of the page of an address, which the hart holds afterwards.
+    #[inline(always)]
     pub fn find(&mut self, hart: u8, space: Cap, va: u32) -> Option<Leaf>
         requires kept { IsKept self.old }
         requires hart { hart < length self.old.tlbs.items }
@@ -73,6 +74,7 @@ impl Mappings {
 }
 
 /// The root of a space among the keys. It tries the guess of the space's object first.
+#[inline(always)]
 pub fn find_root(keys: &ArrayVec<Key, 256>, guesses: &mut [u16; 64], space: Cap) -> Option<u16>
     requires { AreApart keys.now.items }
     ensures { result ≡ root_at keys.now.items space }

@@ -23,6 +23,7 @@ use walk_meaning::{Kind, Place, WalkFault, kind_law, page_law, place_law, reads_
 
 impl Mappings {
     /// Translates a data access. The trail is where a walk writes its reads.
+    #[inline(always)]
     pub fn translate<L: Ledger>(
         &mut self,
         objects: &Objects,
@@ -74,6 +75,60 @@ impl Mappings {
                 offset: (address % 4096) as u16,
             });
         }
+        // The walk gets a copy of the space, so that for a hit it need not stand in memory.
+        let from = space;
+        self.walk_anew(objects, hart, from, address, kind, trail, fetches)
+    }
+
+    /// Translates by a walk, whose end is kept.
+    #[inline(never)]
+    fn walk_anew<L: Ledger>(
+        &mut self,
+        objects: &Objects,
+        hart: u8,
+        space: Cap,
+        address: u32,
+        kind: Kind,
+        trail: &mut Trail,
+        fetches: &mut Steps<L>,
+    ) -> Result<Hit, WalkFault>
+        requires kept { IsKept self.old }
+        requires data { is_data kind ≡ true }
+        requires hart { hart < length self.old.tlbs.items }
+        requires coherent { IsCoherent (value_of self.old) (map_of objects.now.items) }
+        requires none { (leaf : AnyLeaf)
+            → leaf_for (value_of self.old) space (address / 4096) ≡ Some leaf → allows leaf kind ≡ false }
+        ensures answer { let o = map_of objects.now.items in
+            let c = meaning objects.now.items space in
+            hit_meaning result ≡ hit_of (access o c address kind) }
+        ensures page { IfOk result (λ hit. hit.page < size_of objects.now.items CapKind.Page) }
+        ensures offset { IfOk result (λ hit. hit.offset ≡ address % 4096) }
+        ensures handler { IfErr result (λ fault. HandlerLives objects.now.items fault.handler) }
+
+        ensures kept { IsKept self.new }
+        ensures coherent { IsCoherent (value_of self.new) (map_of objects.now.items) }
+        ensures harts { length self.new.tlbs.items ≡ length self.old.tlbs.items }
+        ensures held { IfOk result
+            (λ hit. AnswersHeld (value_of self.new) hart space (address / 4096) hit.page) }
+
+        ensures counted { let o = map_of objects.now.items in
+            let c = meaning objects.now.items space in
+            fetches.new ≡ fetches.old + cost_of (kept_of (value_of self.old)) o c address kind }
+        ensures bound { fetches.new ≤ fetches.old + 32 }
+        ensures after { let o = map_of objects.now.items in
+            let c = meaning objects.now.items space in
+            kept_of (value_of self.new) ≡ kept_after (kept_of (value_of self.old)) o c address kind }
+        ensures others { let o = map_of objects.now.items in
+            let c = meaning objects.now.items space in
+            (k : ℕ) → k ≢ hart → tlb_at self.new.tlbs.items k
+            ≡ tlb_after (kept_of (value_of self.old)) o c address kind (tlb_at self.old.tlbs.items k) }
+    {
+        objects.in_ranges();
+        let _range = space.kind();
+        kind_law();
+        page_law();
+        place_law();
+        reads_law();
         let place = walk(objects, space, address, kind, trail, fetches)?;
         self.remember(hart, space, address, reached_leaf(place), trail.as_slice());
         Ok(Hit {
@@ -83,6 +138,7 @@ impl Mappings {
     }
 
     /// The leaf of the page of an address, where it allows the access. The hart holds it afterwards.
+    #[inline(always)]
     fn find_allowed(&mut self, hart: u8, space: Cap, va: u32, kind: Kind) -> Option<Leaf>
         requires kept { IsKept self.old }
         requires hart { hart < length self.old.tlbs.items }

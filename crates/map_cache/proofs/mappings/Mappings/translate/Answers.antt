@@ -1,14 +1,11 @@
-use Rattle.std.proofs.Common.{◌≡◌, ◌/◌, ◌<◌, ◌^◌, List, None, refl, sym, ap, ◌∙◌, subst, arith, if◌then◌else◌, []}
+use Rattle.std.proofs.Common.{◌≡◌, ◌+◌, ◌/◌, ◌<◌, ◌^◌, List, refl, sym, ap, ◌∙◌, arith}
 use Rattle.object_store.specs.Meaning.{map_of, meaning}
-use Rattle.sv32_tables.specs.declared.leaf.Leaf.{Leaf}
-use Rattle.walk_meaning.specs.declared.noted.Noted.{Noted}
-use Rattle.walk_meaning.specs.Trail.{trail}
-use Rattle.walk_meaning.specs.Walk.{access}
-use Rattle.map_cache.specs.Kept.{added, added_to, fits}
-use Rattle.map_cache.specs.Cache.{kept_of, leaf_for, tlb_at}
-use Rattle.map_cache.specs.Effects.{IsWalked, Remembers, value_of}
-use Rattle.map_cache.proofs.Accesses.{IsAdded, changes-coherent, changes-kept, changes-leaf}
-use Rattle.map_cache.proofs.Translated.{Served, reached-new, reached-walked, remembers-over, served, unserved, walk-items}
+use Rattle.tlb_model.specs.declared.entry.Entry.{Entry}
+use Rattle.map_cache.specs.Kept.{KeptValue, cost_of, kept_after, tlb_after}
+use Rattle.map_cache.specs.Cache.{kept_of, tlb_at}
+use Rattle.map_cache.specs.Effects.{value_of}
+use Rattle.map_cache.proofs.Accesses.{changes-coherent, changes-kept, changes-leaf}
+use Rattle.map_cache.proofs.Translated.{served}
 use Rattle.map_cache.proofs.mappings.Mappings.translate.Given as given
 use Rattle.map_cache.proofs.mappings.Mappings.translate.Goals as goal
 
@@ -43,49 +40,28 @@ returns-in-Some-clause-others g c = λ k differs.
     let done = served c.page_law.ensures c.kind_law.ensures c.args.objects.now.items c.in_ranges.ensures.ranged c.args.space c.kind-range.ensures.range c.args.address low c.args.kind c.requires.data (value_of c.args.self.now) c.requires.kept c.requires.coherent c.place_law.ensures c.in-Some.leaf c.in-Some.ensures.leaf c.in-Some.ensures.allowed in
     c.find_allowed.ensures.changes.others k differs ∙ sym (done.tlb (tlb_at c.args.self.now.tlbs.items k))
 
-pub returns-in_err-place-clause-coherent : goal.returns-in_err-place-clause-coherent
-returns-in_err-place-clause-coherent g c = changes-coherent (value_of c.args.self.now) (value_of c.find_allowed.new.self) c.args.hart (map_of c.args.objects.now.items) c.find_allowed.ensures.changes c.requires.coherent
+pub walk_anew-requires-clause-coherent : goal.walk_anew-requires-clause-coherent
+walk_anew-requires-clause-coherent g c = changes-coherent (value_of c.args.self.now) (value_of c.find_allowed.new.self) c.args.hart (map_of c.args.objects.now.items) c.find_allowed.ensures.changes c.requires.coherent
 
-pub remember-requires-clause-bare : goal.remember-requires-clause-bare
-remember-requires-clause-bare g c =
-    let low : c.args.address < 2 ^ 32 = omega (arith, c.ranges.address.fits) in
-    changes-leaf (value_of c.args.self.now) (value_of c.find_allowed.new.self) c.args.hart c.args.space (c.args.address / 4096) c.find_allowed.ensures.changes
-    ∙ unserved c.page_law.ensures c.kind_law.ensures c.args.objects.now.items c.in_ranges.ensures.ranged c.args.space c.kind-range.ensures.range c.args.address low c.args.kind c.requires.data (value_of c.args.self.now) c.requires.kept c.requires.coherent (c.in_default.ensures.none refl) c.in_ok-place.place (sym c.in_ok-place.ensures.value)
+pub walk_anew-requires-clause-none : goal.walk_anew-requires-clause-none
+walk_anew-requires-clause-none g c = λ leaf there.
+    c.in_default.ensures.none refl leaf (sym (changes-leaf (value_of c.args.self.now) (value_of c.find_allowed.new.self) c.args.hart c.args.space (c.args.address / 4096) c.find_allowed.ensures.changes) ∙ there)
 
-pub remember-requires-clause-items : goal.remember-requires-clause-items
-remember-requires-clause-items g c =
-    let low : c.args.address < 2 ^ 32 = omega (arith, c.ranges.address.fits) in
-    walk-items c.reads_law.ensures c.args.objects.now.items c.in_ranges.ensures.ranged c.args.space c.kind-range.ensures.range c.args.address low c.args.kind c.as_slice.result.now (c.as_slice.ensures.value ∙ c.in_ok-place.ensures.noted)
-
--- what is left when the place was remembered
-remembered : (g : given.Over) (c : goal.After-remember g) → Remembers (value_of c.args.self.now) (value_of c.remember.new.self) c.args.hart c.args.space (c.args.address / 4096) c.reached_leaf.result c.as_slice.result.now
-remembered g c = remembers-over (value_of c.args.self.now) (value_of c.find_allowed.new.self) (value_of c.remember.new.self) c.args.hart (c.args.address / 4096) c.args.space c.reached_leaf.result c.as_slice.result.now c.find_allowed.ensures.changes c.remember.ensures.done
-
--- and what the access came to
-added_new : (g : given.Over) (c : goal.After-remember g) → IsAdded (kept_of (value_of c.args.self.now)) (map_of c.args.objects.now.items) (meaning c.args.objects.now.items c.args.space) c.args.space c.args.address c.args.kind
-added_new g c =
-    let low : c.args.address < 2 ^ 32 = omega (arith, c.ranges.address.fits) in
-    let reached = sym c.in_ok-place.ensures.value in
-    let bare = unserved c.page_law.ensures c.kind_law.ensures c.args.objects.now.items c.in_ranges.ensures.ranged c.args.space c.kind-range.ensures.range c.args.address low c.args.kind c.requires.data (value_of c.args.self.now) c.requires.kept c.requires.coherent (c.in_default.ensures.none refl) c.in_ok-place.place reached in
-    reached-new c.page_law.ensures c.kind_law.ensures c.args.objects.now.items c.in_ranges.ensures.ranged c.args.space c.kind-range.ensures.range c.args.address low c.args.kind c.requires.data (value_of c.args.self.now) c.requires.kept c.requires.coherent c.in_ok-place.place reached bare
-
-pub returns-clause-coherent : goal.returns-clause-coherent
-returns-clause-coherent g c =
-    let low : c.args.address < 2 ^ 32 = omega (arith, c.ranges.address.fits) in
-    let walked = reached-walked c.page_law.ensures c.kind_law.ensures c.args.objects.now.items c.in_ranges.ensures.ranged c.args.space c.kind-range.ensures.range c.args.address low c.args.kind c.requires.data (value_of c.args.self.now) c.requires.kept c.requires.coherent c.reads_law.ensures c.in_ok-place.place c.as_slice.result.now (sym c.in_ok-place.ensures.value) (c.as_slice.ensures.value ∙ c.in_ok-place.ensures.noted) in
-    (remembered g c).coherent (map_of c.args.objects.now.items) (subst (λ (l : Leaf). IsWalked (map_of c.args.objects.now.items) c.args.space (c.args.address / 4096) l c.as_slice.result.now) (sym c.reached_leaf.ensures) walked) c.requires.coherent
+-- what is kept is as it was before the leaf was looked for
+same : (g : given.Over) (c : goal.After-walk_anew g) → kept_of (value_of c.find_allowed.new.self) ≡ kept_of (value_of c.args.self.now)
+same g c = changes-kept (value_of c.args.self.now) (value_of c.find_allowed.new.self) c.args.hart c.find_allowed.ensures.changes
 
 pub returns-clause-counted : goal.returns-clause-counted
-returns-clause-counted g c = omega (arith, c.walk.ensures.counted, (added_new g c).cost)
+returns-clause-counted g c =
+    c.walk_anew.ensures.counted
+    ∙ ap (λ (k : KeptValue). c.args.fetches.now + cost_of k (map_of c.args.objects.now.items) (meaning c.args.objects.now.items c.args.space) c.args.address c.args.kind) (same g c)
 
 pub returns-clause-after : goal.returns-clause-after
 returns-clause-after g c =
-    (remembered g c).kept
-    ∙ ap (λ (ns : List Noted). added_to (kept_of (value_of c.args.self.now)) c.args.space (c.args.address / 4096) ns) (c.as_slice.ensures.value ∙ c.in_ok-place.ensures.noted)
-    ∙ sym (added_new g c).after
+    c.walk_anew.ensures.after
+    ∙ ap (λ (k : KeptValue). kept_after k (map_of c.args.objects.now.items) (meaning c.args.objects.now.items c.args.space) c.args.address c.args.kind) (same g c)
 
 pub returns-clause-others : goal.returns-clause-others
 returns-clause-others g c = λ k differs.
-    (remembered g c).others k differs
-    ∙ ap (λ (ns : List Noted). if fits (added (kept_of (value_of c.args.self.now)) c.args.space (c.args.address / 4096) ns) then tlb_at c.args.self.now.tlbs.items k else []) (c.as_slice.ensures.value ∙ c.in_ok-place.ensures.noted)
-    ∙ sym ((added_new g c).tlb (tlb_at c.args.self.now.tlbs.items k))
+    c.walk_anew.ensures.others k differs
+    ∙ (λ i. tlb_after (same g c i) (map_of c.args.objects.now.items) (meaning c.args.objects.now.items c.args.space) c.args.address c.args.kind (c.find_allowed.ensures.changes.others k differs i))
