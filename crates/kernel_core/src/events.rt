@@ -11,7 +11,7 @@ ghost use Rattle.kernel_core.specs.Event.{decoded_to, instruction, event_by, eve
 
 use crate::instructions::perform;
 use cap_format::FaultCode;
-use machine_state::{Event, Machine, Record, Records};
+use machine_state::{Event, Machine, Records};
 use messages::fault;
 use rv32_decode::decode;
 use std::sync::ledger::Ledger;
@@ -136,12 +136,7 @@ fn instruction<T: Translator, L: Ledger>(
     let pc = machine.pc(p);
     match machine.access(p, pc, Kind::Fetch, fetches) {
         Ok(hit) => {
-            records.push(Record::Access {
-                process: p,
-                kind: Kind::Fetch,
-                address: pc,
-                number: hit.page,
-            });
+            records.push_access(p, Kind::Fetch, pc, hit.page);
             let word = machine.number_at(hit, 4);
             decoded(machine, p, records, word, fetches);
         }
@@ -169,11 +164,7 @@ fn decoded<T: Translator, L: Ledger>(
     let pc = machine.pc(p);
     match decode(word) {
         Ok(insn) => {
-            records.push(Record::Insn {
-                process: p,
-                at: pc,
-                insn,
-            });
+            records.push_insn(p, pc, insn);
             perform(machine, p, records, insn, fetches);
         }
         Err(_) => fault(machine, p, records, FaultCode::BadOpcode, pc, None, fetches),

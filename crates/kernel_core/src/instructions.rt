@@ -15,7 +15,7 @@ use cap_format::FaultCode;
 use machine_state::{Machine, Records};
 use messages::{fault, misaligned};
 use rv32_decode::Insn;
-use rv32_user::{Effect, step};
+use rv32_user::{Effect, evaluate};
 use std::sync::ledger::Ledger;
 use steps::Steps;
 use walk_engine::Translator;
@@ -40,10 +40,10 @@ pub fn perform<T: Translator, L: Ledger>(
         Leaves (process_name p ∷ outcome.changed) machine.old machine.new }
 {
     let pc = machine.pc(p);
-    let mut registers = machine.registers(p);
-    match step(&mut registers, pc, insn) {
+    let outcome = evaluate(machine.registers(p), pc, insn);
+    match outcome.effect {
         Effect::Next(next) => {
-            machine.set_registers(p, &registers);
+            machine.set_register(p, outcome.rd, outcome.value);
             machine.set_pc(p, next);
         }
         Effect::Load {

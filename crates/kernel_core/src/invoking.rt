@@ -37,7 +37,7 @@ pub(crate) fn invoke<T: Translator, L: Ledger>(
     ensures leaves { let outcome = invoke (state_of machine.old) p in
         Leaves (process_name p ∷ outcome.changed) machine.old machine.new }
 {
-    match parse(&machine.registers(p)) {
+    match parse(machine.registers(p)) {
         Err(_) => malformed(machine, p, records, fetches),
         Ok(inv) => {
             if inv.send() {

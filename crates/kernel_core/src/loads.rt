@@ -9,9 +9,9 @@ ghost use Rattle.machine_state.specs.Came.{Came, CameUnasked, Leaves, HasRoom};
 ghost use Rattle.kernel_core.specs.LoadStore.{load, loaded_from};
 
 use cap_format::CapKind;
-use machine_state::{Machine, Record, Records};
+use machine_state::{Machine, Records};
 use messages::{fault, misaligned};
-use rv32_user::finish_load;
+use rv32_user::extended;
 use std::sync::ledger::Ledger;
 use steps::Steps;
 use walk_engine::{Hit, Translator};
@@ -60,7 +60,7 @@ pub(crate) fn load<T: Translator, L: Ledger>(
 }
 
 /// The end of a load whose walk reached a page.
-#[tactic(auto, using(object_store::proofs::Stays::stays_then))]
+#[tactic(auto, unfolding(rv32_user::specs::Step::loaded), using(object_store::proofs::Stays::stays_then))]
 fn loaded_from<T: Translator>(
     machine: &mut Machine<T>,
     p: u16,
@@ -79,16 +79,10 @@ fn loaded_from<T: Translator>(
     ensures leaves { let outcome = loaded_from (state_of machine.old) p wanted.at wanted.size wanted.signed wanted.rd (Ok hit) in
         Leaves (process_name p ∷ outcome.changed) machine.old machine.new }
 {
-    records.push(Record::Access {
-        process: p,
-        kind: Kind::Load,
-        address: wanted.at,
-        number: hit.page,
-    });
+    records.push_access(p, Kind::Load, wanted.at, hit.page);
     let value = machine.number_at(hit, wanted.size);
-    let mut registers = machine.registers(p);
-    finish_load(&mut registers, wanted.rd, wanted.size, wanted.signed, value);
-    machine.set_registers(p, &registers);
+    let word = extended(wanted.size, wanted.signed, value);
+    machine.set_register(p, wanted.rd, word);
     machine.advance(p);
 }
 

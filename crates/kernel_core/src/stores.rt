@@ -10,7 +10,7 @@ ghost use Rattle.kernel_core.specs.LoadStore.{store, stored_to};
 
 use crate::loads::is_aligned;
 use cap_format::CapKind;
-use machine_state::{Machine, Record, Records};
+use machine_state::{Machine, Records};
 use messages::{fault, misaligned};
 use std::sync::ledger::Ledger;
 use steps::Steps;
@@ -70,12 +70,7 @@ fn stored_to<T: Translator>(
     ensures leaves { let outcome = stored_to (state_of machine.old) p at size value (Ok hit) in
         Leaves (process_name p ∷ outcome.changed) machine.old machine.new }
 {
-    records.push(Record::Access {
-        process: p,
-        kind: Kind::Store,
-        address: at,
-        number: hit.page,
-    });
+    records.push_access(p, Kind::Store, at, hit.page);
     machine.write_number(hit, size, value);
     machine.advance(p);
 }

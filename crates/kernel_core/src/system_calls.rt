@@ -18,6 +18,7 @@ use walk_engine::Translator;
 
 /// The system call whose number is in x17.
 #[tactic(auto, unfolding(crate::specs::SystemCall::system_call))]
+#[inline(never)]
 pub(crate) fn system_call<T: Translator, L: Ledger>(
     machine: &mut Machine<T>,
     p: u16,

@@ -5,16 +5,17 @@ use Rattle.std.specs.List.{All}
 use Rattle.std.proofs.lemmas.Bool.{eq-eqb}
 use Rattle.std.proofs.lemmas.List.{drop_more, drop_all, get_or-map}
 use Rattle.std.proofs.lemmas.List.Elements.{All-push}
+use Rattle.std.proofs.lemmas.List.Sums.{sum_by-drop_more}
 use Rattle.cap_format.specs.declared.kind.CapKind.{CapKind}
 use Rattle.cap_format.specs.declared.kind.CapKind.TheVariants.{Process}
 use Rattle.cap_format.specs.Kind.{number_of}
 use Rattle.object_store.specs.Store.{Store, size_of}
 use Rattle.object_store.specs.Object.{ObjectName, object_name, object_at, with_object, IsEven}
-use Rattle.object_store.specs.Saved.{saved_of, restored, AreThere}
+use Rattle.object_store.specs.Saved.{saved_of, restored, AreThere, slots_copied}
 use Rattle.object_store.proofs.Lists.{map-map, map-same}
 use Rattle.object_store.proofs.Same.{object_at_with_object, object_at_with_object_here}
 use Rattle.machine_state.specs.declared.places.Place.{Place}
-use Rattle.machine_state.specs.Past.{PastValue, name_at, names_in, saved_at, saved_in, same_kind, used, next_place, IsOwnPlace, IsPlaced, Holds}
+use Rattle.machine_state.specs.Past.{PastValue, name_at, names_in, saved_at, saved_in, same_kind, used, slots_back, next_place, IsOwnPlace, IsPlaced, Holds}
 
 -- a place by its parts
 abbrev pub place_of : CapKind → ℕ → ℕ → Place
@@ -114,7 +115,15 @@ pub restored_next : (copies : Store) (places : List Place) (i : ℕ) (d : Place)
 unfolding restored
 restored_next copies places i d o within = ap (λ rest. restored (map (saved_at copies) rest) o) (drop_more places i d within)
 
+-- how many slots the next of the rest and all behind it read
+pub slots_next : (places : List Place) (i : ℕ) (d : Place) → i < length places → slots_back (drop i places) ≡ slots_copied (get_or places i d).kind + slots_back (drop (i + 1) places)
+slots_next places i d within = sum_by-drop_more (λ (p : Place). slots_copied p.kind) places i d within
+
 -- none is left
 pub restored_end : (copies : Store) (places : List Place) (i : ℕ) (o : Store) → length places ≤ i → restored (map (saved_at copies) (drop i places)) o ≡ o
 unfolding restored
 restored_end copies places i o past = ap (λ rest. restored (map (saved_at copies) rest) o) (drop_all i places past)
+
+-- and none is read
+pub slots_end : (places : List Place) (i : ℕ) → length places ≤ i → slots_back (drop i places) ≡ 0
+slots_end places i past = ap slots_back (drop_all i places past)

@@ -1,14 +1,14 @@
 -- What is remembered of a machine, to bring it back: copies of named objects, the queues with the harts, and whether it
 -- was halted. (This project's.)
 use Rattle.std.specs.Prelude.{◌≡◌, ℕ, ◌+◌, ◌<◌, ◌==◌, cond, Bool, List, [], ◌∷◌, map, length}
-use Rattle.std.specs.List.{All}
+use Rattle.std.specs.List.{All, sum_by}
 use Rattle.cap_format.specs.declared.kind.CapKind.{CapKind}
 use Rattle.cap_format.specs.declared.kind.CapKind.TheVariants.{Process}
 use Rattle.cap_format.specs.Kind.{number_of}
 use Rattle.object_store.specs.declared.sizes.Sizes.{Sizes}
 use Rattle.object_store.specs.Store.{Store, size_of, sizes_of}
 use Rattle.object_store.specs.Object.{ObjectName, object_name, object_at}
-use Rattle.object_store.specs.Saved.{Saved}
+use Rattle.object_store.specs.Saved.{Saved, slots_copied}
 use Rattle.schedules.specs.Queues.{QueuesValue}
 use Rattle.machine_state.specs.declared.places.Place.{Place}
 
@@ -43,6 +43,10 @@ same_kind a b = cond (number_of a == number_of b) 1 0
 abbrev pub used : CapKind → List Place → ℕ
 used kind [] = 0
 used kind (p ∷ ps) = same_kind p.kind kind + used kind ps
+
+-- how many slots of GPTs are read to put all copies back
+abbrev pub slots_back : List Place → ℕ
+slots_back places = sum_by (λ p. slots_copied p.kind) places
 
 -- where the next copy goes: that of a process to its own number, and any other behind those of its kind
 abbrev pub next_place : CapKind → ℕ → List Place → ℕ

@@ -7,6 +7,7 @@ ghost use Rattle.object_store.specs.Meaning.{meaning};
 ghost use Rattle.object_store.specs.Ahead.{IsBehind};
 ghost use Rattle.schedules.specs.Queues.{hart_of};
 ghost use Rattle.schedules.specs.Ready.{places_due};
+ghost use Rattle.rv32_user.specs.Registers.{with_register};
 ghost use Rattle.machine_state.specs.State.{state_of, process, pc_of};
 ghost use Rattle.machine_state.specs.Setters.{set_pc, set_registers, set_capreg, advance, leave, ready, faulted, yielded, dispatch, ticked};
 ghost use Rattle.machine_state.specs.Outcome.{process_name, names_on};
@@ -126,11 +127,26 @@ impl<T: Translator> Machine<T> {
         self.set_pc(p, pc.wrapping_add(4));
     }
 
-    pub fn registers(&self, p: u16) -> [u32; 32]
+    /// The registers x0 to x31, where they stand.
+    pub fn registers(&self, p: u16) -> &[u32; 32]
         requires { p < size_of self.now.objects.items Process }
-        ensures { result ≡ (process (state_of self.now) p).regs }
+        ensures { result.now ≡ (process (state_of self.now) p).regs }
     {
-        self.objects.process(p).regs()
+        self.objects.process(p).registers()
+    }
+
+    /// A word goes to a register; what goes to x0 is lost.
+    #[tactic(auto, using(object_store::proofs::Stays::stays_process))]
+    pub fn set_register(&mut self, p: u16, to: u8, word: u32)
+        requires there { p < size_of self.old.objects.items Process }
+        requires register { to < 32 }
+        ensures state { let s = state_of self.old in
+            state_of self.new ≡ set_registers s p (with_register (process s p).regs to word) }
+        ensures leaves { Leaves (process_name p ∷ []) self.old self.new }
+        ensures translator { self.new.translator ≡ self.old.translator }
+        ensures queues { self.new.queues ≡ self.old.queues }
+    {
+        self.objects.process_mut(p).set_reg(to, word);
     }
 
     #[tactic(auto, using(object_store::proofs::Stays::stays_process))]

@@ -5,6 +5,7 @@ ghost use Rattle.object_store.specs.Store.{size_of};
 ghost use Rattle.object_store.specs.Meaning.{meaning};
 ghost use Rattle.schedules.specs.Queues.{hart_of};
 ghost use Rattle.rv32_user.specs.Size.{IsSize};
+ghost use Rattle.walk_meaning.specs.Trail.{slots};
 ghost use Rattle.walk_meaning.specs.Walk.{is_data};
 ghost use Rattle.walk_engine.specs.Answer.{HandlerLives, hit_meaning};
 ghost use Rattle.machine_state.specs.State.{state_of, space_of, IsOnHart};
@@ -18,7 +19,7 @@ use cap_format::{Cap, CapKind};
 use schedules::Spot;
 use std::sync::ledger::Ledger;
 use steps::Steps;
-use walk_engine::{Hit, Translator};
+use walk_engine::{Hit, Plain, Translator};
 use walk_meaning::{Kind, WalkFault};
 
 /// The number of a process's slot for its space.
@@ -47,6 +48,7 @@ impl<T: Translator> Machine<T> {
     }
 
     /// A fetch, load or store of a process, which stands on a hart.
+    #[inline(always)]
     pub fn access<L: Ledger>(
         &mut self,
         p: u16,
@@ -83,6 +85,7 @@ impl<T: Translator> Machine<T> {
     }
 
     /// A fetch, load or store by the space of process `q`, on the hart on which process `p` stands.
+    #[inline(always)]
     pub fn access_for<L: Ledger>(
         &mut self,
         p: u16,
@@ -122,6 +125,7 @@ impl<T: Translator> Machine<T> {
     }
 
     /// A fetch, load or store on a hart by the space of any process.
+    #[inline(always)]
     fn access_on<L: Ledger>(
         &mut self,
         hart: u8,
@@ -155,6 +159,28 @@ impl<T: Translator> Machine<T> {
         let space = self.space(p);
         self.translator
             .translate(&self.objects, hart, space, address, kind, fetches)
+    }
+
+    /// A fetch, load or store by the space of any process, as a fresh walk makes it. No translator is asked, and nothing
+    /// changes.
+    pub fn walk_data<L: Ledger>(
+        &self,
+        p: u16,
+        address: u32,
+        kind: Kind,
+        fetches: &mut Steps<L>,
+    ) -> Result<Hit, WalkFault>
+        requires there { p < size_of self.now.objects.items Process }
+        requires data { is_data kind ≡ true }
+        ensures means { let f = meaning self.now.objects.items in
+            hit_map f result ≡ data_access (state_of self.now) p address kind }
+        ensures page { IfOk result (λ hit. hit.page < size_of self.now.objects.items CapKind.Page) }
+        ensures offset { IfOk result (λ hit. hit.offset ≡ address % 4096) }
+        ensures counted { let s = state_of self.now in
+            fetches.new ≡ fetches.old + slots s.store.items (space_of s p) address kind }
+    {
+        let space = self.space(p);
+        Plain::new().translate(&self.objects, 0, space, address, kind, fetches)
     }
 
     /// The little-endian number of so many bytes at a place in a page.

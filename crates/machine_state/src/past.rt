@@ -5,6 +5,7 @@ ghost use Rattle.object_store.specs.declared.sizes.Sizes.{Sizes};
 ghost use Rattle.object_store.specs.Store.{size_of, sizes_of};
 ghost use Rattle.object_store.specs.Ranges.{IsWithinLimits};
 ghost use Rattle.object_store.specs.Object.{object_name};
+ghost use Rattle.object_store.specs.Saved.{slots_copied};
 ghost use Rattle.machine_state.specs.Past.{names_in, used, same_kind, next_place, IsFor, Holds};
 
 use crate::machine::Machine;
@@ -95,6 +96,7 @@ impl Past {
         ensures sizes { (z : Sizes) → IsFor self.old z → IsFor self.new z }
         ensures queues { self.new.queues ≡ self.old.queues }
         ensures halted { self.new.halted ≡ self.old.halted }
+        ensures counted { fetches.new ≡ fetches.old + slots_copied kind }
     {
         // Sizes that are read tell that there are as many copies as counts.
         let _room = self.copies.sizes();

@@ -1,12 +1,12 @@
 //! Bringing a machine back to what is remembered of it.
-ghost use Rattle.std.specs.Prelude.{◌≡◌, ◌<◌};
+ghost use Rattle.std.specs.Prelude.{◌≡◌, ◌+◌, ◌<◌};
 ghost use Rattle.cap_format.specs.declared.kind.CapKind.{CapKind};
 ghost use Rattle.object_store.specs.Store.{size_of};
 ghost use Rattle.object_store.specs.Meaning.{map_of};
 ghost use Rattle.object_store.specs.Object.{object_at, with_object};
-ghost use Rattle.object_store.specs.Saved.{restored, AreThere};
+ghost use Rattle.object_store.specs.Saved.{restored, AreThere, slots_copied};
 ghost use Rattle.machine_state.specs.Machine.{IsMachine};
-ghost use Rattle.machine_state.specs.Past.{names_in, saved_in};
+ghost use Rattle.machine_state.specs.Past.{names_in, saved_in, slots_back};
 
 use crate::machine::Machine;
 use crate::past::Past;
@@ -25,6 +25,7 @@ impl<T: Translator> Machine<T> {
         ensures objects { self.new.objects ≡ restored (saved_in past.now) self.old.objects }
         ensures queues { self.new.queues ≡ past.now.queues }
         ensures halted { self.new.halted ≡ past.now.halted }
+        ensures counted { fetches.new ≡ fetches.old + slots_back past.now.places }
     {
         put_back(&mut self.objects, &mut self.translator, past, fetches);
         self.queues.copy_from(&past.queues);
@@ -44,6 +45,7 @@ fn put_back<T: Translator, L: Ledger>(
     ensures objects { objects.new ≡ restored (saved_in past.now) objects.old }
     ensures coherent { T.coherent translator.new (map_of objects.new.items) }
     ensures harts { T.harts translator.new ≡ T.harts translator.old }
+    ensures counted { fetches.new ≡ fetches.old + slots_back past.now.places }
 {
     let places = past.places.as_slice();
     'each: for i in 0..places.len() {
@@ -67,6 +69,7 @@ fn put_one<T: Translator, L: Ledger>(
     ensures sizes { (k : CapKind) → size_of objects.new.items k ≡ size_of objects.old.items k }
     ensures coherent { T.coherent translator.new (map_of objects.new.items) }
     ensures harts { T.harts translator.new ≡ T.harts translator.old }
+    ensures counted { fetches.new ≡ fetches.old + slots_copied place.kind }
 {
     let item = objects.copy_object(place.kind, place.number, &past.copies, place.place, fetches);
     translator.invalidate(item);

@@ -19,6 +19,7 @@ use walk_engine::Translator;
 /// A fault of a process, with the handler that its walk gave, if there was a walk. Whoever hears it is told; where that
 /// one is busy, the process waits for it, and nothing is recorded.
 #[tactic(auto, unfolding(crate::specs::Fault::fault), using(object_store::proofs::Stays::stays_more))]
+#[inline(never)]
 pub fn fault<T: Translator, L: Ledger>(
     machine: &mut Machine<T>,
     p: u16,
@@ -64,6 +65,7 @@ fn tell_fault(records: &mut Records, p: u16, code: FaultCode, address: u32, outc
 }
 
 /// An address of an instruction or of an access is no multiple of what it has to be.
+#[inline(never)]
 pub fn misaligned<T: Translator, L: Ledger>(
     machine: &mut Machine<T>,
     p: u16,

@@ -140,8 +140,6 @@ fn send_off<T: Translator>(machine: &mut Machine<T>, p: u16, receive: bool)
 {
     machine.advance(p);
     if !receive {
-        let mut registers = machine.registers(p);
-        registers[10] = 0;
-        machine.set_registers(p, &registers);
+        machine.set_register(p, 10, 0);
     }
 }

@@ -1,10 +1,10 @@
-use Rattle.std.proofs.Common.{◌≡◌, ◌<◌, ℕ, List, map, get_or, sym, ap, ◌∙◌, subst}
+use Rattle.std.proofs.Common.{◌≡◌, ◌<◌, ◌+◌, ℕ, List, map, get_or, sym, ap, ◌∙◌, subst, arith}
 use Rattle.cap_format.specs.declared.kind.CapKind.TheVariants.{Null}
 use Rattle.object_store.specs.Store.{size_of}
 use Rattle.object_store.specs.Saved.{restored, AreThere}
 use Rattle.machine_state.specs.declared.places.Place.{Place}
-use Rattle.machine_state.specs.Past.{PastValue, name_at, saved_at}
-use Rattle.machine_state.proofs.Saved.{place_of, there_at, restored_next, restored_end}
+use Rattle.machine_state.specs.Past.{PastValue, name_at, saved_at, slots_back}
+use Rattle.machine_state.proofs.Saved.{place_of, there_at, restored_next, restored_end, slots_next, slots_end}
 use Rattle.machine_state.proofs.restoring.put_back.Goals as goal
 
 pub put_one-requires-clause-there : goal.put_one-requires-clause-there
@@ -28,6 +28,7 @@ each-preserved g c =
       sizes = λ k. c.put_one.ensures.sizes k ∙ l.invariant.sizes k;
       coherent = c.put_one.ensures.coherent;
       harts = c.put_one.ensures.harts ∙ l.invariant.harts;
+      counted = let copied = c.put_one.ensures.counted in let slots = slots_next places l.i (place_of Null 0 0) c.each-test.true in let before = l.invariant.counted in omega (arith, copied, slots, before);
     }
 
 pub returns-clause-objects : goal.returns-clause-objects
@@ -36,3 +37,13 @@ returns-clause-objects g c =
     let places = c.as_slice-places.result.now in
     let same = c.as_slice-places.ensures.value ∙ ap (λ (v : PastValue). v.places) c.past.view_is in
     sym (restored_end c.args.past.now.copies places l.i l.objects c.each-test.false) ∙ l.invariant.objects ∙ ap (λ (ps : List Place). restored (map (saved_at c.args.past.now.copies) ps) c.args.objects.now) same
+
+pub returns-clause-counted : goal.returns-clause-counted
+returns-clause-counted g c =
+    let l = c.each in
+    let places = c.as_slice-places.result.now in
+    let same = c.as_slice-places.ensures.value ∙ ap (λ (v : PastValue). v.places) c.past.view_is in
+    let none = slots_end places l.i c.each-test.false in
+    let before = l.invariant.counted in
+    let all = ap slots_back same in
+    omega (arith, none, before, all)

@@ -1,9 +1,9 @@
-use Rattle.std.proofs.Common.{◌≡◌, map, drop}
+use Rattle.std.proofs.Common.{◌≡◌, ◌+◌, map, drop}
 use Rattle.cap_format.specs.declared.kind.CapKind.{CapKind}
 use Rattle.object_store.specs.Store.{size_of}
 use Rattle.object_store.specs.Meaning.{map_of}
 use Rattle.object_store.specs.Saved.{restored}
-use Rattle.machine_state.specs.Past.{saved_at}
+use Rattle.machine_state.specs.Past.{saved_at, slots_back}
 use Rattle.machine_state.proofs.restoring.put_back.Given as goal
 
 -- the rest put back makes what all make
@@ -13,4 +13,5 @@ invariant-each g l = record {
   sizes : (k : CapKind) → size_of l.objects.items k ≡ size_of l.fn.objects.items k;
   coherent : g.T.Translator.coherent l.translator (map_of l.objects.items);
   harts : g.T.Translator.harts l.translator ≡ g.T.Translator.harts l.fn.translator;
+  counted : l.fetches + slots_back (drop l.i l.places) ≡ l.fn.fetches + slots_back l.places;
 }
