@@ -1,0 +1,6 @@
+pub mod Points
+pub mod Stripped
+pub mod Cuts
+pub mod Regions
+pub mod Staying
+pub mod Joins
