@@ -1,0 +1,16 @@
+mod Codes
+mod Keyed
+mod Notes
+mod Invariant
+mod Economy
+mod Filed
+mod Readings
+mod Connected
+mod Blank
+mod Adding
+mod Dropped
+mod Taking
+mod Unlinked
+mod Cleared
+mod Forgotten
+mod Changed

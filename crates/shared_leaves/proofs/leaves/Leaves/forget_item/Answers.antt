@@ -1,0 +1,22 @@
+use Rattle.std.proofs.Common.{rules}
+use Rattle.shared_leaves.specs.Effects.{Forgets, value_of}
+use Rattle.shared_leaves.proofs.Changed.{coherent-differs, forgets-harts}
+use Rattle.shared_leaves.proofs.Forgotten.{forgets-more, forgotten}
+use Rattle.shared_leaves.proofs.leaves.Leaves.forget_item.Goals as goal
+
+-- all that was done to the records, and the harts before that
+all_done : (c : goal.After-records) → Forgets (value_of c.args.self.now) (value_of c.clear_one.new.self) c.args.item
+all_done c =
+    let old = c.args.self.now in
+    let start = value_of (record old { tlbs = c.drop_all.new.tlbs }) in
+    let harts = forgets-harts old.tables old.keys.items old.tlbs.items c.drop_all.new.tlbs.items old.records c.args.item c.drop_all.ensures.harts in
+    forgets-more (value_of old) start (value_of c.clear_one.new.self) c.args.item harts
+    (forgets-more start (value_of c.records.self) (value_of c.clear_one.new.self) c.args.item c.records.invariant.forgets c.clear_one.ensures.forgets)
+
+pub returns-clause-without : goal.returns-clause-without
+returns-clause-without c =
+    forgotten (value_of c.args.self.now) (value_of c.clear_one.new.self) c.args.item (all_done c) (c.clear_one.ensures.none (search rules))
+
+pub returns-clause-coherent : goal.returns-clause-coherent
+returns-clause-coherent c = λ o p differ coherent.
+    coherent-differs (value_of c.clear_one.new.self) c.args.item o p differ (c.clear_one.ensures.none (search rules)) ((all_done c).coherent o coherent)

@@ -1,0 +1,5 @@
+pub mod Key
+pub mod Kept
+pub mod Cache
+pub mod Coherent
+pub mod Effects
