@@ -1,0 +1,19 @@
+//! What an event may change: the objects, besides processes, that are found before it is performed.
+//!
+//! Each call looks at a machine and changes nothing of it. It walks where the event will walk, and finds at least the
+//! objects that the outcome of its part names. Nothing here knows of copies, or of what becomes of an object.
+#![tactic(auto)]
+
+mod events;
+mod faults;
+mod instructions;
+mod invoking;
+mod memory;
+mod operating;
+mod reach;
+mod sending;
+mod strings;
+mod system_calls;
+
+pub use events::reach_of_event;
+pub use reach::Reach;

@@ -1,0 +1,123 @@
+-- What is kept of a machine, one object after the other.
+use Rattle.std.proofs.Common.{◌≡◌, ◌≢◌, ℕ, ◌<◌, ◌⊎◌, inl, inr, List, [], ◌∷◌, ◌++◌, refl, sym, ap, ◌∙◌, subst, arith}
+use Rattle.std.proofs.lemmas.List.Elements.{All-push}
+use Rattle.cap_format.specs.declared.kind.CapKind.{CapKind}
+use Rattle.cap_format.specs.declared.kind.CapKind.TheVariants.{Page, CapPage, Gpt, Endpoint, Process}
+use Rattle.object_store.specs.declared.sizes.Sizes.{Sizes}
+use Rattle.object_store.specs.Sizes.{size_in}
+use Rattle.object_store.specs.Store.{Store, size_of, sizes_of}
+use Rattle.object_store.specs.Ranges.{IsStore}
+use Rattle.object_store.specs.Object.{ObjectName, object_name, IsAmong}
+use Rattle.object_store.proofs.Stays.{among_front, among_back}
+use Rattle.object_store.proofs.Same.{size_in_store}
+use Rattle.machine_state.specs.declared.places.Place.{Place}
+use Rattle.machine_state.specs.Machine.{MachineValue}
+use Rattle.machine_state.specs.Past.{PastValue, names_in, used, same_kind, next_place, room_of, IsFor, Holds}
+use Rattle.event_reach.specs.Reach.{Covers}
+use Rattle.reverse_run.specs.Remembered.{StandsFor, Remembers, HasPlace}
+
+-- ---- places
+
+-- a process takes no place of another kind
+pub other_kind : (k : CapKind) → k ≢ Process → same_kind Process k ≡ 0
+other_kind Process other = absurd (other refl)
+other_kind k other = refl
+
+-- where none of the other kinds is kept, there is a place for one more of any
+pub place_for : (places : List Place) → ((k : CapKind) → k ≢ Process → used k places ≡ 0) → (kind : CapKind) → HasPlace kind places
+place_for places none Process = tt
+place_for places none kind = let here : used kind places ≡ 0 = none kind (λ e. absurd cc) in omega (arith, here)
+
+-- the next place is one of those that there are
+pub place_there : (past : PastValue) (sizes : Sizes) (kind : CapKind) (number : ℕ) → IsFor past sizes → number < size_in sizes kind → HasPlace kind past.places → next_place kind number past.places < size_of past.copies.items kind
+place_there past sizes kind number is there place =
+    let size : size_in (room_of sizes) kind ≡ size_of past.copies.items kind = ap (λ (z : Sizes). size_in z kind) (sym is.copies) ∙ size_in_store past.copies kind in
+    subst (λ (n : ℕ). next_place kind number past.places < n) size (by kind there place)
+  where
+    by : (kind : CapKind) → number < size_in sizes kind → HasPlace kind past.places → next_place kind number past.places < size_in (room_of sizes) kind
+    by Process there place = there
+    by Page there place = place
+    by CapPage there place = place
+    by Gpt there place = place
+    by Endpoint there place = place
+    by kind there place = absurd (omega (arith, there))
+
+-- an object that is there has a small number
+pub small_number : (s : Store) (kind : CapKind) (n : ℕ) → IsStore s → n < size_of s.items kind → n < 65536
+small_number s Page n is there = let most = is.ranged.counts.pages.size in omega (arith, there, most)
+small_number s CapPage n is there = let most = is.ranged.counts.cappages.size in omega (arith, there, most)
+small_number s Gpt n is there = let most = is.ranged.counts.gpts.size in omega (arith, there, most)
+small_number s Process n is there = let most = is.ranged.counts.processes.size in omega (arith, there, most)
+small_number s Endpoint n is there = let most = is.ranged.counts.endpoints.size in omega (arith, there, most)
+small_number s kind n is there = absurd (omega (arith, there))
+
+-- ---- one more
+
+-- it still stands for the machine
+pub stands_more : {T : Type 0} (past more : PastValue) (m : MachineValue T) (kind : CapKind) (number : ℕ) → number < size_of m.objects.items kind → StandsFor past m
+    → IsFor more (sizes_of m.objects) → Holds more m.objects → names_in more ≡ names_in past ++ object_name kind number ∷ [] → more.queues ≡ past.queues → more.halted ≡ past.halted → StandsFor more m
+stands_more past more m kind number there stands sizes holds names queues halted = record {
+  sizes = sizes;
+  holds = holds;
+  there = rw names (All-push (λ (x : ObjectName). x.number < size_of m.objects.items x.kind) (names_in past) (object_name kind number) stands.there there);
+  queues = queues ∙ stands.queues;
+  halted = halted ∙ stands.halted;
+}
+
+-- what was among the names still is
+pub among_more : (past more : PastValue) (name : ObjectName) (kind : CapKind) (n : ℕ) → names_in more ≡ names_in past ++ name ∷ [] → IsAmong kind n (names_in past) → IsAmong kind n (names_in more)
+among_more past more name kind n names among = rw names (among_front kind n (names_in past) (name ∷ []) among)
+
+-- and what was kept is
+pub among_kept : (past more : PastValue) (kind : CapKind) (n : ℕ) → names_in more ≡ names_in past ++ object_name kind n ∷ [] → IsAmong kind n (names_in more)
+among_kept past more kind n names = rw names (among_back kind n (names_in past) (object_name kind n ∷ []) (inl (refl, refl)))
+
+-- ---- which objects are remembered
+
+-- none
+pub remembers_none : (past : PastValue) (s : Store) → Remembers past s []
+remembers_none past s = record { each = λ kind n there among. elim among [ ] }
+
+-- the one that was kept
+pub remembers_one : (past more : PastValue) (s : Store) (kind : CapKind) (number : ℕ) → names_in more ≡ names_in past ++ object_name kind number ∷ [] → Remembers more s (object_name kind number ∷ [])
+remembers_one past more s kind number names = record { each = by }
+  where
+    by : (k : CapKind) (n : ℕ) → n < size_of s.items k → IsAmong k n (object_name kind number ∷ []) → IsAmong k n (names_in more)
+    by k n there (inl here) = rw (here.0, here.1) (among_kept past more kind number names)
+    by k n there (inr later) = elim later [ ]
+
+-- one that is not there
+pub remembers_absent : (past : PastValue) (s : Store) (kind : CapKind) (number : ℕ) → (number < size_of s.items kind → ⊥) → Remembers past s (object_name kind number ∷ [])
+remembers_absent past s kind number absent = record { each = by }
+  where
+    by : (k : CapKind) (n : ℕ) → n < size_of s.items k → IsAmong k n (object_name kind number ∷ []) → IsAmong k n (names_in past)
+    by k n there (inl here) =
+        let Within : CapKind → ℕ → Type 0 = λ k n. n < size_of s.items k in
+        absurd (absent (subst (λ (m : ℕ). m < size_of s.items kind) here.1 (subst (λ (j : CapKind). n < size_of s.items j) here.0 there)))
+    by k n there (inr later) = elim later [ ]
+
+-- what was remembered still is
+pub remembers_later : (past more : PastValue) (s : Store) (names : List ObjectName) → ((kind : CapKind) (n : ℕ) → IsAmong kind n (names_in past) → IsAmong kind n (names_in more)) → Remembers past s names → Remembers more s names
+remembers_later past more s names later remembers = record { each = λ kind n there among. later kind n (remembers.each kind n there among) }
+
+-- these and those behind them
+pub remembers_both : (past : PastValue) (s : Store) (names others : List ObjectName) → Remembers past s names → Remembers past s others → Remembers past s (names ++ others)
+remembers_both past s [] others first second = second
+remembers_both past s (name ∷ names) others first second = by (remembers_both past s names others (record { each = λ kind n there among. first.each kind n there (inr among) }) second)
+  where
+    by : Remembers past s (names ++ others) → Remembers past s (name ∷ names ++ others)
+    by rest = record { each = each }
+      where
+        each : (kind : CapKind) (n : ℕ) → n < size_of s.items kind → IsAmong kind n (name ∷ names ++ others) → IsAmong kind n (names_in past)
+        each kind n there (inl here) = first.each kind n there (inl here)
+        each kind n there (inr later) = rest.each kind n there later
+
+-- what is covered by all processes and by objects that are remembered
+pub remembers_covered : (past : PastValue) (s : Store) (found changed : List ObjectName) → ((n : ℕ) → n < size_of s.items Process → IsAmong Process n (names_in past)) → Remembers past s found → Covers found changed → Remembers past s changed
+remembers_covered past s found changed all remembers covers = record { each = λ kind n there among. by kind n there (covers.each kind n among) }
+  where
+    by : (kind : CapKind) (n : ℕ) → n < size_of s.items kind → (kind ≡ Process) ⊎ IsAmong kind n found → IsAmong kind n (names_in past)
+    by kind n there (inl process) =
+        let Here : CapKind → Type 0 = λ k. IsAmong k n (names_in past) in
+        subst Here (sym process) (all n (subst (λ (k : CapKind). n < size_of s.items k) process there))
+    by kind n there (inr among) = remembers.each kind n there among

@@ -1,0 +1,3 @@
+mod Keeping
+pub mod Unwinding
+mod Called

@@ -1,0 +1,186 @@
+-- From a later store back: an event that is remembered is undone, and so are those before it.
+use Rattle.std.proofs.Common.{◌≡◌, ℕ, zero, suc, ◌+◌, ◌-◌, ◌<◌, ◌≤◌, ◌⊎◌, inl, inr, List, [], ◌∷◌, ◌++◌, map, take, length, refl, sym, ap, ◌∙◌, subst, arith}
+use Rattle.std.specs.List.{All}
+use Rattle.std.proofs.lemmas.Bool.{cases_lt}
+use Rattle.std.proofs.lemmas.List.{get_or_past, length-map, length_push}
+use Rattle.std.proofs.lemmas.List.Elements.{All-take, All-cons, All-tail, All-push}
+use Rattle.cap_format.specs.declared.kind.CapKind.{CapKind}
+use Rattle.cap_format.specs.declared.kind.CapKind.TheVariants.{Page, CapPage, Gpt, Endpoint, Process}
+use Rattle.object_store.specs.Store.{Store, size_of, sizes_of}
+use Rattle.object_store.specs.Object.{ObjectName, SameObject, IsAmong, Stays, IsEven}
+use Rattle.object_store.specs.Saved.{Saved, restored, AreThere}
+use Rattle.object_store.proofs.Restored.{size_of_same, there_same, restored_same, sizes_restored}
+use Rattle.schedules.specs.Queues.{QueuesValue}
+use Rattle.gpt_objects.specs.Gpt.{empty_gpt}
+use Rattle.page_store.specs.Page.{empty_page}
+use Rattle.page_store.specs.CapPage.{empty_cappage}
+use Rattle.process_objects.specs.Process.{empty_process}
+use Rattle.endpoint_objects.specs.Endpoint.{empty_endpoint}
+use Rattle.machine_state.specs.Machine.{MachineValue, IsMachine}
+use Rattle.machine_state.specs.declared.event.Event.{Event}
+use Rattle.machine_state.specs.State.{State, state_of}
+use Rattle.kernel_core.specs.Event.{event_of}
+use Rattle.machine_state.specs.Past.{PastValue, names_in, saved_in, IsFor}
+use Rattle.machine_state.proofs.Saved.{saved_holds}
+use Rattle.reverse_run.specs.Remembered.{StandsFor, Remembers}
+use Rattle.reverse_run.specs.Moments.{Moment, moment_of, state_at, moment_before, unwound, CanUnwind, AreKept, ReversibleValue, moments_of}
+use Rattle.reverse_run.specs.History.{history_of, after_event, remembered}
+
+-- ---- one event
+
+-- an object that is not there is stored alike
+absent : (s t : Store) → IsEven s → IsEven t → sizes_of s ≡ sizes_of t → (kind : CapKind) (n : ℕ) → size_of s.items kind ≤ n → SameObject kind n s t
+absent s t even even_too sizes kind n past = by kind past (subst (λ (k : ℕ). k ≤ n) (size_of_same s t sizes kind) past)
+  where
+    by : (kind : CapKind) → size_of s.items kind ≤ n → size_of t.items kind ≤ n → SameObject kind n s t
+    by Page past past_too =
+        rw (
+          get_or_past s.items.counts.pages n 0 past,
+          get_or_past t.items.counts.pages n 0 past_too,
+          get_or_past s.contents.pages n empty_page (subst (λ (k : ℕ). k ≤ n) (sym even.pages) past),
+          get_or_past t.contents.pages n empty_page (subst (λ (k : ℕ). k ≤ n) (sym even_too.pages) past_too),
+        ) refl
+    by CapPage past past_too =
+        rw (
+          get_or_past s.items.counts.cappages n 0 past,
+          get_or_past t.items.counts.cappages n 0 past_too,
+          get_or_past s.contents.cappages n empty_cappage (subst (λ (k : ℕ). k ≤ n) (sym even.cappages) past),
+          get_or_past t.contents.cappages n empty_cappage (subst (λ (k : ℕ). k ≤ n) (sym even_too.cappages) past_too),
+        ) refl
+    by Gpt past past_too =
+        rw (
+          get_or_past s.items.counts.gpts n 0 past,
+          get_or_past t.items.counts.gpts n 0 past_too,
+          get_or_past s.items.gpts n empty_gpt (subst (λ (k : ℕ). k ≤ n) (sym even.gpts) past),
+          get_or_past t.items.gpts n empty_gpt (subst (λ (k : ℕ). k ≤ n) (sym even_too.gpts) past_too),
+        ) refl
+    by Process past past_too =
+        rw (
+          get_or_past s.items.counts.processes n 0 past,
+          get_or_past t.items.counts.processes n 0 past_too,
+          get_or_past s.contents.processes n empty_process (subst (λ (k : ℕ). k ≤ n) (sym even.processes) past),
+          get_or_past t.contents.processes n empty_process (subst (λ (k : ℕ). k ≤ n) (sym even_too.processes) past_too),
+        ) refl
+    by Endpoint past past_too =
+        rw (
+          get_or_past s.items.counts.endpoints n 0 past,
+          get_or_past t.items.counts.endpoints n 0 past_too,
+          get_or_past s.contents.endpoints n empty_endpoint (subst (λ (k : ℕ). k ≤ n) (sym even.endpoints) past),
+          get_or_past t.contents.endpoints n empty_endpoint (subst (λ (k : ℕ). k ≤ n) (sym even_too.endpoints) past_too),
+        ) refl
+    by kind past past_too = refl
+
+-- what a part changes that leaves all but these objects is among what is remembered, where these are
+stays_remembered : (past : PastValue) (s t : Store) (changed : List ObjectName) → IsEven s → IsEven t → sizes_of s ≡ sizes_of t → Remembers past s changed → Stays changed s t → Stays (names_in past) s t
+stays_remembered past s t changed even even_too sizes remembers stays = record { same = λ kind n. by kind n (cases_lt n (size_of s.items kind)) (stays.same kind n) }
+  where
+    by : (kind : CapKind) (n : ℕ) → (n < size_of s.items kind) ⊎ (size_of s.items kind ≤ n) → IsAmong kind n changed ⊎ SameObject kind n s t → IsAmong kind n (names_in past) ⊎ SameObject kind n s t
+    by kind n there (inr same) = inr same
+    by kind n (inl there) (inl among) = inl (remembers.each kind n there among)
+    by kind n (inr past) (inl among) = inr (absent s t even even_too sizes kind n past)
+
+-- Of a machine that stands as it was remembered but for objects that are remembered, the store is as it was once these are
+-- back.
+pub restored_event : {T : Type 0} (past : PastValue) (m : MachineValue T) (t : Store) (changed : List ObjectName) → IsEven m.objects → IsEven t → sizes_of t ≡ sizes_of m.objects
+    → StandsFor past m → Remembers past m.objects changed → Stays changed m.objects t → restored (saved_in past) t ≡ m.objects
+restored_event past m t changed even even_too sizes stands remembers stays =
+    ap (λ (saved : List Saved). restored saved t) (saved_holds past m.objects stands.holds)
+    ∙ restored_same m.objects t (names_in past) even even_too sizes (there_same t m.objects (names_in past) sizes stands.there) (stays_remembered past m.objects t changed even even_too (sym sizes) remembers stays)
+
+-- ---- the events before it
+
+-- what leads back, leads back by fewer
+pub can_unwind_take : (s : Store) (k : ℕ) (pasts : List PastValue) → CanUnwind s pasts → CanUnwind s (take k pasts)
+can_unwind_take s zero pasts can = tt
+can_unwind_take s (suc k) [] can = tt
+can_unwind_take s (suc k) (past ∷ pasts) can = (can.0, can.1, can_unwind_take (restored (saved_in past) s) k pasts can.2)
+
+-- the first moments are those of the first pasts
+pub unwound_take : (s : Store) (k : ℕ) (pasts : List PastValue) → unwound s (take k pasts) ≡ take k (unwound s pasts)
+unwound_take s zero pasts = refl
+unwound_take s (suc k) [] = refl
+unwound_take s (suc k) (past ∷ pasts) = ap (λ (rest : List Moment). moment_before s past ∷ rest) (unwound_take (restored (saved_in past) s) k pasts)
+
+-- there are as many moments as pasts
+pub length_unwound : (s : Store) (pasts : List PastValue) → length (unwound s pasts) ≡ length pasts
+length_unwound s [] = refl
+length_unwound s (past ∷ pasts) = ap suc (length_unwound (restored (saved_in past) s) pasts)
+
+-- from behind the event it leads back to before it, and from there on
+pub can_unwind_event : (past : PastValue) (s t : Store) (q : QueuesValue) (pasts : List PastValue) → AreThere t (names_in past) → restored (saved_in past) t ≡ s → past.queues ≡ q → IsMachine s q → CanUnwind s pasts → CanUnwind t (past ∷ pasts)
+can_unwind_event past s t q pasts there back queues machine can = (there, rw (back, queues) machine, rw back can)
+
+-- the moments from behind the event are that before it, and those before that
+pub unwound_event : {T : Type 0} (past : PastValue) (m : MachineValue T) (t : Store) (pasts : List PastValue) → StandsFor past m → restored (saved_in past) t ≡ m.objects → unwound t (past ∷ pasts) ≡ moment_of m ∷ unwound m.objects pasts
+unwound_event past m t pasts stands back = rw (back, stands.queues, stands.halted) refl
+
+-- ---- what a machine with its history keeps
+
+-- the first of a list behind another
+take_front : {X : Type 0} (depth : ℕ) (x : X) (xs : List X) → 1 ≤ depth → take depth (x ∷ xs) ≡ x ∷ take (depth - 1) xs
+take_front zero x xs least = absurd (omega (arith, least))
+take_front (suc depth) x xs least = let is : suc depth - 1 ≡ depth = omega arith in rw is refl
+
+-- after an event: the past of this event in front of all but the oldest, or with one spare past less
+pub kept_event : (s t : Store) (past : PastValue) (pasts spare pasts1 spare1 : List PastValue) (room spare_room : ℕ) → AreKept s pasts spare room spare_room → sizes_of t ≡ sizes_of s
+    → IsFor past (sizes_of s) → pasts1 ≡ take (length pasts + length spare - 1) pasts → spare1 ≡ take (length spare - 1) spare → length pasts1 + length spare1 + 1 ≡ length pasts + length spare
+    → CanUnwind t (past ∷ pasts1) → AreKept t (past ∷ pasts1) spare1 room spare_room
+kept_event s t past pasts spare pasts1 spare1 room spare_room kept sizes is first fewer number unwinds =
+    let Made : List PastValue → Type 0 = λ ps. All (λ (p : PastValue). IsFor p (sizes_of s)) ps in
+    let in_use : Made pasts1 = subst Made (sym first) (All-take (λ (p : PastValue). IsFor p (sizes_of s)) (length pasts + length spare - 1) pasts kept.in_use) in
+    let not_in_use : Made spare1 = subst Made (sym fewer) (All-take (λ (p : PastValue). IsFor p (sizes_of s)) (length spare - 1) spare kept.not_in_use) in
+    let a = kept.fit in
+    let b = kept.spare_fit in
+    let d = kept.least in
+    let e = kept.most in
+    record {
+      in_use = rw sizes (All-cons (λ (p : PastValue). IsFor p (sizes_of s)) past pasts1 is in_use);
+      not_in_use = rw sizes not_in_use;
+      fit = omega (arith, number, a);
+      spare_fit = omega (arith, number, b);
+      least = omega (arith, number, d);
+      most = omega (arith, number, e);
+      unwinds = unwinds;
+    }
+
+-- after an undo: the past of that event is spare
+pub kept_undo : (s : Store) (past : PastValue) (pasts spare : List PastValue) (room spare_room : ℕ) → AreKept s (past ∷ pasts) spare room spare_room → AreKept (restored (saved_in past) s) pasts (spare ++ past ∷ []) room spare_room
+kept_undo s past pasts spare room spare_room kept =
+    let one = length_push spare past in
+    let a = kept.fit in
+    let b = kept.spare_fit in
+    let d = kept.least in
+    let e = kept.most in
+    let sizes = sizes_restored (saved_in past) s in
+    record {
+      in_use = rw sizes (All-tail (λ (p : PastValue). IsFor p (sizes_of s)) past pasts kept.in_use);
+      not_in_use = rw sizes (All-push (λ (p : PastValue). IsFor p (sizes_of s)) spare past kept.not_in_use (kept.in_use 0 past (omega arith)));
+      fit = omega (arith, one, a);
+      spare_fit = omega (arith, one, b);
+      least = omega (arith, one, d);
+      most = omega (arith, one, e);
+      unwinds = kept.unwinds.2;
+    }
+
+-- the moments after an event are that before it, and of those before that the latest
+pub moments_event : {T : Type 0} (past : PastValue) (m : MachineValue T) (t : Store) (pasts : List PastValue) (depth : ℕ) → 1 ≤ depth → StandsFor past m → restored (saved_in past) t ≡ m.objects
+    → unwound t (past ∷ take (depth - 1) pasts) ≡ take depth (moment_of m ∷ unwound m.objects pasts)
+moments_event past m t pasts depth least stands back =
+    unwound_event past m t (take (depth - 1) pasts) stands back
+    ∙ (ap (λ (rest : List Moment). moment_of m ∷ rest) (unwound_take m.objects (depth - 1) pasts) ∙ sym (take_front depth (moment_of m) (unwound m.objects pasts) least))
+
+-- the states of moments are those of all of them, as far as they go
+states_taken : (depth : ℕ) (ms : List Moment) → map state_at (take depth ms) ≡ take depth (map state_at ms)
+states_taken zero ms = refl
+states_taken (suc depth) [] = refl
+states_taken (suc depth) (m ∷ ms) = ap (λ (rest : List State). state_at m ∷ rest) (states_taken depth ms)
+
+-- so the history after an event is that which the event makes of the history before it
+pub history_event : {T : Type 0} (r n : ReversibleValue T) (e : Event) → state_of n.machine ≡ (event_of (state_of r.machine) e).state → moments_of n ≡ take r.depth (moment_of r.machine ∷ moments_of r) → history_of n ≡ after_event r.depth (history_of r) e
+history_event r n e state moments =
+    let before : map state_at (moments_of n) ≡ take r.depth (map state_at (moment_of r.machine ∷ moments_of r)) = ap (λ (ms : List Moment). map state_at ms) moments ∙ states_taken r.depth (moment_of r.machine ∷ moments_of r) in
+    rw (state, before) refl
+
+-- and it has as many events as there are pasts
+pub remembered_pasts : {T : Type 0} (r : ReversibleValue T) → remembered (history_of r) ≡ length r.pasts
+remembered_pasts r = length-map (moments_of r) state_at ∙ length_unwound r.machine.objects r.pasts

@@ -1,0 +1,16 @@
+//! Undo: a machine with its history, of which the last events can be undone.
+//!
+//! `remember` copies what an event may change before it is performed, and `Reversible` keeps such copies of the last
+//! events. Nothing here knows of texts, or of how an event finds what it changes.
+#![tactic(auto)]
+
+mod calls;
+mod pasts;
+mod remembering;
+mod reversible;
+mod runs;
+
+pub use calls::Call;
+pub use remembering::remember;
+pub use reversible::Reversible;
+pub use runs::{Listener, run};

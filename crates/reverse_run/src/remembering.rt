@@ -1,0 +1,135 @@
+//! Remembering what an event may change, before it is performed.
+ghost use Rattle.std.specs.Prelude.{◌≡◌, ◌+◌, ◌<◌, ◌≤◌, ◌≢◌, ◌∷◌, [], ℕ, length};
+ghost use Rattle.cap_format.specs.declared.kind.CapKind.{CapKind};
+ghost use Rattle.cap_format.specs.declared.kind.CapKind.TheVariants.{Page, Process};
+ghost use Rattle.object_store.specs.Store.{size_of, sizes_of};
+ghost use Rattle.object_store.specs.Object.{object_name, IsAmong};
+ghost use Rattle.string_move.specs.Move.{page_names};
+ghost use Rattle.machine_state.specs.State.{state_of};
+ghost use Rattle.machine_state.specs.Machine.{hart_in};
+ghost use Rattle.machine_state.specs.Past.{names_in, used, same_kind, IsFor};
+ghost use Rattle.kernel_core.specs.Event.{event_of};
+ghost use Rattle.event_reach.specs.Reach.{names_of};
+ghost use Rattle.reverse_run.specs.Remembered.{StandsFor, Remembers, HasPlace};
+
+use cap_format::CapKind;
+use event_reach::{Reach, reach_of_event};
+use machine_state::{Event, Machine, Past};
+use std::sync::ledger::Ledger;
+use steps::Steps;
+use string_move::Pieces;
+use walk_engine::Translator;
+
+/// The past then stands for the machine's present state, and for objects among which is each of which the event changes
+/// what is stored or the count. All processes are, since an event may wake any number of them.
+///
+/// It walks as the event will; no bound on the slots that it reads is claimed.
+pub fn remember<T: Translator, L: Ledger>(
+    machine: &Machine<T>,
+    e: Event,
+    past: &mut Past,
+    fetches: &mut Steps<L>,
+)
+    requires hart { hart_in e < machine.now.objects.harts }
+    requires sizes { IsFor past.old (sizes_of machine.now.objects) }
+    ensures stands { StandsFor past.new machine.now }
+    ensures remembers { let changed = (event_of (state_of machine.now) e).changed in
+        Remembers past.new machine.now.objects changed }
+{
+    past.begin(machine);
+    keep_processes(machine, past, fetches);
+    let reach = reach_of_event(machine, e, fetches);
+    keep_reach(machine, &reach, past, fetches);
+}
+
+/// Keeps all processes.
+fn keep_processes<T: Translator, L: Ledger>(
+    machine: &Machine<T>,
+    past: &mut Past,
+    fetches: &mut Steps<L>,
+)
+    requires none { past.old.places ≡ [] }
+    requires stands { StandsFor past.old machine.now }
+    ensures stands { StandsFor past.new machine.now }
+    ensures all { (n : ℕ) → n < size_of machine.now.objects.items Process →
+        IsAmong Process n (names_in past.new) }
+    ensures others { (k : CapKind) → k ≢ Process → used k past.new.places ≡ 0 }
+    ensures count { length past.new.places ≤ 256 }
+{
+    let processes = machine.objects().sizes().processes;
+    'each: for p in 0..processes {
+        past.keep(machine, CapKind::Process, p, fetches);
+    }
+}
+
+/// Keeps what an event may change besides processes.
+fn keep_reach<T: Translator, L: Ledger>(
+    machine: &Machine<T>,
+    reach: &Reach,
+    past: &mut Past,
+    fetches: &mut Steps<L>,
+)
+    requires stands { StandsFor past.old machine.now }
+    requires others { (k : CapKind) → k ≢ Process → used k past.old.places ≡ 0 }
+    requires count { length past.old.places ≤ 256 }
+    ensures stands { StandsFor past.new machine.now }
+    ensures more { (kind : CapKind) (n : ℕ) → IsAmong kind n (names_in past.old) → IsAmong kind n (names_in past.new) }
+    ensures kept { Remembers past.new machine.now.objects (names_of reach.now) }
+{
+    match reach {
+        Reach::Nothing => {}
+        Reach::Object(kind, number) => keep_object(machine, *kind, *number, past, fetches),
+        Reach::Message { endpoint, into } => {
+            let number = u32::from(*endpoint);
+            keep_object(machine, CapKind::Endpoint, number, past, fetches);
+            keep_pages(machine, into, past, fetches);
+        }
+    }
+}
+
+/// Keeps the pages of pieces.
+fn keep_pages<T: Translator, L: Ledger>(
+    machine: &Machine<T>,
+    pieces: &Pieces,
+    past: &mut Past,
+    fetches: &mut Steps<L>,
+)
+    requires stands { StandsFor past.old machine.now }
+    requires none { used Page past.old.places ≡ 0 }
+    requires count { length past.old.places ≤ 257 }
+    ensures stands { StandsFor past.new machine.now }
+    ensures more { (kind : CapKind) (n : ℕ) → IsAmong kind n (names_in past.old) → IsAmong kind n (names_in past.new) }
+    ensures kept { Remembers past.new machine.now.objects (page_names pieces.now) }
+{
+    let list = pieces.as_slice();
+    'each: for i in 0..list.len() {
+        let number = u32::from(list[i].page);
+        keep_object(machine, CapKind::Page, number, past, fetches);
+    }
+}
+
+/// Keeps an object, if there is one of this number.
+fn keep_object<T: Translator, L: Ledger>(
+    machine: &Machine<T>,
+    kind: CapKind,
+    number: u32,
+    past: &mut Past,
+    fetches: &mut Steps<L>,
+)
+    requires stands { StandsFor past.old machine.now }
+    requires place { HasPlace kind past.old.places }
+    requires count { length past.old.places < 288 }
+    ensures stands { StandsFor past.new machine.now }
+    ensures more { (k : CapKind) (n : ℕ) → IsAmong k n (names_in past.old) → IsAmong k n (names_in past.new) }
+    ensures kept { Remembers past.new machine.now.objects (object_name kind number ∷ []) }
+    ensures used { (k : CapKind) → used k past.new.places ≤ used k past.old.places + same_kind kind k }
+    ensures count { length past.new.places ≤ length past.old.places + 1 }
+{
+    let objects = machine.objects();
+    // Sizes that are read tell that a number of an object is small.
+    let _sizes = objects.sizes();
+    match objects.cap_to(kind, number) {
+        Ok(_) => past.keep(machine, kind, number as u16, fetches),
+        Err(_) => {}
+    }
+}

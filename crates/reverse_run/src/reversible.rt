@@ -1,0 +1,131 @@
+//! A machine with its history.
+ghost use Rattle.std.specs.Prelude.{◌≡◌, ◌<◌, ◌≤◌, [], ◌∷◌, take, length, true, false, IfOk};
+ghost use Rattle.machine_state.specs.State.{state_of};
+ghost use Rattle.object_store.specs.Object.{IsEven};
+ghost use Rattle.machine_state.specs.Machine.{hart_in, IsMachine};
+ghost use Rattle.machine_state.specs.Outcome.{kept_after};
+ghost use Rattle.kernel_core.specs.Event.{event_of};
+ghost use Rattle.reverse_run.specs.Moments.{moment_of, moments_of};
+ghost use Rattle.reverse_run.specs.History.{begun, remembered, after_event, after_undo, can_undo, history_of};
+
+use crate::pasts::{make_pasts, take_past};
+use crate::remembering::remember;
+use cap_format::OutOfMemory;
+use machine_state::{Event, Machine, Past, Records};
+use std::alloc::Global;
+use std::collections::VecDeque;
+use std::marker::Model;
+use std::sync::ledger::Ledger;
+use steps::Steps;
+use walk_engine::Translator;
+
+/// A machine of which the last events can be undone. All its memory is taken when it is made.
+#[derive(Drop)]
+pub struct Reversible<T: Translator> {
+    machine: Machine<T>,
+    /// Of the events that are remembered, the latest first.
+    pasts: VecDeque<Past>,
+    /// Of no event.
+    spare: Vec<Past>,
+}
+
+impl<T: Translator> Model for Reversible<T> {
+    ghost use Rattle.std.specs.Prelude.{◌+◌, length};
+    ghost use Rattle.std.specs.Vec.{vec_capacity};
+    ghost use Rattle.std.specs.VecDeque.{deque_capacity};
+    ghost use Rattle.reverse_run.specs.Moments.{ReversibleValue, AreKept};
+
+    ghost Value = { ReversibleValue T };
+
+    ghost view = { λ r. record { machine = r.machine; pasts = r.pasts.items; depth = length r.pasts.items + length r.spare.items } };
+
+    ghost invariant = { λ r. AreKept r.machine.objects r.pasts.items r.spare.items (deque_capacity r.pasts) (vec_capacity r.spare) };
+}
+
+impl<T: Translator> Reversible<T> {
+    /// A machine of which no event is remembered yet, with room for 1 to 256 events. On a refusal the machine is given
+    /// up.
+    pub fn new(alloc: Global, machine: Machine<T>, depth: u16) -> Result<Reversible<T>, OutOfMemory>
+        requires least { 1 ≤ depth }
+        requires most { depth ≤ 256 }
+        ensures machine { IfOk result (λ r. r.machine ≡ machine) }
+        ensures history { IfOk result (λ r. history_of r ≡ begun (state_of machine)) }
+        ensures depth { IfOk result (λ r. r.depth ≡ depth) }
+    {
+        let sizes = machine.objects().sizes();
+        let pasts = VecDeque::with_capacity(alloc, depth as usize)?;
+        let spare = make_pasts(alloc, sizes, depth)?;
+        Ok(Reversible {
+            machine,
+            pasts,
+            spare,
+        })
+    }
+
+    pub fn machine(&self) -> &Machine<T>
+        ensures { result.now ≡ self.now.machine }
+    {
+        &self.machine
+    }
+
+    /// How many events can be undone.
+    pub fn remembered(&self) -> u16
+        ensures value { result ≡ remembered (history_of self.now) }
+        ensures bound { result ≤ self.now.depth }
+    {
+        self.pasts.len() as u16
+    }
+
+    /// Performs an event, which is remembered. Where as many are remembered as there is room for, the oldest is forgotten.
+    pub fn event<L: Ledger>(&mut self, e: Event, fetches: &mut Steps<L>) -> Records
+        requires { hart_in e < self.old.machine.objects.harts }
+        ensures records { result ≡ (event_of (state_of self.old.machine) e).records }
+        ensures history { history_of self.new ≡ after_event self.old.depth (history_of self.old) e }
+        ensures moments { moments_of self.new ≡
+            take self.old.depth (moment_of self.old.machine ∷ moments_of self.old) }
+        ensures kept { let touches = (event_of (state_of self.old.machine) e).touches in
+            let kept = T.kept self.old.machine.translator in
+            T.kept self.new.machine.translator ≡ kept_after T.cost T.after T.without kept touches }
+        ensures depth { self.new.depth ≡ self.old.depth }
+        ensures harts { self.new.machine.objects.harts ≡ self.old.machine.objects.harts }
+    {
+        let mut past = take_past(&mut self.pasts, &mut self.spare);
+        remember(&self.machine, e, &mut past, fetches);
+        tell_machine(&self.machine);
+        let records = kernel_core::event(&mut self.machine, e, fetches);
+        tell_machine(&self.machine);
+        self.pasts.push_front_reserved(past);
+        records
+    }
+
+    /// Undoes the last event that is remembered, and forgets it: all is stored as it was then. False where none is
+    /// remembered, and nothing changes.
+    pub fn undo<L: Ledger>(&mut self, fetches: &mut Steps<L>) -> bool
+        ensures some { result ≡ can_undo (history_of self.old).before }
+        ensures history { history_of self.new ≡ after_undo (history_of self.old) }
+        ensures none { result ≡ false → self.new ≡ self.old }
+        ensures undone { result ≡ true →
+            moments_of self.old ≡ moment_of self.new.machine ∷ moments_of self.new }
+        ensures depth { self.new.depth ≡ self.old.depth }
+        ensures harts { self.new.machine.objects.harts ≡ self.old.machine.objects.harts }
+    {
+        match self.pasts.pop_front() {
+            None => false,
+            Some(past) => {
+                self.machine.restore(&past, fetches);
+                self.spare.push_reserved(past);
+                true
+            }
+        }
+    }
+}
+
+/// Does nothing: its contract tells what every machine keeps.
+fn tell_machine<T: Translator>(machine: &Machine<T>)
+    ensures machine { IsMachine machine.now.objects machine.now.queues }
+    ensures even { IsEven machine.now.objects }
+{
+    machine.tell_kept();
+    let _queues = machine.queues();
+    let _sizes = machine.objects().sizes();
+}
