@@ -1,6 +1,5 @@
 -- What a process of one side may make of objects and queues: one law for each write.
-use Rattle.std.proofs.Common.{◌≡◌, ℕ, inl, inr, Bool, true, false, ◌==◌, if◌then◌else◌, List, [], ◌∷◌, ◌++◌, get_or, set, Option, Some, None, refl, sym, ◌∙◌, ap, subst}
-use Rattle.std.proofs.Math.ListN.{get_or-map}
+use Rattle.std.proofs.Common.{◌≡◌, ℕ, inl, inr, Bool, List, [], ◌∷◌, length, get_or, refl, sym, ◌∙◌, ap, subst, length-set}
 use Rattle.cap_format.specs.declared.kind.CapKind.{CapKind}
 use Rattle.cap_format.specs.declared.kind.CapKind.TheVariants.{Page, CapPage, Gpt, Endpoint, Process}
 use Rattle.cap_format.specs.Capability.{Capability, null}
@@ -12,21 +11,35 @@ use Rattle.endpoint_objects.specs.declared.endpoint.Endpoint.{Endpoint as Endpoi
 use Rattle.endpoint_objects.specs.Endpoint.{empty_endpoint}
 use Rattle.object_store.specs.Store.{Store, slot_at, gpt_at, process_at, set_gpt, set_slot, set_header, with_items, with_page, with_cappage, with_process, with_endpoint}
 use Rattle.object_store.specs.Object.{ObjectName, object_name, IsAmong, Stays}
-use Rattle.object_store.proofs.Lists.{get_or-set}
 use Rattle.object_store.proofs.Stays.{stays_process, stays_page, stays_cappage, stays_endpoint, stays_gpt}
-use Rattle.schedules.specs.Queues.{QueuesValue, sleepers_of, without, left, asleep, highest_below, taken_from, dispatched_by, dispatched, hart_of}
+use Rattle.schedules.specs.Queues.{QueuesValue, sleepers_of, without, left}
 use Rattle.schedules.specs.Ready.{readied, readied_process, readied_queues, readied_all, unslept, woken, runs_of}
 use Rattle.schedules.proofs.Waking.{sleepers-readied}
 use Rattle.operations.specs.System.{System, system, with_store, with_runs}
 use Rattle.confinement.specs.Cut.{Cut, side_of, MayHold, AllOn, SleepApart, Holds}
-use Rattle.confinement.specs.Acts.{Spares, Acts, ProcessHeld}
+use Rattle.confinement.specs.Acts.{Spares, SparesSleepers, SameSizes, Acts, ProcessHeld}
+use Rattle.confinement.proofs.Sleeping.{each_set, length-map_lists, apart-left, apart-unslept, apart-readied, spares-left, spares-slept}
 
--- what holds of each element at its index holds after a write of what it holds of
-pub each_set : {A : Type 0} (P : ℕ → A → Type 0) (xs : List A) (i : ℕ) (y d : A) → P i y → ((j : ℕ) → P j (get_or xs j d)) → (j : ℕ) → P j (get_or (set xs i y) j d)
-each_set P xs i y d new old j = elim (get_or-set xs i j y d) [
-  | inl here ↦ subst (λ v. P j v) (sym here.1) (subst (λ n. P n y) (sym here.0) new)
-  | inr other ↦ subst (λ v. P j v) (sym other) (old j)
-]
+-- ---- sizes
+
+-- a write of one list leaves all of them
+sizes-by : (w v : System) → length w.store.contents.pages ≡ length v.store.contents.pages → length w.store.contents.cappages ≡ length v.store.contents.cappages → length w.store.items.gpts ≡ length v.store.items.gpts
+    → length w.store.contents.processes ≡ length v.store.contents.processes → length w.store.contents.endpoints ≡ length v.store.contents.endpoints → length w.queues.sleepers ≡ length v.queues.sleepers → SameSizes w v
+sizes-by w v pages cappages gpts processes endpoints sleepers =
+    record { pages = pages; cappages = cappages; gpts = gpts; processes = processes; endpoints = endpoints; sleepers = sleepers }
+
+sizes-same : (w : System) → SameSizes w w
+sizes-same w = sizes-by w w refl refl refl refl refl refl
+
+sizes-then : (w v u : System) → SameSizes w v → SameSizes v u → SameSizes w u
+sizes-then w v u first second = record {
+  pages = first.pages ∙ second.pages;
+  cappages = first.cappages ∙ second.cappages;
+  gpts = first.gpts ∙ second.gpts;
+  processes = first.processes ∙ second.processes;
+  endpoints = first.endpoints ∙ second.endpoints;
+  sleepers = first.sleepers ∙ second.sleepers;
+}
 
 module _ (cut : Cut) (side : Bool) where
   -- these names are of objects of this side
@@ -48,13 +61,18 @@ module _ (cut : Cut) (side : Bool) where
 
   -- nothing happens
   pub acts-same : (w : System) → Holds cut w → Acts cut side w w
-  acts-same w holds = record { holds = holds; spares = λ kind n other. refl }
+  acts-same w holds = record { holds = holds; spares = λ kind n other. refl; sleepers = λ n other. refl; sizes = sizes-same w }
 
   -- one thing after another
   pub acts-then : (w v u : System) → Acts cut side w v → (Holds cut v → Acts cut side v u) → Acts cut side w u
   acts-then w v u first second =
       let last = second first.holds in
-      record { holds = last.holds; spares = λ kind n other. first.spares kind n other ∙ last.spares kind n other }
+      record {
+        holds = last.holds;
+        spares = λ kind n other. first.spares kind n other ∙ last.spares kind n other;
+        sleepers = λ n other. first.sleepers n other ∙ last.sleepers n other;
+        sizes = sizes-then w v u first.sizes last.sizes;
+      }
 
   -- ---- one object
 
@@ -75,6 +93,8 @@ module _ (cut : Cut) (side : Bool) where
       sleepers = holds.sleepers;
     };
     spares = spares-stays (object_name Process p ∷ []) w.store (with_process w.store p v) (own, tt) (stays_process [] w.store p v);
+    sleepers = λ n other. refl;
+    sizes = sizes-by w (with_store w (with_process w.store p v)) refl refl refl (sym (length-set w.store.contents.processes p v)) refl refl;
   }
 
   -- a page
@@ -91,6 +111,8 @@ module _ (cut : Cut) (side : Bool) where
       sleepers = holds.sleepers;
     };
     spares = spares-stays (object_name Page n ∷ []) w.store (with_page w.store n page) (own, tt) (stays_page [] w.store n page);
+    sleepers = λ n other. refl;
+    sizes = sizes-by w (with_store w (with_page w.store n page)) (sym (length-set w.store.contents.pages n page)) refl refl refl refl refl;
   }
 
   -- a capability page
@@ -109,6 +131,8 @@ module _ (cut : Cut) (side : Bool) where
       sleepers = holds.sleepers;
     };
     spares = spares-stays (object_name CapPage n ∷ []) w.store (with_cappage w.store n page) (own, tt) (stays_cappage [] w.store n page);
+    sleepers = λ n other. refl;
+    sizes = sizes-by w (with_store w (with_cappage w.store n page)) refl (sym (length-set w.store.contents.cappages n page)) refl refl refl refl;
   }
 
   -- a GPT
@@ -127,6 +151,8 @@ module _ (cut : Cut) (side : Bool) where
       sleepers = holds.sleepers;
     };
     spares = spares-stays (object_name Gpt g ∷ []) w.store (with_items w.store (set_gpt w.store.items g gpt)) (own, tt) (stays_gpt [] w.store g gpt);
+    sleepers = λ n other. refl;
+    sizes = sizes-by w (with_store w (with_items w.store (set_gpt w.store.items g gpt))) refl refl (sym (length-set w.store.items.gpts g gpt)) refl refl refl;
   }
 
   -- an endpoint
@@ -145,6 +171,8 @@ module _ (cut : Cut) (side : Bool) where
       sleepers = holds.sleepers;
     };
     spares = spares-stays (object_name Endpoint e ∷ []) w.store (with_endpoint w.store e v) (own, tt) (stays_endpoint [] w.store e v);
+    sleepers = λ n other. refl;
+    sizes = sizes-by w (with_store w (with_endpoint w.store e v)) refl refl refl refl (sym (length-set w.store.contents.endpoints e v)) refl;
   }
 
   -- what is held of a process that stands in the map
@@ -168,52 +196,14 @@ module _ (cut : Cut) (side : Bool) where
   -- ---- queues
 
   -- other queues in which the sleepers are on their sides
-  pub acts-queues : (w : System) (q : QueuesValue) → SleepApart cut q → Holds cut w → Acts cut side w (system w.store q)
-  acts-queues w q apart holds = record { holds = record { each = holds.each; sleepers = apart }; spares = λ kind n other. refl }
-
--- ---- sleepers
-
-module _ (cut : Cut) where
-  all_without : (side : Bool) (p : ℕ) (xs : List ℕ) → AllOn cut side xs → AllOn cut side (without p xs)
-  all_without side p [] all = tt
-  all_without side p (x ∷ xs) all = by (x == p) (all_without side p xs all.1)
-    where
-      by : (b : Bool) → AllOn cut side (without p xs) → AllOn cut side (if b then xs else x ∷ without p xs)
-      by true rest = all.1
-      by false rest = (all.0, rest)
-
-  all_last : (side : Bool) (p : ℕ) (xs : List ℕ) → AllOn cut side xs → side_of cut Process p ≡ side → AllOn cut side (xs ++ p ∷ [])
-  all_last side p [] all own = (own, tt)
-  all_last side p (x ∷ xs) all own = (all.0, all_last side p xs all.1 own)
-
-  -- one leaves his place
-  pub apart-left : (q : QueuesValue) (p : ℕ) → SleepApart cut q → SleepApart cut (left q p)
-  apart-left q p apart n =
-      subst (λ (xs : List ℕ). AllOn cut (side_of cut Process n) xs) (sym (get_or-map (without p) q.sleepers n [])) (all_without (side_of cut Process n) p (sleepers_of q n) (apart n))
-
-  -- one sleeps on another of his side
-  pub apart-asleep : (q : QueuesValue) (p on : ℕ) → side_of cut Process p ≡ side_of cut Process on → SleepApart cut q → SleepApart cut (asleep q p on)
-  apart-asleep q p on own apart =
-      each_set (λ n (xs : List ℕ). AllOn cut (side_of cut Process n) xs) q.sleepers on (sleepers_of q on ++ p ∷ []) [] (all_last (side_of cut Process on) p (sleepers_of q on) (apart on) own) apart
-
-  -- nobody sleeps on one any more
-  pub apart-unslept : (q : QueuesValue) (on : ℕ) → SleepApart cut q → SleepApart cut (unslept q on)
-  apart-unslept q on apart = each_set (λ n (xs : List ℕ). AllOn cut (side_of cut Process n) xs) q.sleepers on [] [] tt apart
-
-  taken-apart : (q : QueuesValue) (hart : ℕ) (next : Option ℕ) → SleepApart cut q → SleepApart cut (taken_from q hart next)
-  taken-apart q hart None apart = apart
-  taken-apart q hart (Some priority) apart = apart
-
-  by-apart : (q : QueuesValue) (hart : ℕ) (on : Option ℕ) → SleepApart cut q → SleepApart cut (dispatched_by q hart on)
-  by-apart q hart None apart = taken-apart q hart (highest_below q.ready 8) apart
-  by-apart q hart (Some p) apart = apart
-
-  -- a hart takes a process
-  pub apart-dispatched : (q : QueuesValue) (hart : ℕ) → SleepApart cut q → SleepApart cut (dispatched q hart)
-  apart-dispatched q hart apart = by-apart q hart (hart_of q hart) apart
-
-  readied-apart : (k : CapKind) (priority : ℕ) (q : QueuesValue) (p : ℕ) → SleepApart cut q → SleepApart cut (readied_queues k priority q p)
-  readied-apart k priority q p apart n = subst (λ (xs : List (List ℕ)). AllOn cut (side_of cut Process n) (get_or xs n [])) (sym (sleepers-readied k priority q p)) (apart n)
+  pub acts-queues : (w : System) (q : QueuesValue) → SleepApart cut q → SparesSleepers cut side w.queues q → length w.queues.sleepers ≡ length q.sleepers → Holds cut w
+      → Acts cut side w (system w.store q)
+  acts-queues w q apart others size holds = record {
+    holds = record { each = holds.each; sleepers = apart };
+    spares = λ kind n other. refl;
+    sleepers = others;
+    sizes = sizes-by w (system w.store q) refl refl refl refl refl size;
+  }
 
 module _ (cut : Cut) (side : Bool) where
   -- ---- made ready
@@ -225,10 +215,12 @@ module _ (cut : Cut) (side : Bool) where
   pub acts-readied : (w : System) (schedule : Capability) (p : ℕ) → side_of cut Process p ≡ side → Holds cut w
       → Acts cut side w (with_runs w (readied schedule p (runs_of w.store w.queues)))
   acts-readied w schedule p own holds =
+      let same = sleepers-readied schedule.kind schedule.object w.queues p in
       let v = with_store w (with_process w.store p (readied_process schedule.kind (process_at w.store p))) in
       acts-then cut side w v (with_runs w (readied schedule p (runs_of w.store w.queues)))
       (acts-process cut side w p (readied_process schedule.kind (process_at w.store p)) own (held-readied schedule.kind (process_at w.store p) (held-process cut side w p own holds)) holds)
-      (λ h. acts-queues cut side v (readied_queues schedule.kind schedule.object w.queues p) (readied-apart cut schedule.kind schedule.object w.queues p holds.sleepers) h)
+      (λ h. acts-queues cut side v (readied_queues schedule.kind schedule.object w.queues p) (apart-readied cut schedule.kind schedule.object w.queues p holds.sleepers)
+      (λ n other. ap (λ (xs : List (List ℕ)). get_or xs n []) (sym same)) (ap (λ (xs : List (List ℕ)). length xs) (sym same)) h)
 
   -- several are, one after the other
   pub acts-readied_all : (w : System) (f : ℕ → Capability) (ps : List ℕ) → AllOn cut side ps → Holds cut w
@@ -247,9 +239,10 @@ module _ (cut : Cut) (side : Bool) where
   acts-woken w f on own holds =
       let v = system w.store (unslept w.queues on) in
       acts-then cut side w v (with_runs v (readied_all f (sleepers_of w.queues on) (runs_of v.store v.queues)))
-      (acts-queues cut side w (unslept w.queues on) (apart-unslept cut w.queues on holds.sleepers) holds)
+      (acts-queues cut side w (unslept w.queues on) (apart-unslept cut w.queues on holds.sleepers) (spares-slept cut side w.queues on [] own) (sym (length-set w.queues.sleepers on [])) holds)
       (λ h. acts-readied_all v f (sleepers_of w.queues on) (subst (λ b. AllOn cut b (sleepers_of w.queues on)) own (holds.sleepers on)) h)
 
   -- a process leaves its place
-  pub acts-left : (w : System) (p : ℕ) → Holds cut w → Acts cut side w (system w.store (left w.queues p))
-  acts-left w p holds = acts-queues cut side w (left w.queues p) (apart-left cut w.queues p holds.sleepers) holds
+  pub acts-left : (w : System) (p : ℕ) → side_of cut Process p ≡ side → Holds cut w → Acts cut side w (system w.store (left w.queues p))
+  acts-left w p own holds =
+      acts-queues cut side w (left w.queues p) (apart-left cut w.queues p holds.sleepers) (spares-left cut side w.queues p own holds.sleepers) (sym (length-map_lists (without p) w.queues.sleepers)) holds

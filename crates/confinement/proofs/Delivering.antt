@@ -1,5 +1,5 @@
 -- Messages, waits and faults stay on the side of those that take part.
-use Rattle.std.proofs.Common.{◌≡◌, ℕ, Bool, true, false, ◌==◌, if◌then◌else◌, List, [], ◌∷◌, map, get_or, set, Option, Some, None, refl, sym, ◌∙◌, subst}
+use Rattle.std.proofs.Common.{◌≡◌, ℕ, Bool, true, false, ◌==◌, if◌then◌else◌, List, [], ◌∷◌, ◌++◌, map, get_or, set, Option, Some, None, refl, sym, ◌∙◌, subst, length-set}
 use Rattle.cap_format.specs.declared.fault.FaultCode.{FaultCode}
 use Rattle.cap_format.specs.declared.kind.CapKind.TheVariants.{Endpoint, Process}
 use Rattle.cap_format.specs.Capability.{Capability, null, to_object}
@@ -10,7 +10,7 @@ use Rattle.process_objects.specs.Process.{ProcessValue, capreg_of, slot_of, with
 use Rattle.endpoint_objects.specs.declared.endpoint.Endpoint.{Endpoint as EndpointValue}
 use Rattle.endpoint_objects.specs.Endpoint.{raised}
 use Rattle.object_store.specs.Store.{Store, process_at, endpoint_at, with_process}
-use Rattle.schedules.specs.Queues.{left, asleep}
+use Rattle.schedules.specs.Queues.{sleepers_of, left, asleep}
 use Rattle.schedules.specs.Ready.{readied, woken, runs_of}
 use Rattle.invocation.specs.declared.message.Message.{Message}
 use Rattle.invocation.specs.Answerer.{Answer, answerer}
@@ -22,7 +22,8 @@ use Rattle.fault_path.specs.Fault.{is_answer, handler_of, fault_message, faulted
 use Rattle.confinement.specs.Cut.{Cut, side_of, MayHold, EachMayHold, Holds}
 use Rattle.confinement.specs.Acts.{Acts, ProcessHeld, MayHoldIf, AllMayHold, AnswersOwn}
 use Rattle.confinement.proofs.Held.{may-own}
-use Rattle.confinement.proofs.Acting.{each_set, acts-then, acts-process, acts-endpoint, held-process, acts-queues, acts-left, acts-readied, acts-woken, apart-left, apart-asleep}
+use Rattle.confinement.proofs.Sleeping.{each_set, apart-asleep, spares-slept}
+use Rattle.confinement.proofs.Acting.{acts-then, acts-process, acts-endpoint, held-process, acts-queues, acts-left, acts-readied, acts-woken}
 use Rattle.confinement.proofs.Answering.{answerer-own}
 
 module _ (cut : Cut) (side : Bool) where
@@ -54,7 +55,8 @@ module _ (cut : Cut) (side : Bool) where
   held-given v (i ∷ is) [] all held = held
   held-given v (i ∷ is) (c ∷ caps) all held = held-given (with_capreg v i c) is caps all.1 (held-capreg v i c all.0 held)
 
-  held-received : (v : ProcessValue) (id : ℕ) (message : Message) → AllMayHold cut side message.caps → ProcessHeld cut side v → ProcessHeld cut side (received v id message)
+  -- a message is received
+  pub held-received : (v : ProcessValue) (id : ℕ) (message : Message) → AllMayHold cut side message.caps → ProcessHeld cut side v → ProcessHeld cut side (received v id message)
   unfolding received
   held-received v id message all held =
       let accept = accepted v.state in
@@ -67,7 +69,8 @@ module _ (cut : Cut) (side : Bool) where
 
   -- ---- messages
 
-  passed-recipient : (v : EndpointValue) → (passed v).recipient ≡ v.recipient
+  -- a message leaves the recipient
+  pub passed-recipient : (v : EndpointValue) → (passed v).recipient ≡ v.recipient
   passed-recipient v = by v.matching
     where
       by : (b : Bool) → (if b then raised v else v).recipient ≡ v.recipient
@@ -103,7 +106,11 @@ module _ (cut : Cut) (side : Bool) where
   pub acts-waiting : (w : System) (p q : ℕ) → side_of cut Process p ≡ side → side_of cut Process q ≡ side → Holds cut w → Acts cut side w (waiting w p q)
   unfolding waiting
   acts-waiting w p q own on holds =
-      acts-queues cut side w (asleep (left w.queues p) p q) (apart-asleep cut (left w.queues p) p q (own ∙ sym on) (apart-left cut w.queues p holds.sleepers)) holds
+      let v = system w.store (left w.queues p) in
+      acts-then cut side w v (system v.store (asleep v.queues p q))
+      (acts-left cut side w p own holds)
+      (λ h. acts-queues cut side v (asleep v.queues p q) (apart-asleep cut v.queues p q (own ∙ sym on) h.sleepers)
+      (spares-slept cut side v.queues q (sleepers_of v.queues q ++ p ∷ []) on) (sym (length-set v.queues.sleepers q (sleepers_of v.queues q ++ p ∷ []))) h)
 
   -- a process gets another state and leaves its place
   acts-state_left : (w : System) (p : ℕ) (state : State) → side_of cut Process p ≡ side → Holds cut w
@@ -113,7 +120,7 @@ module _ (cut : Cut) (side : Bool) where
       let v = with_store w (with_process w.store p value) in
       acts-then cut side w v (system v.store (left v.queues p))
       (acts-process cut side w p value own (held-state (process_at w.store p) state (held-process cut side w p own holds)) holds)
-      (λ h. acts-left cut side v p h)
+      (λ h. acts-left cut side v p own h)
 
   -- a process receives
   pub acts-receiving : (w : System) (p : ℕ) (accept : AcceptValue) → side_of cut Process p ≡ side → Holds cut w → Acts cut side w (receiving w p accept)
@@ -131,7 +138,7 @@ module _ (cut : Cut) (side : Bool) where
   -- ---- faults
 
   -- the handler that is asked may be held
-  may-handler : (s : Store) (p : ℕ) (handler : Option Capability) → EachMayHold cut s → side_of cut Process p ≡ side → MayHoldIf cut side handler → MayHold cut side (handler_of s p handler)
+  pub may-handler : (s : Store) (p : ℕ) (handler : Option Capability) → EachMayHold cut s → side_of cut Process p ≡ side → MayHoldIf cut side handler → MayHold cut side (handler_of s p handler)
   unfolding handler_of
   may-handler s p None each own may = subst (λ b. MayHold cut b (slot_of (process_at s p) 2)) own (each.process_slots p 2)
   may-handler s p (Some c) each own may = by (is_answer (answerer s c))

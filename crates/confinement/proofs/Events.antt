@@ -155,7 +155,8 @@ module _ (cut : Cut) (side : Bool) (p : ℕ) (own : side_of cut Process p ≡ si
   unfolding answered
   held-answered v number reply held = record { capregs = held.capregs; slots = held.slots }
 
-  held-replied_with : (v : ProcessValue) (accept : AcceptValue) (reply : Reply) (cap : Option Capability) → MayHoldIf cut side cap → ProcessHeld cut side v → ProcessHeld cut side (replied_with v accept reply cap)
+  -- a reply is written
+  pub held-replied_with : (v : ProcessValue) (accept : AcceptValue) (reply : Reply) (cap : Option Capability) → MayHoldIf cut side cap → ProcessHeld cut side v → ProcessHeld cut side (replied_with v accept reply cap)
   held-replied_with v accept reply None may held = held-answered v 0 reply held
   held-replied_with v accept reply (Some cap) may held =
       cond_both (accept.caps == 0) _ _ (ProcessHeld cut side) (λ e. held-answered v 0 reply held)
@@ -178,7 +179,8 @@ module _ (cut : Cut) (side : Bool) (p : ℕ) (own : side_of cut Process p ≡ si
   may-sent v None held = may-null cut side
   may-sent v (Some i) held = held.capregs i
 
-  may-request : (s : State) (inv : InvocationValue) → Holds cut (system_of s) → MayHold cut side (request_of (process s p) inv).sent
+  -- what a request sends may be held
+  pub may-request : (s : State) (inv : InvocationValue) → Holds cut (system_of s) → MayHold cut side (request_of (process s p) inv).sent
   may-request s inv holds = may-sent (process s p) (slice_get inv.sent 0) (held-process cut side (system_of s) p own holds)
 
   leaves-memory_answered : (s : State) (inv : InvocationValue) (cap : Capability) (request : Request) (settled : Settled) → AnswerPermitted cut side settled.answer → Holds cut (system_of s)
@@ -210,7 +212,8 @@ module _ (cut : Cut) (side : Bool) (p : ℕ) (own : side_of cut Process p ≡ si
 
   -- ---- KernLog and SysCtl
 
-  kind-may : (number : ℕ) (cap : Capability) → MayHoldIf cut side (settled_row (kind_table cap number)).answer.cap
+  -- a request for the kind gives nothing
+  pub kind-may : (number : ℕ) (cap : Capability) → MayHoldIf cut side (settled_row (kind_table cap number)).answer.cap
   unfolding kind_row
   kind-may number cap = cond_both (number == 0) _ _ (λ (row : Option Row). MayHoldIf cut side (settled_row row).answer.cap) (λ e. tt) (λ e. tt)
 

@@ -115,7 +115,7 @@ module _ (cut : Cut) (side : Bool) where
   weak-no_range _ c e h = cc
 
   -- what is weakened may be held by each side, where what is harmless may cross
-  pub may-cross_weakened : (c : Capability) → cut.weakly ≡ true → MayHold cut side (weakened c)
+  pub may-cross_weakened : (c : Capability) → cut.weakly side ≡ true → MayHold cut side (weakened c)
   may-cross_weakened c weakly = record { no_range = weak-no_range c.kind c refl; own = inr (weakly, is_harmless-weakened c) }
 
   through : (c : Capability) (b : Bool) → MayHold cut side c → MayHold cut side (if b then weakened c else c)
@@ -127,7 +127,7 @@ module _ (cut : Cut) (side : Bool) where
   may-read_own restr c m = through c (has restr 4) m
 
   -- and so may what is read through WK of any capability
-  pub may-read_weak : (restr : ℕ) (c : Capability) → cut.weakly ≡ true → has restr 4 ≡ true → MayHold cut side (read_through restr c)
+  pub may-read_weak : (restr : ℕ) (c : Capability) → cut.weakly side ≡ true → has restr 4 ≡ true → MayHold cut side (read_through restr c)
   may-read_weak restr c weakly weak =
       subst (λ (b : Bool). MayHold cut side (if b then weakened c else c)) (sym weak) (may-cross_weakened c weakly)
 
@@ -166,6 +166,6 @@ module _ (cut : Cut) (side : Bool) where
   side-entry c e m = side_named c Entry e refl refl m
 
   -- the side's own read, or one through WK
-  pub may-read : (holder : Bool) (restr : ℕ) (c : Capability) → MayHold cut holder c → (holder ≡ side) ⊎ ((cut.weakly ≡ true) × (has restr 4 ≡ true)) → MayHold cut side (read_through restr c)
+  pub may-read : (holder : Bool) (restr : ℕ) (c : Capability) → MayHold cut holder c → (holder ≡ side) ⊎ ((cut.weakly side ≡ true) × (has restr 4 ≡ true)) → MayHold cut side (read_through restr c)
   may-read holder restr c m (inl own) = may-read_own restr c (subst (λ b. MayHold cut b c) own m)
   may-read holder restr c m (inr weak) = may-read_weak restr c weak.0 weak.1

@@ -1,4 +1,5 @@
 pub mod Held
+pub mod Sleeping
 pub mod Acting
 pub mod Walks
 pub mod Answering

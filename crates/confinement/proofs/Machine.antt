@@ -1,5 +1,5 @@
 -- What a process of one side makes of a state by one change, one access or one message stays on its side.
-use Rattle.std.proofs.Common.{◌≡◌, ℕ, ◌⊎◌, inl, inr, Bool, true, false, List, [], ◌∷◌, take, drop, Option, Some, Result, Ok, Err, sym, ◌∙◌, subst}
+use Rattle.std.proofs.Common.{◌≡◌, ℕ, ◌⊎◌, inl, inr, Bool, true, false, List, [], ◌∷◌, length, get_or, take, drop, Option, Some, Result, Ok, Err, sym, ◌∙◌, ap, subst}
 use Rattle.cap_format.specs.declared.fault.FaultCode.{FaultCode}
 use Rattle.cap_format.specs.declared.kind.CapKind.{CapKind}
 use Rattle.cap_format.specs.declared.kind.CapKind.TheVariants.{Page, CapPage, Endpoint, Process}
@@ -22,6 +22,7 @@ use Rattle.string_move.specs.declared.piece.Piece.{Piece}
 use Rattle.string_move.specs.Move.{with_piece, gathered, scattered, copied, size_of_pieces}
 use Rattle.operations.specs.System.{System, Meant, with_store}
 use Rattle.operations.specs.Change.{Change}
+use Rattle.schedules.specs.Queues.{dispatched}
 use Rattle.rv32_user.specs.Word.{next_of}
 use Rattle.machine_state.specs.State.{State, process, pc_of, space_of, schedule_slot}
 use Rattle.machine_state.specs.Setters.{set_store, set_pc, set_registers, set_capreg, advance, leave, ready, yielded, dispatch, ticked}
@@ -34,7 +35,8 @@ use Rattle.confinement.specs.Cut.{Cut, side_of, MayHold, Holds}
 use Rattle.confinement.specs.Acts.{Acts, ProcessHeld, AllPermitted, MayHoldIf, AllMayHold, system_of}
 use Rattle.confinement.specs.Reach.{ReadsWeakly, Reaches, Ends}
 use Rattle.confinement.proofs.Held.{may-read}
-use Rattle.confinement.proofs.Acting.{each_set, acts-same, acts-then, acts-process, acts-page, acts-cappage, acts-left, acts-readied, apart-dispatched, held-process}
+use Rattle.confinement.proofs.Sleeping.{each_set, apart-dispatched, sleepers-dispatched}
+use Rattle.confinement.proofs.Acting.{acts-same, acts-then, acts-process, acts-page, acts-cappage, acts-left, acts-readied, acts-queues, held-process}
 use Rattle.confinement.proofs.Walks.{access_ends}
 use Rattle.confinement.proofs.Delivering.{held-capreg, acts-told, acts-waiting, acts-listening, acts-fault}
 use Rattle.confinement.proofs.Operating.{acts-applied_all}
@@ -76,7 +78,7 @@ module _ (cut : Cut) (side : Bool) where
     -- ---- its place
 
     pub acts-leave : (s : State) → Holds cut (system_of s) → Acts cut side (system_of s) (system_of (leave s p))
-    acts-leave s holds = acts-left cut side (system_of s) p holds
+    acts-leave s holds = acts-left cut side (system_of s) p own holds
 
     pub acts-ready : (s : State) → Holds cut (system_of s) → Acts cut side (system_of s) (system_of (ready s p))
     acts-ready s holds = acts-readied cut side (system_of s) (schedule_slot s p) p own holds
@@ -119,7 +121,7 @@ module _ (cut : Cut) (side : Bool) where
   acts-changed_by s changes all holds = acts-applied_all cut side Meant (system_of s) changes all holds
 
   -- a place that is written is of this side
-  writes-own : (p : Place) → has p.restr.0 1 ≡ false → (side_of cut p.kind p.number ≡ side) ⊎ ReadsWeakly cut p → side_of cut p.kind p.number ≡ side
+  writes-own : (p : Place) → has p.restr.0 1 ≡ false → (side_of cut p.kind p.number ≡ side) ⊎ ReadsWeakly cut side p → side_of cut p.kind p.number ≡ side
   writes-own p allowed (inl own) = own
   writes-own p allowed (inr weak) = let e = sym allowed ∙ weak.1 in absurd (cc (e))
 
@@ -148,7 +150,7 @@ module _ (cut : Cut) (side : Bool) where
   may-found s p r holds =
       may-read cut side (side_of cut CapPage p.number) p.restr.0 (cap_at (cappage_at s.store p.number) (slot_in p)) (holds.each.cappages p.number (slot_in p)) (by r.own)
     where
-      by : (side_of cut p.kind p.number ≡ side) ⊎ ReadsWeakly cut p → (side_of cut CapPage p.number ≡ side) ⊎ ((cut.weakly ≡ true) × (has p.restr.0 4 ≡ true))
+      by : (side_of cut p.kind p.number ≡ side) ⊎ ReadsWeakly cut side p → (side_of cut CapPage p.number ≡ side) ⊎ ((cut.weakly side ≡ true) × (has p.restr.0 4 ≡ true))
       by (inl own) = inl (subst (λ (k : CapKind). side_of cut k p.number ≡ side) r.serves own)
       by (inr weak) = inr (weak.0, weak.2 r.serves)
 
@@ -183,3 +185,10 @@ module _ (cut : Cut) (side : Bool) where
 -- a hart takes a process
 pub holds-dispatch : (cut : Cut) (s : State) (hart : ℕ) → Holds cut (system_of s) → Holds cut (system_of (dispatch s hart))
 holds-dispatch cut s hart holds = record { each = holds.each; sleepers = apart-dispatched cut s.queues hart holds.sleepers }
+
+-- and nobody sleeps elsewhere
+pub acts-dispatch : (cut : Cut) (side : Bool) (s : State) (hart : ℕ) → Holds cut (system_of s) → Acts cut side (system_of s) (system_of (dispatch s hart))
+acts-dispatch cut side s hart holds =
+    let same = sleepers-dispatched s.queues hart in
+    acts-queues cut side (system_of s) (dispatched s.queues hart) (apart-dispatched cut s.queues hart holds.sleepers)
+    (λ n other. ap (λ (xs : List (List ℕ)). get_or xs n []) (sym same)) (ap (λ (xs : List (List ℕ)). length xs) (sym same)) holds

@@ -30,7 +30,8 @@ use Rattle.operations.specs.Control.{endpoint_of, process_of, number_in, with_nu
 use Rattle.confinement.specs.Cut.{Cut, side_of, MayHold, EachMayHold, Holds}
 use Rattle.confinement.specs.Acts.{Acts, ProcessHeld, Permitted, AllPermitted, AnswerPermitted}
 use Rattle.confinement.proofs.Held.{may-null, may-uncounted, may-own, may-reduced, may-with_guard, may-read, side-page, side-cappage, side-gpt, side-process, side-endpoint}
-use Rattle.confinement.proofs.Acting.{each_set, acts-same, acts-then, acts-process, acts-page, acts-cappage, acts-slot, acts-header, acts-endpoint, acts-left, acts-readied, acts-woken}
+use Rattle.confinement.proofs.Sleeping.{each_set}
+use Rattle.confinement.proofs.Acting.{acts-same, acts-then, acts-process, acts-page, acts-cappage, acts-slot, acts-header, acts-endpoint, acts-left, acts-readied, acts-woken}
 use Rattle.confinement.proofs.Delivering.{held-state, held-capreg, held-slot}
 
 module _ (cut : Cut) (side : Bool) where
@@ -44,7 +45,7 @@ module _ (cut : Cut) (side : Bool) where
   acts-applied reading w (HeaderIs g header) may holds = acts-header cut side w g header may holds
   acts-applied reading w (EndpointIs e endpoint) may holds = acts-endpoint cut side w e endpoint may.0 may.1 holds
   acts-applied reading w (ProcessIs p process) may holds = acts-process cut side w p process may.0 may.1 holds
-  acts-applied reading w (Left p) may holds = acts-left cut side w p holds
+  acts-applied reading w (Left p) may holds = acts-left cut side w p may holds
   acts-applied reading w (Readied p) may holds = acts-readied cut side w (schedule_by reading w.store p) p may holds
   acts-applied reading w (Woken p) may holds = acts-woken cut side w (schedule_by reading w.store) p may holds
   acts-applied reading w (Destroyed kind n) may holds = absurd may
@@ -150,7 +151,7 @@ module _ (cut : Cut) (side : Bool) where
 
     -- the object is of this side, or what is read of it is weak
     reads-weak : (k : CapKind) → c.kind ≡ k → is_counted k ≡ true → (harmless_kind k c.restr ≡ true → has c.restr 4 ≡ true)
-        → (side_of cut (object_kind k) c.object ≡ side) ⊎ ((cut.weakly ≡ true) × (has c.restr 4 ≡ true))
+        → (side_of cut (object_kind k) c.object ≡ side) ⊎ ((cut.weakly side ≡ true) × (has c.restr 4 ≡ true))
     reads-weak k e counted weak = elim may.own [
       | inl own ↦ inl (subst (λ (j : CapKind). side_of cut (object_kind j) c.object ≡ side) e (own (ap (λ (j : CapKind). is_counted j) e ∙ counted)))
       | inr cross ↦ inr (cross.0, weak (sym (ap (λ (j : CapKind). harmless_kind j c.restr) e) ∙ cross.1))

@@ -38,7 +38,7 @@ module _ (cut : Cut) (side : Bool) where
 
   -- RO, WK and NC are among these restrictions, and what is weak may cross
   record Weakly (restr : ℕ) : Type 0 where
-    crosses : cut.weakly ≡ true
+    crosses : cut.weakly side ≡ true
     read_only : has restr 1 ≡ true
     weak : has restr 4 ≡ true
     no_call : has restr 16 ≡ true
@@ -64,7 +64,7 @@ module _ (cut : Cut) (side : Bool) where
     | inr inside ↦ by inside inside.may.own
   ]
     where
-      by : Inside c w → NamesOwn cut side c ⊎ MayCross cut c → Weakly (past c w).restr.0 ⊎ ((side_of cut Gpt c.object ≡ side) × Inside c w)
+      by : Inside c w → NamesOwn cut side c ⊎ MayCross cut side c → Weakly (past c w).restr.0 ⊎ ((side_of cut Gpt c.object ≡ side) × Inside c w)
       by inside (inl own) = inr (subst (λ (j : CapKind). side_of cut (object_kind j) c.object ≡ side) k (own (ap (λ (j : CapKind). is_counted j) k)), inside)
       by inside (inr cross) =
           let h = sym (ap (λ (j : CapKind). harmless_kind j c.restr) k) ∙ cross.1 in
@@ -151,10 +151,10 @@ module _ (cut : Cut) (side : Bool) where
     not_page : (k : CapKind) → k ≡ Page → k ≡ CapPage → ⊥
     not_page k page cappage = cc
 
-    inside-own : (c : Capability) (w : At) → Serves c.kind kind → MayHold cut side c → (side_of cut c.kind c.object ≡ side) ⊎ ReadsWeakly cut (reached_place c (past c w))
+    inside-own : (c : Capability) (w : At) → Serves c.kind kind → MayHold cut side c → (side_of cut c.kind c.object ≡ side) ⊎ ReadsWeakly cut side (reached_place c (past c w))
     inside-own c w serves may = by serves may.own
       where
-        by : Serves c.kind kind → NamesOwn cut side c ⊎ MayCross cut c → (side_of cut c.kind c.object ≡ side) ⊎ ReadsWeakly cut (reached_place c (past c w))
+        by : Serves c.kind kind → NamesOwn cut side c ⊎ MayCross cut side c → (side_of cut c.kind c.object ≡ side) ⊎ ReadsWeakly cut side (reached_place c (past c w))
         by (inl s) (inl own) = inl (ap (λ (j : CapKind). side_of cut j c.object) s.0 ∙ subst (λ (j : CapKind). side_of cut (object_kind j) c.object ≡ side) s.0 (own (ap (λ (j : CapKind). is_counted j) s.0)))
         by (inr s) (inl own) = inl (ap (λ (j : CapKind). side_of cut j c.object) s.0 ∙ subst (λ (j : CapKind). side_of cut (object_kind j) c.object ≡ side) s.0 (own (ap (λ (j : CapKind). is_counted j) s.0)))
         by (inl s) (inr cross) =

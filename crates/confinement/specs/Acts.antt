@@ -1,5 +1,5 @@
 -- What a process of one side may do: the other side's objects stay as they are, and the cut holds afterwards. (Own.)
-use Rattle.std.specs.Prelude.{◌≡◌, ◌≢◌, ℕ, Bool, List, [], ◌∷◌, Option, Some, None}
+use Rattle.std.specs.Prelude.{◌≡◌, ◌≢◌, ℕ, Bool, List, [], ◌∷◌, length, Option, Some, None}
 use Rattle.cap_format.specs.declared.kind.CapKind.{CapKind}
 use Rattle.cap_format.specs.declared.kind.CapKind.TheVariants.{Page, CapPage, Gpt, Endpoint, Process}
 use Rattle.cap_format.specs.Capability.{Capability}
@@ -7,6 +7,7 @@ use Rattle.page_store.specs.CapPage.{cap_at}
 use Rattle.process_objects.specs.Process.{ProcessValue, capreg_of, slot_of}
 use Rattle.object_store.specs.Store.{Store}
 use Rattle.object_store.specs.Object.{SameObject}
+use Rattle.schedules.specs.Queues.{QueuesValue, sleepers_of}
 use Rattle.invocation.specs.Answerer.{Answer}
 use Rattle.invocation.specs.Answerer.Answer.{Dead, Open, Busy}
 use Rattle.invocation.specs.declared.callee.Callee.{Callee}
@@ -21,10 +22,25 @@ use Rattle.confinement.specs.Cut.{Cut, side_of, MayHold, Holds}
 abbrev pub Spares : Cut → Bool → Store → Store → Type 0
 Spares cut side s t = (kind : CapKind) (n : ℕ) → side_of cut kind n ≢ side → SameObject kind n s t
 
+-- who sleeps on a process that is not of this side is the same
+abbrev pub SparesSleepers : Cut → Bool → QueuesValue → QueuesValue → Type 0
+SparesSleepers cut side q r = (p : ℕ) → side_of cut Process p ≢ side → sleepers_of q p ≡ sleepers_of r p
+
+-- there are as many objects of each kind, and as many processes on which others may sleep
+pub record SameSizes (w v : System) : Type 0 where
+  pub pages : length w.store.contents.pages ≡ length v.store.contents.pages
+  pub cappages : length w.store.contents.cappages ≡ length v.store.contents.cappages
+  pub gpts : length w.store.items.gpts ≡ length v.store.items.gpts
+  pub processes : length w.store.contents.processes ≡ length v.store.contents.processes
+  pub endpoints : length w.store.contents.endpoints ≡ length v.store.contents.endpoints
+  pub sleepers : length w.queues.sleepers ≡ length v.queues.sleepers
+
 -- what a process of this side made of a system in which the cut held
 pub record Acts (cut : Cut) (side : Bool) (w v : System) : Type 0 where
   pub holds : Holds cut v
   pub spares : Spares cut side w.store v.store
+  pub sleepers : SparesSleepers cut side w.queues v.queues
+  pub sizes : SameSizes w v
 
 -- a process that this side may have: it may hold all of its capabilities
 pub record ProcessHeld (cut : Cut) (side : Bool) (process : ProcessValue) : Type 0 where

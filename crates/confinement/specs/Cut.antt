@@ -29,10 +29,10 @@ sides_of sides Process = sides.processes
 sides_of sides Endpoint = sides.endpoints
 sides_of sides _ = []
 
--- a cut: the sides, and whether capabilities that are harmless may cross it
+-- a cut: the sides, and of each side whether it may hold capabilities that are harmless across the cut
 pub record Cut : Type 0 where
   pub sides : Sides
-  pub weakly : Bool
+  pub weakly : Bool → Bool
 
 -- the side of object `n` of a kind: what stands in no list is on the right
 abbrev pub side_of : Cut → CapKind → ℕ → Bool
@@ -42,15 +42,15 @@ side_of cut kind n = slice_index_or (sides_of cut.sides kind) n false
 abbrev pub NamesOwn : Cut → Bool → Capability → Type 0
 NamesOwn cut side c = is_counted c.kind ≡ true → side_of cut (object_kind c.kind) c.object ≡ side
 
--- the capability can do nothing across the cut: it is harmless, and such may cross
-abbrev pub MayCross : Cut → Capability → Type 0
-MayCross cut c = (cut.weakly ≡ true) × (is_harmless c ≡ true)
+-- the capability can do nothing across the cut: it is harmless, and this side may hold such
+abbrev pub MayCross : Cut → Bool → Capability → Type 0
+MayCross cut side c = (cut.weakly side ≡ true) × (is_harmless c ≡ true)
 
 -- a capability that an object of this side may hold: no Range, and one that names what is of this side or that is
 -- harmless
 pub record MayHold (cut : Cut) (side : Bool) (c : Capability) : Type 0 where
   pub no_range : c.kind ≢ Range
-  pub own : NamesOwn cut side c ⊎ MayCross cut c
+  pub own : NamesOwn cut side c ⊎ MayCross cut side c
 
 -- each capability that stands in an object may be held by the side of that object
 pub record EachMayHold (cut : Cut) (s : Store) : Type 0 where

@@ -11,14 +11,14 @@ use Rattle.confinement.specs.Cut.{Cut, side_of}
 use Rattle.confinement.specs.Acts.{MayHoldIf}
 
 -- through these restrictions nothing can be written, and what is loaded of capabilities is weakened
-abbrev pub ReadsWeakly : Cut → Place → Type 0
-ReadsWeakly cut p = (cut.weakly ≡ true) × (has p.restr.0 1 ≡ true) × (p.kind ≡ CapPage → has p.restr.0 4 ≡ true)
+abbrev pub ReadsWeakly : Cut → Bool → Place → Type 0
+ReadsWeakly cut side p = (cut.weakly side ≡ true) × (has p.restr.0 1 ≡ true) × (p.kind ≡ CapPage → has p.restr.0 4 ≡ true)
 
 -- a place that is reached from this side: an object of it, or one that is read and no more
 pub record Reaches (cut : Cut) (side : Bool) (kind : Kind) (p : Place) : Type 0 where
   pub serves : p.kind ≡ serving kind
   pub allowed : denied kind p.restr.0 ≡ false
-  pub own : (side_of cut p.kind p.number ≡ side) ⊎ ReadsWeakly cut p
+  pub own : (side_of cut p.kind p.number ≡ side) ⊎ ReadsWeakly cut side p
 
 -- where an access ends that began on this side: at such a place, or in a fault whose handler this side may hold
 abbrev pub Ends : Cut → Bool → Kind → Result Place WalkFault → Type 0

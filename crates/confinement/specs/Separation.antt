@@ -6,14 +6,16 @@ use Rattle.machine_state.specs.State.{State}
 use Rattle.kernel_core.specs.Event.{performer, event_of}
 use Rattle.kernel_core.specs.Run.{run_state}
 use Rattle.confinement.specs.Cut.{Cut, side_of, Holds}
-use Rattle.confinement.specs.Acts.{Spares, system_of}
+use Rattle.confinement.specs.Acts.{Spares, SparesSleepers, system_of}
 
 -- An event that a process performs, or nobody, takes state `s` to state `t`. The cut holds afterwards; each object that is
--- not of the side of who performs it is the same, its age and state included; and where nobody does, each object is.
+-- not of the side of who performs it is the same, its age and state included, and so is who sleeps on each process that is
+-- not; and where nobody performs it, all of this is the same.
 pub record Kept (cut : Cut) (s : State) (by : Option ℕ) (t : State) : Type 0 where
   pub holds : Holds cut (system_of t)
   pub spares : (p : ℕ) → by ≡ Some p → Spares cut (side_of cut Process p) s.store t.store
-  pub idle : by ≡ None → t.store ≡ s.store
+  pub sleepers : (p : ℕ) → by ≡ Some p → SparesSleepers cut (side_of cut Process p) s.queues t.queues
+  pub idle : by ≡ None → (t.store ≡ s.store) × (t.queues.sleepers ≡ s.queues.sleepers)
 
 -- so it is with every event, behind any events, from this state on
 abbrev pub Separated : Cut → State → Type 0

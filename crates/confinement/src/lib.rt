@@ -1,8 +1,10 @@
 //! Confinement: what a cut between two sides of a machine is, and the theorem that it is never crossed.
 //!
-//! A cut gives each object a side. It holds where no object has a Range, where each capability that names an object of
-//! the other side is harmless, and where each sleeper is of the side of the process on which it sleeps. Then an event
-//! that a process of one side performs leaves every object of the other side as it is, and the cut holds again.
+//! A cut gives each object a side, and says of each side whether it may hold capabilities that are harmless across. It
+//! holds where no object has a Range, where each capability that names an object of the other side is one that its holder's
+//! side may so hold, and where each sleeper is of the side of the process on which it sleeps. Then an event that a process
+//! of one side performs leaves every object of the other side as it is, and who sleeps on its processes, and the cut holds
+//! again.
 //!
 //! There is no code here. Each function has a law as its contract; the definitions are in `specs/`.
 #![tactic(auto)]
@@ -32,7 +34,8 @@ pub fn operation_law()
 {}
 
 /// Where a cut holds, then behind any events each event leaves the objects as they are that are not of the side of the
-/// process which performs it, and the cut holds afterwards. Where nobody performs it no object changes.
+/// process which performs it, and who sleeps on the processes that are not, and the cut holds afterwards. Where nobody
+/// performs it no object changes, and no sleeper.
 pub fn separation()
     ensures { Separation }
 {}

@@ -1,0 +1,14 @@
+mod Agreeing
+mod Walks
+mod Answering
+mod Matching
+mod Delivering
+mod Operating
+mod States
+mod Messaging
+mod Kernel
+mod Accessing
+mod Events
+mod Turns
+mod Runs
+mod Told

@@ -1,0 +1,4 @@
+pub mod Agree
+pub mod Turns
+pub mod Laws
+pub mod Isolation
