@@ -7,7 +7,7 @@ use Rattle.listing_read.specs.Faults.{◌>>=◌, ensured}
 use Rattle.listing_read.specs.Fields.{field}
 use Rattle.listing_read.specs.Line.{is_visible_line, is_skipped}
 use Rattle.listing_read.specs.declared.fault.ScheduleFault.{ScheduleFault}
-use Rattle.listing_read.specs.declared.fault.ScheduleFault.TheVariants.{LineTooLong, BadByte, UnknownEvent, WrongWords, BadNumber, NoHart, BadRepeat}
+use Rattle.listing_read.specs.declared.fault.ScheduleFault.TheVariants.{LineTooLong, BadByte, UnknownEvent, WrongWords, BadNumber, NoHart, BadRepeat, EventInPack}
 use Rattle.listing_read.specs.declared.schedule.Timed.{Timed}
 use Rattle.listing_read.specs.declared.schedule.Timed.TheVariants.{Step, Tick, Round}
 
@@ -81,3 +81,10 @@ schedule_line harts line = do
   _ ← ensured (nat_le (length line) LINE_LIMIT) LineTooLong
   _ ← ensured (is_visible_line line) BadByte
   schedule_words harts (words_of line)
+
+-- a line where no event may stand: one that is skipped, or its fault
+unfoldable pub eventless_line : List ℕ → Result (Unit {0}) ScheduleFault
+eventless_line line = do
+  _ ← ensured (nat_le (length line) LINE_LIMIT) LineTooLong
+  _ ← ensured (is_visible_line line) BadByte
+  ensured (is_skipped (words_of line)) EventInPack

@@ -58,6 +58,8 @@ pub enum ScheduleFault {
     NoHart,
     /// The number of times is not from 1 to 1,000,000.
     BadRepeat,
+    /// The line is not skipped, where no event may stand.
+    EventInPack,
 }
 
 /// Why there is no listing.

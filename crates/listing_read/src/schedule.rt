@@ -3,7 +3,7 @@ ghost use Rattle.std.specs.Prelude.{ℕ, ◌<◌, ◌≤◌, ◌≡◌, ◌==◌
 ghost use Rattle.coy_text.specs.Words.{words_of};
 ghost use Rattle.listing_read.specs.declared.fault.ScheduleFault.TheVariants.{WrongWords};
 ghost use Rattle.listing_read.specs.Faults.{ensured};
-ghost use Rattle.listing_read.specs.Schedule.{IsTimed, schedule_number, hart_of, times_of, step_line, tick_line, round_line, timed_of, asked_by, schedule_line};
+ghost use Rattle.listing_read.specs.Schedule.{IsTimed, schedule_number, hart_of, times_of, step_line, tick_line, round_line, timed_of, asked_by, schedule_line, eventless_line};
 
 use crate::fault::ScheduleFault;
 use crate::line::{is_skipped, is_visible};
@@ -37,6 +37,23 @@ pub fn read_event(line: &[u8], harts: u8) -> Result<Option<Timed>, ScheduleFault
         return Ok(None);
     }
     asked(line, harts)
+}
+
+/// Reads a line where no event may stand: it is skipped, or this is its fault.
+#[tactic(auto, unfolding(crate::specs::Schedule::eventless_line))]
+pub fn read_eventless(line: &[u8]) -> Result<(), ScheduleFault>
+    ensures { result ≡ eventless_line line.now }
+{
+    if line.len() > LINE_LIMIT {
+        return Err(ScheduleFault::LineTooLong);
+    }
+    if !is_visible(line) {
+        return Err(ScheduleFault::BadByte);
+    }
+    if !is_skipped(line) {
+        return Err(ScheduleFault::EventInPack);
+    }
+    Ok(())
 }
 
 #[tactic(auto, unfolding(crate::specs::Schedule::asked_by))]

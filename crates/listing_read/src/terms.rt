@@ -35,8 +35,8 @@ pub struct Terms {
     pub names: Names,
 }
 
-/// How many objects of a kind a machine of these sizes has.
-pub(crate) fn size_of(sizes: Sizes, kind: CapKind) -> u16
+/// How many objects of a kind a machine of these sizes has: 0 of a kind that is none of objects.
+pub fn size_of(sizes: Sizes, kind: CapKind) -> u16
     ensures { result ≡ size_in sizes kind }
 {
     match kind {
