@@ -7,5 +7,5 @@ mod Instructions
 pub mod Statements
 pub mod Listed
 mod Events
-mod Texts
+pub mod Texts
 mod HasLines

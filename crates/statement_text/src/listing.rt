@@ -5,7 +5,8 @@ ghost use Rattle.listing_read.specs.declared.terms.Version.TheVariants.{Two};
 ghost use Rattle.statement_text.specs.Text.{format_text, machine_text, statement_text, statements_text, end_text, listing_text};
 ghost use Rattle.statement_text.specs.Written.{WroteTo};
 
-use crate::statement::{push_statement, push_three};
+use crate::memory_lines::push_three;
+use crate::statement::push_statement;
 use cap_words::push_numbered;
 use coy_io::{Sink, WriteFault, put_all};
 use coy_text::LineBuf;

@@ -1,6 +1,6 @@
 use Rattle.std.proofs.Common.{◌≡◌, ◌+◌, ◌*◌, ◌++◌, length, take}
 use Rattle.statement_text.specs.Words.{bytes_text}
-use Rattle.statement_text.proofs.statement.push_bytes.Given as goal
+use Rattle.statement_text.proofs.memory_lines.push_bytes.Given as goal
 
 -- the bytes so far have their digits
 abbrev pub invariant-bytes : goal.invariant-bytes

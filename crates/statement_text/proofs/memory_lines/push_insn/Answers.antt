@@ -2,7 +2,7 @@ use Rattle.std.proofs.Common.{◌++◌, sym, ap, ◌∙◌, append_assoc}
 use Rattle.std.specs.Prelude.{codes}
 use Rattle.rv32_asm.specs.Text.{text_of}
 use Rattle.statement_text.proofs.Instructions.{behind_words_from}
-use Rattle.statement_text.proofs.statement.push_insn.Goals as goal
+use Rattle.statement_text.proofs.memory_lines.push_insn.Goals as goal
 
 pub returns-clause-text : goal.returns-clause-text
 returns-clause-text c =
