@@ -1,0 +1,16 @@
+mod Binds
+mod Lawful
+mod MadeLaws
+mod NumberLaws
+mod SpelledCaps
+mod ValueLaws
+mod StatementLaws
+mod WordLaws
+mod Fitting
+mod ImageLaws
+mod Pushes
+mod HasWords
+mod Windows
+mod Reading
+mod Follows
+mod Answered

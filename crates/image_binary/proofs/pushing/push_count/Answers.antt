@@ -1,0 +1,5 @@
+use Rattle.image_binary.proofs.Pushes.{then_more}
+use Rattle.image_binary.proofs.pushing.push_count.Goals as goal
+
+pub returns : goal.returns
+returns c = λ sizes. rw (← c.number.ensures.value) (then_more c.push_u8.ensures.bytes (then_more c.push_u16.ensures.bytes c.push_u32.ensures.bytes))

@@ -1,0 +1,179 @@
+//! The bytes that were taken from a source and not used yet.
+ghost use Rattle.std.specs.Prelude.{◌≡◌, ℕ, ◌+◌, ◌-◌, ◌<◌, ◌≤◌, List, [], Ok, length, take, drop, IfOk};
+ghost use Rattle.std.specs.Io.KnownBytes.{ReadConsumes};
+ghost use Rattle.coy_io.specs.declared.TheConstants.{INPUT_LIMIT};
+ghost use Rattle.coy_io.specs.Causes.{HasCause};
+ghost use Rattle.coy_io.specs.Pieces.{moved};
+ghost use Rattle.image_binary.specs.declared.reader.TheConstants.{WINDOW};
+ghost use Rattle.image_binary.specs.Laws.{AreBytes};
+ghost use Rattle.image_binary.specs.Reader.{new_reader, offset_of, IsSupply, IsFilled, IsProbe};
+
+use crate::fault::{ImageFault, ImageWord};
+use coy_io::{Failed, INPUT_LIMIT, Source};
+use std::marker::Model;
+
+/// How many bytes are held at most.
+pub const WINDOW: usize = 4096;
+
+/// What a source gave when it was asked for more.
+#[derive(Clone, Copy, Debug, PartialEq, Eq)]
+pub enum Supply {
+    /// At least one byte.
+    Bytes,
+    /// Its end.
+    End,
+    /// A byte behind the last that is read.
+    Past,
+}
+
+/// Holds bytes of an image, from the first that was not used on.
+#[derive(Drop)]
+pub struct ImageReader {
+    bytes: [u8; WINDOW],
+    from: usize,
+    end: usize,
+    at: u32,
+}
+
+impl Model for ImageReader {
+    ghost use Rattle.std.specs.Prelude.{◌+◌, ◌-◌, ◌≤◌, take, drop};
+    ghost use Rattle.coy_io.specs.declared.TheConstants.{INPUT_LIMIT};
+    ghost use Rattle.image_binary.specs.declared.reader.TheConstants.{WINDOW};
+    ghost use Rattle.image_binary.specs.Reader.{Reader};
+
+    ghost Value = { Reader };
+
+    ghost view = { λ r. record { at = r.at; held = take (r.end - r.from) (drop r.from r.bytes) } };
+
+    ghost invariant = { λ r. (r.from ≤ r.end) × (r.end ≤ WINDOW) × (r.at + (r.end - r.from) ≤ INPUT_LIMIT) };
+}
+
+impl ImageReader {
+    pub(crate) fn new() -> ImageReader
+        ensures { result ≡ new_reader }
+    {
+        ImageReader {
+            bytes: [0; WINDOW],
+            from: 0,
+            end: 0,
+            at: 0,
+        }
+    }
+
+    /// The bytes that are held.
+    pub(crate) fn held(&self) -> &[u8]
+        ensures value { result.now ≡ self.now.held }
+        ensures bytes { AreBytes result.now }
+        ensures window { length self.now.held ≤ WINDOW }
+        ensures limit { self.now.at + length self.now.held ≤ INPUT_LIMIT }
+    {
+        let held = &self.bytes[self.from..self.end];
+        are_bytes(held);
+        held
+    }
+
+    /// The field has this fault from which so many of the bytes stand that are held.
+    pub(crate) fn refused(&self, left: usize, fault: ImageWord) -> ImageFault
+        requires { left ≤ length self.now.held }
+        ensures { result ≡ ImageFault.Refused (offset_of self.now left) fault }
+    {
+        let offset = self.at + (self.end - self.from - left) as u32;
+        ImageFault::Refused { offset, fault }
+    }
+
+    /// Keeps the last of the bytes that are held, and uses those before them.
+    pub(crate) fn keep(&mut self, left: usize)
+        requires { left ≤ length self.old.held }
+        ensures at { self.new.at + left ≡ self.old.at + length self.old.held }
+        ensures held { self.new.held ≡ drop (length self.old.held - left) self.old.held }
+    {
+        let used = self.end - self.from - left;
+        self.from += used;
+        self.at += used as u32;
+    }
+
+    /// Asks the source for bytes behind those that are held.
+    pub(crate) fn ask<S: Source>(&mut self, source: &mut S) -> Result<Supply, Failed>
+        requires { length self.old.held < WINDOW }
+        ensures supply { IsSupply result self.old self.new (S.held source.old) (S.held source.new) }
+        ensures cause { HasCause (S.faults source.old) (S.faults source.new) result }
+    {
+        let room = INPUT_LIMIT - self.at as usize - (self.end - self.from);
+        if room == 0 {
+            return probe(source);
+        }
+        match self.fill(room, source) {
+            Ok(0) => Ok(Supply::End),
+            Ok(_) => Ok(Supply::Bytes),
+            Err(Failed) => Err(Failed),
+        }
+    }
+
+    /// Takes at most `room` bytes from the source behind those that are held.
+    fn fill<S: Source>(&mut self, room: usize, source: &mut S) -> Result<usize, Failed>
+        requires some { 1 ≤ room }
+        requires within { self.old.at + length self.old.held + room ≤ INPUT_LIMIT }
+        requires window { length self.old.held < WINDOW }
+        ensures filled { IsFilled result self.old self.new (S.held source.old) (S.held source.new) }
+        ensures most { IfOk result (λ count. count ≤ room) }
+        ensures cause { HasCause (S.faults source.old) (S.faults source.new) result }
+    {
+        to_front(&mut self.bytes, self.from, self.end);
+        self.end -= self.from;
+        self.from = 0;
+        let most = room.min(WINDOW - self.end);
+        let count = take_behind(source, &mut self.bytes, self.end, most)?;
+        are_bytes(&self.bytes);
+        self.end += count;
+        Ok(count)
+    }
+}
+
+/// Asks the source whether there is a byte behind the last that is read.
+fn probe<S: Source>(source: &mut S) -> Result<Supply, Failed>
+    ensures probe { IsProbe result (S.held source.old) (S.held source.new) }
+    ensures cause { HasCause (S.faults source.old) (S.faults source.new) result }
+{
+    let mut spare = [0; 1];
+    let given = source.take(&mut spare);
+    are_bytes(&spare);
+    let count = given?;
+    if count == 0 {
+        return Ok(Supply::End);
+    }
+    Ok(Supply::Past)
+}
+
+/// The numbers in a buffer have eight bits. There is nothing to do for it.
+fn are_bytes(bytes: &[u8])
+    ensures { AreBytes bytes.now }
+{}
+
+/// Moves the bytes between two places to the front.
+fn to_front(bytes: &mut [u8], from: usize, end: usize)
+    requires order { from ≤ end }
+    requires within { end ≤ length bytes.old }
+    ensures { take (end - from) bytes.new ≡ take (end - from) (drop from bytes.old) }
+{
+    if from > 0 {
+        bytes.copy_within(from..end, 0);
+    }
+}
+
+/// Takes bytes from the source to a place and behind it.
+fn take_behind<S: Source>(
+    source: &mut S,
+    bytes: &mut [u8],
+    at: usize,
+    most: usize,
+) -> Result<usize, Failed>
+    requires within { at + most ≤ length bytes.old }
+    requires some { 1 ≤ most }
+    ensures front { take at bytes.new ≡ take at bytes.old }
+    ensures bytes { ReadConsumes (S.held source.old) (S.held source.new) result
+        (drop at bytes.new) }
+    ensures most { moved result ≤ most }
+    ensures cause { HasCause (S.faults source.old) (S.faults source.new) result }
+{
+    source.take(&mut bytes[at..at + most])
+}
