@@ -66,7 +66,7 @@ module _ (cut : Cut) (side : Bool) (c : Capability) where
   tested range counted own cross = if range then false else (if counted then own || cross else true)
 
   says : (range counted own cross : Bool) → is_range c.kind ≡ range → is_counted c.kind ≡ counted
-      → same_side (side_of cut (object_kind c.kind) c.object) side ≡ own → (cut.weakly && is_harmless c) ≡ cross
+      → same_side (side_of cut (object_kind c.kind) c.object) side ≡ own → (cut.weakly side && is_harmless c) ≡ cross
       → tested range counted own cross ≡ true → MayHold cut side c
   says true counted own cross r n o x e = absurd (cc (e))
   says false false own cross r n o x e = record { no_range = λ k. let h = sym r ∙ ap (λ (j : CapKind). is_range j) k in cc; own = inl (λ h. let f = sym n ∙ h in absurd (cc (f))) }
@@ -76,7 +76,7 @@ module _ (cut : Cut) (side : Bool) (c : Capability) where
 
   -- what passes the test may be held
   pub may_hold-says : may_hold cut side c ≡ true → MayHold cut side c
-  may_hold-says e = says (is_range c.kind) (is_counted c.kind) (same_side (side_of cut (object_kind c.kind) c.object) side) (cut.weakly && is_harmless c) refl refl refl refl e
+  may_hold-says e = says (is_range c.kind) (is_counted c.kind) (same_side (side_of cut (object_kind c.kind) c.object) side) (cut.weakly side && is_harmless c) refl refl refl refl e
 
   both_true : (a b : Bool) → a ≡ true → b ≡ true → (a && b) ≡ true
   both_true true true e f = refl
@@ -84,7 +84,7 @@ module _ (cut : Cut) (side : Bool) (c : Capability) where
   both_true false b e f = absurd (cc (e))
 
   passes : (range counted own cross : Bool) → is_range c.kind ≡ range → is_counted c.kind ≡ counted
-      → same_side (side_of cut (object_kind c.kind) c.object) side ≡ own → (cut.weakly && is_harmless c) ≡ cross
+      → same_side (side_of cut (object_kind c.kind) c.object) side ≡ own → (cut.weakly side && is_harmless c) ≡ cross
       → MayHold cut side c → tested range counted own cross ≡ true
   passes true counted own cross r n o x m = absurd (m.no_range (is_range-kind c.kind r))
   passes false false own cross r n o x m = refl
@@ -92,12 +92,12 @@ module _ (cut : Cut) (side : Bool) (c : Capability) where
   passes false true false true r n o x m = refl
   passes false true false false r n o x m = elim m.own [
     | inl own ↦ let e = sym o ∙ same_side-true _ _ (own n) in absurd (cc (e))
-    | inr weak ↦ let e = sym x ∙ both_true cut.weakly (is_harmless c) weak.0 weak.1 in absurd (cc (e))
+    | inr weak ↦ let e = sym x ∙ both_true (cut.weakly side) (is_harmless c) weak.0 weak.1 in absurd (cc (e))
   ]
 
   -- what may be held passes the test
   pub may_hold-passes : MayHold cut side c → may_hold cut side c ≡ true
-  may_hold-passes m = passes (is_range c.kind) (is_counted c.kind) (same_side (side_of cut (object_kind c.kind) c.object) side) (cut.weakly && is_harmless c) refl refl refl refl m
+  may_hold-passes m = passes (is_range c.kind) (is_counted c.kind) (same_side (side_of cut (object_kind c.kind) c.object) side) (cut.weakly side && is_harmless c) refl refl refl refl m
 
 -- ---- stored capabilities and their meanings
 

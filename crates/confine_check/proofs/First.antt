@@ -49,3 +49,7 @@ reads-places Gpt = refl
 reads-places Endpoint = refl
 reads-places Process = refl
 reads-places _ = refl
+
+-- one read more for each place more
+pub reads-more : (reads i : ℕ) → reads * i + reads ≡ reads * (i + 1)
+reads-more reads i = omega arith

@@ -1,3 +1,4 @@
 pub mod First
+pub mod Found
 pub mod Least
 pub mod Decided

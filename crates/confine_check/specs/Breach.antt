@@ -38,7 +38,7 @@ is_range _ = false
 abbrev pub may_hold : Cut → Bool → Capability → Bool
 may_hold cut side c =
     if is_range c.kind then false
-    else (if is_counted c.kind then same_side (side_of cut (object_kind c.kind) c.object) side || (cut.weakly && is_harmless c)
+    else (if is_counted c.kind then same_side (side_of cut (object_kind c.kind) c.object) side || (cut.weakly side && is_harmless c)
     else true)
 
 -- how many places for capabilities an object of a kind has

@@ -1,5 +1,6 @@
 pub mod Sides
 pub mod CutLine
 pub mod Breach
+pub mod Found
 pub mod Full
 pub mod Laws

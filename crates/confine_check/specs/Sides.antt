@@ -12,9 +12,9 @@ abbrev pub sides_by_kind : List Bool → List Bool → List Bool → List Bool �
 sides_by_kind pages cappages gpts processes endpoints =
     record { pages = pages; cappages = cappages; gpts = gpts; processes = processes; endpoints = endpoints }
 
--- the cut with these sides, over which harmless capabilities may lead
+-- the cut with these sides, over which harmless capabilities may lead both ways
 abbrev pub cut_of : Sides → Cut
-cut_of sides = record { sides = sides; weakly = true }
+cut_of sides = record { sides = sides; weakly = λ side. true }
 
 -- as many objects of each kind as a number of 16 bits counts
 pub record AreSized (sides : Sides) : Type 0 where

@@ -1,10 +1,11 @@
 //! Capabilities that may not stand where they do.
-ghost use Rattle.std.specs.Prelude.{ℕ, ◌≡◌, ◌<◌, ◌≤◌, ◌+◌, ◌-◌, ◌*◌, nat_lt, if◌then◌else◌, None};
+ghost use Rattle.std.specs.Prelude.{ℕ, ◌≡◌, ◌<◌, ◌≤◌, ◌+◌, ◌-◌, ◌*◌, nat_lt, if◌then◌else◌, None, IfSome};
 ghost use Rattle.cap_format.specs.declared.kind.CapKind.TheVariants.{Gpt};
 ghost use Rattle.process_objects.specs.Process.{slot_of, capreg_of};
 ghost use Rattle.object_store.specs.Store.{size_of};
 ghost use Rattle.confine_check.specs.Sides.{cut_of};
 ghost use Rattle.confine_check.specs.Breach.{same_side, may_hold, places_in, cap_in, breach_at, breach_of_object, breach_of_kind, breach_of, reads_in, object_reads};
+ghost use Rattle.confine_check.specs.Found.{kinds_before, reads_to};
 
 use crate::cut::Cut;
 use crate::verdict::Verdict;
@@ -120,6 +121,8 @@ fn breach_of_object<L: Ledger>(
     requires { n < size_of objects.now.items kind }
     ensures value { result ≡ breach_of_object (cut_of cut.now) objects.now kind n }
     ensures counted { result ≡ None → fetches.new ≡ fetches.old + object_reads kind }
+    ensures exact { let gpts = size_of objects.now.items Gpt in IfSome result (λ found.
+        fetches.new + kinds_before kind gpts + object_reads kind * n ≡ fetches.old + reads_to found gpts) }
     ensures most { fetches.new ≤ fetches.old + object_reads kind }
 {
     'each: for i in 0..places(kind) {
@@ -155,6 +158,8 @@ fn breach_of_kind<L: Ledger>(
     ensures value { result ≡ breach_of_kind (cut_of cut.now) objects.now kind }
     ensures counted { result ≡ None →
         fetches.new ≡ fetches.old + object_reads kind * size_of objects.now.items kind }
+    ensures exact { let gpts = size_of objects.now.items Gpt in IfSome result (λ found.
+        fetches.new + kinds_before kind gpts ≡ fetches.old + reads_to found gpts) }
     ensures most { fetches.new ≤ fetches.old + object_reads kind * size_of objects.now.items kind }
 {
     'each: for n in 0..size(objects, kind) {
@@ -174,6 +179,8 @@ pub(crate) fn breach_of<L: Ledger>(
     ensures value { result ≡ breach_of (cut_of cut.now) objects.now }
     ensures counted { result ≡ None →
         fetches.new ≡ fetches.old + 16 * size_of objects.now.items Gpt }
+    ensures exact { IfSome result (λ found.
+        fetches.new ≡ fetches.old + reads_to found (size_of objects.now.items Gpt)) }
     ensures most { fetches.new ≤ fetches.old + 16 * size_of objects.now.items Gpt }
 {
     if let Some(found) = breach_of_kind(objects, cut, CapKind::CapPage, fetches) {

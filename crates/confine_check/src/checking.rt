@@ -9,6 +9,7 @@ ghost use Rattle.confinement.specs.Separation.{Separated};
 ghost use Rattle.confine_check.specs.declared.verdict.Verdict.TheVariants.{Yes};
 ghost use Rattle.confine_check.specs.Sides.{cut_of};
 ghost use Rattle.confine_check.specs.Breach.{verdict_of};
+ghost use Rattle.confine_check.specs.Found.{meant, reads_to, verdict_in};
 ghost use Rattle.confine_check.specs.Full.{IsFull, AreFull};
 
 use crate::breach::breach_of;
@@ -33,10 +34,10 @@ pub fn confined<T: Translator, L: Ledger>(
     fetches: &mut Steps<L>,
 ) -> Verdict
     ensures verdict { result ≡ verdict_of (cut_of cut.now) machine.now.objects machine.now.queues }
+    ensures means { meant result ≡ verdict_in (cut_of cut.now) (state_of machine.now) }
     ensures exactly { (result ≡ Yes) ↔ Holds (cut_of cut.now) (system_of (state_of machine.now)) }
     ensures separated { result ≡ Yes → Separated (cut_of cut.now) (state_of machine.now) }
-    ensures counted { result ≡ Yes →
-        fetches.new ≡ fetches.old + 16 * size_of machine.now.objects.items Gpt }
+    ensures counted { fetches.new ≡ fetches.old + reads_to result (size_of machine.now.objects.items Gpt) }
     ensures most { fetches.new ≤ fetches.old + 16 * size_of machine.now.objects.items Gpt }
 {
     tell_full(machine.objects());
@@ -50,8 +51,7 @@ fn verdict<T: Translator, L: Ledger>(
     fetches: &mut Steps<L>,
 ) -> Verdict
     ensures verdict { result ≡ verdict_of (cut_of cut.now) machine.now.objects machine.now.queues }
-    ensures counted { result ≡ Yes →
-        fetches.new ≡ fetches.old + 16 * size_of machine.now.objects.items Gpt }
+    ensures counted { fetches.new ≡ fetches.old + reads_to result (size_of machine.now.objects.items Gpt) }
     ensures most { fetches.new ≤ fetches.old + 16 * size_of machine.now.objects.items Gpt }
 {
     let objects = machine.objects();

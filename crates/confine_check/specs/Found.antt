@@ -1,0 +1,54 @@
+-- What is found of a cut by what the objects mean, and how many slots of GPTs are read to find it. (Own.)
+use Rattle.std.specs.Prelude.{ℕ, ◌+◌, ◌*◌, Option}
+use Rattle.std.specs.Option.{option_or}
+use Rattle.cap_format.specs.declared.kind.CapKind.{CapKind}
+use Rattle.cap_format.specs.declared.kind.CapKind.TheVariants.{CapPage, Gpt, Endpoint, Process}
+use Rattle.cap_format.specs.Capability.{bare}
+use Rattle.object_store.specs.Store.{Store, size_of}
+use Rattle.machine_state.specs.State.{State}
+use Rattle.confinement.specs.Cut.{Cut}
+use Rattle.confine_check.specs.declared.verdict.Verdict.{Verdict}
+use Rattle.confine_check.specs.declared.verdict.Verdict.TheVariants.{Yes, Capability as CapabilityBreaks, Sleeper}
+use Rattle.confine_check.specs.Breach.{breach_by, cap_in, first_from, found_by, object_reads, places_in, reads_in, sleeper_of}
+
+-- ---- by what the objects mean
+
+-- the first that breaks a cut in an object of the model's map, where each capability stands as it means
+abbrev pub meant_of_object : Cut → Store → CapKind → ℕ → Option Verdict
+meant_of_object cut s kind n = first_from (λ i. breach_by cut kind n i (cap_in s kind n i)) 0 (places_in kind)
+
+-- the first in the objects of a kind
+abbrev pub meant_of_kind : Cut → Store → CapKind → Option Verdict
+meant_of_kind cut s kind = first_from (meant_of_object cut s kind) 0 (size_of s.items kind)
+
+-- the first in all objects
+abbrev pub meant_of : Cut → Store → Option Verdict
+meant_of cut s =
+    option_or (meant_of_kind cut s CapPage)
+    (option_or (meant_of_kind cut s Gpt)
+    (option_or (meant_of_kind cut s Endpoint) (meant_of_kind cut s Process)))
+
+-- what is found of a cut of a state
+abbrev pub verdict_in : Cut → State → Verdict
+verdict_in cut s = found_by (meant_of cut s.store) (sleeper_of cut s.queues)
+
+-- a verdict by what its capability means, which has no count
+abbrev pub meant : Verdict → Verdict
+meant (CapabilityBreaks kind n i cap) = CapabilityBreaks kind n i (bare cap)
+meant Yes = Yes
+meant (Sleeper process) = Sleeper process
+
+-- ---- how many slots are read
+
+-- those of the kinds that are looked at before this one, of so many GPTs
+abbrev pub kinds_before : CapKind → ℕ → ℕ
+kinds_before Endpoint gpts = 16 * gpts
+kinds_before Process gpts = 16 * gpts
+kinds_before _ gpts = 0
+
+-- up to what is found: of a GPT the slots up to its own, and all of those before it; and all slots where nothing is found in
+-- capability pages and GPTs
+abbrev pub reads_to : Verdict → ℕ → ℕ
+reads_to (CapabilityBreaks kind n place cap) gpts = kinds_before kind gpts + object_reads kind * n + reads_in kind * (place + 1)
+reads_to Yes gpts = 16 * gpts
+reads_to (Sleeper process) gpts = 16 * gpts
