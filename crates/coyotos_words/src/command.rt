@@ -25,12 +25,24 @@ pub enum Command {
         number: u32,
         summary: bool,
     },
+    /// Read a listing, and write its image.
+    Pack,
+    /// Read an image, and write its listing as text of version 2 without names.
+    Unpack,
+    /// Read a listing and its schedule, and write both as text of version 2 without names.
+    Migrate,
+    /// Read a listing and the lines of a cut, and write whether the cut holds.
+    Confine,
 }
 
 /// The forms of one word, each with what it asks for.
-pub(crate) static BARE_COMMANDS: [(&str, Command); 4] = [
+pub(crate) static BARE_COMMANDS: [(&str, Command); 8] = [
     ("check", Command::Check),
     ("run", Command::Run),
     ("trace", Command::Trace),
     ("tables", Command::Tables),
+    ("pack", Command::Pack),
+    ("unpack", Command::Unpack),
+    ("migrate", Command::Migrate),
+    ("confine", Command::Confine),
 ];
