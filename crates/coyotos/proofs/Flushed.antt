@@ -3,10 +3,10 @@ use Rattle.std.proofs.Common.{◌≡◌, ℕ, List, [], ◌++◌, take, drop, Op
 use Rattle.std.specs.Io.KnownBytes.{Appends, Keeps, append_known}
 use Rattle.std.proofs.KnownBytes.{Appends-kept, Keeps-trans}
 use Rattle.coy_io.specs.Pieces.{AppendsSome}
-use Rattle.coyotos_cli.specs.declared.exit.Exit.{Exit}
-use Rattle.coyotos_cli.specs.declared.exit.Exit.TheVariants.{Done, Usage, ListingRefused, ScheduleRefused, ReadFault, WriteFault, OutOfMemory, TooLong}
-use Rattle.coyotos_cli.specs.Exit.{status_of}
-use Rattle.coyotos_cli.specs.Ending.{Output, IsGiven, Outputs}
+use Rattle.courses.specs.declared.exit.Exit.{Exit}
+use Rattle.courses.specs.declared.exit.Exit.TheVariants.{ReadFault, WriteFault, OutOfMemory}
+use Rattle.courses.specs.Exit.{status_of}
+use Rattle.courses.specs.Ending.{Output, IsGiven, Outputs}
 use Rattle.coyotos.specs.Flush.{exit_after, AreFront, GoesOut}
 
 -- what a sink took, of which some is still in its buffer
@@ -48,13 +48,6 @@ module _ (old mid sent : Option (List ℕ)) (buffer : List ℕ) (o : Output) (ke
   given_cut exit given told = cut (front_of old mid sent buffer o.text [] o.text (told.whole given).1 (sym (append-nil o.text)) kept)
 
   failed : (T E : Type 0) (exit : Exit) (fault : E) → Outputs old mid exit o → GoesOut old sent (exit_after {T = T} {E = E} exit (Err fault)) o
-  failed T E Done fault told = given_cut Done (given_by Done (λ e. omega (arith, e)) (λ e. omega (arith, e)) (λ e. omega (arith, e))) told
-  failed T E Usage fault told = given_cut Usage (given_by Usage (λ e. omega (arith, e)) (λ e. omega (arith, e)) (λ e. omega (arith, e))) told
-  failed T E (ListingRefused line why) fault told =
-      given_cut (ListingRefused line why) (given_by (ListingRefused line why) (λ e. omega (arith, e)) (λ e. omega (arith, e)) (λ e. omega (arith, e))) told
-  failed T E (ScheduleRefused line why) fault told =
-      given_cut (ScheduleRefused line why) (given_by (ScheduleRefused line why) (λ e. omega (arith, e)) (λ e. omega (arith, e)) (λ e. omega (arith, e))) told
-  failed T E TooLong fault told = given_cut TooLong (given_by TooLong (λ e. omega (arith, e)) (λ e. omega (arith, e)) (λ e. omega (arith, e))) told
   failed T E WriteFault fault told = cut (some_front (told.part refl))
   failed T E OutOfMemory fault told = cut (front_of old mid sent buffer [] o.text o.text (none_took old mid (told.nothing refl)) refl kept)
   failed T E ReadFault fault told = record {
@@ -62,6 +55,7 @@ module _ (old mid sent : Option (List ℕ)) (buffer : List ℕ) (o : Output) (ke
     part = λ same. let bad : 4 ≡ 5 = ap status_of same in absurd (omega (arith, bad));
     nothing = λ same. let bad : 4 ≡ 6 = ap status_of same in absurd (omega (arith, bad));
   }
+  failed T E other fault told = given_cut other (given_by other (λ e. omega (arith, e)) (λ e. omega (arith, e)) (λ e. omega (arith, e))) told
 
   flushed_out : (T E : Type 0) (exit : Exit) (flushed : Result T E) → Outputs old mid exit o → OnOk flushed (Keeps mid sent) → GoesOut old sent (exit_after exit flushed) o
   flushed_out T E exit (Ok done) told out = record {

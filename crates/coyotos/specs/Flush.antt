@@ -1,9 +1,9 @@
 -- How the program ends after a flush of its output, and what the writer behind the buffer got then.
 use Rattle.std.specs.Prelude.{◌≡◌, ℕ, List, ◌++◌, ⊤, Option, Some, None, Result, Ok, Err}
 use Rattle.std.specs.Io.KnownBytes.{Appends, Keeps}
-use Rattle.coyotos_cli.specs.Ending.{Output, IsGiven}
-use Rattle.coyotos_cli.specs.declared.exit.Exit.{Exit}
-use Rattle.coyotos_cli.specs.declared.exit.Exit.TheVariants as exits
+use Rattle.courses.specs.Ending.{Output, IsGiven}
+use Rattle.courses.specs.declared.exit.Exit.{Exit}
+use Rattle.courses.specs.declared.exit.Exit.TheVariants as exits
 
 -- a flush that fails is a fault of writing; a fault of reading came before it
 abbrev pub exit_after : {T E : Type 0} → Exit → Result T E → Exit

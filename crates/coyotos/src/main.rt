@@ -5,8 +5,9 @@ ghost use Rattle.std.specs.Prelude.{◌≡◌, ◌≢◌, IfSome, map, string_by
 ghost use Rattle.coy_io.specs.Buffered.{taken_in, gone_out};
 ghost use Rattle.coy_io.specs.Causes.{Rose};
 ghost use Rattle.coyotos_cli.specs.Command.{command_for};
-ghost use Rattle.coyotos_cli.specs.Ending.{HasCauses};
-ghost use Rattle.coyotos_cli.specs.Program.{out, sure, WritesSure};
+ghost use Rattle.courses.specs.Ending.{HasCauses};
+ghost use Rattle.courses.specs.Sure.{WritesSure};
+ghost use Rattle.coyotos_cli.specs.Program.{out, sure};
 ghost use Rattle.coyotos_cli.specs.Contract.{bytes_for, Answers, HasForm, ReadsInput};
 ghost use Rattle.coyotos.specs.Flush.{exit_after, GoesOut};
 ghost use Rattle.steps.specs.Permit.{permit_for};

@@ -1,14 +1,1 @@
-pub mod Leaves
-pub mod Entries
-pub mod Rounds
-pub mod Told
-pub mod Tallies
-pub mod Ran
-pub mod Reading
-pub mod SoFar
-pub mod Counted
-pub mod Endings
-pub mod Concluding
-pub mod Bytes
-pub mod Bounded
 pub mod Words

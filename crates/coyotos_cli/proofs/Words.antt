@@ -3,126 +3,177 @@ use Rattle.std.proofs.Common.{◌≡◌, ◌≢◌, ◌+◌, ◌∙◌, if◌the
 use Rattle.std.specs.List.{list_any}
 use Rattle.std.specs.Io.KnownBytes.{Appends}
 use Rattle.coy_io.specs.Causes.{Rose}
-use Rattle.coy_io.specs.Lines.{Part, parts_of, whole_lines}
+use Rattle.coy_io.specs.Lines.{parts_of, whole_lines}
+use Rattle.generated_text.specs.Text.{make_text}
 use Rattle.kernel_core.specs.Outcome.{Touch}
 use Rattle.coyotos_words.specs.Command.{is_dashed, is_help}
 use Rattle.coyotos_words.specs.declared.command.Command.{Command}
-use Rattle.coyotos_words.specs.declared.command.Command.TheVariants.{Help, Check, Run, Trace, Tables, Walk, Make}
+use Rattle.coyotos_words.specs.declared.command.Command.TheVariants.{Help, Check, Make, Pack, Unpack, Migrate, Confine}
 use Rattle.coyotos_words.proofs.Dashed.{bytes_dashed}
-use Rattle.coyotos_cli.specs.Command.{command_for, asks_input, asks_run, runs, summary_number}
-use Rattle.coyotos_cli.specs.Exit.{status_of}
-use Rattle.coyotos_cli.specs.Ending.{Output, EndsNothing, Outputs, Completes, Ends, Fetches, HasCauses}
-use Rattle.coyotos_cli.specs.Course.{Course, ends_in, course_output, course_fetches, ComesTo, HasEntries}
-use Rattle.coyotos_cli.specs.Bounds.{IsBounded}
-use Rattle.coyotos_cli.specs.Program.{lines_course, command_course, words_course, whole_course, out, fetched, cached, sure, StandsSure}
-use Rattle.coyotos_cli.proofs.Bounded.{course-bounded}
-use Rattle.coyotos_cli.proofs.Concluding.{IsLast, none-entries}
+use Rattle.coyotos_cli.specs.Command.{command_for, asks_input, asks_run, asks_schedule, summary_number}
+use Rattle.courses.specs.Exit.{status_of}
+use Rattle.courses.specs.Ending.{Output, EndsNothing, Outputs, Completes, Ends, Fetches, HasCauses}
+use Rattle.courses.specs.Course.{Course, ends_in, cached, course_output, course_fetches, ComesTo, HasEntries}
+use Rattle.courses.specs.Bounds.{IsBounded}
+use Rattle.courses.specs.Listed.{listed_course, lines_course}
+use Rattle.courses.specs.Sure.{StandsSure}
+use Rattle.schedule_commands.specs.Runs.{runs}
+use Rattle.schedule_commands.proofs.Bounded.{schedule-sound}
+use Rattle.image_builder.specs.Boot.{booted}
+use Rattle.schedule_commands.specs.Finished.{course_of, schedule_course}
+use Rattle.confine_command.specs.Confine.{confine_course}
+use Rattle.migrate_command.specs.Migrate.{migrate_course}
+use Rattle.migrate_command.specs.Same.{Says, SaySame}
+use Rattle.migrate_command.proofs.Sound.{migrate-entries, migrate-sound}
+use Rattle.confine_command.proofs.Sound.{confine-entries, confine-sound}
+use Rattle.image_binary.specs.Image.{unpacked}
+use Rattle.image_commands.specs.Packed.{pack_course, pack_output}
+use Rattle.image_commands.specs.Passed.{passed}
+use Rattle.image_commands.specs.Unpacked.{unpack_course, unpack_output}
+use Rattle.coyotos_cli.specs.Input.{Input, no_input, read_input, whole_input}
+use Rattle.coyotos_cli.specs.Program.{input_course, command_course, words_course, whole_course, out, fetched, sure}
+use Rattle.courses.proofs.Lasts.{IsLast, lines-entries, none-entries}
+use Rattle.courses.proofs.Sound.{IsSound, ends-sound, lines-sound, sound-bounded}
+use Rattle.coyotos_cli.specs.Laws.{SameCourseLaw}
 use Rattle.coyotos_cli.specs.Contract.{bytes_for, Answers, HasForm, FetchesFor}
-use Rattle.coyotos_cli.specs.declared.exit.Exit.{Exit}
-use Rattle.coyotos_cli.specs.declared.exit.Exit.TheVariants.{Done, Usage, ListingRefused, ScheduleRefused, ReadFault, WriteFault, OutOfMemory, TooLong}
+use Rattle.courses.specs.declared.exit.Exit.{Exit}
+use Rattle.courses.specs.declared.exit.Exit.TheVariants.{Usage, ReadFault, WriteFault, OutOfMemory}
 
 -- ---- commands
 
 -- a command that asks for input comes to what the lines of its input come to
-pub course-input : (command : Command) (parts : List Part) → asks_input command ≡ true → command_course command parts ≡ lines_course command parts
-course-input Help parts asks = cc
-course-input Check parts asks = refl
-course-input Run parts asks = refl
-course-input Trace parts asks = refl
-course-input Tables parts asks = refl
-course-input (Walk process kind address) parts asks = refl
-course-input (Make number summary) parts asks = cc
+pub course-input : (command : Command) (input : Input) → asks_input command ≡ true → command_course command input ≡ input_course command input
+course-input Help input asks = cc
+course-input (Make number summary) input asks = cc
+course-input _ input asks = refl
 
 -- a command that asks for none comes to the same whatever the lines
-pub course-other : (command : Command) (parts : List Part) → asks_input command ≡ false → command_course command parts ≡ command_course command []
-course-other Help parts asks = refl
-course-other Check parts asks = cc
-course-other Run parts asks = cc
-course-other Trace parts asks = cc
-course-other Tables parts asks = cc
-course-other (Walk process kind address) parts asks = cc
-course-other (Make number summary) parts asks = refl
+pub course-other : (command : Command) (input : Input) → asks_input command ≡ false → command_course command input ≡ command_course command no_input
+course-other Help input asks = refl
+course-other (Make number summary) input asks = refl
+course-other _ input asks = cc
 
 -- and to its last text alone, where it asks for no run
-course-alone : (command : Command) → asks_input command ≡ false → asks_run (Some command) ≡ false → command_course command [] ≡ ends_in (command_course command []).last
+course-alone : (command : Command) → asks_input command ≡ false → asks_run (Some command) ≡ false → command_course command no_input ≡ ends_in (command_course command no_input).last
 course-alone Help asks still = refl
-course-alone Check asks still = cc
-course-alone Run asks still = cc
-course-alone Trace asks still = cc
-course-alone Tables asks still = cc
-course-alone (Walk process kind address) asks still = cc
 course-alone (Make number false) asks still = refl
 course-alone (Make number true) asks still = cc
+course-alone _ asks still = cc
 
 -- and its exit is no fault
-pub alone-last : (command : Command) → asks_input command ≡ false → asks_run (Some command) ≡ false → IsLast (command_course command []).last
+pub alone-last : (command : Command) → asks_input command ≡ false → asks_run (Some command) ≡ false → IsLast (command_course command no_input).last
 alone-last Help asks still = record { usage = λ e. omega (arith, e); read = λ e. omega (arith, e); memory = λ e. omega (arith, e) }
-alone-last Check asks still = cc
-alone-last Run asks still = cc
-alone-last Trace asks still = cc
-alone-last Tables asks still = cc
-alone-last (Walk process kind address) asks still = cc
 alone-last (Make number false) asks still = record { usage = λ e. omega (arith, e); read = λ e. omega (arith, e); memory = λ e. omega (arith, e) }
 alone-last (Make number true) asks still = cc
+alone-last _ asks still = cc
 
 -- a command whose generated text is run
 pub summary-is : (command : Command) (number : ℕ) → summary_number command ≡ Some number → command ≡ Make number true
-summary-is Help number is = cc
-summary-is Check number is = cc
-summary-is Run number is = cc
-summary-is Trace number is = cc
-summary-is Tables number is = cc
-summary-is (Walk process kind address) number is = cc
 summary-is (Make n false) number is = cc
 summary-is (Make n true) number is = let same : n ≡ number = cc in ap (λ k. Make k true) same
+summary-is _ number is = cc
 
 -- and one that asks for neither it nor input
 pub summary-none : (command : Command) → asks_input command ≡ false → summary_number command ≡ None → asks_run (Some command) ≡ false
 summary-none Help asks none = refl
-summary-none Check asks none = refl
-summary-none Run asks none = cc
-summary-none Trace asks none = cc
-summary-none Tables asks none = cc
-summary-none (Walk process kind address) asks none = cc
 summary-none (Make number false) asks none = refl
 summary-none (Make number true) asks none = cc
+summary-none _ asks none = cc
 
 -- a command that asks for input and lets nothing run asks for no run
-pub run-input : (command : Command) → asks_input command ≡ true → asks_run (Some command) ≡ false → runs command ≡ false
-run-input Help asks still = cc
-run-input Check asks still = refl
-run-input Run asks still = cc
-run-input Trace asks still = cc
-run-input Tables asks still = cc
-run-input (Walk process kind address) asks still = cc
-run-input (Make number summary) asks still = cc
+pub run-input : (command : Command) → asks_schedule command ≡ true → asks_input command ≡ true → asks_run (Some command) ≡ false → runs command ≡ false
+run-input Check reads asks still = refl
+run-input (Make number summary) reads asks still = cc
+run-input _ reads asks still = cc
+
+-- a command that asks for a schedule comes to what that does
+pub input-schedule : (command : Command) → asks_schedule command ≡ true → (input : Input) → input_course command input ≡ lines_course (schedule_course command) input.lines
+input-schedule Pack asks input = cc
+input-schedule Unpack asks input = cc
+input-schedule Migrate asks input = cc
+input-schedule Confine asks input = cc
+input-schedule _ asks input = refl
+
+-- a command asks for one that is none of the others
+pub is-schedule : (command : Command) → command ≢ Pack → command ≢ Unpack → command ≢ Migrate → command ≢ Confine → asks_schedule command ≡ true
+is-schedule Pack packs unpacks migrates confines = absurd (packs refl)
+is-schedule Unpack packs unpacks migrates confines = absurd (unpacks refl)
+is-schedule Migrate packs unpacks migrates confines = absurd (migrates refl)
+is-schedule Confine packs unpacks migrates confines = absurd (confines refl)
+is-schedule _ packs unpacks migrates confines = refl
+
+-- what is so of the one is so of the other, for the known bytes
+pub known-schedule : (command : Command) → asks_schedule command ≡ true → (held : Option (List ℕ)) (Q : Course → Type 0) → IfSome held (λ bytes. Q (lines_course (schedule_course command) (parts_of bytes)))
+    → IfSome held (λ bytes. Q (input_course command (whole_input bytes)))
+known-schedule command asks None Q all = tt
+known-schedule command asks (Some bytes) Q all = subst Q (sym (input-schedule command asks (whole_input bytes))) all
+
+-- an image has no entries, and neither has its text
+pub known-pack : (held : Option (List ℕ)) → IfSome held (λ bytes. HasEntries (lines_course pack_course (parts_of bytes)))
+known-pack None = tt
+known-pack (Some bytes) = lines-entries pack_course (λ listing last rest. none-entries (pack_output listing (passed last rest))) (parts_of bytes)
+
+pub known-unpack : (held : Option (List ℕ)) → IfSome held (λ bytes. HasEntries (unpack_course (unpacked bytes)))
+known-unpack None = tt
+known-unpack (Some bytes) = none-entries (unpack_output (unpacked bytes))
+
+-- the entries of a text are none
+pub known-migrate : (held : Option (List ℕ)) → IfSome held (λ bytes. HasEntries (lines_course migrate_course (parts_of bytes)))
+known-migrate None = tt
+known-migrate (Some bytes) = lines-entries migrate_course migrate-entries (parts_of bytes)
+
+-- the entries of a cut are none
+pub known-confine : (held : Option (List ℕ)) → IfSome held (λ bytes. HasEntries (lines_course confine_course (parts_of bytes)))
+known-confine None = tt
+known-confine (Some bytes) = lines-entries confine_course confine-entries (parts_of bytes)
+
+-- inputs that say the same come to the same
+pub same-course : SameCourseLaw
+same-course bytes text same command asks =
+    input-schedule command asks (whole_input bytes) ∙ of_one bytes same.one ∙ sym (of_one text same.other) ∙ sym (input-schedule command asks (whole_input text))
+  where
+    of_one : (bytes : List ℕ) (one : Says bytes same.listing same.all) → lines_course (schedule_course command) (parts_of bytes) ≡ course_of command (booted same.listing) same.all
+    of_one bytes one = ap (listed_course (schedule_course command)) one.listed ∙ ap (course_of command (booted same.listing)) one.asked
+
+-- ---- the bounds on what is fetched
+
+-- what a command comes to is within them
+command-sound : (command : Command) (input : Input) → IsSound (command_course command input)
+command-sound Help input = ends-sound _
+command-sound (Make number false) input = ends-sound _
+command-sound (Make number true) input = lines-sound (schedule_course (Make number true)) (schedule-sound (Make number true)) (parts_of (make_text number))
+command-sound Pack input = lines-sound pack_course (λ listing last rest. ends-sound _) input.lines
+command-sound Unpack input = ends-sound _
+command-sound Migrate input = lines-sound migrate_course migrate-sound input.lines
+command-sound Confine input = lines-sound confine_course confine-sound input.lines
+command-sound command input = lines-sound (schedule_course command) (schedule-sound command) input.lines
 
 module _ (command : Command) (taken taken' : Option (List ℕ)) (fetches fetches' : ℕ) (exit : Exit) where
   -- what is so of the lines of the input is so of what the command comes to
   pub comes-input : (held : Option (List ℕ)) → asks_input command ≡ true
-      → IfSome held (λ bytes. ComesTo taken taken' fetches fetches' exit cached (lines_course command (parts_of bytes)))
-      → IfSome (bytes_for (Some command) held) (λ bytes. ComesTo taken taken' fetches fetches' exit cached (command_course command (parts_of bytes)))
+      → IfSome held (λ bytes. ComesTo taken taken' fetches fetches' exit cached (input_course command (whole_input bytes)))
+      → IfSome (bytes_for (Some command) held) (λ bytes. ComesTo taken taken' fetches fetches' exit cached (command_course command (whole_input bytes)))
   comes-input held asks comes =
-      subst (λ read. IfSome (if read then held else Some []) (λ bytes. ComesTo taken taken' fetches fetches' exit cached (command_course command (parts_of bytes)))) (sym asks)
+      subst (λ read. IfSome (if read then held else Some []) (λ bytes. ComesTo taken taken' fetches fetches' exit cached (command_course command (whole_input bytes)))) (sym asks)
       (told held comes)
     where
-      told : (held : Option (List ℕ)) → IfSome held (λ bytes. ComesTo taken taken' fetches fetches' exit cached (lines_course command (parts_of bytes)))
-          → IfSome held (λ bytes. ComesTo taken taken' fetches fetches' exit cached (command_course command (parts_of bytes)))
+      told : (held : Option (List ℕ)) → IfSome held (λ bytes. ComesTo taken taken' fetches fetches' exit cached (input_course command (whole_input bytes)))
+          → IfSome held (λ bytes. ComesTo taken taken' fetches fetches' exit cached (command_course command (whole_input bytes)))
       told None comes = tt
-      told (Some bytes) comes = subst (ComesTo taken taken' fetches fetches' exit cached) (sym (course-input command (parts_of bytes) asks)) comes
+      told (Some bytes) comes = subst (ComesTo taken taken' fetches fetches' exit cached) (sym (course-input command (whole_input bytes) asks)) comes
 
   -- a command that asks for none comes to the same whatever it is
   pub comes-other : (held : Option (List ℕ)) → asks_input command ≡ false
-      → ComesTo taken taken' fetches fetches' exit cached (command_course command [])
-      → IfSome (bytes_for (Some command) held) (λ bytes. ComesTo taken taken' fetches fetches' exit cached (command_course command (parts_of bytes)))
+      → ComesTo taken taken' fetches fetches' exit cached (command_course command no_input)
+      → IfSome (bytes_for (Some command) held) (λ bytes. ComesTo taken taken' fetches fetches' exit cached (command_course command (whole_input bytes)))
   comes-other held asks comes =
-      subst (λ read. IfSome (if read then held else Some []) (λ bytes. ComesTo taken taken' fetches fetches' exit cached (command_course command (parts_of bytes)))) (sym asks)
-      (subst (ComesTo taken taken' fetches fetches' exit cached) (sym (course-other command (parts_of []) asks)) comes)
+      subst (λ read. IfSome (if read then held else Some []) (λ bytes. ComesTo taken taken' fetches fetches' exit cached (command_course command (whole_input bytes)))) (sym asks)
+      (subst (ComesTo taken taken' fetches fetches' exit cached) (sym (course-other command no_input asks)) comes)
 
   -- where its text by itself was written, and nothing fetched
   pub comes-alone : (faults faults' : ℕ) → asks_input command ≡ false → asks_run (Some command) ≡ false
-      → Ends taken taken' faults faults' exit (command_course command []).last → fetches' ≡ fetches
-      → ComesTo taken taken' fetches fetches' exit cached (command_course command [])
+      → Ends taken taken' faults faults' exit (command_course command no_input).last → fetches' ≡ fetches
+      → ComesTo taken taken' fetches fetches' exit cached (command_course command no_input)
   comes-alone faults faults' asks still e same =
       subst (ComesTo taken taken' fetches fetches' exit cached) (sym (course-alone command asks still))
       (record { output = e.output; fetched = record { whole = λ given. omega (arith, same); most = omega (arith, same) } })
@@ -130,31 +181,31 @@ module _ (command : Command) (taken taken' : Option (List ℕ)) (fetches fetches
 -- ---- the entries
 
 -- those of the lines of the input are those of the command
-pub entries-input : (command : Command) (held : Option (List ℕ)) → asks_input command ≡ true → IfSome held (λ bytes. HasEntries (lines_course command (parts_of bytes)))
-    → IfSome (bytes_for (Some command) held) (λ bytes. HasEntries (command_course command (parts_of bytes)))
+pub entries-input : (command : Command) (held : Option (List ℕ)) → asks_input command ≡ true → IfSome held (λ bytes. HasEntries (input_course command (whole_input bytes)))
+    → IfSome (bytes_for (Some command) held) (λ bytes. HasEntries (command_course command (whole_input bytes)))
 entries-input command held asks entries =
-    subst (λ read. IfSome (if read then held else Some []) (λ bytes. HasEntries (command_course command (parts_of bytes)))) (sym asks) (told held entries)
+    subst (λ read. IfSome (if read then held else Some []) (λ bytes. HasEntries (command_course command (whole_input bytes)))) (sym asks) (told held entries)
   where
-    told : (held : Option (List ℕ)) → IfSome held (λ bytes. HasEntries (lines_course command (parts_of bytes))) → IfSome held (λ bytes. HasEntries (command_course command (parts_of bytes)))
+    told : (held : Option (List ℕ)) → IfSome held (λ bytes. HasEntries (input_course command (whole_input bytes))) → IfSome held (λ bytes. HasEntries (command_course command (whole_input bytes)))
     told None entries = tt
-    told (Some bytes) entries = subst HasEntries (sym (course-input command (parts_of bytes) asks)) entries
+    told (Some bytes) entries = subst HasEntries (sym (course-input command (whole_input bytes) asks)) entries
 
-pub entries-other : (command : Command) (held : Option (List ℕ)) → asks_input command ≡ false → HasEntries (command_course command [])
-    → IfSome (bytes_for (Some command) held) (λ bytes. HasEntries (command_course command (parts_of bytes)))
+pub entries-other : (command : Command) (held : Option (List ℕ)) → asks_input command ≡ false → HasEntries (command_course command no_input)
+    → IfSome (bytes_for (Some command) held) (λ bytes. HasEntries (command_course command (whole_input bytes)))
 entries-other command held asks entries =
-    subst (λ read. IfSome (if read then held else Some []) (λ bytes. HasEntries (command_course command (parts_of bytes)))) (sym asks)
-    (subst HasEntries (sym (course-other command (parts_of []) asks)) entries)
+    subst (λ read. IfSome (if read then held else Some []) (λ bytes. HasEntries (command_course command (whole_input bytes)))) (sym asks)
+    (subst HasEntries (sym (course-other command no_input asks)) entries)
 
 -- a text by itself has none
-pub entries-alone : (command : Command) → asks_input command ≡ false → asks_run (Some command) ≡ false → HasEntries (command_course command [])
-entries-alone command asks still = subst HasEntries (sym (course-alone command asks still)) (none-entries (command_course command []).last)
+pub entries-alone : (command : Command) → asks_input command ≡ false → asks_run (Some command) ≡ false → HasEntries (command_course command no_input)
+entries-alone command asks still = subst HasEntries (sym (course-alone command asks still)) (none-entries (command_course command no_input).last)
 
 -- words that ask for a command have its entries
 pub entries-words : (words : List (List ℕ)) (command : Command) → command_for words ≡ Some command → (held : Option (List ℕ))
-    → IfSome (bytes_for (Some command) held) (λ bytes. HasEntries (command_course command (parts_of bytes)))
+    → IfSome (bytes_for (Some command) held) (λ bytes. HasEntries (command_course command (whole_input bytes)))
     → IfSome (bytes_for (command_for words) held) (λ bytes. HasEntries (whole_course words bytes))
 entries-words words command asked held entries =
-    subst (λ a. IfSome (bytes_for a held) (λ bytes. HasEntries (words_course a (parts_of bytes)))) (sym asked) entries
+    subst (λ a. IfSome (bytes_for a held) (λ bytes. HasEntries (words_course a (whole_input bytes)))) (sym asked) entries
 
 -- no source is at fault where none was asked
 pub causes-other : (unread unwritten unwritten' : ℕ) (exit : Exit) → exit ≢ ReadFault → HasCauses 0 0 unwritten unwritten' exit → HasCauses unread unread unwritten unwritten' exit
@@ -166,7 +217,7 @@ causes-other unread unwritten unwritten' exit never causes = record {
 }
 
 -- what stands sure by what bytes come to stands so by another name of that
-stands-course : (held held' taken taken' : Option (List ℕ)) (fetches fetches' : ℕ) (count : List Touch → ℕ) (course other : List ℕ → Course)
+pub stands-course : (held held' taken taken' : Option (List ℕ)) (fetches fetches' : ℕ) (count : List Touch → ℕ) (course other : List ℕ → Course)
     → (s : StandsSure held held' taken taken' fetches fetches' count course) → course s.writes.bytes ≡ other s.writes.bytes
     → StandsSure held held' taken taken' fetches fetches' count other
 stands-course held held' taken taken' fetches fetches' count course other s same = record {
@@ -181,17 +232,30 @@ stands-course held held' taken taken' fetches fetches' count course other s same
 
 -- what lines make sure, a command makes sure that asks for input
 pub sure-input : (command : Command) (held held' taken taken' : Option (List ℕ)) (fetches fetches' : ℕ) (count : List Touch → ℕ) (asks : asks_input command ≡ true)
-    → StandsSure held held' taken taken' fetches fetches' count (λ bytes. lines_course command (whole_lines [] bytes))
-    → StandsSure held held' taken taken' fetches fetches' count (λ bytes. command_course command (whole_lines [] bytes))
+    → StandsSure held held' taken taken' fetches fetches' count (λ bytes. input_course command (read_input bytes))
+    → StandsSure held held' taken taken' fetches fetches' count (λ bytes. command_course command (read_input bytes))
 sure-input command held held' taken taken' fetches fetches' count asks s =
-    stands-course held held' taken taken' fetches fetches' count _ _ s (sym (course-input command (whole_lines [] s.writes.bytes) asks))
+    stands-course held held' taken taken' fetches fetches' count _ _ s (sym (course-input command (read_input s.writes.bytes) asks))
+
+-- ---- what is so of a text
+
+-- what is so of what the input comes to is so of what the command comes to
+pub text-input : (P : List ℕ → List ℕ → Type 0) (command : Command) (held : Option (List ℕ)) → asks_input command ≡ true
+    → IfSome held (λ bytes. P bytes (course_output (input_course command (whole_input bytes))).text)
+    → IfSome held (λ bytes. P bytes (course_output (command_course command (whole_input bytes))).text)
+text-input P command None asks is = tt
+text-input P command (Some bytes) asks is = subst (λ (c : Course). P bytes (course_output c).text) (sym (course-input command (whole_input bytes) asks)) is
+
+-- a command that asks for no input is none that does
+pub text-other : {X : Type 0} (command other : Command) → command ≡ other → asks_input other ≡ true → asks_input command ≡ false → X
+text-other command other is asks off = let bad : true ≡ false = sym asks ∙ ap asks_input (sym is) ∙ off in cc
 
 -- ---- words
 
 module _ (words : List (List ℕ)) (command : Command) (asked : command_for words ≡ Some command) where
   -- the words come to what the command comes to
-  words-course : (parts : List Part) → words_course (command_for words) parts ≡ command_course command parts
-  words-course parts = ap (λ asked. words_course asked parts) asked
+  words-course : (input : Input) → words_course (command_for words) input ≡ command_course command input
+  words-course input = ap (λ asked. words_course asked input) asked
 
   -- and the same bytes are read for them
   bytes-read : (held : Option (List ℕ)) → bytes_for (command_for words) held ≡ bytes_for (Some command) held
@@ -199,19 +263,19 @@ module _ (words : List (List ℕ)) (command : Command) (asked : command_for word
 
   module _ (taken taken' : Option (List ℕ)) (fetches fetches' : ℕ) (exit : Exit) where
     abbrev Comes : List ℕ → Type 0
-    Comes bytes = ComesTo taken taken' fetches fetches' exit cached (command_course command (parts_of bytes))
+    Comes bytes = ComesTo taken taken' fetches fetches' exit cached (command_course command (whole_input bytes))
 
     outputs : (told : Option (List ℕ)) → IfSome told Comes → IfSome told (λ bytes. Outputs taken taken' exit (out words bytes))
     outputs None comes = tt
-    outputs (Some bytes) comes = subst (Outputs taken taken' exit) (ap course_output (sym (words-course (parts_of bytes)))) comes.output
+    outputs (Some bytes) comes = subst (Outputs taken taken' exit) (ap course_output (sym (words-course (whole_input bytes)))) comes.output
 
     fetches_all : (told : Option (List ℕ)) → IfSome told Comes → IfSome told (λ bytes. Fetches fetches fetches' exit (fetched words bytes))
     fetches_all None comes = tt
-    fetches_all (Some bytes) comes = subst (Fetches fetches fetches' exit) (ap (course_fetches cached) (sym (words-course (parts_of bytes)))) comes.fetched
+    fetches_all (Some bytes) comes = subst (Fetches fetches fetches' exit) (ap (course_fetches cached) (sym (words-course (whole_input bytes)))) comes.fetched
 
     bounded_all : (told : Option (List ℕ)) → IfSome told Comes → IfSome told (λ bytes. IsBounded fetches fetches' (whole_course words bytes))
     bounded_all None comes = tt
-    bounded_all (Some bytes) comes = subst (IsBounded fetches fetches') (sym (words-course (parts_of bytes))) (course-bounded command (parts_of bytes) fetches fetches' comes.fetched.most)
+    bounded_all (Some bytes) comes = subst (IsBounded fetches fetches') (sym (words-course (whole_input bytes))) (sound-bounded (command_course command (whole_input bytes)) fetches fetches' (command-sound command (whole_input bytes)) comes.fetched.most)
 
     -- what was written is what the words come to
     pub answers-words : (held : Option (List ℕ)) → IfSome (bytes_for (Some command) held) Comes → (exit ≡ OutOfMemory → taken' ≡ taken) → Answers words held taken taken' exit
@@ -232,10 +296,20 @@ module _ (words : List (List ℕ)) (command : Command) (asked : command_for word
 
   -- what a command makes sure is what the words make sure that ask for it
   pub sure-words : (held held' taken taken' : Option (List ℕ)) (fetches fetches' : ℕ) (count : List Touch → ℕ)
-      → StandsSure held held' taken taken' fetches fetches' count (λ bytes. command_course command (whole_lines [] bytes))
+      → StandsSure held held' taken taken' fetches fetches' count (λ bytes. command_course command (read_input bytes))
       → StandsSure held held' taken taken' fetches fetches' count (sure words)
   sure-words held held' taken taken' fetches fetches' count s =
-      stands-course held held' taken taken' fetches fetches' count _ _ s (sym (words-course (whole_lines [] s.writes.bytes)))
+      stands-course held held' taken taken' fetches fetches' count _ _ s (sym (words-course (read_input s.writes.bytes)))
+
+  -- what is so of the text of a command is so of the words that ask for it
+  pub text-words : (P : List ℕ → List ℕ → Type 0) (other : Command) → command_for words ≡ Some other → (held : Option (List ℕ))
+      → (command ≡ other → IfSome held (λ bytes. P bytes (course_output (command_course command (whole_input bytes))).text))
+      → IfSome held (λ bytes. P bytes (out words bytes).text)
+  text-words P other is held told = by held (told (let same : Some command ≡ Some other = sym asked ∙ is in cc))
+    where
+      by : (held : Option (List ℕ)) → IfSome held (λ bytes. P bytes (course_output (command_course command (whole_input bytes))).text) → IfSome held (λ bytes. P bytes (out words bytes).text)
+      by None all = tt
+      by (Some bytes) all = subst (λ (c : Course). P bytes (course_output c).text) (sym (words-course (whole_input bytes))) all
 
   -- of those that have a form and begin with `-` the command is `--help`
   dashed-help : list_any is_dashed words ≡ true → command ≡ Help
@@ -261,14 +335,10 @@ completes old new exit o read write outputs = by_exit exit refl
     given memory = inl (outputs.whole (record { read = read; write = write; memory = memory }))
 
     by_exit : (e : Exit) → exit ≡ e → Completes old new exit o
-    by_exit Done is = given (λ none. let six : 0 ≡ 6 = ap status_of (sym is ∙ none) in absurd (omega (arith, six)))
-    by_exit Usage is = given (λ none. let six : 1 ≡ 6 = ap status_of (sym is ∙ none) in absurd (omega (arith, six)))
-    by_exit (ListingRefused line fault) is = given (λ none. let six : 2 ≡ 6 = ap status_of (sym is ∙ none) in absurd (omega (arith, six)))
-    by_exit (ScheduleRefused line fault) is = given (λ none. let six : 3 ≡ 6 = ap status_of (sym is ∙ none) in absurd (omega (arith, six)))
     by_exit ReadFault is = absurd (read is)
     by_exit WriteFault is = absurd (write is)
     by_exit OutOfMemory is = inr (is, outputs.nothing is)
-    by_exit TooLong is = given (λ none. let six : 7 ≡ 6 = ap status_of (sym is ∙ none) in absurd (omega (arith, six)))
+    by_exit other is = given (λ none. let same : other ≡ OutOfMemory = sym is ∙ none in cc)
 
 completes-told : (told old new : Option (List ℕ)) (exit : Exit) (output : List ℕ → Output) → (exit ≡ ReadFault → ⊥) → (exit ≡ WriteFault → ⊥)
     → IfSome told (λ bytes. Outputs old new exit (output bytes)) → IfSome told (λ bytes. Completes old new exit (output bytes))

@@ -2,9 +2,7 @@
 use Rattle.std.specs.Prelude.{ℕ, Bool, true, false, List, Option, Some, None}
 use Rattle.coyotos_words.specs.Command.{command_of}
 use Rattle.coyotos_words.specs.declared.command.Command.{Command}
-use Rattle.coyotos_words.specs.declared.command.Command.TheVariants.{Help, Check, Run, Trace as Traced, Tables, Make}
-use Rattle.coyotos_cli.specs.declared.mode.Mode.{Mode}
-use Rattle.coyotos_cli.specs.declared.mode.Mode.TheVariants.{Silent, Records, Trace}
+use Rattle.coyotos_words.specs.declared.command.Command.TheVariants.{Help, Check, Make, Pack, Unpack, Migrate, Confine}
 
 -- what these words ask for
 abbrev pub command_for : List (List ℕ) → Option Command
@@ -16,30 +14,29 @@ asks_input Help = false
 asks_input (Make number summary) = false
 asks_input _ = true
 
--- whether the events of the lines are run for a command, or only counted, as for `check`
-abbrev pub runs : Command → Bool
-runs Check = false
-runs _ = true
-
--- the records of the run that a command writes
-abbrev pub mode_of : Command → Mode
-mode_of Run = Records
-mode_of Tables = Records
-mode_of Traced = Trace
-mode_of _ = Silent
-
 -- whether the input is read for these words; for words of no form it is not
 abbrev pub reads_input : Option Command → Bool
 reads_input None = false
 reads_input (Some command) = asks_input command
 
--- whether words ask for a run; others fetch nothing
+-- whether words ask for a run or for a look at all GPTs; others fetch nothing
 abbrev pub asks_run : Option Command → Bool
 asks_run None = false
 asks_run (Some Help) = false
 asks_run (Some Check) = false
+asks_run (Some Pack) = false
+asks_run (Some Unpack) = false
+asks_run (Some Migrate) = false
 asks_run (Some (Make number summary)) = summary
 asks_run (Some command) = true
+
+-- whether a command reads a schedule, and runs its events or counts them
+abbrev pub asks_schedule : Command → Bool
+asks_schedule Pack = false
+asks_schedule Unpack = false
+asks_schedule Migrate = false
+asks_schedule Confine = false
+asks_schedule _ = true
 
 -- the number whose generated text a command runs
 abbrev pub summary_number : Command → Option ℕ

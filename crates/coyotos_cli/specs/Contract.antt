@@ -4,12 +4,12 @@ use Rattle.std.specs.List.{list_any}
 use Rattle.std.specs.Io.KnownBytes.{IsAtEnd}
 use Rattle.coyotos_words.specs.Command.{is_dashed}
 use Rattle.coyotos_cli.specs.Command.{command_for, reads_input, asks_run}
-use Rattle.coyotos_cli.specs.Ending.{Outputs, Fetches}
-use Rattle.coyotos_cli.specs.Bounds.{IsBounded}
+use Rattle.courses.specs.Ending.{Outputs, Fetches}
+use Rattle.courses.specs.Bounds.{IsBounded}
 use Rattle.coyotos_cli.specs.Program.{out, fetched, whole_course}
 use Rattle.coyotos_words.specs.declared.command.Command.{Command}
-use Rattle.coyotos_cli.specs.declared.exit.Exit.{Exit}
-use Rattle.coyotos_cli.specs.declared.exit.Exit.TheVariants.{Done, Usage, ReadFault, WriteFault, OutOfMemory}
+use Rattle.courses.specs.declared.exit.Exit.{Exit}
+use Rattle.courses.specs.declared.exit.Exit.TheVariants.{Done, Usage, ReadFault, WriteFault, OutOfMemory}
 
 -- the bytes that are read for words, where they are known: those that the source tells, and none where it is not read
 abbrev pub bytes_for : Option Command → Option (List ℕ) → Option (List ℕ)

@@ -1,21 +1,26 @@
 //! A command, with the input or without.
-ghost use Rattle.std.specs.Prelude.{◌≡◌, ◌≢◌, true, false, [], IfSome, Some};
+ghost use Rattle.std.specs.Prelude.{◌≡◌, ◌≢◌, true, false, IfSome, Some};
 ghost use Rattle.std.specs.Io.KnownBytes.{IsAtEnd};
-ghost use Rattle.coy_io.specs.Lines.{parts_of, whole_lines};
-ghost use Rattle.coyotos_words.specs.declared.command.Command.TheVariants.{Help};
+ghost use Rattle.coyotos_words.specs.declared.command.Command.TheVariants.{Help, Migrate, Pack};
 ghost use Rattle.coyotos_cli.specs.Command.{asks_input, asks_run, summary_number};
 ghost use Rattle.coyotos_cli.specs.Contract.{bytes_for};
-ghost use Rattle.coyotos_cli.specs.Ending.{HasCauses, IsGiven, EndsIn, usage_text};
-ghost use Rattle.coyotos_cli.specs.Program.{command_course, make_course, cached, StandsSure};
-ghost use Rattle.coyotos_cli.specs.Course.{ComesTo, HasEntries};
+ghost use Rattle.coyotos_cli.specs.Input.{no_input, read_input, whole_input};
+ghost use Rattle.coyotos_cli.specs.Program.{command_course, input_course, make_course, usage_text};
+ghost use Rattle.courses.specs.Course.{ComesTo, HasEntries, cached, course_output};
+ghost use Rattle.courses.specs.Ending.{HasCauses, IsGiven, EndsIn};
+ghost use Rattle.courses.specs.Sure.{StandsSure};
+ghost use Rattle.image_commands.specs.Same.{IsImageOf};
+ghost use Rattle.migrate_command.specs.Same.{IsMigrated};
 
-use crate::ending::end_with;
-use crate::exit::Exit;
-use crate::input::answer_input;
 use crate::making::make;
+use confine_command::confine;
+use courses::{Exit, end_with};
 use coy_io::{Sink, Source};
 use coyotos_words::Command;
 use generated_text::MakeSource;
+use image_commands::{answer_pack, answer_unpack};
+use migrate_command::migrate;
+use schedule_commands::answer_schedule;
 use std::alloc::Global;
 use std::sync::ledger::Ledger;
 use steps::Steps;
@@ -31,18 +36,26 @@ pub(crate) fn answer<S: Source, K: Sink, L: Ledger>(
     // What the command comes to with the known bytes, and where the source stands then.
     ensures comes { IfSome (bytes_for (Some command) (S.held input.old)) (λ bytes.
         ComesTo (K.taken output.old) (K.taken output.new) fetches.old fetches.new result cached
-        (command_course command (parts_of bytes))) }
+        (command_course command (whole_input bytes))) }
     ensures end { result ≡ Exit.Done → asks_input command ≡ true → IsAtEnd (S.held input.new) }
     ensures unread { asks_input command ≡ false → input.new ≡ input.old }
     ensures unfailed { asks_input command ≡ false → result ≢ Exit.ReadFault }
     ensures sure { result ≡ Exit.ReadFault →
         StandsSure (S.held input.old) (S.held input.new) (K.taken output.old) (K.taken output.new)
-        fetches.old fetches.new cached (λ bytes. command_course command (whole_lines [] bytes)) }
+        fetches.old fetches.new cached (λ bytes. command_course command (read_input bytes)) }
 
     // What the entries of the mapping cache say then.
     ensures entries { result ≡ Exit.Done →
         IfSome (bytes_for (Some command) (S.held input.old)) (λ bytes.
-        HasEntries (command_course command (parts_of bytes))) }
+        HasEntries (command_course command (whole_input bytes))) }
+
+    // What is read again of a text that was migrated.
+    ensures migrated { command ≡ Migrate → result ≡ Exit.Done → IfSome (S.held input.old) (λ bytes.
+        IsMigrated bytes (course_output (command_course command (whole_input bytes))).text) }
+
+    // What `unpack` writes for an image that was packed.
+    ensures packed { command ≡ Pack → result ≡ Exit.Done → IfSome (S.held input.old) (λ bytes.
+        IsImageOf bytes (course_output (command_course command (whole_input bytes))).text) }
 
     // Why it may end otherwise.
     ensures usage { result ≢ Exit.Usage }
@@ -61,6 +74,44 @@ pub(crate) fn answer<S: Source, K: Sink, L: Ledger>(
     answer_other(alloc, command, output, fetches)
 }
 
+/// Does what a command asks for that asks for input.
+fn answer_input<S: Source, K: Sink, L: Ledger>(
+    alloc: Global,
+    command: Command,
+    input: &mut S,
+    output: &mut K,
+    fetches: &mut Steps<L>,
+) -> Exit
+    requires { asks_input command ≡ true }
+    ensures comes { IfSome (S.held input.old) (λ bytes.
+        ComesTo (K.taken output.old) (K.taken output.new) fetches.old fetches.new result cached
+        (input_course command (whole_input bytes))) }
+    ensures end { result ≡ Exit.Done → IsAtEnd (S.held input.new) }
+    ensures sure { result ≡ Exit.ReadFault →
+        StandsSure (S.held input.old) (S.held input.new) (K.taken output.old) (K.taken output.new)
+        fetches.old fetches.new cached (λ bytes. input_course command (read_input bytes)) }
+    ensures entries { result ≡ Exit.Done → IfSome (S.held input.old) (λ bytes.
+        HasEntries (input_course command (whole_input bytes))) }
+    ensures migrated { command ≡ Migrate → result ≡ Exit.Done → IfSome (S.held input.old) (λ bytes.
+        IsMigrated bytes (course_output (input_course command (whole_input bytes))).text) }
+    ensures packed { command ≡ Pack → result ≡ Exit.Done → IfSome (S.held input.old) (λ bytes.
+        IsImageOf bytes (course_output (input_course command (whole_input bytes))).text) }
+    ensures usage { result ≢ Exit.Usage }
+    ensures causes { HasCauses (S.faults input.old) (S.faults input.new)
+        (K.faults output.old) (K.faults output.new) result }
+    ensures unwritten { result ≡ Exit.OutOfMemory → K.taken output.new ≡ K.taken output.old }
+    ensures stays { asks_run (Some command) ≡ false → fetches.new ≡ fetches.old }
+    ensures unspent { result ≡ Exit.OutOfMemory → fetches.new ≡ fetches.old }
+{
+    match command {
+        Command::Pack => answer_pack(alloc, input, output),
+        Command::Unpack => answer_unpack(alloc, input, output),
+        Command::Migrate => migrate(alloc, input, output),
+        Command::Confine => confine(alloc, input, output, fetches),
+        _ => answer_schedule(alloc, command, input, output, fetches),
+    }
+}
+
 /// Does what a command asks for that asks for no input.
 fn answer_other<K: Sink, L: Ledger>(
     alloc: Global,
@@ -70,8 +121,8 @@ fn answer_other<K: Sink, L: Ledger>(
 ) -> Exit
     requires { asks_input command ≡ false }
     ensures comes { ComesTo (K.taken output.old) (K.taken output.new) fetches.old fetches.new
-        result cached (command_course command []) }
-    ensures entries { result ≡ Exit.Done → HasEntries (command_course command []) }
+        result cached (command_course command no_input) }
+    ensures entries { result ≡ Exit.Done → HasEntries (command_course command no_input) }
     ensures usage { result ≢ Exit.Usage }
     ensures read { result ≢ Exit.ReadFault }
     ensures memory { command ≡ Help → result ≢ Exit.OutOfMemory }
@@ -117,14 +168,14 @@ fn summarize<K: Sink, L: Ledger>(
         summary: true,
     };
     let mut source = MakeSource::new(number);
-    answer_input(alloc, command, &mut source, output, fetches)
+    answer_schedule(alloc, command, &mut source, output, fetches)
 }
 
 /// Does what a command asks for that asks for no input and no run.
 fn answer_alone<K: Sink>(command: Command, output: &mut K) -> Exit
     requires still { asks_run (Some command) ≡ false }
     requires alone { asks_input command ≡ false }
-    ensures { EndsIn K.taken K.faults output.old output.new result (command_course command []).last }
+    ensures { EndsIn K.taken K.faults output.old output.new result (command_course command no_input).last }
 {
     match command {
         Command::Make { number, .. } => make(number, output),
@@ -146,6 +197,6 @@ pub(crate) fn usage<K: Sink>(output: &mut K, exit: Exit) -> Exit
         (record { text = usage_text; exit = exit }) }
 {
     let line =
-        b"usage: coyotos check | run | trace | tables | walk P KIND ADDR | make N [summary]\n";
+        b"usage: coyotos check | run | trace | tables | walk P KIND ADDR | make N [summary] | pack | unpack | migrate | confine\n";
     end_with(line.as_slice(), exit, output)
 }

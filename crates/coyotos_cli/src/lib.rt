@@ -4,26 +4,11 @@
 #![tactic(auto)]
 
 mod answering;
-mod counting;
-mod counts;
-mod ending;
-mod events;
-mod exit;
-mod finishing;
-mod input;
-mod lines;
+mod laws;
 mod making;
-mod mode;
 mod program;
-mod replayed;
-mod replaying;
-mod schedule;
-mod tables;
-mod telling;
 
-pub use counts::Counts;
-pub use exit::Exit;
-pub use mode::Mode;
+pub use courses::Exit;
+pub use laws::same_course_law;
 pub use program::coyotos;
-pub use replayed::Replayed;
-pub use replaying::replay;
+pub use schedule_replay::{Counts, Mode, Replayed, replay};

@@ -3,10 +3,10 @@ ghost use Rattle.std.specs.Prelude.{◌≡◌};
 ghost use Rattle.coy_io.specs.Causes.{HasCause};
 ghost use Rattle.generated_text.specs.Text.{make_text};
 ghost use Rattle.run_text.specs.Written.{Writes};
-ghost use Rattle.coyotos_cli.specs.Ending.{EndsIn};
+ghost use Rattle.courses.specs.Ending.{EndsIn};
 ghost use Rattle.coyotos_cli.specs.Made.{made_left};
 
-use crate::exit::Exit;
+use courses::Exit;
 use coy_io::{Sink, WriteFault, put_all};
 use generated_text::MakeSource;
 

@@ -1,14 +1,18 @@
 //! The top call.
-ghost use Rattle.std.specs.Prelude.{◌≡◌, map, string_bytes, IfSome};
+ghost use Rattle.std.specs.Prelude.{◌≡◌, map, string_bytes, IfSome, Some};
 ghost use Rattle.coy_io.specs.Causes.{Rose};
+ghost use Rattle.coyotos_words.specs.declared.command.Command.TheVariants.{Migrate, Pack};
+ghost use Rattle.image_commands.specs.Same.{IsImageOf};
+ghost use Rattle.migrate_command.specs.Same.{IsMigrated};
 ghost use Rattle.coyotos_cli.specs.Command.{command_for};
-ghost use Rattle.coyotos_cli.specs.Course.{HasEntries};
-ghost use Rattle.coyotos_cli.specs.Ending.{HasCauses, Completes};
-ghost use Rattle.coyotos_cli.specs.Program.{out, sure, cached, whole_course, StandsSure};
+ghost use Rattle.courses.specs.Course.{HasEntries, cached};
+ghost use Rattle.courses.specs.Ending.{HasCauses, Completes};
+ghost use Rattle.courses.specs.Sure.{StandsSure};
+ghost use Rattle.coyotos_cli.specs.Program.{out, sure, whole_course};
 ghost use Rattle.coyotos_cli.specs.Contract.{bytes_for, Answers, HasForm, ReadsInput, FetchesFor};
 
 use crate::answering::{answer, usage};
-use crate::exit::Exit;
+use courses::Exit;
 use coy_io::{Sink, Source};
 use coyotos_words::read_command;
 use std::alloc::Global;
@@ -53,6 +57,15 @@ pub fn coyotos<S: Source, K: Sink, L: Ledger>(
     ensures entries { let words = map string_bytes words.now in
         result ≡ Exit.Done → IfSome (bytes_for (command_for words) (S.held input.old)) (λ bytes.
         HasEntries (whole_course words bytes)) }
+
+    // What `migrate` writes is, read again, the same statements and events, if it is short enough to be an input.
+    ensures migrated { let words = map string_bytes words.now in command_for words ≡ Some Migrate →
+        result ≡ Exit.Done → IfSome (S.held input.old) (λ bytes. IsMigrated bytes (out words bytes).text) }
+
+    // For the image that `pack` writes, `unpack` writes what `migrate` writes for the input, if it is short enough.
+    ensures packed { let words = map string_bytes words.now in command_for words ≡ Some Pack →
+        result ≡ Exit.Done → IfSome (S.held input.old) (λ bytes.
+        IsImageOf bytes (out words bytes).text) }
 
     // How many slots are fetched.
     ensures fetches { FetchesFor (map string_bytes words.now) (S.held input.old)

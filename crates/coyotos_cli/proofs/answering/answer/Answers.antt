@@ -1,5 +1,8 @@
 use Rattle.std.proofs.Common.{◌∙◌, refl, sym}
-use Rattle.coyotos_cli.proofs.Words.{causes-other, comes-input, entries-input, entries-other, comes-other, run-input, sure-input}
+use Rattle.coyotos_words.specs.declared.command.Command.TheVariants.{Migrate, Pack}
+use Rattle.image_commands.specs.Same.{IsImageOf}
+use Rattle.migrate_command.specs.Same.{IsMigrated}
+use Rattle.coyotos_cli.proofs.Words.{causes-other, comes-input, entries-input, entries-other, comes-other, sure-input, text-input, text-other}
 use Rattle.coyotos_cli.proofs.answering.answer.Goals as goal
 
 pub returns-then-asks_input-clause-comes : goal.returns-then-asks_input-clause-comes
@@ -9,10 +12,6 @@ returns-then-asks_input-clause-comes g c =
 pub returns-then-asks_input-clause-sure : goal.returns-then-asks_input-clause-sure
 returns-then-asks_input-clause-sure g c =
     λ fault. sure-input c.args.command _ _ _ _ _ _ _ (sym c.asks_input.ensures ∙ c.if-asks_input.true) (c.answer_input.ensures.sure fault)
-
-pub returns-then-asks_input-clause-stays : goal.returns-then-asks_input-clause-stays
-returns-then-asks_input-clause-stays g c =
-    λ still. c.answer_input.ensures.stays (run-input c.args.command (sym c.asks_input.ensures ∙ c.if-asks_input.true) still)
 
 pub returns-clause-comes : goal.returns-clause-comes
 returns-clause-comes g c =
@@ -31,3 +30,17 @@ returns-then-asks_input-clause-entries g c =
 pub returns-clause-entries : goal.returns-clause-entries
 returns-clause-entries g c =
     λ done. entries-other c.args.command _ (sym c.asks_input.ensures ∙ c.if-asks_input.false) (c.answer_other.ensures.entries done)
+
+pub returns-then-asks_input-clause-migrated : goal.returns-then-asks_input-clause-migrated
+returns-then-asks_input-clause-migrated g c =
+    λ asked done. text-input IsMigrated c.args.command _ (sym c.asks_input.ensures ∙ c.if-asks_input.true) (c.answer_input.ensures.migrated asked done)
+
+pub returns-clause-migrated : goal.returns-clause-migrated
+returns-clause-migrated g c = λ asked done. text-other c.args.command Migrate asked refl (sym c.asks_input.ensures ∙ c.if-asks_input.false)
+
+pub returns-then-asks_input-clause-packed : goal.returns-then-asks_input-clause-packed
+returns-then-asks_input-clause-packed g c =
+    λ asked done. text-input IsImageOf c.args.command _ (sym c.asks_input.ensures ∙ c.if-asks_input.true) (c.answer_input.ensures.packed asked done)
+
+pub returns-clause-packed : goal.returns-clause-packed
+returns-clause-packed g c = λ asked done. text-other c.args.command Pack asked refl (sym c.asks_input.ensures ∙ c.if-asks_input.false)

@@ -1,6 +1,6 @@
 use Rattle.std.proofs.Common.{◌≡◌}
-use Rattle.coyotos_cli.specs.Ending.{usage_text}
-use Rattle.coyotos_cli.proofs.Endings.{ends_text}
+use Rattle.coyotos_cli.specs.Program.{usage_text}
+use Rattle.courses.proofs.Endings.{ends_text}
 use Rattle.coyotos_cli.proofs.answering.usage.Goals as goal
 
 pub returns : goal.returns

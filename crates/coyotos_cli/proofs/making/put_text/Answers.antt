@@ -1,7 +1,7 @@
 use Rattle.std.proofs.Common.{◌∙◌, subst}
 use Rattle.run_text.proofs.Texts.{cut}
-use Rattle.coyotos_cli.specs.Leaves.{Leaves}
-use Rattle.coyotos_cli.proofs.Leaves.{leaves_less, leaves_some}
+use Rattle.schedule_replay.specs.Leaves.{Leaves}
+use Rattle.schedule_replay.proofs.Leaves.{leaves_less, leaves_some}
 use Rattle.coyotos_cli.proofs.making.put_text.Goals as goal
 
 pub pieces-preserved : goal.pieces-preserved

@@ -1,5 +1,5 @@
 use Rattle.std.proofs.Common.{◌≡◌, length}
-use Rattle.coyotos_cli.specs.Leaves.{Leaves}
+use Rattle.schedule_replay.specs.Leaves.{Leaves}
 use Rattle.coyotos_cli.specs.Made.{made_left}
 use Rattle.coyotos_cli.proofs.making.put_text.Given as goal
 

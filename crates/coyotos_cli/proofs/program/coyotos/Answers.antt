@@ -1,5 +1,8 @@
 use Rattle.std.proofs.Common.{◌∙◌, sym, map, string_bytes}
-use Rattle.coyotos_cli.proofs.Words.{answers-words, completes-words, entries-words, fetches-words, sure-words, form-words, form-memory}
+use Rattle.coyotos_words.specs.declared.command.Command.TheVariants.{Migrate, Pack}
+use Rattle.image_commands.specs.Same.{IsImageOf}
+use Rattle.migrate_command.specs.Same.{IsMigrated}
+use Rattle.coyotos_cli.proofs.Words.{answers-words, completes-words, entries-words, fetches-words, sure-words, form-words, form-memory, text-words}
 use Rattle.coyotos_cli.proofs.program.coyotos.Goals as goal
 
 pub returns-in-Err-clause-form : goal.returns-in-Err-clause-form
@@ -35,3 +38,13 @@ pub returns-clause-entries : goal.returns-clause-entries
 returns-clause-entries g c =
     let asked = sym c.in-Ok-Some.ensures.asked ∙ c.in-Ok-Some.field-0-is in
     λ done. entries-words (map string_bytes c.args.words.now) _ asked _ (c.answer.ensures.entries done)
+
+pub returns-clause-migrated : goal.returns-clause-migrated
+returns-clause-migrated g c =
+    let asked = sym c.in-Ok-Some.ensures.asked ∙ c.in-Ok-Some.field-0-is in
+    λ is done. text-words (map string_bytes c.args.words.now) _ asked IsMigrated Migrate is _ (λ same. c.answer.ensures.migrated same done)
+
+pub returns-clause-packed : goal.returns-clause-packed
+returns-clause-packed g c =
+    let asked = sym c.in-Ok-Some.ensures.asked ∙ c.in-Ok-Some.field-0-is in
+    λ is done. text-words (map string_bytes c.args.words.now) _ asked IsImageOf Pack is _ (λ same. c.answer.ensures.packed same done)

@@ -1,0 +1,5 @@
+mod Histories
+mod Remembering
+mod Concluding
+mod Behind
+pub mod Sound

@@ -1,0 +1,51 @@
+-- A run of which the last events are remembered, and the undoing of some (this project's own).
+use Rattle.std.specs.Prelude.{◌≡◌, ℕ, zero, suc, min, List, [], ◌∷◌, ◌++◌, length, take, Option}
+use Rattle.coy_io.specs.Reader.{Reader}
+use Rattle.machine_state.specs.declared.event.Event.{Event}
+use Rattle.machine_state.specs.State.{State}
+use Rattle.kernel_core.specs.Event.{event_of}
+use Rattle.kernel_core.specs.Run.{run_state}
+use Rattle.reverse_run.specs.History.{History, after_undo, remembered}
+use Rattle.schedule_replay.specs.Counts.{events_alone}
+use Rattle.schedule_replay.specs.Replay.{Follows, count_answer, stop_answer}
+use Rattle.schedule_replay.specs.declared.lines.Stop.{Stop}
+use Rattle.schedule_replay.specs.declared.lines.Stop.TheVariants as stops
+use Rattle.courses.specs.Ending.{EndsIn, refused_schedule, too_long}
+use Rattle.courses.specs.declared.exit.Exit.{Exit}
+use Rattle.courses.specs.declared.exit.Exit.TheVariants.{Done, ReadFault}
+use Rattle.back_command.specs.Back.{back_text}
+use Rattle.back_command.specs.declared.TheConstants.{DEPTH}
+
+-- the states before each event of a run, the latest first
+unfoldable pub states_before : State → List Event → List State
+states_before s [] = []
+states_before s (e ∷ es) = states_before (event_of s e).state es ++ s ∷ []
+
+-- the history of a run from a state on, of which so many events are remembered
+abbrev pub history_at : ℕ → State → List Event → History
+history_at depth s events = record { present = run_state s events; before = take depth (states_before s events) }
+
+-- the history after so many undos
+unfoldable pub undos : ℕ → History → History
+undos zero h = h
+undos (suc n) h = after_undo (undos n h)
+
+-- these events were run from the state on and the last of them are remembered, and they are what the lines ask for, as far as
+-- they are known
+pub record RunsLines (harts : ℕ) (s : State) (h : History) (old new : Reader) (held held' : Option (List ℕ)) (stop : Stop) : Type 0 where
+  pub events : List Event
+  pub history : h ≡ history_at DEPTH s events
+  pub follows : Follows count_answer harts old new held held' events (stop_answer (events_alone (length events)) stop)
+
+-- ---- the end
+
+-- what is written of a history where all lines were read: of its events as many are undone as asked for and remembered
+abbrev pub text_of : ℕ → History → List ℕ
+text_of number h = let n = min number (remembered h) in back_text n (undos n h).present
+
+-- how the program ends behind the lines: by what is written last, or where reading failed with nothing
+abbrev pub Concludes : {K : Type 0} → (K → Option (List ℕ)) → (K → ℕ) → ℕ → History → Stop → K → K → Exit → Type 0
+Concludes taken faults number h stops.End old new exit = EndsIn taken faults old new exit (record { text = text_of number h; exit = Done })
+Concludes taken faults number h (stops.Refused line fault) old new exit = EndsIn taken faults old new exit (refused_schedule line fault)
+Concludes taken faults number h stops.TooLong old new exit = EndsIn taken faults old new exit too_long
+Concludes taken faults number h stops.ReadFault old new exit = (exit ≡ ReadFault) × (new ≡ old)

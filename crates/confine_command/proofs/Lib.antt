@@ -1,0 +1,4 @@
+pub mod Verdicts
+pub mod Stating
+pub mod Concluding
+pub mod Sound

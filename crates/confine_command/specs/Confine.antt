@@ -1,0 +1,69 @@
+-- What `confine` comes to (this project's own).
+use Rattle.std.specs.Prelude.{◌≡◌, ◌+◌, ℕ, List, [], ◌++◌, codes, decimal, Option}
+use Rattle.coy_io.specs.Lines.{Part}
+use Rattle.cap_format.specs.declared.kind.CapKind.{CapKind}
+use Rattle.cap_format.specs.declared.kind.CapKind.TheVariants.{Gpt}
+use Rattle.cap_format.specs.Capability.{Capability}
+use Rattle.cap_words.specs.Text.{cap_text}
+use Rattle.object_store.specs.Store.{size_of}
+use Rattle.kernel_core.specs.State.{State}
+use Rattle.listing_read.specs.Statement.{ListingValue}
+use Rattle.statement_text.specs.Words.{kind_word}
+use Rattle.image_builder.specs.Boot.{booted}
+use Rattle.confinement.specs.Cut.{Sides}
+use Rattle.confine_check.specs.declared.verdict.Verdict.{Verdict}
+use Rattle.confine_check.specs.declared.verdict.Verdict.TheVariants as verdicts
+use Rattle.confine_check.specs.Found.{reads_to, verdict_in}
+use Rattle.confine_check.specs.Sides.{all_right, cut_of, left_count, right_count}
+use Rattle.courses.specs.Course.{Course, ends_in}
+use Rattle.courses.specs.Ending.{Output, EndsIn, refused_cut, too_long}
+use Rattle.courses.specs.Listed.{Behind}
+use Rattle.courses.specs.declared.exit.Exit.{Exit}
+use Rattle.courses.specs.declared.exit.Exit.TheVariants.{Done, ReadFault}
+use Rattle.confine_command.specs.declared.lines.CutStop.{CutStop}
+use Rattle.confine_command.specs.declared.lines.CutStop.TheVariants as stops
+use Rattle.confine_command.specs.Stated.{Stated, StatesSides, RefusedAt, PastEnd, stated}
+
+-- how many objects are on each side of a cut that holds
+unfoldable pub confined_text : Sides → List ℕ
+confined_text sides = codes "confined left=" ++ decimal (left_count sides) ++ codes " right=" ++ decimal (right_count sides) ++ codes "\n"
+
+-- which object has a capability that breaks a cut, in which place, and what it is
+unfoldable pub breach_text : CapKind → ℕ → ℕ → Capability → List ℕ
+breach_text kind n place cap =
+    codes "breach " ++ kind_word kind ++ codes " " ++ decimal n ++ codes " " ++ decimal place ++ codes " " ++ cap_text cap ++ codes "\n"
+
+-- what is told of a verdict; nobody sleeps at a machine's start, so nothing is told of a sleeper
+abbrev pub verdict_text : Sides → Verdict → List ℕ
+verdict_text sides verdicts.Yes = confined_text sides
+verdict_text sides (verdicts.Capability kind n place cap) = breach_text kind n place cap
+verdict_text sides (verdicts.Sleeper process) = []
+
+-- what is told of a state and a cut
+abbrev pub told : State → Sides → Output
+told s sides = record { text = verdict_text sides (verdict_in (cut_of sides) s); exit = Done }
+
+-- how many slots are read for it
+abbrev pub reads : State → Sides → ℕ
+reads s sides = reads_to (verdict_in (cut_of sides) s) (size_of s.store.items Gpt)
+
+-- what the command comes to at a state, by what the lines state; a GPT counts as one that is printed, since at most all of
+-- its slots are read
+abbrev pub checked : State → Stated → Course
+checked s (StatesSides sides) = record (ends_in (told s sides)) { last_fetches = reads s sides; printed = size_of s.store.items Gpt }
+checked s (RefusedAt line fault) = ends_in (refused_cut line fault)
+checked s PastEnd = ends_in too_long
+
+-- what it comes to with a listing, the number of its line `end` and the lines behind that: nothing runs
+abbrev pub confine_course : Behind
+confine_course listing last rest = checked (booted listing) (stated (all_right listing.sizes) last rest)
+
+-- how the program ends by the reason why there is no further line, where the lines gave these sides
+abbrev pub Concludes : {K : Type 0} → (K → Option (List ℕ)) → (K → ℕ) → State → Sides → CutStop → K → K → ℕ → ℕ → Exit → Type 0
+Concludes taken faults s sides stops.End old new fetches fetches' exit =
+    EndsIn taken faults old new exit (told s sides) × (fetches' ≡ fetches + reads s sides)
+Concludes taken faults s sides (stops.Refused line fault) old new fetches fetches' exit =
+    EndsIn taken faults old new exit (refused_cut line fault) × (fetches' ≡ fetches)
+Concludes taken faults s sides stops.TooLong old new fetches fetches' exit =
+    EndsIn taken faults old new exit too_long × (fetches' ≡ fetches)
+Concludes taken faults s sides stops.ReadFault old new fetches fetches' exit = (exit ≡ ReadFault) × (new ≡ old) × (fetches' ≡ fetches)

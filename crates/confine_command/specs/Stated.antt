@@ -1,0 +1,60 @@
+-- The cut that lines state: the sides of the objects behind all of them, or the first line that is refused (this project's
+-- own).
+use Rattle.std.specs.Prelude.{◌≡◌, ℕ, ◌+◌, List, [], ◌∷◌, Option, Result, Ok, Err}
+use Rattle.coy_io.specs.Lines.{Part, Line, LongLine, PastLimit}
+use Rattle.coy_io.specs.Reader.{Reader, ahead}
+use Rattle.listing_read.specs.Reads.{IsStopped}
+use Rattle.confinement.specs.Cut.{Sides}
+use Rattle.confine_check.specs.CutLine.{after_line, cut_line}
+use Rattle.confine_check.specs.declared.block.Block.{Block}
+use Rattle.confine_check.specs.declared.fault.CutFault.{CutFault}
+use Rattle.confine_check.specs.declared.fault.CutFault.TheVariants.{LineTooLong}
+use Rattle.schedule_replay.specs.Lines.{FailsOn, ReadsOn}
+use Rattle.schedule_replay.specs.Scheduled.{OnParts}
+use Rattle.confine_command.specs.declared.lines.CutStop.{CutStop}
+use Rattle.confine_command.specs.declared.lines.CutStop.TheVariants as stops
+
+-- what lines state: these sides, or nothing, since a line is refused or the input goes on behind the last byte that is read
+pub data Stated : Type 0 where
+  StatesSides : (sides : Sides) → Stated
+  RefusedAt : (line : ℕ) (fault : CutFault) → Stated
+  PastEnd : Stated
+
+-- what a line states, line `n`, where the lines behind it state this
+abbrev pub stated_with : ℕ → Result (Option Block) CutFault → Stated → Stated
+stated_with n (Ok block) behind = behind
+stated_with n (Err fault) behind = RefusedAt n fault
+
+-- what the lines behind line `n` state, where those before gave these sides
+unfoldable pub stated : Sides → ℕ → List Part → Stated
+stated sides n [] = StatesSides sides
+stated sides n (LongLine ∷ parts) = RefusedAt (n + 1) LineTooLong
+stated sides n (PastLimit ∷ parts) = PastEnd
+stated sides n (Line line ∷ parts) =
+    stated_with (n + 1) (cut_line sides line) (stated (after_line sides (cut_line sides line)) (n + 1) parts)
+
+-- ---- lines as they are read
+
+-- the lines to come state this
+abbrev pub StateAll : Sides → Reader → Option (List ℕ) → Stated → Type 0
+StateAll sides old held all = OnParts (ahead old held) (λ parts. stated sides old.number parts ≡ all)
+
+-- what reading one line more came to, where the sides were these before and are those now
+abbrev pub StatesNext : Sides → Sides → Reader → Reader → Option (List ℕ) → Option (List ℕ) → Result (Unit {0}) CutStop → Type 0
+StatesNext sides sides' old new held held' (Ok done) = ReadsOn (stated sides old.number) (stated sides' new.number) old new held held'
+StatesNext sides sides' old new held held' (Err stops.End) = StateAll sides old held (StatesSides sides')
+StatesNext sides sides' old new held held' (Err (stops.Refused line fault)) = StateAll sides old held (RefusedAt line fault)
+StatesNext sides sides' old new held held' (Err stops.TooLong) = StateAll sides old held PastEnd
+StatesNext sides sides' old new held held' (Err stops.ReadFault) = IsStopped old new held held' × (sides' ≡ sides)
+
+-- whether line `n` is refused, where it is read by itself: a line that is refused is the last that is read
+abbrev pub refusal_at : ℕ → Result (Unit {0}) CutFault → Result (Unit {0}) CutStop
+refusal_at n (Ok done) = Ok tt
+refusal_at n (Err fault) = Err (stops.Refused n fault)
+
+-- what reading all lines came to, up to where they end
+abbrev pub StatesRest : Sides → Sides → Reader → Reader → Option (List ℕ) → Option (List ℕ) → CutStop → Type 0
+StatesRest sides sides' old new held held' stops.End = StateAll sides old held (StatesSides sides')
+StatesRest sides sides' old new held held' (stops.Refused line fault) = StateAll sides old held (RefusedAt line fault)
+StatesRest sides sides' old new held held' stops.TooLong = StateAll sides old held PastEnd
+StatesRest sides sides' old new held held' stops.ReadFault = FailsOn (stated sides old.number) (StatesSides sides') old new held held'

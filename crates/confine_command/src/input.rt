@@ -1,0 +1,109 @@
+//! A listing and the lines of a cut, from the first line to the last.
+ghost use Rattle.std.specs.Prelude.{◌≡◌, ◌≢◌, [], false, IfSome};
+ghost use Rattle.std.specs.Io.KnownBytes.{IsAtEnd};
+ghost use Rattle.coy_io.specs.Lines.{parts_of, whole_lines};
+ghost use Rattle.coy_io.specs.Reader.{TellsEnd, ahead};
+ghost use Rattle.kernel_core.specs.State.{state_of};
+ghost use Rattle.schedule_replay.specs.Scheduled.{OnParts};
+ghost use Rattle.courses.specs.Course.{ComesTo, HasEntries, cached};
+ghost use Rattle.courses.specs.Ending.{HasCauses};
+ghost use Rattle.courses.specs.Listed.{lines_course};
+ghost use Rattle.courses.specs.Sure.{StandsOn, StandsSure};
+ghost use Rattle.confine_command.specs.Confine.{checked, confine_course, Concludes};
+ghost use Rattle.confine_command.specs.Stated.{stated};
+
+use crate::checking::tell;
+use crate::lines::{CutStop, read_sides};
+use confine_check::Cut;
+use courses::{Exit, end_past_limit, read_head, refuse_cut};
+use coy_io::{LineReader, Sink, Source};
+use image_builder::boot;
+use kernel_core::Machine;
+use std::alloc::Global;
+use std::sync::ledger::Ledger;
+use steps::Steps;
+use walk_engine::{Plain, Translator};
+
+/// Reads a listing and the lines of a cut, and tells whether the cut holds of the listing's machine.
+pub fn confine<S: Source, K: Sink, L: Ledger>(
+    alloc: Global,
+    input: &mut S,
+    output: &mut K,
+    fetches: &mut Steps<L>,
+) -> Exit
+    // What the known bytes come to, and where the source stands then.
+    ensures comes { IfSome (S.held input.old) (λ bytes.
+        ComesTo (K.taken output.old) (K.taken output.new) fetches.old fetches.new result cached
+        (lines_course confine_course (parts_of bytes))) }
+    ensures end { result ≡ Exit.Done → IsAtEnd (S.held input.new) }
+    ensures sure { result ≡ Exit.ReadFault →
+        StandsSure (S.held input.old) (S.held input.new) (K.taken output.old) (K.taken output.new)
+        fetches.old fetches.new cached (λ bytes. lines_course confine_course (whole_lines [] bytes)) }
+
+    // Why it may end otherwise.
+    ensures usage { result ≢ Exit.Usage }
+    ensures causes { HasCauses (S.faults input.old) (S.faults input.new)
+        (K.faults output.old) (K.faults output.new) result }
+    ensures unwritten { result ≡ Exit.OutOfMemory → K.taken output.new ≡ K.taken output.old }
+    ensures unspent { result ≡ Exit.OutOfMemory → fetches.new ≡ fetches.old }
+{
+    let mut lines = LineReader::new();
+    let listing = match read_head(alloc, &mut lines, input, output) {
+        Ok(listing) => listing,
+        Err(exit) => return exit,
+    };
+    let Ok(machine) = boot(alloc, &listing, Plain::new()) else {
+        return Exit::OutOfMemory;
+    };
+    let Ok(mut cut) = Cut::new(alloc, listing.sizes()) else {
+        return Exit::OutOfMemory;
+    };
+    check_lines(&machine, &mut cut, &mut lines, input, output, fetches)
+}
+
+/// Reads the lines of a cut, and tells whether it holds of a machine.
+fn check_lines<T: Translator, S: Source, K: Sink, L: Ledger>(
+    machine: &Machine<T>,
+    cut: &mut Cut,
+    lines: &mut LineReader,
+    input: &mut S,
+    output: &mut K,
+    fetches: &mut Steps<L>,
+) -> Exit
+    requires reader { lines.old.failed ≡ false }
+    requires told { TellsEnd lines.old (S.held input.old) }
+    ensures comes { OnParts (ahead lines.old (S.held input.old)) (λ parts.
+        ComesTo (K.taken output.old) (K.taken output.new) fetches.old fetches.new result cached
+        (checked (state_of machine.now) (stated cut.old lines.old.number parts))) }
+    ensures end { result ≡ Exit.Done → IsAtEnd (S.held input.new) }
+    ensures sure { result ≡ Exit.ReadFault →
+        StandsOn lines.old lines.new (S.held input.old) (S.held input.new)
+        (K.taken output.old) (K.taken output.new) fetches.old fetches.new cached
+        (λ parts. checked (state_of machine.now) (stated cut.old lines.old.number parts)) }
+    ensures usage { result ≢ Exit.Usage }
+    ensures memory { result ≢ Exit.OutOfMemory }
+    ensures causes { HasCauses (S.faults input.old) (S.faults input.new)
+        (K.faults output.old) (K.faults output.new) result }
+{
+    let stop = read_sides(lines, input, cut);
+    conclude(stop, machine, cut, output, fetches)
+}
+
+/// Tells what is found, or why the lines of the cut ended before.
+fn conclude<T: Translator, K: Sink, L: Ledger>(
+    stop: CutStop,
+    machine: &Machine<T>,
+    cut: &Cut,
+    output: &mut K,
+    fetches: &mut Steps<L>,
+) -> Exit
+    ensures { Concludes K.taken K.faults (state_of machine.now) cut.now stop
+        output.old output.new fetches.old fetches.new result }
+{
+    match stop {
+        CutStop::End => tell(machine, cut, output, fetches),
+        CutStop::Refused { line, fault } => refuse_cut(line, fault, output),
+        CutStop::TooLong => end_past_limit(output),
+        CutStop::ReadFault => Exit::ReadFault,
+    }
+}

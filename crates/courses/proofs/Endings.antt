@@ -1,0 +1,67 @@
+-- How what a call wrote comes to the whole output.
+use Rattle.std.proofs.Common.{◌≡◌, ◌≢◌, ◌∙◌, ℕ, List, Option, Result, Ok, Err, refl, sym, ap, subst, arith}
+use Rattle.std.specs.Bool.{⊤}
+use Rattle.std.specs.Io.KnownBytes.{Appends}
+use Rattle.std.proofs.KnownBytes.{Appends-trans}
+use Rattle.coy_io.specs.Pieces.{AppendsSome}
+use Rattle.run_text.proofs.Texts.{cut_before, cut_behind}
+use Rattle.courses.specs.declared.exit.Exit.{Exit}
+use Rattle.courses.specs.declared.exit.Exit.TheVariants.{OutOfMemory, ReadFault, WriteFault}
+use Rattle.courses.specs.Exit.{status_of}
+use Rattle.courses.specs.Ending.{Output, Outputs, Ends, before}
+
+-- the same text
+pub outputs_text : (old new : Option (List ℕ)) (exit end : Exit) (x y : List ℕ) → x ≡ y
+    → Outputs old new exit (record { text = x; exit = end }) → Outputs old new exit (record { text = y; exit = end })
+outputs_text old new exit end x y same o = subst (λ text. Outputs old new exit (record { text = text; exit = end })) same o
+
+-- a text was written, and then the last piece
+pub outputs_behind : (old now new : Option (List ℕ)) (exit : Exit) (front : List ℕ) (last : Output) → exit ≢ OutOfMemory
+    → Appends old now front → Outputs now new exit last → Outputs old new exit (before front last)
+outputs_behind old now new exit front last memory written o = record {
+  whole = λ given. let w = o.whole given in (w.0, Appends-trans old now new front last.text written w.1);
+  part = λ cut. cut_behind old now new front last.text written (o.part cut);
+  nothing = λ none. absurd (memory none);
+}
+
+-- no fault is a want of memory
+pub read-memory : ReadFault ≢ OutOfMemory
+read-memory same = let four : 4 ≡ 6 = ap status_of same in absurd (omega (arith, four))
+
+pub write-memory : WriteFault ≢ OutOfMemory
+write-memory same = let five : 5 ≡ 6 = ap status_of same in absurd (omega (arith, five))
+
+-- writing failed in the next piece
+pub outputs_cut : (now new : Option (List ℕ)) (piece : List ℕ) (rest : Output) → AppendsSome now new piece → Outputs now new WriteFault (before piece rest)
+outputs_cut now new piece rest some = record {
+  whole = λ given. absurd (given.write refl);
+  part = λ cut. cut_before now new piece rest.text some;
+  nothing = λ none. absurd (write-memory none);
+}
+
+-- reading failed
+pub outputs_none : (now new : Option (List ℕ)) (o : Output) → Outputs now new ReadFault o
+outputs_none now new o = record {
+  whole = λ given. absurd (given.read refl);
+  part = λ cut. let four : 4 ≡ 5 = ap status_of cut in absurd (omega (arith, four));
+  nothing = λ none. absurd (read-memory none);
+}
+
+-- the last text by another name
+pub ends_text : (old new : Option (List ℕ)) (faults faults' : ℕ) (exit end : Exit) (x y : List ℕ) → x ≡ y
+    → Ends old new faults faults' exit (record { text = x; exit = end }) → Ends old new faults faults' exit (record { text = y; exit = end })
+ends_text old new faults faults' exit end x y same e = subst (λ text. Ends old new faults faults' exit (record { text = text; exit = end })) same e
+
+-- an exit that can only be that of the last text or a fault of writing is no want of memory
+pub ends-memory : (old new : Option (List ℕ)) (faults faults' : ℕ) (exit : Exit) (o : Output) → Ends old new faults faults' exit o → (status_of o.exit ≡ 6 → ⊥) → exit ≢ OutOfMemory
+ends-memory old new faults faults' exit o e other none =
+    let written : exit ≢ WriteFault = λ cut. let six : 6 ≡ 5 = ap status_of (sym none ∙ cut) in absurd (omega (arith, six)) in
+    other (ap status_of (sym (e.given written) ∙ none))
+
+-- an answer is no fault
+abbrev pub IsAnswer : {A E : Type 0} → Result A E → Type 0
+IsAnswer (Ok x) = ⊤
+IsAnswer (Err e) = ⊥
+
+pub no_fault : {A E : Type 0} (r s : Result A E) (x : A) (e : E) → r ≡ Ok x → s ≡ Err e → r ≡ s → ⊥
+no_fault r s x e ok err same = subst IsAnswer (sym ok ∙ same ∙ err) tt

@@ -1,0 +1,5 @@
+pub mod Endings
+pub mod Lasts
+pub mod Sound
+pub mod Bytes
+pub mod Unlisted

@@ -1,0 +1,101 @@
+-- A text and an exit, and the last lines of the program.
+use Rattle.std.specs.Prelude.{◌≡◌, ◌≢◌, ◌≤◌, ◌+◌, ◌⊎◌, ℕ, List, ◌++◌, codes, decimal, Option, ⊤}
+use Rattle.std.specs.Io.KnownBytes.{Keeps, Appends}
+use Rattle.coy_io.specs.Causes.{Rose}
+use Rattle.coy_io.specs.Pieces.{AppendsSome}
+use Rattle.confine_check.specs.declared.fault.CutFault.{CutFault}
+use Rattle.image_binary.specs.declared.fault.ImageWord.{ImageWord}
+use Rattle.image_binary.specs.declared.fault.ImageWord.TheVariants.{Cut}
+use Rattle.listing_read.specs.declared.fault.Fault.{Fault}
+use Rattle.listing_read.specs.declared.fault.ScheduleFault.{ScheduleFault}
+use Rattle.courses.specs.Names.{fault_name, schedule_fault_name, image_word_name, cut_fault_name}
+use Rattle.courses.specs.declared.exit.Exit.{Exit}
+use Rattle.courses.specs.declared.exit.Exit.TheVariants.{Done, ListingRefused, ScheduleRefused, ReadFault, WriteFault, OutOfMemory, TooLong, ImageRefused, CutRefused}
+
+-- a text and an exit
+pub record Output : Type 0 where
+  pub text : List ℕ
+  pub exit : Exit
+
+-- this text comes first
+abbrev pub before : List ℕ → Output → Output
+before text o = record { text = text ++ o.text; exit = o.exit }
+
+-- the number of the line that is refused, and why
+abbrev pub refusal_text : ℕ → List ℕ → List ℕ
+refusal_text line name = codes "refused " ++ decimal line ++ codes " " ++ name ++ codes "\n"
+
+-- a listing is refused at this line
+abbrev pub refused_listing : ℕ → Fault → Output
+refused_listing line fault = record { text = refusal_text line (fault_name fault); exit = ListingRefused line fault }
+
+-- a line of the schedule is refused
+abbrev pub refused_schedule : ℕ → ScheduleFault → Output
+refused_schedule line fault =
+    record { text = refusal_text line (schedule_fault_name fault); exit = ScheduleRefused line fault }
+
+-- the offset of the field of an image that is refused, and why
+unfoldable pub offset_text : ℕ → List ℕ → List ℕ
+offset_text offset name = codes "refused at " ++ decimal offset ++ codes " " ++ name ++ codes "\n"
+
+-- an image is refused at this offset
+abbrev pub refused_image : ℕ → ImageWord → Output
+refused_image offset fault = record { text = offset_text offset (image_word_name fault); exit = ImageRefused offset fault }
+
+-- a line of a cut is refused
+abbrev pub refused_cut : ℕ → CutFault → Output
+refused_cut line fault = record { text = refusal_text line (cut_fault_name fault); exit = CutRefused line fault }
+
+-- the input goes on behind the last byte that is read
+abbrev pub too_long : Output
+too_long = record { text = codes "too long" ++ codes "\n"; exit = TooLong }
+
+-- so many lines end nothing: all of them were read, or their listing is not over and lacks the line behind them all; or they
+-- are no lines but bytes of an image, which lacks those behind them all
+abbrev pub EndsNothing : ℕ → Exit → Type 0
+EndsNothing n Done = ⊤
+EndsNothing n (ListingRefused line fault) = line ≡ n + 1
+EndsNothing n (ImageRefused offset fault) = fault ≡ Cut
+EndsNothing n _ = ⊥
+
+-- an exit that no fault of reading or writing and no want of memory gave
+pub record IsGiven (exit : Exit) : Type 0 where
+  pub read : exit ≢ ReadFault
+  pub write : exit ≢ WriteFault
+  pub memory : exit ≢ OutOfMemory
+
+-- what a call wrote and the exit that it gave are those of an output; where writing failed, it wrote a front of the
+-- text, and where memory was wanting nothing
+pub record Outputs (old new : Option (List ℕ)) (exit : Exit) (o : Output) : Type 0 where
+  pub whole : IsGiven exit → (exit ≡ o.exit) × Appends old new o.text
+  pub part : exit ≡ WriteFault → AppendsSome old new o.text
+  pub nothing : exit ≡ OutOfMemory → Keeps old new
+
+-- how many slots a call fetched: all of these where no fault of reading or writing and no want of memory ended it, and
+-- never more
+pub record Fetches (old new : ℕ) (exit : Exit) (all : ℕ) : Type 0 where
+  pub whole : IsGiven exit → new ≡ old + all
+  pub most : new ≤ old + all
+
+-- why a call ends with a fault of reading or of writing, by the counts of both objects' faults: that object's count rose, and
+-- where it ends otherwise, the count stayed
+pub record HasCauses (unread unread' unwritten unwritten' : ℕ) (exit : Exit) : Type 0 where
+  pub read : exit ≡ ReadFault → Rose unread unread'
+  pub read_quiet : exit ≢ ReadFault → unread' ≡ unread
+  pub write : exit ≡ WriteFault → Rose unwritten unwritten'
+  pub write_quiet : exit ≢ WriteFault → unwritten' ≡ unwritten
+
+-- an output's exit was given and its whole text was written, or memory was wanting and nothing was written
+abbrev pub Completes : Option (List ℕ) → Option (List ℕ) → Exit → Output → Type 0
+Completes old new exit o = ((exit ≡ o.exit) × Appends old new o.text) ⊎ ((exit ≡ OutOfMemory) × Keeps old new)
+
+-- the last text was written as far as writing came: how the program ends then, and the count of the sink's faults
+pub record Ends (old new : Option (List ℕ)) (faults faults' : ℕ) (exit : Exit) (o : Output) : Type 0 where
+  pub output : Outputs old new exit o
+  pub given : exit ≢ WriteFault → exit ≡ o.exit
+  pub write : exit ≡ WriteFault → Rose faults faults'
+  pub write_quiet : exit ≢ WriteFault → faults' ≡ faults
+
+-- the same of a sink, by what it tells of itself
+abbrev pub EndsIn : {K : Type 0} → (K → Option (List ℕ)) → (K → ℕ) → K → K → Exit → Output → Type 0
+EndsIn taken faults old new exit o = Ends (taken old) (taken new) (faults old) (faults new) exit o

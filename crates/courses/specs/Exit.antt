@@ -1,0 +1,17 @@
+-- The program's exits as numbers.
+use Rattle.std.specs.Prelude.{ℕ}
+use Rattle.courses.specs.declared.exit.Exit.{Exit}
+use Rattle.courses.specs.declared.exit.Exit.TheVariants.{Done, Usage, ListingRefused, ScheduleRefused, ReadFault, WriteFault, OutOfMemory, TooLong, ImageRefused, CutRefused}
+
+-- the status with which the program ends
+abbrev pub status_of : Exit → ℕ
+status_of Done = 0
+status_of Usage = 1
+status_of (ListingRefused line fault) = 2
+status_of (ScheduleRefused line fault) = 3
+status_of ReadFault = 4
+status_of WriteFault = 5
+status_of OutOfMemory = 6
+status_of TooLong = 7
+status_of (ImageRefused offset fault) = 8
+status_of (CutRefused line fault) = 9

@@ -1,0 +1,9 @@
+pub mod Exit
+pub mod Names
+pub mod Ending
+pub mod Entries
+pub mod Course
+pub mod Bounds
+pub mod Listed
+pub mod Sure
+pub mod Head

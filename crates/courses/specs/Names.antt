@@ -1,0 +1,64 @@
+-- The names of faults, as a refusal prints them.
+use Rattle.std.specs.Prelude.{ℕ, List, codes}
+use Rattle.confine_check.specs.declared.fault.CutFault.{CutFault}
+use Rattle.confine_check.specs.declared.fault.CutFault.TheVariants as cuts
+use Rattle.image_binary.specs.declared.fault.ImageWord.{ImageWord}
+use Rattle.image_binary.specs.declared.fault.ImageWord.TheVariants as images
+use Rattle.listing_read.specs.declared.fault.Fault.{Fault}
+use Rattle.listing_read.specs.declared.fault.Fault.TheVariants.{LineTooLong, BadByte, BadHeader, BadMachine, NoEnd, UnknownStatement, WrongWords, BadNumber, NoObject, BadValue, BadHex, BadInstruction, BadCap, BadGuard, BadName, NameTaken, NameUnknown}
+use Rattle.listing_read.specs.declared.fault.ScheduleFault.{ScheduleFault}
+use Rattle.listing_read.specs.declared.fault.ScheduleFault.TheVariants.{LineTooLong as TooLong, BadByte as NotVisible, UnknownEvent, WrongWords as OtherWords, BadNumber as NoNumber, NoHart, BadRepeat, EventInPack}
+
+-- a fault of a line of a cut
+abbrev pub cut_fault_name : CutFault → List ℕ
+cut_fault_name cuts.LineTooLong = codes "LineTooLong"
+cut_fault_name cuts.BadByte = codes "BadByte"
+cut_fault_name cuts.UnknownCut = codes "UnknownCut"
+cut_fault_name cuts.WrongWords = codes "WrongWords"
+cut_fault_name cuts.BadValue = codes "BadValue"
+cut_fault_name cuts.BadNumber = codes "BadNumber"
+cut_fault_name cuts.NoObject = codes "NoObject"
+cut_fault_name cuts.BadOrder = codes "BadOrder"
+
+-- a fault of a listing
+abbrev pub fault_name : Fault → List ℕ
+fault_name LineTooLong = codes "LineTooLong"
+fault_name BadByte = codes "BadByte"
+fault_name BadHeader = codes "BadHeader"
+fault_name BadMachine = codes "BadMachine"
+fault_name NoEnd = codes "NoEnd"
+fault_name UnknownStatement = codes "UnknownStatement"
+fault_name WrongWords = codes "WrongWords"
+fault_name BadNumber = codes "BadNumber"
+fault_name NoObject = codes "NoObject"
+fault_name BadValue = codes "BadValue"
+fault_name BadHex = codes "BadHex"
+fault_name BadInstruction = codes "BadInstruction"
+fault_name BadCap = codes "BadCap"
+fault_name BadGuard = codes "BadGuard"
+fault_name BadName = codes "BadName"
+fault_name NameTaken = codes "NameTaken"
+fault_name NameUnknown = codes "NameUnknown"
+
+-- a fault of a schedule
+abbrev pub schedule_fault_name : ScheduleFault → List ℕ
+schedule_fault_name TooLong = codes "LineTooLong"
+schedule_fault_name NotVisible = codes "BadByte"
+schedule_fault_name UnknownEvent = codes "UnknownEvent"
+schedule_fault_name OtherWords = codes "WrongWords"
+schedule_fault_name NoNumber = codes "BadNumber"
+schedule_fault_name NoHart = codes "NoHart"
+schedule_fault_name BadRepeat = codes "BadRepeat"
+schedule_fault_name EventInPack = codes "EventInPack"
+
+-- a fault of an image
+abbrev pub image_word_name : ImageWord → List ℕ
+image_word_name images.Cut = codes "Cut"
+image_word_name images.BadMagic = codes "BadMagic"
+image_word_name images.BadMachine = codes "BadMachine"
+image_word_name images.BadType = codes "BadType"
+image_word_name images.BadCap = codes "BadCap"
+image_word_name images.BadInstruction = codes "BadInstruction"
+image_word_name images.NoObject = codes "NoObject"
+image_word_name images.BadValue = codes "BadValue"
+image_word_name images.Trailing = codes "Trailing"

@@ -1,0 +1,52 @@
+//! How the program ends.
+ghost use Rattle.std.specs.Prelude.{◌≡◌};
+ghost use Rattle.courses.specs.Exit.{status_of};
+
+use confine_check::CutFault;
+use image_binary::ImageWord;
+use listing_read::{Fault, ScheduleFault};
+
+/// How the program ends.
+#[derive(Clone, Copy, Debug, PartialEq, Eq)]
+pub enum Exit {
+    /// All was done.
+    Done,
+    /// The words are of no form.
+    Usage,
+    /// The listing was refused, at its first fault.
+    ListingRefused { line: u32, fault: Fault },
+    /// A line of the schedule was refused, the first that has a fault.
+    ScheduleRefused { line: u32, fault: ScheduleFault },
+    /// Reading failed.
+    ReadFault,
+    /// Writing failed.
+    WriteFault,
+    /// Memory ran out, with nothing written.
+    OutOfMemory,
+    /// The input goes on behind the last byte that is read.
+    TooLong,
+    /// The image was refused, at its first fault, by the offset of the field that has it.
+    ImageRefused { offset: u32, fault: ImageWord },
+    /// A line of the cut was refused, the first that has a fault.
+    CutRefused { line: u32, fault: CutFault },
+}
+
+impl Exit {
+    /// The status with which the program ends.
+    pub fn status(&self) -> u8
+        ensures { result ≡ status_of self.now }
+    {
+        match self {
+            Exit::Done => 0,
+            Exit::Usage => 1,
+            Exit::ListingRefused { .. } => 2,
+            Exit::ScheduleRefused { .. } => 3,
+            Exit::ReadFault => 4,
+            Exit::WriteFault => 5,
+            Exit::OutOfMemory => 6,
+            Exit::TooLong => 7,
+            Exit::ImageRefused { .. } => 8,
+            Exit::CutRefused { .. } => 9,
+        }
+    }
+}

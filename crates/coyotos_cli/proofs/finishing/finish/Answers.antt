@@ -1,4 +1,0 @@
-use Rattle.coyotos_cli.proofs.finishing.finish.Goals as goal
-
-pub returns-in-Check-clause-ends : goal.returns-in-Check-clause-ends
-returns-in-Check-clause-ends g c = rw c.in-Check.is c.count.ensures

@@ -1,5 +1,0 @@
-use Rattle.object_store.proofs.Writes.{slot_means}
-use Rattle.coyotos_cli.proofs.finishing.space_of.Goals as goal
-
-pub returns : goal.returns
-returns g c = rw (c.slot.ensures.value, c.process.ensures.value, c.objects.ensures) (slot_means c.args.machine.now.objects c.args.process 0)

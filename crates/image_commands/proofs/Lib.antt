@@ -1,0 +1,4 @@
+pub mod Passing
+pub mod Concluding
+pub mod Telling
+pub mod Again

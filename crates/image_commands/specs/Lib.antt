@@ -1,0 +1,4 @@
+pub mod Passed
+pub mod Packed
+pub mod Unpacked
+pub mod Same

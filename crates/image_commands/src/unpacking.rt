@@ -1,0 +1,61 @@
+//! The command `unpack`.
+ghost use Rattle.std.specs.Prelude.{ℕ, ◌≡◌, ◌≢◌, IfSome};
+ghost use Rattle.std.specs.Io.KnownBytes.{IsAtEnd};
+ghost use Rattle.statement_text.specs.Text.{listing_text};
+ghost use Rattle.courses.specs.Course.{ComesTo, cached};
+ghost use Rattle.courses.specs.Ending.{EndsIn, HasCauses};
+ghost use Rattle.courses.specs.Sure.{StandsSure};
+ghost use Rattle.image_commands.specs.Unpacked.{image_course, read_course, TellsImage};
+
+use courses::{Exit, end_past_limit, refuse_image};
+use coy_io::{Sink, Source};
+use image_binary::{ImageFault, unpack};
+use listing_read::Listing;
+use statement_text::write_listing;
+use std::alloc::Global;
+
+/// Reads an image to the end of the source, and writes the text of its listing: one of version 2 without names. No slot
+/// is fetched.
+pub fn answer_unpack<S: Source, K: Sink>(alloc: Global, input: &mut S, output: &mut K) -> Exit
+    // What the known bytes come to, and where the source stands then.
+    ensures comes { (fetches : ℕ) → IfSome (S.held input.old) (λ bytes.
+        ComesTo (K.taken output.old) (K.taken output.new) fetches fetches result cached
+        (image_course bytes)) }
+    ensures end { result ≡ Exit.Done → IsAtEnd (S.held input.new) }
+    ensures sure { result ≡ Exit.ReadFault → (fetches : ℕ) →
+        StandsSure (S.held input.old) (S.held input.new) (K.taken output.old) (K.taken output.new)
+        fetches fetches cached read_course }
+
+    // Why it may end otherwise.
+    ensures usage { result ≢ Exit.Usage }
+    ensures causes { HasCauses (S.faults input.old) (S.faults input.new)
+        (K.faults output.old) (K.faults output.new) result }
+    ensures unwritten { result ≡ Exit.OutOfMemory → K.taken output.new ≡ K.taken output.old }
+{
+    let answer = unpack(alloc, input);
+    tell_image(answer, output)
+}
+
+/// Writes the text of the listing that was read, or why there is none.
+fn tell_image<K: Sink>(answer: Result<Listing, ImageFault>, output: &mut K) -> Exit
+    ensures { TellsImage K.taken K.faults answer output.old output.new result }
+{
+    match answer {
+        Ok(listing) => write_text(&listing, output),
+        Err(ImageFault::Refused { offset, fault }) => refuse_image(offset, fault, output),
+        Err(ImageFault::TooLong) => end_past_limit(output),
+        Err(ImageFault::ReadFault) => Exit::ReadFault,
+        Err(ImageFault::OutOfMemory) => Exit::OutOfMemory,
+    }
+}
+
+/// Writes the text of a listing.
+fn write_text<K: Sink>(listing: &Listing, output: &mut K) -> Exit
+    ensures { EndsIn K.taken K.faults output.old output.new result
+        (record { text = listing_text listing.now; exit = Exit.Done }) }
+{
+    match write_listing(listing, output) {
+        Ok(()) => Exit::Done,
+        Err(_) => Exit::WriteFault,
+    }
+}

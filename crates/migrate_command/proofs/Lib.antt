@@ -1,0 +1,4 @@
+pub mod Putting
+pub mod Concluding
+pub mod Again
+pub mod Sound

@@ -1,0 +1,2 @@
+pub mod Migrate
+pub mod Same

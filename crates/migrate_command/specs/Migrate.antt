@@ -1,0 +1,66 @@
+-- What `migrate` comes to (this project's own).
+use Rattle.std.specs.Prelude.{◌≡◌, ℕ, List, [], ◌++◌, Option, Result, Ok, Err}
+use Rattle.std.specs.List.{All}
+use Rattle.std.specs.Io.KnownBytes.{Appends}
+use Rattle.coy_io.specs.Lines.{Part}
+use Rattle.coy_io.specs.Pieces.{AppendsSome}
+use Rattle.coy_io.specs.Reader.{Reader, ahead}
+use Rattle.listing_read.specs.Schedule.{IsTimed}
+use Rattle.listing_read.specs.Statement.{ListingValue}
+use Rattle.listing_read.specs.declared.schedule.Timed.{Timed}
+use Rattle.statement_text.specs.Text.{events_text, listing_text}
+use Rattle.schedule_replay.specs.Asked.{Asked, asked}
+use Rattle.schedule_replay.specs.Lines.{FailsOn}
+use Rattle.schedule_replay.specs.Scheduled.{Ending, AtEnd, AtFault, AtLimit, OnParts}
+use Rattle.schedule_replay.specs.declared.lines.Stop.{Stop}
+use Rattle.schedule_replay.specs.declared.lines.Stop.TheVariants as stops
+use Rattle.courses.specs.Course.{Course, ends_in}
+use Rattle.courses.specs.Ending.{Output, EndsIn, refused_schedule, too_long}
+use Rattle.courses.specs.Listed.{Behind}
+use Rattle.courses.specs.declared.exit.Exit.{Exit}
+use Rattle.courses.specs.declared.exit.Exit.TheVariants.{Done, ReadFault, WriteFault}
+
+-- what is written behind the lines, by the place where they end: nothing where all of them were read
+abbrev pub last_of : Ending → Output
+last_of AtEnd = record { text = []; exit = Done }
+last_of (AtFault line fault) = refused_schedule line fault
+last_of AtLimit = too_long
+
+-- what the command comes to, by what the lines behind a listing ask for: the listing's text, and a line for each of them
+-- that is not skipped
+abbrev pub migrated : ListingValue → Asked → Course
+migrated listing all = record (ends_in (last_of all.ending)) { records = listing_text listing ++ events_text all.lines }
+
+-- what it comes to with a listing, the number of its line `end` and the lines behind that: nothing runs
+abbrev pub migrate_course : Behind
+migrate_course listing last rest = migrated listing (asked listing.sizes.harts last rest)
+
+-- ---- lines as they are written
+
+-- this is what was asked for up to here, and why there was no further line; or writing failed in its last line
+abbrev pub Accords : {E : Type 0} → Result Stop E → List Timed → Asked → Type 0
+Accords (Ok stops.End) lines all = all ≡ record { lines = lines; ending = AtEnd }
+Accords (Ok (stops.Refused line fault)) lines all = all ≡ record { lines = lines; ending = AtFault line fault }
+Accords (Ok stops.TooLong) lines all = all ≡ record { lines = lines; ending = AtLimit }
+Accords _ lines all = (rest : List Timed) × (all.lines ≡ lines ++ rest)
+
+-- the lines of all that was asked for were written, or a front of them where writing failed
+abbrev pub WritesLines : {E : Type 0} → Option (List ℕ) → Option (List ℕ) → Result Stop E → List Timed → Type 0
+WritesLines taken taken' (Ok stop) lines = Appends taken taken' (events_text lines)
+WritesLines taken taken' (Err fault) lines = AppendsSome taken taken' (events_text lines)
+
+-- what was asked for by the lines behind a listing, of a machine with so many harts, and that it was written
+pub record PutsLines {E : Type 0} (harts : ℕ) (old new : Reader) (held held' taken taken' : Option (List ℕ)) (answer : Result Stop E) : Type 0 where
+  pub lines : List Timed
+  pub timed : All (IsTimed harts) lines
+  pub known : OnParts (ahead old held) (λ parts. Accords answer lines (asked harts old.number parts))
+  pub written : WritesLines taken taken' answer lines
+  pub fails : answer ≡ Ok stops.ReadFault → FailsOn (asked harts old.number) (record { lines = lines; ending = AtEnd }) old new held held'
+
+-- how the program ends behind these lines: by what is written last, or where reading or writing failed with nothing more
+abbrev pub Concludes : {K E : Type 0} → (K → Option (List ℕ)) → (K → ℕ) → Result Stop E → K → K → Exit → Type 0
+Concludes taken faults (Ok stops.End) old new exit = (exit ≡ Done) × (new ≡ old)
+Concludes taken faults (Ok (stops.Refused line fault)) old new exit = EndsIn taken faults old new exit (refused_schedule line fault)
+Concludes taken faults (Ok stops.TooLong) old new exit = EndsIn taken faults old new exit too_long
+Concludes taken faults (Ok stops.ReadFault) old new exit = (exit ≡ ReadFault) × (new ≡ old)
+Concludes taken faults (Err fault) old new exit = (exit ≡ WriteFault) × (new ≡ old)

@@ -1,0 +1,66 @@
+-- No more slots are fetched than the bounds on what a run comes to.
+use Rattle.std.proofs.Common.{◌≤◌, ◌+◌, ◌*◌, ℕ, List, Bool, true, false, if◌then◌else◌, nat_lt, arith}
+use Rattle.cap_format.specs.declared.kind.CapKind.TheVariants.{Gpt, Process}
+use Rattle.coy_io.specs.Lines.{Part}
+use Rattle.image_builder.specs.Boot.{booted}
+use Rattle.listing_read.specs.Statement.{ListingValue}
+use Rattle.object_store.specs.Store.{size_of}
+use Rattle.walk_meaning.specs.Trail.{slots}
+use Rattle.walk_meaning.proofs.SlotsLaw.{slots_law}
+use Rattle.machine_state.specs.declared.event.Event.{Event}
+use Rattle.kernel_core.specs.Run.{run_state, run_touches}
+use Rattle.kernel_core.specs.State.{State, space_of}
+use Rattle.map_cache.specs.Kept.{nothing}
+use Rattle.fetch_economy.proofs.Bound.{bound_in_every_run, slot_reads-most}
+use Rattle.fetch_economy.proofs.Economic.{fetch_economy}
+use Rattle.fetch_economy.specs.Economy.{need_fits}
+use Rattle.run_economy.proofs.Events.{run-ages}
+use Rattle.coyotos_words.specs.declared.command.Command.{Command}
+use Rattle.coyotos_words.specs.declared.command.Command.TheVariants.{Walk}
+use Rattle.courses.specs.Course.{ends_in}
+use Rattle.courses.proofs.Sound.{IsSound, ends-sound}
+use Rattle.schedule_commands.specs.Finished.{course_behind, course_of, finished, fetches_for, accesses_for, printed_for, last_accesses, last_fetches, last_printed, schedule_course}
+use Rattle.schedule_commands.specs.Runs.{runs}
+use Rattle.schedule_replay.specs.Replay.{count_answer, run_answer}
+use Rattle.schedule_replay.specs.Scheduled.{Scheduled, scheduled}
+use Rattle.schedule_replay.specs.declared.replayed.Replayed.{Replayed}
+use Rattle.schedule_replay.specs.declared.replayed.Replayed.TheVariants as answers
+
+-- what is fetched for the last text is at most 32 for each access that is made for it and 16 for each GPT that is printed
+for-most : (command : Command) (s : State) → fetches_for command s ≤ 32 * accesses_for command s + 16 * printed_for command s
+for-most (Walk process kind address) s = on (nat_lt process (size_of s.store.items Process))
+  where
+    on : (is : Bool) → (if is then slots s.store.items (space_of s process) address kind else 0) ≤ 32 * (if is then 1 else 0) + 16 * 0
+    on true = omega (arith, slots_law s.store.items (space_of s process) address kind)
+    on false = omega arith
+for-most _ s = omega arith
+
+last-most : (command : Command) (s : State) (answer : Replayed) → last_fetches command s answer ≤ 32 * last_accesses command s answer + 16 * last_printed command s answer
+last-most command s (answers.Ended counts) = for-most command s
+last-most command s _ = omega arith
+
+-- a run and what is written behind it is within the bounds
+behind-sound : (command : Command) (s : State) (events : List Event) (answer : Replayed) → IsSound (course_behind command s events answer)
+behind-sound command s events answer =
+    let touches = run_touches s events in
+    let end = run_state s events in
+    let bound = bound_in_every_run nothing touches in
+    let reads = slot_reads-most touches in
+    let last = last-most command end answer in
+    record {
+      run = omega (arith, bound, reads, last);
+      economy = λ fits. let few = (fetch_economy s.store.items end.store.items touches (run-ages s events) fits).few in omega (arith, few, reads, last);
+      sharp_run = omega (arith, bound, last);
+      sharp_economy = λ fits. let few = (fetch_economy s.store.items end.store.items touches (run-ages s events) fits).few in omega (arith, few, last);
+    }
+
+of-sound : (command : Command) (s : State) (all : Scheduled) → IsSound (course_of command s all)
+of-sound command s all = on (runs command)
+  where
+    on : (run : Bool) → IsSound (if run then course_behind command s all.events (run_answer s all) else ends_in (finished command s nothing (count_answer all)))
+    on true = behind-sound command s all.events (run_answer s all)
+    on false = ends-sound (finished command s nothing (count_answer all))
+
+-- with whatever listing
+pub schedule-sound : (command : Command) (listing : ListingValue) (last : ℕ) (rest : List Part) → IsSound (schedule_course command listing last rest)
+schedule-sound command listing last rest = of-sound command (booted listing) (scheduled listing.sizes.harts last rest)

@@ -1,0 +1,4 @@
+pub mod Entries
+pub mod Concluding
+pub mod Behind
+pub mod Bounded

@@ -1,0 +1,196 @@
+//! What comes behind the records.
+ghost use Rattle.std.specs.Prelude.{◌≡◌, ◌<◌, ◌≤◌, ◌+◌, ◌*◌, ◌++◌, [], decimal, length, false};
+ghost use Rattle.kernel_core.specs.State.{state_of, space_of};
+ghost use Rattle.schedule_commands.specs.Runs.{runs};
+ghost use Rattle.courses.specs.Ending.{EndsIn, Fetches};
+ghost use Rattle.schedule_commands.specs.Finished.{finished, count_text, summary_text, access_text, last_state_text, fetches_for, Concludes};
+ghost use Rattle.map_cache.specs.Cache.{kept_of};
+ghost use Rattle.walk_meaning.specs.Trail.{slots};
+ghost use Rattle.walk_meaning.specs.Walk.{access};
+ghost use Rattle.run_text.specs.Walk.{walk_text};
+ghost use Rattle.object_store.specs.Meaning.{meaning};
+ghost use Rattle.object_store.specs.Store.{size_of};
+ghost use Rattle.cap_format.specs.declared.kind.CapKind.TheVariants.{Gpt, Process};
+
+use crate::tables::tables;
+use cap_format::Cap;
+use courses::{Exit, end_past_limit, end_with, refuse_schedule};
+use coy_io::Sink;
+use coy_text::LineBuf;
+use coyotos_words::Command;
+use kernel_core::Machine;
+use map_cache::MapCache;
+use run_text::{dump, walk_line};
+use schedule_replay::{Counts, Replayed};
+use std::sync::ledger::Ledger;
+use steps::Steps;
+use walk_engine::{Trail, Translator, walk};
+use walk_meaning::Kind;
+
+/// Writes what comes behind the records, by the answer of the lines.
+pub(crate) fn conclude<K: Sink, L: Ledger>(
+    command: Command,
+    answer: Replayed,
+    machine: &Machine<MapCache>,
+    output: &mut K,
+    fetches: &mut Steps<L>,
+) -> Exit
+    ensures concludes { let kept = kept_of machine.now.translator in
+        Concludes K.taken K.faults command (state_of machine.now) kept answer
+        output.old output.new fetches.old fetches.new result }
+    ensures stays { runs command ≡ false → fetches.new ≡ fetches.old }
+{
+    match answer {
+        Replayed::Ended(counts) => finish(command, counts, machine, output, fetches),
+        Replayed::Refused { line, fault } => refuse_schedule(line, fault, output),
+        Replayed::TooLong => end_past_limit(output),
+        Replayed::ReadFault => Exit::ReadFault,
+        Replayed::WriteFault => Exit::WriteFault,
+    }
+}
+
+/// Writes what comes last where all lines were read: the number of events, the counts, the last state with the entries of
+/// the mapping cache or without, or where a walk ends.
+fn finish<K: Sink, L: Ledger>(
+    command: Command,
+    counts: Counts,
+    machine: &Machine<MapCache>,
+    output: &mut K,
+    fetches: &mut Steps<L>,
+) -> Exit
+    ensures ends { let kept = kept_of machine.now.translator in
+        EndsIn K.taken K.faults output.old output.new result
+        (finished command (state_of machine.now) kept (Replayed.Ended counts)) }
+    ensures fetched { Fetches fetches.old fetches.new result
+        (fetches_for command (state_of machine.now)) }
+    ensures stays { runs command ≡ false → fetches.new ≡ fetches.old }
+{
+    match command {
+        Command::Check => count(counts.events, output),
+        Command::Make { .. } => summary(counts, output),
+        Command::Walk {
+            process,
+            kind,
+            address,
+        } => access(machine, process as u16, kind, address, output, fetches),
+        Command::Tables => tables(machine, output, fetches),
+        _ => last_state(machine, output, fetches),
+    }
+}
+
+/// Writes the number of events.
+#[tactic(auto, using(coy_text::proofs::NumeralLaws::length_decimal))]
+fn count<K: Sink>(events: u64, output: &mut K) -> Exit
+    ensures { EndsIn K.taken K.faults output.old output.new result
+        (record { text = count_text events; exit = Exit.Done }) }
+{
+    let mut line = LineBuf::new();
+    line.push_word("ok events=");
+    line.push_dec(events);
+    line.push_word("\n");
+    end_with(line.as_bytes(), Exit::Done, output)
+}
+
+/// Writes the counts of a run.
+fn summary<K: Sink>(counts: Counts, output: &mut K) -> Exit
+    ensures { EndsIn K.taken K.faults output.old output.new result
+        (record { text = summary_text counts; exit = Exit.Done }) }
+{
+    let mut line = LineBuf::new();
+    push_summary(&mut line, counts);
+    end_with(line.as_bytes(), Exit::Done, output)
+}
+
+/// Makes the line of the counts of a run.
+#[tactic(auto, unfolding(crate::specs::Finished::summary_text))]
+fn push_summary(line: &mut LineBuf, counts: Counts)
+    requires empty { line.old ≡ [] }
+    ensures text { line.new ≡ summary_text counts }
+{
+    push_numbered(line, "summary events=", counts.events);
+    push_numbered(line, " messages=", counts.messages);
+    push_numbered(line, " faults=", counts.faults);
+    push_numbered(line, " logs=", counts.logs);
+    push_numbered(line, " destroys=", counts.destroys);
+    line.push_word("\n");
+}
+
+/// Appends a word and a number.
+#[tactic(auto, using(coy_text::proofs::NumeralLaws::length_decimal))]
+fn push_numbered(line: &mut LineBuf, word: &str, number: u64)
+    requires { length line.old + length word.now ≤ 1000 }
+    ensures text { line.new ≡ line.old ++ word.now ++ decimal number }
+    ensures len { length line.new ≤ length line.old + length word.now + 20 }
+{
+    line.push_word(word);
+    line.push_dec(number);
+}
+
+/// Writes where an access of a process's space ends, by a walk at this moment.
+fn access<T: Translator, K: Sink, L: Ledger>(
+    machine: &Machine<T>,
+    process: u16,
+    kind: Kind,
+    address: u32,
+    output: &mut K,
+    fetches: &mut Steps<L>,
+) -> Exit
+    ensures ends { EndsIn K.taken K.faults output.old output.new result
+        (record { text = access_text (state_of machine.now) process kind address; exit = Exit.Done }) }
+    ensures counted { let command = Command.Walk process kind address in
+        fetches.new ≡ fetches.old + fetches_for command (state_of machine.now) }
+{
+    let mut line = LineBuf::new();
+    if process < machine.objects().sizes().processes {
+        walk_from(machine, process, kind, address, &mut line, fetches);
+    } else {
+        line.push_word("no process\n");
+    }
+    end_with(line.as_bytes(), Exit::Done, output)
+}
+
+/// Makes the line of a walk from a process's space.
+fn walk_from<T: Translator, L: Ledger>(
+    machine: &Machine<T>,
+    process: u16,
+    kind: Kind,
+    address: u32,
+    line: &mut LineBuf,
+    fetches: &mut Steps<L>,
+)
+    requires { process < size_of machine.now.objects.items Process }
+    ensures line { let s = state_of machine.now in
+        line.new ≡ walk_text (access s.store.items (space_of s process) address kind) }
+    ensures counted { let s = state_of machine.now in
+        fetches.new ≡ fetches.old + slots s.store.items (space_of s process) address kind }
+{
+    let space = space_of(machine, process);
+    let mut trail = Trail::new();
+    let found = walk(machine.objects(), space, address, kind, &mut trail, fetches);
+    walk_line(&found, line);
+}
+
+/// The capability in a process's slot for its space.
+fn space_of<T: Translator>(machine: &Machine<T>, process: u16) -> Cap
+    requires { process < size_of machine.now.objects.items Process }
+    ensures { meaning machine.now.objects.items result ≡ space_of (state_of machine.now) process }
+{
+    machine.objects().process(process).slot(0)
+}
+
+/// Writes the last state.
+fn last_state<T: Translator, K: Sink, L: Ledger>(
+    machine: &Machine<T>,
+    output: &mut K,
+    fetches: &mut Steps<L>,
+) -> Exit
+    ensures ends { EndsIn K.taken K.faults output.old output.new result
+        (record { text = last_state_text (state_of machine.now); exit = Exit.Done }) }
+    ensures fetched { let all = 16 * size_of (state_of machine.now).store.items Gpt in
+        Fetches fetches.old fetches.new result all }
+{
+    match dump(machine, output, fetches) {
+        Ok(()) => Exit::Done,
+        Err(_) => Exit::WriteFault,
+    }
+}

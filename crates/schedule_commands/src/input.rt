@@ -1,0 +1,65 @@
+//! A listing and its schedule, from the first line to the last. Here, and nowhere else, a translator is chosen.
+ghost use Rattle.std.specs.Prelude.{◌≡◌, ◌≢◌, [], false, IfSome};
+ghost use Rattle.std.specs.Io.KnownBytes.{IsAtEnd};
+ghost use Rattle.coy_io.specs.Lines.{parts_of, whole_lines};
+ghost use Rattle.courses.specs.Course.{ComesTo, HasEntries, cached};
+ghost use Rattle.courses.specs.Ending.{HasCauses};
+ghost use Rattle.courses.specs.Listed.{lines_course};
+ghost use Rattle.courses.specs.Sure.{StandsSure};
+ghost use Rattle.schedule_commands.specs.Finished.{schedule_course};
+ghost use Rattle.schedule_commands.specs.Runs.{runs};
+
+use crate::schedule::answer_lines;
+use courses::{Exit, read_head};
+use coy_io::{LineReader, Sink, Source};
+use coyotos_words::Command;
+use image_builder::boot;
+use map_cache::MapCache;
+use std::alloc::Global;
+use std::sync::ledger::Ledger;
+use steps::Steps;
+
+/// Reads a listing and its schedule, and does with them what the command says.
+pub fn answer_schedule<S: Source, K: Sink, L: Ledger>(
+    alloc: Global,
+    command: Command,
+    input: &mut S,
+    output: &mut K,
+    fetches: &mut Steps<L>,
+) -> Exit
+    // What the known bytes come to, and where the source stands then.
+    ensures comes { IfSome (S.held input.old) (λ bytes.
+        ComesTo (K.taken output.old) (K.taken output.new) fetches.old fetches.new result cached
+        (lines_course (schedule_course command) (parts_of bytes))) }
+    ensures end { result ≡ Exit.Done → IsAtEnd (S.held input.new) }
+    ensures sure { result ≡ Exit.ReadFault →
+        StandsSure (S.held input.old) (S.held input.new) (K.taken output.old) (K.taken output.new)
+        fetches.old fetches.new cached (λ bytes. lines_course (schedule_course command) (whole_lines [] bytes)) }
+
+    // What the entries of the mapping cache say then.
+    ensures entries { result ≡ Exit.Done → IfSome (S.held input.old) (λ bytes.
+        HasEntries (lines_course (schedule_course command) (parts_of bytes))) }
+
+    // Why it may end otherwise.
+    ensures usage { result ≢ Exit.Usage }
+    ensures causes { HasCauses (S.faults input.old) (S.faults input.new)
+        (K.faults output.old) (K.faults output.new) result }
+    ensures unwritten { result ≡ Exit.OutOfMemory → K.taken output.new ≡ K.taken output.old }
+
+    // Where no slot is fetched.
+    ensures stays { runs command ≡ false → fetches.new ≡ fetches.old }
+    ensures unspent { result ≡ Exit.OutOfMemory → fetches.new ≡ fetches.old }
+{
+    let mut lines = LineReader::new();
+    let listing = match read_head(alloc, &mut lines, input, output) {
+        Ok(listing) => listing,
+        Err(exit) => return exit,
+    };
+    let Ok(cache) = MapCache::new(alloc, listing.sizes().harts) else {
+        return Exit::OutOfMemory;
+    };
+    let Ok(mut machine) = boot(alloc, &listing, cache) else {
+        return Exit::OutOfMemory;
+    };
+    answer_lines(command, &mut machine, &mut lines, input, output, fetches)
+}

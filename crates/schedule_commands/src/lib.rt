@@ -1,0 +1,11 @@
+//! The commands that read a schedule: `check`, `run`, `trace`, `tables` and `walk`, and what `make N summary` runs.
+//!
+//! Nothing here knows the words that ask for a command, or where the bytes of its input come from.
+#![tactic(auto)]
+
+mod finishing;
+mod input;
+mod schedule;
+mod tables;
+
+pub use input::answer_schedule;

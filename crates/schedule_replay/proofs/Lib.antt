@@ -1,0 +1,10 @@
+pub mod Leaves
+pub mod Rounds
+pub mod Told
+pub mod Tallies
+pub mod Ran
+pub mod Reading
+pub mod ReadOn
+pub mod Asked
+pub mod SoFar
+pub mod Counted

@@ -1,0 +1,78 @@
+-- Line by line, what is made of the lines of an input.
+use Rattle.std.proofs.Common.{◌≡◌, ◌∙◌, ◌∷◌, ◌++◌, [], ℕ, List, true, false, Option, Some, None, Result, Ok, Err, refl, sym, ap, subst, append_assoc, append-nil}
+use Rattle.coy_io.specs.Lines.{Part, Line}
+use Rattle.coy_io.specs.Reader.{Reader, Advances, IsLine, IsNext, IsSpent, ahead, bytes_ahead}
+use Rattle.coy_io.specs.declared.lines.LineFault.{LineFault}
+use Rattle.coy_io.proofs.GivenLaws.{Advances-nil, Advances-trans, GivesLines-nil, GivesLines-trans, GivesLines-kept, GivesLines-line}
+use Rattle.listing_read.specs.Reads.{IsStopped}
+use Rattle.schedule_replay.specs.Lines.{ReadsOn, FailsOn}
+use Rattle.schedule_replay.specs.Scheduled.{OnParts}
+use Rattle.schedule_replay.proofs.Reading.{gave, gave_none, gave-none, not_ended, on_given}
+
+module _ {M : Type 0} where
+  -- no line
+  pub reads_on-none : (was : List Part → M) (reader : Reader) (held : Option (List ℕ)) → ReadsOn was was reader reader held held
+  reads_on-none was reader held = record {
+    given = [];
+    lines = Advances-nil (ahead reader held);
+    before = λ going. going;
+    bytes = λ going. GivesLines-nil (bytes_ahead reader held);
+    makes = λ rest. refl;
+  }
+
+  -- one line, of which this is made
+  pub reads_on-line : {X : Type 0} (was is : List Part → M) (n : ℕ) (old new : Reader) (held held' : Option (List ℕ))
+      → IsNext (Ok (Some n)) new.line (ahead old held) (ahead new held') → IsSpent (Ok (Some n)) new (bytes_ahead old held) (bytes_ahead new held')
+      → IsLine n new.line → (old.ended ≡ true → (gave n ≡ gave_none) × X) → ((rest : List Part) → was (Line new.line ∷ rest) ≡ is rest)
+      → ReadsOn was is old new held held'
+  reads_on-line was is n old new held held' next spent line ended makes = record {
+    given = Line new.line ∷ [];
+    lines = next;
+    before = λ going. not_ended old.ended (gave n) gave_none ended (gave-none n);
+    bytes = λ going. GivesLines-line n new (bytes_ahead old held) (bytes_ahead new held') going line spent;
+    makes = makes;
+  }
+
+  -- lines, and then others
+  pub reads_on-trans : (was now is : List Part → M) (old mid new : Reader) (held held' held'' : Option (List ℕ))
+      → ReadsOn was now old mid held held' → ReadsOn now is mid new held' held'' → ReadsOn was is old new held held''
+  reads_on-trans was now is old mid new held held' held'' a b = record {
+    given = a.given ++ b.given;
+    lines = Advances-trans (ahead old held) (ahead mid held') (ahead new held'') a.given b.given a.lines b.lines;
+    before = λ going. a.before (b.before going);
+    bytes = λ going. GivesLines-trans (bytes_ahead old held) (bytes_ahead mid held') (bytes_ahead new held'') a.given b.given (a.bytes (b.before going)) (b.bytes going);
+    makes = λ rest. ap was (append_assoc a.given b.given rest) ∙ a.makes (b.given ++ rest) ∙ b.makes rest;
+  }
+
+  -- the same, where both are made into something more
+  pub reads_on-map : {N : Type 0} (f : M → N) (was is : List Part → M) (old new : Reader) (held held' : Option (List ℕ))
+      → ReadsOn was is old new held held' → ReadsOn (λ parts. f (was parts)) (λ parts. f (is parts)) old new held held'
+  reads_on-map f was is old new held held' r = record { given = r.given; lines = r.lines; before = r.before; bytes = r.bytes; makes = λ rest. ap f (r.makes rest) }
+
+  -- by another name of what is made behind them
+  pub reads_on-same : (was is other : List Part → M) (old new : Reader) (held held' : Option (List ℕ)) → ((rest : List Part) → is rest ≡ other rest)
+      → ReadsOn was is old new held held' → ReadsOn was other old new held held'
+  reads_on-same was is other old new held held' same r = record { given = r.given; lines = r.lines; before = r.before; bytes = r.bytes; makes = λ rest. r.makes rest ∙ same rest }
+
+  -- what is so of all that may be made behind them is so of all that is made of the known lines
+  pub on_lines : (was is : List Part → M) (old new : Reader) (held held' : Option (List ℕ)) (P : M → Type 0) → ReadsOn was is old new held held'
+      → OnParts (ahead new held') (λ rest. P (is rest)) → OnParts (ahead old held) (λ parts. P (was parts))
+  on_lines was is old new held held' P r all =
+      on_given (ahead old held) (ahead new held') r.given (λ parts. P (was parts)) r.lines
+      (λ rest same. subst P (sym (r.makes rest)) (known (ahead new held') rest all same))
+    where
+      known : (left : Option (List Part)) (rest : List Part) → OnParts left (λ rest. P (is rest)) → left ≡ Some rest → P (is rest)
+      known None rest all same = cc
+      known (Some parts) rest all same = let here : parts ≡ rest = cc in subst (λ rest. P (is rest)) here all
+
+  -- reading failed behind them
+  pub fails_on : (was is : List Part → M) (old mid new : Reader) (held held' held'' : Option (List ℕ)) → ReadsOn was is old mid held held' → IsStopped mid new held' held''
+      → FailsOn was (is []) old new held held''
+  fails_on was is old mid new held held' held'' r stop = record {
+    before = r.before stop.before;
+    going = stop.unended;
+    unfinished = stop.unfinished;
+    given = r.given;
+    gives = GivesLines-kept (bytes_ahead old held) (bytes_ahead mid held') (bytes_ahead new held'') r.given (r.bytes stop.before) stop.kept;
+    makes = ap was (sym (append-nil r.given)) ∙ r.makes [];
+  }

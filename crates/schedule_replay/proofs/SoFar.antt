@@ -1,0 +1,235 @@
+-- Event by event, what a replay comes to.
+use Rattle.std.proofs.Common.{◌≡◌, ◌<◌, ◌≤◌, ◌+◌, ◌*◌, ◌∙◌, ◌∷◌, ◌++◌, [], ℕ, List, Option, Err, length, take, refl, sym, ap, subst, append_assoc, append-nil, arith}
+use Rattle.std.proofs.Math.Seq.{take-append-add}
+use Rattle.std.proofs.lemmas.List.{length-append}
+use Rattle.std.specs.Io.KnownBytes.{Appends}
+use Rattle.std.proofs.KnownBytes.{Appends-nil, Appends-trans}
+use Rattle.cap_format.specs.Capability.{Capability}
+use Rattle.cap_format.specs.declared.item.Item.{Item}
+use Rattle.coy_io.specs.Pieces.{AppendsSome}
+use Rattle.coy_io.specs.Reader.{Reader, ahead}
+use Rattle.object_store.specs.Store.{Items}
+use Rattle.walk_meaning.specs.declared.kind.Kind.{Kind}
+use Rattle.machine_state.specs.declared.event.Event.{Event}
+use Rattle.kernel_core.specs.Machine.{MachineValue}
+use Rattle.kernel_core.specs.Run.{run_records}
+use Rattle.kernel_core.specs.State.{State, state_of}
+use Rattle.schedule_replay.specs.Counts.{AreAtMost, and_more, events_alone, counts_of}
+use Rattle.schedule_replay.specs.Replay.{Accords, FailsBehind, Follows, Ran, Replays, WritesRun, answer_at, run_answer, stop_answer}
+use Rattle.schedule_replay.specs.Scheduled.{Scheduled, Ending, AtEnd, AtFault, AtLimit, ends, preceded, scheduled, EndHere, IsNextLine, Reads}
+use Rattle.schedule_replay.specs.Told.{told}
+use Rattle.schedule_replay.specs.declared.counts.Counts.{Counts}
+use Rattle.schedule_replay.specs.declared.lines.Stop.{Stop}
+use Rattle.schedule_replay.specs.declared.lines.Stop.TheVariants as stops
+use Rattle.schedule_replay.specs.declared.mode.Mode.{Mode}
+use Rattle.schedule_replay.specs.declared.replayed.Replayed.{Replayed}
+use Rattle.schedule_replay.specs.declared.replayed.Replayed.TheVariants as answers
+use Rattle.schedule_replay.proofs.Ran.{ran-none, ran-trans}
+use Rattle.schedule_replay.proofs.Reading.{fails-behind, on_known, on_read, reads-none, reads-same, reads-trans}
+use Rattle.schedule_replay.proofs.Tallies.{at_most-trans, counts_of-append, counts_of-nil}
+use Rattle.schedule_replay.proofs.Told.{told-append, told-nil}
+
+-- ---- answers
+
+-- a fault of writing is none of reading
+write-no-read : answers.WriteFault ≡ answers.ReadFault → ⊥
+write-no-read same = cc
+
+-- an answer that the end of lines gives is no fault of reading
+at-no-read : (counts : Counts) (ending : Ending) → answer_at counts ending ≡ answers.ReadFault → ⊥
+at-no-read counts AtEnd same = cc
+at-no-read counts (AtFault line fault) same = cc
+at-no-read counts AtLimit same = cc
+
+-- all events of lines that end behind these
+at-accords : (answer_of : Scheduled → Replayed) (counts : Counts) (events : List Event) (ending : Ending) → answer_at counts ending ≡ answer_of (preceded events (ends ending))
+    → Accords answer_of (answer_at counts ending) events (preceded events (ends ending))
+at-accords answer_of counts events AtEnd same = (sym (append-nil events), same)
+at-accords answer_of counts events (AtFault line fault) same = (sym (append-nil events), same)
+at-accords answer_of counts events AtLimit same = (sym (append-nil events), same)
+
+-- the lines read were the last
+pub follows-at : (answer_of : Scheduled → Replayed) (harts : ℕ) (old now new : Reader) (held held' held'' : Option (List ℕ)) (events : List Event) (counts : Counts) (ending : Ending)
+    → answer_at counts ending ≡ answer_of (preceded events (ends ending)) → Reads harts old now held held' events → EndHere harts now held' ending
+    → Follows answer_of harts old new held held'' events (answer_at counts ending)
+follows-at answer_of harts old now new held held' held'' events counts ending same reads here = record {
+  lines =
+      on_read harts old now held held' events (Accords answer_of (answer_at counts ending) events) reads
+      (λ rest known.
+      subst (λ all. Accords answer_of (answer_at counts ending) events (preceded events all))
+      (sym (on_known (ahead now held') rest (λ parts. scheduled harts now.number parts ≡ ends ending) here known))
+      (at-accords answer_of counts events ending same));
+  read = λ fault. absurd (at-no-read counts ending fault);
+}
+
+-- what was read is the front of all lines
+front-accords : (events : List Event) (all : Scheduled) → (rest : List Event) × ((preceded events all).events ≡ events ++ rest)
+front-accords events all = (all.events, refl)
+
+-- reading failed behind them
+pub follows-read : (answer_of : Scheduled → Replayed) (harts : ℕ) (old now new : Reader) (held held' held'' : Option (List ℕ)) (events : List Event)
+    → Reads harts old now held held' events → FailsBehind harts old new held held'' events
+    → Follows answer_of harts old new held held'' events answers.ReadFault
+follows-read answer_of harts old now new held held' held'' events reads fails = record {
+  lines =
+      on_read harts old now held held' events (Accords answer_of answers.ReadFault events) reads
+      (λ rest known. front-accords events (scheduled harts now.number rest));
+  read = λ fault. fails;
+}
+
+-- the answers of a stop, by the place where the lines end
+pub follows-stop : (answer_of : Scheduled → Replayed) (harts : ℕ) (old now new : Reader) (held held' held'' : Option (List ℕ)) (events : List Event) (counts : Counts) (stop : Stop)
+    → ((ending : Ending) → answer_at counts ending ≡ answer_of (preceded events (ends ending))) → Reads harts old now held held' events
+    → IsNextLine harts now new held' held'' (Err stop) → Follows answer_of harts old new held held'' events (stop_answer counts stop)
+follows-stop answer_of harts old now new held held' held'' events counts stops.End same reads here =
+    follows-at answer_of harts old now new held held' held'' events counts AtEnd (same AtEnd) reads here
+follows-stop answer_of harts old now new held held' held'' events counts (stops.Refused line fault) same reads here =
+    follows-at answer_of harts old now new held held' held'' events counts (AtFault line fault) (same (AtFault line fault)) reads here
+follows-stop answer_of harts old now new held held' held'' events counts stops.TooLong same reads here =
+    follows-at answer_of harts old now new held held' held'' events counts AtLimit (same AtLimit) reads here
+follows-stop answer_of harts old now new held held' held'' events counts stops.ReadFault same reads here =
+    follows-read answer_of harts old now new held held' held'' events reads (fails-behind harts old now new held held' held'' events reads here)
+
+-- ---- a replay
+
+-- a text that was written whole, by the answer of a stop
+stop-writes : (mode : Mode) (s : State) (taken taken' : Option (List ℕ)) (events : List Event) (counts : Counts) (stop : Stop)
+    → Appends taken taken' (told mode s events) → WritesRun mode s taken taken' events (stop_answer counts stop)
+stop-writes mode s taken taken' events counts stops.End written = written
+stop-writes mode s taken taken' events counts (stops.Refused line fault) written = written
+stop-writes mode s taken taken' events counts stops.TooLong written = written
+stop-writes mode s taken taken' events counts stops.ReadFault written = written
+
+module _ {T K : Type 0} (kept : T → K) (cost : K → Items → Capability → ℕ → Kind → ℕ) (after : K → Items → Capability → ℕ → Kind → K) (without : K → Item → K)
+    (mode : Mode) (m : MachineValue T) (old : Reader) (held taken : Option (List ℕ)) (fetches : ℕ) where
+  -- these events were run, written and counted, and those that are left are the last of the lines that were read
+  pub record SoFar (n : MachineValue T) (now : Reader) (held' taken' : Option (List ℕ)) (fetches' : ℕ) (counts : Counts) (left : List Event) : Type 0 where
+    pub done : List Event
+    pub ran : Ran kept cost after without m fetches n fetches' done
+    pub text : Appends taken taken' (told mode (state_of m) done)
+    pub reads : Reads m.objects.harts old now held held' (done ++ left)
+    pub counted : counts ≡ counts_of (state_of m) done
+    pub most : AreAtMost (65 * length done) counts
+    pub few : length done + length left + 255000000 * old.number ≤ 255000000 * now.number
+
+  -- at the start
+  pub so_far-start : (counts : Counts) → counts ≡ events_alone 0 → SoFar m old held taken fetches counts []
+  so_far-start counts none = record {
+    done = [];
+    ran = ran-none kept cost after without m fetches;
+    text = subst (Appends taken taken) (sym (told-nil mode (state_of m))) (Appends-nil taken);
+    reads = reads-none m.objects.harts old held;
+    counted = none ∙ sym (counts_of-nil (state_of m));
+    most = subst (AreAtMost 0) (sym none) (record { events = omega arith; messages = omega arith; faults = omega arith; logs = omega arith; destroys = omega arith });
+    few = omega arith;
+  }
+
+  module _ (n : MachineValue T) (now : Reader) (held' taken' : Option (List ℕ)) (fetches' : ℕ) (counts : Counts) where
+    -- what is written of events in a state that others led to
+    told-behind : (done events : List Event) → Ran kept cost after without m fetches n fetches' done
+        → told mode (state_of m) (done ++ events) ≡ told mode (state_of m) done ++ told mode (state_of n) events
+    told-behind done events ran =
+        told-append mode (state_of m) done events ∙ ap (λ s. told mode (state_of m) done ++ told mode s events) (sym ran.state)
+
+    -- one event more was run, written and counted
+    pub so_far-performed : (n1 : MachineValue T) (taken1 : Option (List ℕ)) (fetches1 : ℕ) (counts1 : Counts) (event : Event) (all left : List Event)
+        → all ≡ event ∷ left → SoFar n now held' taken' fetches' counts all → Ran kept cost after without n fetches' n1 fetches1 (event ∷ [])
+        → Appends taken' taken1 (told mode (state_of n) (event ∷ [])) → counts1 ≡ and_more counts 1 (run_records (state_of n) (event ∷ []))
+        → ((most : ℕ) → AreAtMost most counts → AreAtMost (most + 65) counts1) → SoFar n1 now held' taken1 fetches1 counts1 left
+    so_far-performed n1 taken1 fetches1 counts1 event all left split s ran text counted most =
+        let size : length (s.done ++ event ∷ []) ≡ length s.done + 1 = length-append s.done (event ∷ []) in
+        let sizes = ap length split in
+        let few = s.few in
+        record {
+          done = s.done ++ event ∷ [];
+          ran = ran-trans kept cost after without m n n1 fetches fetches' fetches1 s.done (event ∷ []) s.ran ran;
+          text = subst (Appends taken taken1) (sym (told-behind s.done (event ∷ []) s.ran))
+              (Appends-trans taken taken' taken1 (told mode (state_of m) s.done) (told mode (state_of n) (event ∷ [])) s.text text);
+          reads = reads-same m.objects.harts old now held held' (s.done ++ all) ((s.done ++ event ∷ []) ++ left)
+              (ap (λ es. s.done ++ es) split ∙ sym (append_assoc s.done (event ∷ []) left)) s.reads;
+          counted =
+              counted ∙ ap (λ k. and_more k 1 (run_records (state_of n) (event ∷ []))) s.counted
+              ∙ ap (λ t. and_more (counts_of (state_of m) s.done) 1 (run_records t (event ∷ []))) s.ran.state
+              ∙ counts_of-append (state_of m) s.done (event ∷ []);
+          most = at_most-trans (65 * length s.done + 65) (65 * length (s.done ++ event ∷ [])) counts1 (omega (arith, size)) (most (65 * length s.done) s.most);
+          few = omega (arith, size, sizes, few);
+        }
+
+    -- one line more was read
+    pub so_far-read : (now1 : Reader) (held1 : Option (List ℕ)) (harts : ℕ) (events asked none : List Event) → none ≡ [] → harts ≡ m.objects.harts
+        → SoFar n now held' taken' fetches' counts none → Reads harts now now1 held' held1 asked → events ≡ asked → length events ≤ 255000000 → now1.number ≡ now.number + 1
+        → SoFar n now1 held1 taken' fetches' counts events
+    so_far-read now1 held1 harts events asked none is same s reads line most number =
+        let few = s.few in
+        let here : Reads m.objects.harts old now held held' s.done =
+        reads-same m.objects.harts old now held held' (s.done ++ none) s.done (ap (λ es. s.done ++ es) is ∙ append-nil s.done) s.reads in
+        record {
+          done = s.done;
+          ran = s.ran;
+          text = s.text;
+          reads = reads-trans m.objects.harts old now now1 held held' held1 s.done events here
+              (subst (λ h. Reads h now now1 held' held1 events) same (subst (Reads harts now now1 held' held1) (sym line) reads));
+          counted = s.counted;
+          most = s.most;
+          few = omega (arith, few, most, number);
+        }
+
+    -- writing failed in the records of the next event
+    pub replays-cut : (n1 : MachineValue T) (taken1 : Option (List ℕ)) (fetches1 : ℕ) (event : Event) (all left : List Event)
+        → all ≡ event ∷ left → SoFar n now held' taken' fetches' counts all → Ran kept cost after without n fetches' n1 fetches1 (event ∷ [])
+        → AppendsSome taken' taken1 (told mode (state_of n) (event ∷ []))
+        → Replays kept cost after without mode m n1 old now held held' taken taken1 fetches fetches1 answers.WriteFault
+    replays-cut n1 taken1 fetches1 event all left split s ran some =
+        let before : List ℕ = told mode (state_of m) s.done in
+        let last : List ℕ = told mode (state_of n) (event ∷ []) in
+        let whole : told mode (state_of m) (s.done ++ event ∷ []) ≡ before ++ last = told-behind s.done (event ∷ []) s.ran in
+        let count : ℕ = some.0 in
+        let short : count < length last = some.1 in
+        let size : length (told mode (state_of m) (s.done ++ event ∷ [])) ≡ length before + length last = ap length whole ∙ length-append before last in
+        let front : take (length before + count) (told mode (state_of m) (s.done ++ event ∷ [])) ≡ before ++ take count last =
+        ap (take (length before + count)) whole ∙ take-append-add before last count in
+        record {
+          events = s.done ++ event ∷ [];
+          ran = ran-trans kept cost after without m n n1 fetches fetches' fetches1 s.done (event ∷ []) s.ran ran;
+          text = record {
+            before = s.done;
+            last = event;
+            all = refl;
+            count = length before + count;
+            written = subst (Appends taken taken1) (sym front) (Appends-trans taken taken' taken1 before (take count last) s.text some.2);
+            behind = omega arith;
+            short = omega (arith, size, short);
+          };
+          follows = record {
+            lines =
+                on_read m.objects.harts old now held held' ((s.done ++ event ∷ []) ++ left)
+                (Accords (run_answer (state_of m)) answers.WriteFault (s.done ++ event ∷ []))
+                (reads-same m.objects.harts old now held held' (s.done ++ all) ((s.done ++ event ∷ []) ++ left)
+                (ap (λ es. s.done ++ es) split ∙ sym (append_assoc s.done (event ∷ []) left)) s.reads)
+                (λ rest known. (left ++ (scheduled m.objects.harts now.number rest).events, append_assoc (s.done ++ event ∷ []) left (scheduled m.objects.harts now.number rest).events));
+            read = λ fault. absurd (write-no-read fault);
+          };
+        }
+
+    -- no further line was read
+    replays-stopped : (now1 : Reader) (held1 : Option (List ℕ)) (harts : ℕ) (stop : Stop) (none : List Event) → none ≡ [] → harts ≡ m.objects.harts
+        → SoFar n now held' taken' fetches' counts none → IsNextLine harts now now1 held' held1 (Err stop)
+        → Replays kept cost after without mode m n old now1 held held1 taken taken' fetches fetches' (stop_answer counts stop)
+    replays-stopped now1 held1 harts stop none is same s next =
+        let here : Reads m.objects.harts old now held held' s.done =
+        reads-same m.objects.harts old now held held' (s.done ++ none) s.done (ap (λ es. s.done ++ es) is ∙ append-nil s.done) s.reads in
+        let answer : (ending : Ending) → answer_at counts ending ≡ run_answer (state_of m) (preceded s.done (ends ending)) =
+        λ ending. ap (λ k. answer_at k ending) (s.counted ∙ ap (counts_of (state_of m)) (sym (append-nil s.done))) in
+        record {
+          events = s.done;
+          ran = s.ran;
+          text = stop-writes mode (state_of m) taken taken' s.done counts stop s.text;
+          follows = follows-stop (run_answer (state_of m)) m.objects.harts old now now1 held held' held1 s.done counts stop answer here
+              (subst (λ h. IsNextLine h now now1 held' held1 (Err stop)) same next);
+        }
+
+    pub replays-stop : (now1 : Reader) (held1 : Option (List ℕ)) (harts : ℕ) (stop : Stop) (answered : Replayed) (none : List Event) → none ≡ [] → harts ≡ m.objects.harts
+        → SoFar n now held' taken' fetches' counts none → IsNextLine harts now now1 held' held1 (Err stop) → answered ≡ stop_answer counts stop
+        → Replays kept cost after without mode m n old now1 held held1 taken taken' fetches fetches' answered
+    replays-stop now1 held1 harts stop answered none is same s next by =
+        subst (Replays kept cost after without mode m n old now1 held held1 taken taken' fetches fetches') (sym by) (replays-stopped now1 held1 harts stop none is same s next)

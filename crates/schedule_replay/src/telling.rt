@@ -1,0 +1,57 @@
+//! The lines of records.
+ghost use Rattle.std.specs.Prelude.{◌≡◌};
+ghost use Rattle.coy_io.specs.Causes.{HasCause};
+ghost use Rattle.kernel_core.specs.Machine.{IsRecord};
+ghost use Rattle.run_text.specs.Written.{Writes};
+ghost use Rattle.schedule_replay.specs.Told.{is_told, line_of, lines_of};
+
+use crate::mode::Mode;
+use coy_io::{Sink, WriteFault, put_all};
+use coy_text::LineBuf;
+use kernel_core::{Record, Records};
+use run_text::record_line;
+
+/// Writes the lines of the records that the mode names.
+pub(crate) fn put_records<K: Sink>(
+    mode: Mode,
+    records: &Records,
+    output: &mut K,
+) -> Result<(), WriteFault>
+    ensures text { let text = lines_of mode records.now in
+        Writes (K.taken output.old) (K.taken output.new) result text }
+    ensures cause { HasCause (K.faults output.old) (K.faults output.new) result }
+    ensures silent { mode ≡ Mode.Silent → output.new ≡ output.old }
+{
+    let all = records.as_slice();
+    'each: for i in 0..all.len() {
+        put_record(mode, &all[i], output)?;
+    }
+    Ok(())
+}
+
+/// Writes the line of a record, where the mode names it.
+fn put_record<K: Sink>(mode: Mode, entry: &Record, output: &mut K) -> Result<(), WriteFault>
+    requires { IsRecord entry.now }
+    ensures text { let text = line_of mode entry.now in
+        Writes (K.taken output.old) (K.taken output.new) result text }
+    ensures cause { HasCause (K.faults output.old) (K.faults output.new) result }
+    ensures silent { mode ≡ Mode.Silent → output.new ≡ output.old }
+{
+    if !is_told(mode, entry) {
+        return Ok(());
+    }
+    let mut line = LineBuf::new();
+    record_line(entry, &mut line);
+    put_all(output, line.as_bytes())
+}
+
+/// Whether this record is written.
+fn is_told(mode: Mode, entry: &Record) -> bool
+    ensures value { result ≡ is_told mode entry.now }
+{
+    match mode {
+        Mode::Silent => false,
+        Mode::Records => !matches!(entry, Record::Access { .. } | Record::Insn { .. }),
+        Mode::Trace => true,
+    }
+}
