@@ -36,6 +36,10 @@ fn words_ask_for_what_their_form_says(rt: HostRuntime) -> Result<(), Fail> {
         ("|make|7", make(7, false)),
         ("|make|4294967295", make(4_294_967_295, false)),
         ("|make|0007|summary", make(7, true)),
+        ("|pack", Command::Pack),
+        ("|unpack", Command::Unpack),
+        ("|migrate", Command::Migrate),
+        ("|confine", Command::Confine),
     ];
     for (line, command) in cases {
         let words = words_of(rt.alloc(), line)?;
@@ -63,7 +67,11 @@ fn all_other_words_are_of_no_form(rt: HostRuntime) -> Result<(), Fail> {
         "|Run",
         "|run ",
         "|run|run",
-        "|pack",
+        "|packs",
+        "|pack|0",
+        "|unpack|",
+        "|migrate|2",
+        "|confine|--",
         "|walk",
         "|walk|0",
         "|walk|0|load",

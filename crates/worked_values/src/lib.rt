@@ -19,6 +19,8 @@ mod deliveries;
 #[cfg(test)]
 mod faults;
 #[cfg(test)]
+mod images;
+#[cfg(test)]
 mod instructions;
 #[cfg(test)]
 mod invocations;
