@@ -1,7 +1,9 @@
 //! Rows of the kernel: messages, operations, faults and destructions on whole machines, each with what has to stand in the
 //! output. What is wanted was worked out by hand.
 
-use crate::rows::{Calls, ask, words_of};
+use crate::failures::PAGER;
+use crate::machines::WHOLE;
+use crate::rows::{ask, words_of};
 use std::marker::Brand;
 use std::test::Fail;
 use steps::Permit;
@@ -76,12 +78,30 @@ fn tells(output: Output<'_>, wanted: &str) -> bool {
     told.eq(named)
 }
 
+/// Whether a text is this number.
+fn is_number(number: usize, text: &str) -> bool {
+    text.parse::<usize>() == Ok(number)
+}
+
+/// Whether so many records begin with a word, as a text of the word and the number says.
+fn counts(output: Output<'_>, counted: &str) -> bool {
+    match counted.split_once(' ') {
+        Some((word, count)) => {
+            let told = output.records.lines().filter(|line| line.starts_with(word));
+            is_number(told.count(), count)
+        }
+        None => false,
+    }
+}
+
 /// Whether a statement on an output holds.
 fn holds(output: Output<'_>, statement: &str) -> bool {
     match statement.split_once(' ') {
         Some(("show", line)) => shows(output, line),
         Some(("like", form)) => shows_like(output, form),
         Some(("none", words)) => lacks(output, words),
+        Some(("records", count)) => is_number(output.records.lines().count(), count),
+        Some(("records-of", counted)) => counts(output, counted),
         Some(("has-record", line)) => output.records.lines().any(|told| told == line),
         Some(("map", _)) => output.state.lines().any(|line| line == statement),
         Some(("record", line)) => output.records.lines().any(|told| told == line),
@@ -95,7 +115,7 @@ fn mappings(text: &str) -> usize {
 }
 
 /// Whether each statement holds of an output; what follows the word `whole` is the output itself.
-fn meets(text: &str, wanted: &str) -> bool {
+pub(crate) fn meets(text: &str, wanted: &str) -> bool {
     match wanted.strip_prefix("whole\n") {
         Some(whole) => text == whole,
         None => {
@@ -110,10 +130,12 @@ fn meets(text: &str, wanted: &str) -> bool {
     }
 }
 
-/// For each row its name, its word, its input, and what has to hold of the output.
-#[test]
-fn kernel_rows_hold(rt: HostRuntime) -> Result<(), Fail> {
-    let cases = [
+/// A row: its name, its word, its input, and what has to hold of the output.
+pub(crate) type KernelRow = (&'static str, &'static str, &'static str, &'static str);
+
+/// The rows of the kernel.
+pub(crate) fn kernel_table() -> [KernelRow; 28] {
+    [
         (
             "alias-rewritten",
             "run",
@@ -261,8 +283,8 @@ fn kernel_rows_hold(rt: HostRuntime) -> Result<(), Fail> {
         (
             "pager-server-client-logger",
             "run",
-            "coyotos 1\nmachine 2 8 0 4 4 3\ncode 0 000 lui x10 0x80\ncode 0 004 addi x10 x10 0x40\ncode 0 008 ecall\ncode 0 00c lui x10 0x10\ncode 0 010 addi x10 x10 0x21\ncode 0 014 addi x11 x0 9\ncode 0 018 addi x12 x0 2\ncode 0 01c ecall\ncode 0 020 addi x10 x0 0x25\ncode 0 024 addi x11 x0 15\ncode 0 028 ecall\ncode 0 02c jal x0 -44\ncode 1 000 lui x10 0x80\ncode 1 004 addi x10 x10 0x40\ncode 1 008 ecall\ncode 1 00c add x11 x11 x11\ncode 1 010 addi x9 x9 1\ncode 1 014 lui x10 0x80\ncode 1 018 addi x10 x10 0x65\ncode 1 01c jal x0 -20\ncode 2 000 lui x10 0x10\ncode 2 004 addi x10 x10 0x61\ncode 2 008 addi x11 x5 0\ncode 2 00c ecall\ncode 2 010 add x6 x6 x11\ncode 2 014 addi x5 x5 -1\ncode 2 018 bne x5 x0 -24\ncode 2 01c lui x7 2\ncode 2 020 sw x6 0(x7)\ncode 2 024 addi x10 x0 64\ncode 2 028 ecall\ncode 3 000 ecall\ncode 3 004 jal x0 0\npage 3 100 6869\ngpt 2 12 ha\nslot 0 0 page:0@12/0\nslot 1 0 page:1@12/0\nslot 2 0 page:2@12/0\nslot 2 15 entry:2:0000000c\nslot 3 0 page:3@12/0\nendpoint 0 process:1 00000000 00000000 plain\nendpoint 1 process:2 00000001 00000000 plain\nendpoint 2 process:0 00000002 00000000 plain\nprocess 0 0 gpt:0@16/0 schedule:3 null run\nreg 0 18 00000002\nreg 0 19 00000005\ncapreg 0 1 gpt:2@16/0\ncapreg 0 2 page:7@12/0\nprocess 1 0 gpt:1@16/0 schedule:3 null run\nreg 1 19 00000005\nprocess 2 0 gpt:2@16/0 schedule:3 null run\nreg 2 5 00000064\nreg 2 18 00000002\ncapreg 2 1 entry:0:00000000\ncapreg 2 2 entry:1:00000000\nprocess 3 0 gpt:3@16/0 schedule:1 null run\nreg 3 10 00000021\nreg 3 11 00000008\nreg 3 15 00000100\nreg 3 16 00000002\ncapreg 3 1 kernlog\nend\nround 25000\n",
-            "has-record fault 2 InvalidDataReference 00002000 to 0\nhas-record log 3 6869\nshow page 7 000 7427000000..\nshow slot 2 2 page:7@12/00000\nshow reg 1 9 00000064\nshow reg 2 6 00002774\nshow process 2 0000002c gpt:2@16/00000 schedule:3 null waiting open 0 0 0 0 0 00000000 0\n",
+            PAGER,
+            "records 202\nrecords-of msg 200\nhas-record fault 2 InvalidDataReference 00002000 to 0\nhas-record log 3 6869\nshow page 7 000 7427000000..\nshow slot 2 2 page:7@12/00000\nshow reg 1 9 00000064\nshow reg 2 6 00002774\nshow process 2 0000002c gpt:2@16/00000 schedule:3 null waiting open 0 0 0 0 0 00000000 0\n",
         ),
         (
             "tables-and-check.tables",
@@ -282,17 +304,16 @@ fn kernel_rows_hold(rt: HostRuntime) -> Result<(), Fail> {
             "coyotos 1\nmachine 2 4 0 3 2 0\ncode 0 000 ecall\ncode 1 000 lui x5 1\ncode 1 004 lw x6 0(x5)\ncode 1 008 lui x7 2\ncode 1 00c lw x8 0(x7)\ncode 1 010 lw x9 0(x5)\ncode 1 014 lw x18 0(x7)\npage 2 000 22222222\npage 3 000 33333333\nslot 0 0 page:0@12/0\nslot 1 0 page:1@12/0\nslot 1 1 gpt:2@12/0\nslot 1 2 gpt:2@12/0\nslot 2 0 page:2@12/0\nprocess 0 0 gpt:0@16/0 schedule:3 null run\nreg 0 10 00010021\nreg 0 11 00000009\nreg 0 18 00000002\ncapreg 0 1 gpt:2@12/0\ncapreg 0 2 page:3@12/0\nprocess 1 0 gpt:1@16/0 schedule:5 null run\nend\nstep 1 4\nstep 0 1\nstep 1 2\n",
             "map gpt:0@16/00000 00000000 page 0 rwx\nmap gpt:1@16/00000 00000000 page 1 rwx\nmap gpt:1@16/00000 00001000 page 3 rwx\nmap gpt:1@16/00000 00002000 page 3 rwx\nshow slot 2 0 page:3@12/00000\nshow reg 0 10 00000002\nshow reg 1 6 22222222\nshow reg 1 8 22222222\nshow reg 1 9 33333333\nshow reg 1 18 33333333\nnone reg 0 11\n",
         ),
-    ];
-    for (name, word, input, wanted) in cases {
-        let calls = Calls {
-            piece: 65536,
-            by_line: false,
-            failing_take: 0,
-            failing_put: 0,
-        };
+    ]
+}
+
+/// What has to hold of each row's output does.
+#[test]
+fn kernel_rows_hold(rt: HostRuntime) -> Result<(), Fail> {
+    for (name, word, input, wanted) in kernel_table() {
         let asked = words_of(rt.alloc(), word)?;
         let bytes = input.as_bytes().to_vec(rt.alloc())?;
-        let answer = ask::<Brand>(rt.alloc(), asked, bytes, calls, Permit::new(&rt))?;
+        let answer = ask::<Brand>(rt.alloc(), asked, bytes, WHOLE, Permit::new(&rt))?;
         let text = str::from_utf8(answer.text.as_slice()).unwrap_or("");
         assert!(rt; answer.status == 0 && meets(text, wanted), "row {name}");
     }

@@ -5,6 +5,14 @@
 #![tactic(auto)]
 
 #[cfg(test)]
+mod both_translators;
+#[cfg(test)]
+mod commands;
+#[cfg(test)]
+mod failures;
+#[cfg(test)]
+mod images;
+#[cfg(test)]
 mod kernel_rows;
 #[cfg(test)]
 mod machines;

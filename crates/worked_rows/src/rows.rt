@@ -12,8 +12,10 @@ use steps::{Permit, Steps};
 /// How a source and a sink in memory answer their calls.
 #[derive(Clone, Copy)]
 pub(crate) struct Calls {
-    /// The most bytes that a call moves.
+    /// The most bytes that a call of the source moves.
     pub piece: usize,
+    /// The most bytes that a call of the sink moves.
+    pub put_piece: usize,
     /// Whether the source gives no byte past the next line feed.
     pub by_line: bool,
     /// The call of the source that fails, 0 where none does.
@@ -39,18 +41,17 @@ pub(crate) fn ask<L: Ledger>(
 ) -> Result<Answer, Fail>
     requires ledger { permit ≡ permit_for L.name L.parts }
 {
-    let piece = calls.piece.max(1);
     let mut input = MemSource {
         bytes,
         at: 0,
         calls: 0,
         failing: vec![in alloc; calls.failing_take]?,
-        piece,
+        piece: calls.piece.max(1),
         by_line: calls.by_line,
         faults: 0,
     };
     let failing = vec![in alloc; calls.failing_put]?;
-    let Ok(mut output) = MemSink::new(alloc, 65536, failing, piece) else {
+    let Ok(mut output) = MemSink::new(alloc, 65536, failing, calls.put_piece.max(1)) else {
         return Err(Fail::from("no memory for the sink"));
     };
     let mut fetches = Steps::<L>::new(permit);
@@ -90,7 +91,7 @@ fn rows_give_what_is_written_down_for_them(rt: HostRuntime) -> Result<(), Fail> 
         (
             "run -x",
             "",
-            "usage: coyotos check | run | trace | tables | walk P KIND ADDR | make N [summary]\n",
+            "usage: coyotos check | run | trace | tables | walk P KIND ADDR | make N [summary] | pack | unpack | migrate | confine\n",
             1,
         ),
         ("run", "", "refused 1 BadHeader\n", 2),
@@ -253,7 +254,7 @@ fn rows_give_what_is_written_down_for_them(rt: HostRuntime) -> Result<(), Fail> 
         (
             "--help",
             "",
-            "usage: coyotos check | run | trace | tables | walk P KIND ADDR | make N [summary]\n",
+            "usage: coyotos check | run | trace | tables | walk P KIND ADDR | make N [summary] | pack | unpack | migrate | confine\n",
             0,
         ),
         (
@@ -265,49 +266,49 @@ fn rows_give_what_is_written_down_for_them(rt: HostRuntime) -> Result<(), Fail> 
         (
             "tr",
             "",
-            "usage: coyotos check | run | trace | tables | walk P KIND ADDR | make N [summary]\n",
+            "usage: coyotos check | run | trace | tables | walk P KIND ADDR | make N [summary] | pack | unpack | migrate | confine\n",
             1,
         ),
         (
             "help",
             "",
-            "usage: coyotos check | run | trace | tables | walk P KIND ADDR | make N [summary]\n",
+            "usage: coyotos check | run | trace | tables | walk P KIND ADDR | make N [summary] | pack | unpack | migrate | confine\n",
             1,
         ),
         (
             "--help run",
             "",
-            "usage: coyotos check | run | trace | tables | walk P KIND ADDR | make N [summary]\n",
+            "usage: coyotos check | run | trace | tables | walk P KIND ADDR | make N [summary] | pack | unpack | migrate | confine\n",
             1,
         ),
         (
             "make -- 7",
             "",
-            "usage: coyotos check | run | trace | tables | walk P KIND ADDR | make N [summary]\n",
+            "usage: coyotos check | run | trace | tables | walk P KIND ADDR | make N [summary] | pack | unpack | migrate | confine\n",
             1,
         ),
         (
             "make 7 verbose",
             "",
-            "usage: coyotos check | run | trace | tables | walk P KIND ADDR | make N [summary]\n",
+            "usage: coyotos check | run | trace | tables | walk P KIND ADDR | make N [summary] | pack | unpack | migrate | confine\n",
             1,
         ),
         (
             "make 4294967296",
             "",
-            "usage: coyotos check | run | trace | tables | walk P KIND ADDR | make N [summary]\n",
+            "usage: coyotos check | run | trace | tables | walk P KIND ADDR | make N [summary] | pack | unpack | migrate | confine\n",
             1,
         ),
         (
             "walk 0 load 0 0",
             "",
-            "usage: coyotos check | run | trace | tables | walk P KIND ADDR | make N [summary]\n",
+            "usage: coyotos check | run | trace | tables | walk P KIND ADDR | make N [summary] | pack | unpack | migrate | confine\n",
             1,
         ),
         (
             "walk 256 load 0",
             "",
-            "usage: coyotos check | run | trace | tables | walk P KIND ADDR | make N [summary]\n",
+            "usage: coyotos check | run | trace | tables | walk P KIND ADDR | make N [summary] | pack | unpack | migrate | confine\n",
             1,
         ),
         (
@@ -333,6 +334,7 @@ fn rows_give_what_is_written_down_for_them(rt: HostRuntime) -> Result<(), Fail> 
         for piece in [1, 7, 513, 65536] {
             let calls = Calls {
                 piece,
+                put_piece: piece,
                 by_line: false,
                 failing_take: 0,
                 failing_put: 0,
@@ -387,6 +389,7 @@ fn a_failing_call_leaves_a_front_of_the_text(rt: HostRuntime) -> Result<(), Fail
     for (failing_take, failing_put, text, status) in cases {
         let calls = Calls {
             piece: 65536,
+            put_piece: 65536,
             by_line: true,
             failing_take,
             failing_put,
