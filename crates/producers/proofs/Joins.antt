@@ -39,7 +39,7 @@ pub ok_told : (r : Result Place WalkFault) (place : Place) → result_ok r ≡ S
 ok_told (Ok p) place e = let same : p ≡ place = cc in ap (λ (q : Place). Ok q) same
 ok_told (Err f) place e = absurd (none-some place e)
 
-number-aged : (o : Items) (b : Option ℕ) → background_number (aged o b) ≡ b
+pub number-aged : (o : Items) (b : Option ℕ) → background_number (aged o b) ≡ b
 number-aged o None = refl
 number-aged o (Some g) = refl
 

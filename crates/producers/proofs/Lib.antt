@@ -4,3 +4,4 @@ pub mod Cuts
 pub mod Regions
 pub mod Staying
 pub mod Joins
+pub mod RegionLaw

@@ -1,5 +1,6 @@
 -- The laws of producers: what shared leaf tables stand on (this project's own).
-use Rattle.std.specs.Prelude.{◌≡◌, ℕ, ◌%◌, ◌^◌, ◌<◌, List, ◌++◌, map, Some, Ok}
+use Rattle.std.specs.Prelude.{◌≡◌, ℕ, ◌/◌, ◌%◌, ◌^◌, ◌<◌, List, ◌++◌, map, Some, Ok}
+use Rattle.std.specs.Result.{result_ok}
 use Rattle.cap_format.specs.Capability.{Capability, IsCapability}
 use Rattle.cap_format.specs.declared.item.Item.{Item}
 use Rattle.object_store.specs.Store.{Items}
@@ -8,6 +9,7 @@ use Rattle.object_store.specs.Differ.{DifferIn}
 use Rattle.walk_meaning.specs.declared.kind.Kind.{Kind}
 use Rattle.walk_meaning.specs.declared.noted.Noted.{Noted}
 use Rattle.walk_meaning.specs.declared.place.Place.{Place}
+use Rattle.walk_meaning.specs.Bounds.{Below}
 use Rattle.walk_meaning.specs.Walk.{access, start_at}
 use Rattle.walk_meaning.specs.Trail.{header_noted, trail}
 use Rattle.walk_meaning.specs.Laws.{Unread}
@@ -61,3 +63,28 @@ KeyLaw = (item : Item) (o p : Items) (c : Capability) (address : ℕ) (kind : Ki
     → DifferIn item o p → Meets o kind address 32 c (start_at address) m reads → PassesAt m
     → Unread item (reads ++ header_noted m.cap address m.at.l2)
     → KeyStays o p c address kind m reads
+
+-- a point with another address
+abbrev pub moved : Point → ℕ → Point
+moved p address = record p { at = record p.at { address = address } }
+
+-- An access comes to a point, but for what is left of the address there, by these reads; from there on it goes as the point's
+-- key says. The header of the point's GPT is the first read from there on.
+pub record ComesTo (o : Items) (c : Capability) (address : ℕ) (kind : Kind) (p : Point) (reads header : List Noted) : Type 0 where
+  pub rest : ℕ
+  pub met : Meets o kind address 32 c (start_at address) (moved p rest) reads
+  pub passes : PassesAt (moved p rest)
+  pub key : key_of o (moved p rest) ≡ key_of o p
+  pub background : Below 1024 p.at.background
+  pub header_is : header_noted p.cap address p.at.l2 ≡ header
+  pub further : List Noted
+  pub reads_are : trail o c address kind ≡ reads ++ (header ++ further)
+  pub place : result_ok (access o c address kind) ≡ result_ok (joined_walk o (key_of o p) (address % 2 ^ 22) kind)
+  pub cut_reads : map cut (header ++ further) ≡ joined_trail o (key_of o p) (address % 2 ^ 22) kind
+
+-- The region law. Where a walk comes to a point at which it may join others, the walks to all addresses of the region come to
+-- it, whatever their kind, by the same reads; and from there on they go as its key says.
+abbrev pub RegionLaw : Type 0
+RegionLaw = (o : Items) (c : Capability) (a b : ℕ) (j k : Kind) (p : Point) (reads : List Noted)
+    → IsRanged o → IsCapability c → a / 2 ^ 22 ≡ b / 2 ^ 22 → Meets o j a 32 c (start_at a) p reads → PassesAt p
+    → ComesTo o c b k p reads (header_noted p.cap a p.at.l2)

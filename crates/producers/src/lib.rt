@@ -8,6 +8,6 @@ mod laws;
 mod producer;
 mod walking;
 
-pub use laws::{join_law, key_law, same_key_law};
+pub use laws::{join_law, key_law, region_law, same_key_law};
 pub use producer::{Background, Produced, Producer};
 pub use walking::{Walked, walk};
