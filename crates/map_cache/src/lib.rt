@@ -18,3 +18,4 @@ pub use key::Key;
 pub use map_cache::MapCache;
 pub use mapping::{Mapping, MappingPlace};
 pub use tlbs::{drop_all, empty_tlbs, hold, seek};
+pub use translating::{allows, reached_leaf};

@@ -162,7 +162,7 @@ impl Mappings {
 }
 
 /// Whether a leaf lets an access of a data kind through.
-fn allows(leaf: Leaf, kind: Kind) -> bool
+pub fn allows(leaf: Leaf, kind: Kind) -> bool
     ensures { result ≡ allows leaf kind }
 {
     match kind {
@@ -174,7 +174,7 @@ fn allows(leaf: Leaf, kind: Kind) -> bool
 }
 
 /// The leaf of the place that a walk reached: by all restrictions that it met.
-fn reached_leaf(place: Place) -> Leaf
+pub fn reached_leaf(place: Place) -> Leaf
     ensures { result ≡ reached_leaf place }
 {
     Leaf {
