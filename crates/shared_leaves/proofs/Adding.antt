@@ -19,7 +19,7 @@ use Rattle.map_cache.specs.Key.{same_space}
 use Rattle.map_cache.specs.Cache.{tlb_at}
 use Rattle.shared_leaves.specs.declared.key.Key.{Key}
 use Rattle.shared_leaves.specs.Key.{has_key, is_leaf, root_key, same_key, with_key}
-use Rattle.shared_leaves.specs.Kept.{Addition, SharedKept, added, fits, note_order, noted_all, nothing}
+use Rattle.shared_leaves.specs.Kept.{Addition, SharedKept, added, fits, leads_to, note_order, noted_all, nothing}
 use Rattle.shared_leaves.specs.Cache.{IsCache, SharedCache, cache_of, entry_for, entry_in, frame_of, kept_of, key_at, link_for, notes_of}
 use Rattle.shared_leaves.specs.Coherent.{IsCoherent, IsEntry, IsLink, IsRecorded}
 use Rattle.shared_leaves.specs.Effects.{Agrees, Connects, HasFrame, IsBlank, IsDue, IsWalked, Keeps, NotesReads, Remembers, SameEntriesFor, SetsPlace}
@@ -150,6 +150,26 @@ module _ (v0 v1 v2 v3 v4 v5 v6 : SharedCache) (space : Capability) (page root ta
       (subst (λ (k : Key). IsEntry o k (page % 1024) leaf (IsRecorded v5.records table (page % 1024))) (sym (table_key_is v5.keys (steps.connects.keys ∙ keys4)))
       (entry-map o add.key (page % 1024) leaf (IsDue add.entry_reads (page % 1024)) (IsRecorded v5.records table (page % 1024)) entry_there walked.entry)) five
 
+  -- what the other harts hold
+  others : (k : ℕ) → tlb_at v6.tlbs k ≡ (if leads_to (if nat_lt (page / 1024) 1024 then link_for v0 space (page / 1024) else None) add.key then tlb_at v0.tlbs k else [])
+  others k =
+      ap (λ (ts : List (List TlbEntry)). tlb_at ts k) steps.places.tlbs
+      ∙ (steps.connects.others k ∙ (λ i. if leads_to (linked i) (table_key_is v4.keys keys4 i) then tlb_at (tlbs4 i) k else []))
+    where
+      tlbs4 : v4.tlbs ≡ v0.tlbs
+      tlbs4 = steps.entries_noted.tlbs ∙ (steps.links_noted.tlbs ∙ (steps.table_has.tlbs ∙ steps.root_has.tlbs))
+
+      yes : nat_lt (page / 1024) 1024 ≡ true
+      yes = let less = inside in grind (arith, nat_tests, less)
+
+      linked : link_for v4 (key_at v4.keys root).space (page / 1024) ≡ (if nat_lt (page / 1024) 1024 then link_for v0 space (page / 1024) else None)
+      linked =
+          ap (λ (x : Key). link_for v4 x.space (page / 1024)) (root_key_is v4.keys keys4)
+          ∙ (same-links v2 v4 tables4 keys4 space (page / 1024)
+          ∙ (steps.table_has.links space (page / 1024) inside
+          ∙ (steps.root_has.links space (page / 1024) inside
+          ∙ sym (ap (λ (b : Bool). if b then link_for v0 space (page / 1024) else None) yes))))
+
   -- the leaf is there
   pub leaf_there : IsSharedRoot v5.tables root → shared_leaf_at v6.tables root page ≡ Some leaf
   leaf_there made =
@@ -159,14 +179,14 @@ module _ (v0 v1 v2 v3 v4 v5 v6 : SharedCache) (space : Capability) (page root ta
   pub page-kept : FillLaw → IsCache v5.tables v5.keys v5.tlbs v5.records → IsCache v6.tables v6.keys v6.tlbs v6.records → (to : List (List TlbEntry)) (hart : ℕ) → IsTlb (tlb_at v6.tlbs hart) → tlb_at to hart ≡ filled (tlb_at v6.tlbs hart) root page leaf
       → ((k : ℕ) → k ≢ hart → tlb_at to k ≡ tlb_at v6.tlbs k) → length to ≡ length v0.tlbs
       → Made v6.tables v6.keys to v6.records (λ v. Keeps v0 v hart space page leaf add)
-  page-kept law before cache to hart is own others harts =
+  page-kept law before cache to hart is own same harts =
       let at5 : slice_get v5.keys root ≡ Some (root_key space) = ap (λ (ks : List Key). slice_get ks root) (steps.connects.keys ∙ keys4) ∙ steps.root_still in
       let at6 : slice_get v6.keys root ≡ Some (root_key space) = ap (λ (ks : List Key). slice_get ks root) keys6 ∙ steps.root_still in
       let made5 = root_made v5.tables v5.keys v5.tlbs v5.records before root space at5 in
       let made6 = root_made v6.tables v6.keys v6.tlbs v6.records cache root space at6 in
       let there = leaf_there made5 in
       record {
-        cache = cache-fill v6.tables v6.keys v6.tlbs v6.records cache law to hart root page leaf (record { made = made6; inside = low; there = there }) is own others;
+        cache = cache-fill v6.tables v6.keys v6.tlbs v6.records cache law to hart root page leaf (record { made = made6; inside = low; there = there }) is own same;
         done = record {
           kept = kept;
           coherent = λ o walked was. coherent-more v6 (cache_of v6.tables v6.keys to v6.records) o refl refl (λ d h. h) (coherent o walked was);
@@ -176,6 +196,7 @@ module _ (v0 v1 v2 v3 v4 v5 v6 : SharedCache) (space : Capability) (page root ta
             tables = there;
             tlb = ap (λ (es : List TlbEntry). look es root page) own ∙ (law (tlb_at v6.tlbs hart) root page leaf is).new;
           };
+          others = λ k differs. same k differs ∙ others k;
           harts = harts;
         };
       }
@@ -244,12 +265,24 @@ entries-over v w x y space page root table add first second at noted more =
 pub fits-kept : (v : SharedCache) → IsCache v.tables v.keys v.tlbs v.records → fits (kept_of v) ≡ true
 fits-kept v cache = fits-within (kept_of v) cache.most_keys (omega (arith, cache.noted, cache.most_records))
 
+and-true : (x y : Bool) → y ≡ true → (x && y) ≡ x
+and-true true y is = is
+and-true false y is = refl
+
+and-false : (x y : Bool) → y ≡ false → (x && y) ≡ false
+and-false true y is = is
+and-false false y is = refl
+
 -- an addition that was done
 pub remembers-kept : (v w : SharedCache) (hart page : ℕ) (space : Capability) (leaf : Entry) (add : Addition) → IsCache w.tables w.keys w.tlbs w.records → Keeps v w hart space page leaf add → Remembers v w hart space page leaf add
 remembers-kept v w hart page space leaf add cache keeps = record {
   kept = keeps.kept ∙ sym (if-true (fits (added (kept_of v) space page add)) (added (kept_of v) space page add) (added nothing space page add) (ap fits (sym keeps.kept) ∙ fits-kept w cache));
   coherent = keeps.coherent;
   held = keeps.held;
+  others = λ k differs.
+      keeps.others k differs
+      ∙ ap (λ (b : Bool). if b then tlb_at v.tlbs k else [])
+      (sym (and-true (leads_to ((kept_of v).links space (page / 1024)) add.key) (fits (added (kept_of v) space page add)) (ap fits (sym keeps.kept) ∙ fits-kept w cache)));
   harts = keeps.harts;
 }
 
@@ -260,6 +293,11 @@ remembers-anew v b w hart page space leaf add full blank harts keeps = record {
   kept = keeps.kept ∙ ap (λ (k : SharedKept). added k space page add) (kept-blank b blank) ∙ sym (if-false (fits (added (kept_of v) space page add)) (added (kept_of v) space page add) (added nothing space page add) full);
   coherent = λ o walked coherent. keeps.coherent o walked (starts b o blank);
   held = keeps.held;
+  others = λ k differs.
+      keeps.others k differs
+      ∙ (ap (λ (x : SharedKept). if leads_to (x.links space (page / 1024)) add.key then tlb_at b.tlbs k else []) (kept-blank b blank)
+      ∙ ap (λ (y : Bool). if y then tlb_at v.tlbs k else [])
+      (sym (and-false (leads_to ((kept_of v).links space (page / 1024)) add.key) (fits (added (kept_of v) space page add)) full)));
   harts = keeps.harts ∙ harts;
 }
 

@@ -1,5 +1,5 @@
 -- Coherence over a change of an item that has no record: what an entry or a link depends on was not changed.
-use Rattle.std.proofs.Common.{◌≡◌, ◌≢◌, ℕ, suc, ◌+◌, ◌*◌, ◌^◌, false, true, List, [], ◌∷◌, ◌++◌, length, map, Option, Some, None, refl, sym, ap, ◌∙◌, subst}
+use Rattle.std.proofs.Common.{◌≡◌, ◌≢◌, ℕ, suc, ◌+◌, ◌*◌, ◌^◌, false, true, List, [], ◌∷◌, ◌++◌, map, Option, Some, None, sym, ap, ◌∙◌, subst}
 use Rattle.std.specs.List.{AllByRecursion as Each}
 use Rattle.cap_format.specs.Capability.{Capability}
 use Rattle.cap_format.specs.declared.item.Item.{Item}
@@ -8,8 +8,6 @@ use Rattle.object_store.specs.Store.{Items}
 use Rattle.object_store.specs.Meaning.{meaning}
 use Rattle.object_store.specs.Differ.{DifferIn}
 use Rattle.sv32_tables.specs.declared.leaf.Leaf.{Leaf as Entry}
-use Rattle.sv32_tables.specs.Shared.{SharedValue}
-use Rattle.tlb_model.specs.declared.entry.Entry.{Entry as TlbEntry}
 use Rattle.walk_meaning.specs.Laws.{Unread}
 use Rattle.walk_meaning.specs.Trail.{header_noted, trail, trail_from}
 use Rattle.walk_meaning.specs.Walk.{start_at}
@@ -24,13 +22,13 @@ use Rattle.producers.proofs.Staying.{meets-stays, space-stays, unread-append}
 use Rattle.depend_table.specs.Depend.{Depend, depend, has}
 use Rattle.map_cache.specs.Coherent.{IsFresh}
 use Rattle.map_cache.proofs.Coherence.{each_map}
-use Rattle.shared_leaves.specs.declared.key.Key.{Key}
 use Rattle.shared_leaves.specs.declared.key.Table.{Table}
 use Rattle.shared_leaves.specs.declared.key.Table.TheVariants.{Region, Root, Producer as Joins}
 use Rattle.shared_leaves.specs.Kept.{background_reads}
 use Rattle.shared_leaves.specs.Cache.{SharedCache, cache_of, key_at}
-use Rattle.shared_leaves.specs.Effects.{Forgets}
+use Rattle.shared_leaves.specs.Effects.{DropsHarts, Forgets, entry_left, is_left, link_left}
 use Rattle.shared_leaves.specs.Coherent.{IsCoherent, IsEntryIn, IsJoined, IsLinkTo, IsMet, IsRecorded}
+use Rattle.shared_leaves.proofs.Adding.{coherent-more}
 
 -- reads that are not of the item, before they are cut to a region
 unread-cut : (x : Item) (ns : List Noted) → Unread x (map cut ns) → Unread x ns
@@ -115,12 +113,15 @@ coherent-differs v x o q differ none coherent = record {
         absurd (cc)
 
 -- what the harts hold is no matter to what is left
-pub forgets-harts : (t : SharedValue) (keys : List Key) (tlbs to : List (List TlbEntry)) (ds : List Depend) (item : Item) → length to ≡ length tlbs → Forgets (cache_of t keys tlbs ds) (cache_of t keys to ds) item
-forgets-harts t keys tlbs to ds item harts = record {
-  keys = refl;
-  links = λ s r low. refl;
-  entries = λ k j low. refl;
-  records = λ d. refl;
-  coherent = λ o was. record { entries = was.entries; links = was.links };
-  harts = harts;
+pub forgets-harts : (v w : SharedCache) (item : Item) → DropsHarts v w → Forgets v w item
+forgets-harts v w item drops = record {
+  keys = drops.keys;
+  links = λ s r low. λ i. link_left (at i) item s r;
+  entries = λ k j low. λ i. entry_left (at i) item k j;
+  records = λ d. λ i. is_left (at i) item d;
+  coherent = λ o was. coherent-more v w o drops.tables drops.keys (λ d there. ap (λ (ds : List Depend). has ds d) drops.records ∙ there) was;
+  harts = drops.harts;
 }
+  where
+    at : cache_of w.tables w.keys [] w.records ≡ cache_of v.tables v.keys [] v.records
+    at = λ i. cache_of (drops.tables i) (drops.keys i) [] (drops.records i)

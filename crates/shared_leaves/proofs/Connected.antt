@@ -18,6 +18,7 @@ use Rattle.map_cache.specs.Cache.{tlb_at}
 use Rattle.map_cache.proofs.Codes.{number_itself, same_numbers, same_space_itself, same_space_tells, same_tests}
 use Rattle.shared_leaves.specs.declared.key.Key.{Key}
 use Rattle.shared_leaves.specs.Key.{is_leaf, root_key, same_key}
+use Rattle.shared_leaves.specs.Kept.{leads_to}
 use Rattle.shared_leaves.specs.Cache.{IsBacked, IsCache, cache_of, entry_for, entry_in, frame_of, key_at, key_of_link, link_for, link_in, root_at}
 use Rattle.shared_leaves.specs.Coherent.{IsCoherent, IsEntry, IsLink, IsRecorded}
 use Rattle.shared_leaves.specs.Effects.{Connects, SameEntriesFor, SetsPlace}
@@ -65,6 +66,35 @@ module _ (t : SharedValue) (keys : List Key) (tlbs : List (List TlbEntry)) (ds :
           let there = frame_of-is keys (root_key s) root cache.apart (root_space t keys tlbs ds cache root made ∙ ap (λ (x : Capability). Some (root_key x)) (sym same)) in
           absurd (none-some root (sym is ∙ there))
 
+  -- a region of a root is linked to the key of the leaf table to which the words lead
+  leads-there : (root region table : ℕ) → IsSharedRoot t root → link_at t root region ≡ Some table
+      → leads_to (link_for (cache_of t keys tlbs ds) (key_at keys root).space region) (key_at keys table) ≡ true
+  leads-there root region table made at =
+      ap (λ (r : Option ℕ). leads_to (link_in t keys region r) (key_at keys table)) (frame_of-is keys (root_key (key_at keys root).space) root cache.apart (root_space t keys tlbs ds cache root made))
+      ∙ (ap (λ (l : Option ℕ). leads_to (key_of_link keys l) (key_at keys table)) at ∙ same_key_itself (key_at keys table))
+
+  -- and to no other's
+  leads-elsewhere : (root region table : ℕ) → IsSharedRoot t root → IsLeafTable t table → region < 1024 → option_eq eqb (link_at t root region) (Some table) ≡ false
+      → leads_to (link_for (cache_of t keys tlbs ds) (key_at keys root).space region) (key_at keys table) ≡ false
+  leads-elsewhere root region table made leaf inside differs =
+      ap (λ (r : Option ℕ). leads_to (link_in t keys region r) (key_at keys table)) (frame_of-is keys (root_key (key_at keys root).space) root cache.apart (root_space t keys tlbs ds cache root made))
+      ∙ on (link_at t root region) refl differs
+    where
+      on : (l : Option ℕ) → link_at t root region ≡ l → option_eq eqb l (Some table) ≡ false → leads_to (key_of_link keys l) (key_at keys table) ≡ false
+      on None at differs = refl
+      on (Some f) at differs = case (same_key (key_at keys f) (key_at keys table)) refl
+        where
+          case : (b : Bool) → same_key (key_at keys f) (key_at keys table) ≡ b → b ≡ false
+          case false e = refl
+          case true e =
+              let same = same_key_tells (key_at keys f) (key_at keys table) e in
+              let here = (leaf_keyed t keys tlbs ds cache f (cache.linked root region f made inside at)).0 in
+              let there = (leaf_keyed t keys tlbs ds cache table leaf).0 in
+              let one = cache.apart f table (key_at keys table) (here ∙ ap (λ (k : Key). Some k) same) there in
+              let yes : (f == table) ≡ true = ap (λ (n : ℕ). n == table) one ∙ number_itself table in
+              let no : (f == table) ≡ false = differs in
+              absurd (cc)
+
   module _ (u : SharedValue) (to : List (List TlbEntry)) (root region table : ℕ) (made : IsSharedRoot t root) (leaf : IsLeafTable t table) (inside : region < 1024)
       (sets : SetsLink t u root region (Some table)) where
     more : (f : ℕ) (v : SharedUse) → slice_get u.uses f ≡ Some v → slice_get t.uses f ≡ Some v
@@ -108,9 +138,9 @@ module _ (t : SharedValue) (keys : List Key) (tlbs : List (List TlbEntry)) (ds :
             (subst (λ (n : ℕ). IsLink o (key_at keys n).space region (key_at keys table) (IsRecorded ds n (region * 1024))) r_is link))
 
     -- a region that gets a link, where no hart holds anything
-    pub connected : ((hart : ℕ) → tlb_at to hart ≡ []) → length to ≡ length tlbs
+    pub connected : ((hart : ℕ) → tlb_at to hart ≡ []) → length to ≡ length tlbs → option_eq eqb (link_at t root region) (Some table) ≡ false
         → Made u keys to ds (λ v. Connects (cache_of t keys tlbs ds) v (key_at keys root).space root region (key_at keys table) table)
-    connected dropped harts = record {
+    connected dropped harts differs = record {
       cache = record {
         frames = cache.frames ∙ sym (ap (λ (us : List SharedUse). length us) sets.uses);
         most_keys = cache.most_keys;
@@ -131,6 +161,7 @@ module _ (t : SharedValue) (keys : List Key) (tlbs : List (List TlbEntry)) (ds :
         links = links;
         entries = entries;
         coherent = coherent;
+        others = λ k. dropped k ∙ sym (ap (λ (b : Bool). if b then tlb_at tlbs k else []) (leads-elsewhere root region table made leaf inside differs));
         harts = harts;
       };
     }
@@ -152,6 +183,7 @@ module _ (t : SharedValue) (keys : List Key) (tlbs : List (List TlbEntry)) (ds :
     links = λ s r low. on s r (root_at keys s) refl;
     entries = λ x j low. refl;
     coherent = λ o link was. was;
+    others = λ k. sym (ap (λ (b : Bool). if b then tlb_at tlbs k else []) (leads-there root region table made at));
     harts = refl;
   }
     where

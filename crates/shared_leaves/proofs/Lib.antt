@@ -14,3 +14,7 @@ mod Unlinked
 mod Cleared
 mod Forgotten
 mod Changed
+mod Linked
+mod Regional
+mod Parted
+mod Served

@@ -1,6 +1,6 @@
 -- Coherence: each entry of a leaf table is what the walks behind its key reach now, each link leads where the walks of its region
 -- join, and what they read was recorded (this project's own).
-use Rattle.std.specs.Prelude.{ℕ, ◌≡◌, ◌<◌, true, not, ◌+◌, ◌*◌, ◌/◌, ◌^◌, List, ◌++◌, Some, Ok}
+use Rattle.std.specs.Prelude.{ℕ, ◌≡◌, ◌<◌, true, not, ◌+◌, ◌*◌, ◌/◌, ◌^◌, List, ◌++◌, Some, Ok, ⊤}
 use Rattle.std.specs.List.{AllByRecursion as Each}
 use Rattle.cap_format.specs.Capability.{Capability}
 use Rattle.guard_math.specs.Block.{holds}
@@ -81,3 +81,7 @@ pub record IsCoherent (v : SharedCache) (o : Items) : Type 0 where
       → IsEntry o (key_at v.keys frame) place entry (IsRecorded v.records frame place)
   pub links : (root region frame : ℕ) → IsSharedRoot v.tables root → region < 1024 → link_at v.tables root region ≡ Some frame
       → IsLink o (key_at v.keys root).space region (key_at v.keys frame) (IsRecorded v.records root (region * 1024))
+
+-- the leaf of a page of a space is what a load there reaches now, with the rights that the restrictions met leave
+abbrev pub IsFreshLeaf : Items → Capability → ℕ → Entry → Type 0
+IsFreshLeaf o space page leaf = IsFresh o space page leaf (λ n. ⊤)

@@ -1,5 +1,5 @@
 -- What the parts of the calls leave.
-use Rattle.std.specs.Prelude.{ℕ, ◌≡◌, ◌⊎◌, ◌<◌, ◌*◌, ◌/◌, ◌%◌, Bool, true, not, ◌&&◌, ◌==◌, if◌then◌else◌, List, [], ◌∷◌, length, slice_get, Option, Some, None}
+use Rattle.std.specs.Prelude.{ℕ, ◌≡◌, ◌≢◌, ◌⊎◌, ◌<◌, ◌+◌, ◌*◌, ◌/◌, ◌%◌, Bool, true, not, ◌&&◌, ◌==◌, if◌then◌else◌, List, [], ◌∷◌, ◌++◌, length, map, take, drop, slice_get, Option, Some, None}
 use Rattle.std.specs.List.{AllByRecursion as Each, list_any}
 use Rattle.cap_format.specs.Capability.{Capability}
 use Rattle.cap_format.specs.declared.item.Item.{Item}
@@ -18,8 +18,10 @@ use Rattle.shared_leaves.specs.declared.key.Key.{Key}
 use Rattle.shared_leaves.specs.declared.key.Table.{Table}
 use Rattle.shared_leaves.specs.declared.key.Table.TheVariants.{Root}
 use Rattle.shared_leaves.specs.declared.leaves.Leaves.{Leaves}
-use Rattle.shared_leaves.specs.Key.{is_leaf, root_key, same_key, with_key}
-use Rattle.shared_leaves.specs.Kept.{Addition, added, added_to, covers_note, is_on, noted_all}
+use Rattle.producers.specs.declared.producer.Produced.{Produced}
+use Rattle.producers.specs.Producer.{cut}
+use Rattle.shared_leaves.specs.Key.{is_leaf, own_key, producer_key, root_key, same_key, with_key}
+use Rattle.shared_leaves.specs.Kept.{Addition, added, added_to, background_reads, covers_note, is_on, leads_to, noted_all, spares_harts}
 use Rattle.shared_leaves.specs.Cache.{IsCache, SharedCache, entry_for, kept_of, link_for, note_of, notes_of, root_at, key_at}
 use Rattle.shared_leaves.specs.Coherent.{IsCoherent, IsEntry, IsLink, IsRecorded}
 
@@ -77,7 +79,7 @@ pub record NotesReads (old new : SharedCache) (key : Key) (frame : ℕ) (reads :
   pub stay : (d : Depend) → has old.records d ≡ true → has new.records d ≡ true
   pub there : Each (λ (n : Noted). has new.records (depend n.item frame n.block) ≡ true) reads
 
--- a region of a space is linked to a key's leaf table
+-- A region of a space is linked to a key's leaf table. Where it was linked to another, or to none, no hart holds anything then.
 pub record Connects (old new : SharedCache) (space : Capability) (root region : ℕ) (key : Key) (leaf : ℕ) : Type 0 where
   pub linked : link_at new.tables root region ≡ Some leaf
   pub keys : new.keys ≡ old.keys
@@ -85,6 +87,7 @@ pub record Connects (old new : SharedCache) (space : Capability) (root region : 
   pub links : (s : Capability) (r : ℕ) → r < 1024 → link_for new s r ≡ (if same_space s space && (r == region) then Some key else link_for old s r)
   pub entries : SameEntriesFor old new
   pub coherent : (o : Items) → IsLink o space region key (IsRecorded old.records root (region * 1024)) → IsCoherent old o → IsCoherent new o
+  pub others : (k : ℕ) → tlb_at new.tlbs k ≡ (if leads_to (link_for old space region) key then tlb_at old.tlbs k else [])
   pub harts : length new.tlbs ≡ length old.tlbs
 
 -- a place of a key's leaf table has an entry
@@ -125,6 +128,7 @@ pub record Keeps (old new : SharedCache) (hart : ℕ) (space : Capability) (page
   pub kept : kept_of new ≡ added (kept_of old) space page add
   pub coherent : (o : Items) → IsWalked o space page leaf add → IsCoherent old o → IsCoherent new o
   pub held : IsHeld new hart space page leaf
+  pub others : (k : ℕ) → k ≢ hart → tlb_at new.tlbs k ≡ (if leads_to ((kept_of old).links space (page / 1024)) add.key then tlb_at old.tlbs k else [])
   pub harts : length new.tlbs ≡ length old.tlbs
 
 -- the same, after all was forgotten where there would be too much
@@ -132,17 +136,28 @@ pub record Remembers (old new : SharedCache) (hart : ℕ) (space : Capability) (
   pub kept : kept_of new ≡ added_to (kept_of old) space page add
   pub coherent : (o : Items) → IsWalked o space page leaf add → IsCoherent old o → IsCoherent new o
   pub held : IsHeld new hart space page leaf
+  pub others : (k : ℕ) → k ≢ hart → tlb_at new.tlbs k ≡ (if spares_harts (kept_of old) space page add then tlb_at old.tlbs k else [])
   pub harts : length new.tlbs ≡ length old.tlbs
+
+-- what a walk adds, by its producer, if it has one, and by its reads
+abbrev pub addition_for : Capability → ℕ → Option Produced → List Noted → Addition
+addition_for space page None reads = record { key = own_key space (page / 1024); link_reads = []; entry_reads = map cut reads }
+addition_for space page (Some p) reads = record {
+  key = producer_key p.producer;
+  link_reads = take (p.before + 1) reads;
+  entry_reads = background_reads p.producer.background ++ map cut (drop p.before reads);
+}
 
 -- an entry that the key's leaf table has at the place is this one
 abbrev pub Agrees : SharedCache → Key → ℕ → Entry → Type 0
 Agrees v key place entry = (e : Entry) → entry_for v key place ≡ Some e → e ≡ entry
 
 -- no more than one hart's cache changes
-pub record ChangesHart (old new : SharedCache) : Type 0 where
+pub record ChangesHart (old new : SharedCache) (hart : ℕ) : Type 0 where
   pub tables : new.tables ≡ old.tables
   pub keys : new.keys ≡ old.keys
   pub records : new.records ≡ old.records
+  pub others : (k : ℕ) → k ≢ hart → tlb_at new.tlbs k ≡ tlb_at old.tlbs k
   pub harts : length new.tlbs ≡ length old.tlbs
 
 -- a hart holds what was reached
@@ -177,3 +192,11 @@ pub record Forgets (old new : SharedCache) (item : Item) : Type 0 where
 -- no hart holds anything
 abbrev pub AreDropped : SharedCache → Type 0
 AreDropped v = (hart : ℕ) → tlb_at v.tlbs hart ≡ []
+
+-- no hart holds anything, and nothing else changes
+pub record DropsHarts (old new : SharedCache) : Type 0 where
+  pub tables : new.tables ≡ old.tables
+  pub keys : new.keys ≡ old.keys
+  pub records : new.records ≡ old.records
+  pub dropped : AreDropped new
+  pub harts : length new.tlbs ≡ length old.tlbs

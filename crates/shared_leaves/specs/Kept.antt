@@ -18,6 +18,7 @@ use Rattle.walk_meaning.specs.Walk.{access}
 use Rattle.walk_meaning.specs.Trail.{noted_in, slots, trail}
 use Rattle.producers.specs.declared.producer.Background.{Background}
 use Rattle.producers.specs.Producer.{Point, cut, join_of, key_of}
+use Rattle.tlb_model.specs.declared.entry.Entry.{Entry}
 use Rattle.depend_table.specs.Depend.{lies_in, same_item}
 use Rattle.map_cache.specs.Key.{same_space}
 use Rattle.map_cache.specs.Kept.{counted, is_reached, item_code}
@@ -137,6 +138,24 @@ cost_of k o c address kind = if is_spared k o c address kind then 0 else slots o
 abbrev pub kept_after : SharedKept → Items → Capability → ℕ → Kind → SharedKept
 kept_after k o c address kind =
     if is_new k o c address kind then added_to k (counted o c) (address / 4096) (addition_of o c address kind) else k
+
+-- whether a link leads to a key
+abbrev pub leads_to : Option Key → Key → Bool
+leads_to None key = false
+leads_to (Some k) key = same_key k key
+
+-- whether an addition leaves what the harts hold: the region was linked to the key before, and there is not too much
+abbrev pub spares_harts : SharedKept → Capability → ℕ → Addition → Bool
+spares_harts k space page add = leads_to (k.links space (page / 1024)) add.key && fits (added k space page add)
+
+-- whether an access adds a page, and leaves no hart what it holds
+abbrev pub drops_harts : SharedKept → Items → Capability → ℕ → Kind → Bool
+drops_harts k o c address kind =
+    is_new k o c address kind && not (spares_harts k (counted o c) (address / 4096) (addition_of o c address kind))
+
+-- what an access on one hart makes of another hart's cache: it is empty where the region was linked anew, or all was forgotten
+abbrev pub tlb_after : SharedKept → Items → Capability → ℕ → Kind → List Entry → List Entry
+tlb_after k o c address kind entries = if drops_harts k o c address kind then [] else entries
 
 -- ---- a change
 

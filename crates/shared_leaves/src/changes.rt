@@ -11,7 +11,7 @@ ghost use Rattle.shared_leaves.specs.Key.{is_leaf};
 ghost use Rattle.shared_leaves.specs.Kept.{kept_without};
 ghost use Rattle.shared_leaves.specs.Cache.{key_at, kept_of};
 ghost use Rattle.shared_leaves.specs.Coherent.{IsCoherent};
-ghost use Rattle.shared_leaves.specs.Effects.{AreDropped, Forgets, IsKept, value_of};
+ghost use Rattle.shared_leaves.specs.Effects.{AreDropped, DropsHarts, Forgets, IsKept, value_of};
 
 use crate::key::Table;
 use crate::leaves::Leaves;
@@ -31,8 +31,17 @@ impl Leaves {
             → IsCoherent (value_of self.old) o → IsCoherent (value_of self.new) p }
         ensures harts { length self.new.tlbs.items ≡ length self.old.tlbs.items }
     {
-        drop_all(&mut self.tlbs);
+        self.drop_harts();
         'records: while self.clear_one(item) {}
+    }
+
+    /// Drops all that the harts hold.
+    fn drop_harts(&mut self)
+        requires { IsKept self.old }
+        ensures kept { IsKept self.new }
+        ensures done { DropsHarts (value_of self.old) (value_of self.new) }
+    {
+        drop_all(&mut self.tlbs);
     }
 
     /// Takes out a record of an item, with the entries or the links of its block. False where the item

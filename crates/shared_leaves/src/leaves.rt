@@ -53,7 +53,7 @@ impl Leaves {
             (λ leaf. IsHeld (value_of self.new) hart space (va / 4096) leaf) }
 
         ensures kept { IsKept self.new }
-        ensures changes { ChangesHart (value_of self.old) (value_of self.new) }
+        ensures changes { ChangesHart (value_of self.old) (value_of self.new) hart }
     {
         fill_law();
         let root = frame_of(&self.keys, &Key::root(space))?;

@@ -1,15 +1,16 @@
-//! Leaf tables shared between spaces: what is kept of where walks ended, as a mapping cache keeps it, with one leaf table
-//! for all spaces whose walks join at one producer.
+//! Leaf tables shared between spaces: a translator that keeps where walks ended, as the mapping cache does, with one
+//! leaf table for all spaces whose walks join at one producer.
 //!
-//! `Leaves` finds a page, keeps one with what its walk read, and forgets what a changed item makes wrong. Nothing here
-//! knows of processes, of instructions, or of how a walk goes; a translator that walks and keeps in `Leaves` what it
-//! found is not here yet.
+//! Nothing here knows of processes, of instructions, or of how a walk goes.
 #![tactic(auto)]
 
+mod additions;
 mod changes;
 mod keeping;
 mod key;
 mod leaves;
+mod shared_leaves;
+mod translating;
 
 pub use key::{Key, Table};
-pub use leaves::Leaves;
+pub use shared_leaves::SharedLeaves;

@@ -1,4 +1,5 @@
-use Rattle.std.proofs.Common.{◌/◌, sym, ◌∙◌, arith}
+use Rattle.std.proofs.Common.{ℕ, ◌/◌, eqb, Option, Some, sym, ap, ◌∙◌, arith}
+use Rattle.std.specs.Option.{option_eq}
 use Rattle.shared_leaves.specs.Cache.{key_at}
 use Rattle.shared_leaves.specs.Effects.{Connects, value_of}
 use Rattle.shared_leaves.proofs.Filed.{Made}
@@ -14,6 +15,7 @@ linked : (c : goal.After-link) → Made c.link.new.self c.args.self.now.keys.ite
 linked c =
     let old = c.args.self.now in
     connected old.tables old.keys.items old.tlbs.items old.records c.requires.kept c.link.new.self c.drop_all.new.tlbs.items c.args.root (c.args.va / 4096 / 1024) c.args.table c.requires.root c.requires.leaf (omega arith) c.link.ensures c.drop_all.ensures.tlbs c.drop_all.ensures.harts
+    (ap (λ (l : Option ℕ). option_eq eqb l (Some c.args.table)) (sym c.link_of.ensures) ∙ (sym c.eq.ensures ∙ c.if-eq.false))
 
 pub returns-clause-done : goal.returns-clause-done
 returns-clause-done c = (linked c).done

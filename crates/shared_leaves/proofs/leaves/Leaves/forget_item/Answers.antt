@@ -7,10 +7,8 @@ use Rattle.shared_leaves.proofs.leaves.Leaves.forget_item.Goals as goal
 -- all that was done to the records, and the harts before that
 all_done : (c : goal.After-records) → Forgets (value_of c.args.self.now) (value_of c.clear_one.new.self) c.args.item
 all_done c =
-    let old = c.args.self.now in
-    let start = value_of (record old { tlbs = c.drop_all.new.tlbs }) in
-    let harts = forgets-harts old.tables old.keys.items old.tlbs.items c.drop_all.new.tlbs.items old.records c.args.item c.drop_all.ensures.harts in
-    forgets-more (value_of old) start (value_of c.clear_one.new.self) c.args.item harts
+    let start = value_of c.drop_harts.new.self in
+    forgets-more (value_of c.args.self.now) start (value_of c.clear_one.new.self) c.args.item (forgets-harts (value_of c.args.self.now) start c.args.item c.drop_harts.ensures.done)
     (forgets-more start (value_of c.records.self) (value_of c.clear_one.new.self) c.args.item c.records.invariant.forgets c.clear_one.ensures.forgets)
 
 pub returns-clause-without : goal.returns-clause-without
