@@ -56,7 +56,7 @@ module _ (o : Items) (kind : Kind) (a : ℕ) (p : Point) (passes_here : PassesAt
   v = at_join k (a % 2 ^ 22)
 
   -- the two addresses behind the guards are one
-  addresses : (past p.cap p.at).address ≡ (past (gpt_cap p.cap.object) v).address
+  pub addresses : (past p.cap p.at).address ≡ (past (gpt_cap p.cap.object) v).address
   addresses =
       let behind : (past p.cap p.at).address % 2 ^ 22 ≡ a % 2 ^ 22 = low-past p.cap p.at passes_here.wide ∙ low in
       let fits : (past p.cap p.at).address < 2 ^ 32 = small p.cap.guard.l2g p.at.address is.guard.high in
@@ -71,7 +71,7 @@ module _ (o : Items) (kind : Kind) (a : ℕ) (p : Point) (passes_here : PassesAt
       same : (x y : ℕ) → x % 2 ^ 22 ≡ y → x < 2 ^ 32 → x ≡ (x / 2 ^ 22 * 2 ^ 22 + y) % 2 ^ 32
       same x y e fits = omega (arith, e, fits)
 
-  passed_too : (is_memory (gpt_cap p.cap.object).kind && passes (gpt_cap p.cap.object).guard v.address) ≡ true
+  pub passed_too : (is_memory (gpt_cap p.cap.object).kind && passes (gpt_cap p.cap.object).guard v.address) ≡ true
   passed_too =
       let behind : (past p.cap p.at).address % 2 ^ 22 ≡ a % 2 ^ 22 = low-past p.cap p.at passes_here.wide ∙ low in
       let below : (past p.cap p.at).address < 2 ^ p.cap.guard.l2g = mod-lt p.at.address (pow_pos p.cap.guard.l2g) in
@@ -82,7 +82,7 @@ module _ (o : Items) (kind : Kind) (a : ℕ) (p : Point) (passes_here : PassesAt
       passes_all : (x y : ℕ) → x % 2 ^ 22 ≡ y → x < 2 ^ 32 → ((x / 2 ^ 22 * 2 ^ 22 + y) / 2 ^ 32 == 0) ≡ true
       passes_all x y e fits = let zero_above : (x / 2 ^ 22 * 2 ^ 22 + y) / 2 ^ 32 ≡ 0 = omega (arith, e, fits) in ap (λ (n : ℕ). n == 0) zero_above
 
-  steps : strip (step o kind p.cap p.at) ≡ strip (step o kind (gpt_cap p.cap.object) v)
+  pub steps : strip (step o kind p.cap p.at) ≡ strip (step o kind (gpt_cap p.cap.object) v)
   steps =
       let header : HeaderValue = header_at o p.cap.object in
       let g : ℕ = p.cap.object in

@@ -5,3 +5,6 @@ pub mod Regions
 pub mod Staying
 pub mod Joins
 pub mod RegionLaw
+pub mod Wide
+pub mod Fronts
+pub mod Behind
