@@ -1,14 +1,14 @@
-mod Codes
+pub mod Codes
 mod Keyed
 mod Notes
 mod Invariant
-mod Economy
+pub mod Economy
 mod Filed
 mod Readings
 mod Connected
 mod Blank
 mod Adding
-mod Dropped
+pub mod Dropped
 mod Taking
 mod Unlinked
 mod Cleared
