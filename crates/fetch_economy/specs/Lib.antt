@@ -1,5 +1,6 @@
 pub mod Counts
 pub mod Economy
 pub mod Ages
+pub mod Follows
 pub mod Laws
 pub mod Worked

@@ -8,7 +8,7 @@ use Rattle.operations.specs.System.{System, Meant}
 use Rattle.operations.specs.Change.{Change, PageIs, CapPageIs, SlotIs, HeaderIs, EndpointIs, ProcessIs, Left, Readied, Woken, Destroyed, applied, applied_all, item_of, first_item, item_in}
 use Rattle.operations.specs.Changed.{DifferBy}
 use Rattle.machine_state.specs.Operation.{change_touches}
-use Rattle.run_economy.specs.Follows.{Follows}
+use Rattle.fetch_economy.specs.Follows.{Follows}
 use Rattle.run_economy.proofs.Destroyed.{differ-destruction}
 
 -- no item

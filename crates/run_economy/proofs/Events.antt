@@ -64,7 +64,7 @@ use Rattle.kernel_core.specs.SystemCall.{call_with, copy_cap, moved, move_cap, S
 use Rattle.kernel_core.specs.Instruction.{performed, perform}
 use Rattle.kernel_core.specs.Event.{decoded_to, fetched_from, instruction, stepped, tick_of, event_by, event_of}
 use Rattle.kernel_core.specs.Run.{run_state, run_touches}
-use Rattle.run_economy.specs.Follows.{Follows}
+use Rattle.fetch_economy.specs.Follows.{Follows}
 use Rattle.run_economy.specs.Laws.{RunsAreFollowed, RunsTellAges}
 use Rattle.run_economy.proofs.Followed.{follows-append, follows-followed, follows-gpt_call, follows-ages}
 use Rattle.run_economy.proofs.Changes.{changes-follow}

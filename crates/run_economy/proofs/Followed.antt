@@ -6,7 +6,7 @@ use Rattle.machine_state.specs.Outcome.Touch.{DataAccess, CapAccess, GptCall, Ch
 use Rattle.messages.specs.Followed.{followed}
 use Rattle.fetch_economy.specs.Ages.{AgesAreTold}
 use Rattle.fetch_economy.proofs.Told.{told-same, ages-differ}
-use Rattle.run_economy.specs.Follows.{Follows}
+use Rattle.fetch_economy.specs.Follows.{Follows}
 
 -- one list behind another
 pub follows-append : (o p q : Items) (ts us : List Touch) → Follows o ts p → Follows p us q → Follows o (ts ++ us) q

@@ -7,7 +7,7 @@ use Rattle.kernel_core.specs.Run.{run_state, run_touches}
 use Rattle.fetch_economy.specs.Ages.{AgesAreTold}
 use Rattle.fetch_economy.specs.Counts.{accesses, gpt_calls, fetched_by}
 use Rattle.fetch_economy.specs.Economy.{at_start, need_fits, uncovered}
-use Rattle.run_economy.specs.Follows.{Follows}
+use Rattle.fetch_economy.specs.Follows.{Follows}
 
 -- along a run each access is over the items of its moment, and each change of an item is told
 abbrev pub RunsAreFollowed : Type 0
