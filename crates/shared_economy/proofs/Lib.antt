@@ -1,0 +1,12 @@
+pub mod Bound
+mod Keys
+mod Few
+mod Worked
+mod Sets
+mod Places
+mod Trails
+mod Added
+mod Meets
+mod Adding
+mod Changed
+pub mod Economic

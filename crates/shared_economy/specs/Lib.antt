@@ -1,0 +1,5 @@
+pub mod Counts
+pub mod Need
+pub mod Accesses
+pub mod Laws
+pub mod Worked
