@@ -97,3 +97,9 @@ stands_on-same old new held held' taken taken' fetches fetches' count course oth
   written = subst (λ (c : Course). Appends taken taken' c.records) (same s.given) s.written;
   fetched = subst (λ (c : Course). fetches' ≡ fetches + count c.touches) (same s.given) s.fetched;
 }
+
+-- what is so of what lines come to is so of it by another name
+pub on_parts-same : (left : Option (List Part)) (course other : List Part → Course) (Q : Course → Type 0) → ((parts : List Part) → course parts ≡ other parts)
+    → OnParts left (λ parts. Q (course parts)) → OnParts left (λ parts. Q (other parts))
+on_parts-same None course other Q same all = tt
+on_parts-same (Some parts) course other Q same all = subst Q (same parts) all

@@ -1,6 +1,5 @@
 -- What is written last: its exit, and why a call ends with it.
-use Rattle.std.proofs.Common.{◌≡◌, ◌≢◌, ◌+◌, ◌∙◌, [], ℕ, List, Option, sym, ap, subst, arith}
-use Rattle.std.specs.Io.KnownBytes.{Appends}
+use Rattle.std.proofs.Common.{◌≡◌, ◌≢◌, ◌∙◌, [], ℕ, List, Option, sym, ap, subst, arith}
 use Rattle.std.proofs.lemmas.Option.{none-some}
 use Rattle.coy_io.specs.Causes.{Rose}
 use Rattle.coy_io.specs.Lines.{Part}
@@ -10,7 +9,7 @@ use Rattle.listing_read.specs.Statement.{ListingValue}
 use Rattle.listing_read.specs.declared.place.Place.TheVariants.{Header}
 use Rattle.courses.specs.Listed.{Behind, lines_course, listed_course}
 use Rattle.courses.specs.Course.{ComesTo, HasEntries, ends_in}
-use Rattle.courses.specs.Ending.{Output, Outputs, Fetches, Ends, HasCauses, refused_listing, too_long}
+use Rattle.courses.specs.Ending.{Output, Ends, HasCauses, refused_listing, too_long}
 use Rattle.courses.specs.Exit.{status_of}
 use Rattle.courses.specs.declared.exit.Exit.{Exit}
 use Rattle.courses.specs.declared.exit.Exit.TheVariants.{Done, Usage, ReadFault, WriteFault, OutOfMemory}

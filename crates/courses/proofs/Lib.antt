@@ -3,3 +3,4 @@ pub mod Lasts
 pub mod Sound
 pub mod Bytes
 pub mod Unlisted
+pub mod Running

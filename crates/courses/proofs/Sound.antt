@@ -1,5 +1,5 @@
 -- No more slots are fetched than the bounds on what lines come to.
-use Rattle.std.proofs.Common.{◌≡◌, ◌≤◌, ◌+◌, ℕ, List, arith}
+use Rattle.std.proofs.Common.{◌≤◌, ◌+◌, ℕ, List, arith}
 use Rattle.coy_io.specs.Lines.{Part}
 use Rattle.listing_read.specs.Listing.{Listed, Good, Refused, Past, listing_of}
 use Rattle.listing_read.specs.Statement.{ListingValue}

@@ -3,18 +3,18 @@ use Rattle.std.proofs.Common.{◌≡◌, ◌≢◌, ◌+◌, ◌∙◌, [], ℕ,
 use Rattle.std.specs.Io.KnownBytes.{Appends, Keeps}
 use Rattle.std.proofs.KnownBytes.{Appends-nil, Keeps-refl}
 use Rattle.coy_io.specs.Causes.{Rose}
-use Rattle.coy_io.specs.Lines.{parts_of, whole_lines}
+use Rattle.coy_io.specs.Lines.{parts_of}
 use Rattle.coy_io.specs.Reader.{Reader, new_reader, ahead}
 use Rattle.listing_read.specs.Listing.{Listed, Refused, Past, IsCause, listing_of}
 use Rattle.listing_read.specs.Reads.{GivesFront}
 use Rattle.listing_read.specs.declared.fault.ListingFault.{ListingFault}
 use Rattle.listing_read.specs.declared.fault.ListingFault.TheVariants as no_listing
 use Rattle.listing_read.specs.declared.place.Place.TheVariants.{Header}
-use Rattle.courses.specs.Course.{Course, ComesTo, cached, course_output, ends_in}
-use Rattle.courses.specs.Ending.{Output, Outputs, IsGiven, Ends, HasCauses, refused_listing, too_long}
+use Rattle.kernel_core.specs.Outcome.{Touch}
+use Rattle.courses.specs.Course.{ComesTo, course_output, ends_in}
+use Rattle.courses.specs.Ending.{Output, Outputs, IsGiven, Ends, refused_listing, too_long}
 use Rattle.courses.specs.Head.{EndsUnlisted, TellsFault}
 use Rattle.courses.specs.Listed.{Behind, listed_course, lines_course}
-use Rattle.courses.specs.Sure.{StandsSure}
 use Rattle.courses.specs.declared.exit.Exit.{Exit}
 use Rattle.courses.specs.declared.exit.Exit.TheVariants.{Done, Usage, ReadFault, WriteFault, OutOfMemory}
 use Rattle.courses.proofs.Bytes.{sure-listing}
@@ -31,9 +31,10 @@ outputs_memory now new o same = record {
 
 -- where reading failed or memory was wanting, with nothing fetched, that is what any lines come to
 comes-nothing : (held taken taken' : Option (List ℕ)) (exit : Exit) → (IsGiven exit → ⊥) → ((o : Output) → Outputs taken taken' exit o)
-    → (behind : Behind) (fetches : ℕ) → IfSome held (λ bytes. ComesTo taken taken' fetches fetches exit cached (lines_course behind (parts_of bytes)))
-comes-nothing None taken taken' exit never outputs behind fetches = tt
-comes-nothing (Some bytes) taken taken' exit never outputs behind fetches = record {
+    → (behind : Behind) (count : List Touch → ℕ) → count [] ≡ 0 → (fetches : ℕ)
+    → IfSome held (λ bytes. ComesTo taken taken' fetches fetches exit count (lines_course behind (parts_of bytes)))
+comes-nothing None taken taken' exit never outputs behind count none fetches = tt
+comes-nothing (Some bytes) taken taken' exit never outputs behind count none fetches = record {
   output = outputs (course_output (lines_course behind (parts_of bytes)));
   fetched = record { whole = λ given. absurd (never given); most = omega arith };
 }
@@ -47,11 +48,12 @@ module _ {K : Type 0} (taken : K → Option (List ℕ)) (faults : K → ℕ) (ol
   by_listing : (listed : Listed) (o : Output) → ((behind : Behind) → listed_course behind listed ≡ ends_in o)
       → (known : Option (List ℕ)) → IfSome known (λ bytes. listing_of Header 1 (parts_of bytes) ≡ listed)
       → Ends (taken old) (taken new) (faults old) (faults new) exit o
-      → (behind : Behind) (fetches : ℕ) → IfSome known (λ bytes. ComesTo (taken old) (taken new) fetches fetches exit cached (lines_course behind (parts_of bytes)))
-  by_listing listed o is None cause e behind fetches = tt
-  by_listing listed o is (Some bytes) cause e behind fetches =
-      subst (ComesTo (taken old) (taken new) fetches fetches exit cached) (sym (ap (listed_course behind) cause ∙ is behind))
-      (comes-last (taken old) (taken new) (faults old) (faults new) fetches fetches exit cached o e refl refl)
+      → (behind : Behind) (count : List Touch → ℕ) → count [] ≡ 0 → (fetches : ℕ)
+      → IfSome known (λ bytes. ComesTo (taken old) (taken new) fetches fetches exit count (lines_course behind (parts_of bytes)))
+  by_listing listed o is None cause e behind count none fetches = tt
+  by_listing listed o is (Some bytes) cause e behind count none fetches =
+      subst (ComesTo (taken old) (taken new) fetches fetches exit count) (sym (ap (listed_course behind) cause ∙ is behind))
+      (comes-last (taken old) (taken new) (faults old) (faults new) fetches fetches exit count o e refl none)
 
   -- a refusal was told
   told : (listed : Listed) (o : Output) → ((behind : Behind) → listed_course behind listed ≡ ends_in o) → IsLast o → (o.exit ≡ Done → ⊥)
@@ -59,7 +61,7 @@ module _ {K : Type 0} (taken : K → Option (List ℕ)) (faults : K → ℕ) (ol
       → unread' ≡ unread → Ends_here
   told listed o is last never cause e quiet = record {
     comes = by_listing listed o is held cause e;
-    sure = λ read behind fetches. absurd (last-read _ _ _ _ _ _ last e read);
+    sure = λ read behind count none fetches. absurd (last-read _ _ _ _ _ _ last e read);
     done = λ done. never (last-done _ _ _ _ _ _ last e done);
     usage = last-usage _ _ _ _ _ _ last e;
     causes = last-causes _ _ _ _ _ _ last e unread unread' (faults old) quiet refl;
@@ -86,9 +88,9 @@ module _ {K : Type 0} (taken : K → Option (List ℕ)) (faults : K → ℕ) (ol
       past (Some bytes) cause = cause
   ends-unlisted no_listing.ReadFault cause e front rose quiet = record {
     comes = comes-nothing held (taken old) (taken new) exit (λ given. given.read e.0) (λ o. subst (λ x. Outputs (taken old) (taken new) x o) (sym e.0) (outputs_none (taken old) (taken new) o));
-    sure = λ read behind fetches.
-        sure-listing behind held held' (taken old) (taken new) fetches fetches cached first reader starts (front refl)
-        (subst (λ k. Appends (taken old) (taken k) []) (sym e.1) (Appends-nil (taken old))) refl refl;
+    sure = λ read behind count none fetches.
+        sure-listing behind held held' (taken old) (taken new) fetches fetches count first reader starts (front refl)
+        (subst (λ k. Appends (taken old) (taken k) []) (sym e.1) (Appends-nil (taken old))) refl none;
     done = λ done. let same : ReadFault ≡ Done = sym e.0 ∙ done in cc;
     usage = λ usage. let same : ReadFault ≡ Usage = sym e.0 ∙ usage in cc;
     causes = record {
@@ -102,7 +104,7 @@ module _ {K : Type 0} (taken : K → Option (List ℕ)) (faults : K → ℕ) (ol
   ends-unlisted no_listing.OutOfMemory cause e front rose quiet = record {
     comes = comes-nothing held (taken old) (taken new) exit (λ given. given.memory e.0)
         (λ o. subst (λ x. Outputs (taken old) (taken new) x o) (sym e.0) (outputs_memory (taken old) (taken new) o (ap taken e.1)));
-    sure = λ read behind fetches. let bad : OutOfMemory ≡ ReadFault = sym e.0 ∙ read in cc;
+    sure = λ read behind count none fetches. let bad : OutOfMemory ≡ ReadFault = sym e.0 ∙ read in cc;
     done = λ done. let same : OutOfMemory ≡ Done = sym e.0 ∙ done in cc;
     usage = λ usage. let same : OutOfMemory ≡ Usage = sym e.0 ∙ usage in cc;
     causes = record {

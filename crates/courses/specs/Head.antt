@@ -3,7 +3,8 @@ use Rattle.std.specs.Prelude.{◌≡◌, ◌≢◌, ℕ, List, [], Option, IfSom
 use Rattle.coy_io.specs.Lines.{parts_of, whole_lines}
 use Rattle.listing_read.specs.declared.fault.ListingFault.{ListingFault}
 use Rattle.listing_read.specs.declared.fault.ListingFault.TheVariants as no_listing
-use Rattle.courses.specs.Course.{ComesTo, cached}
+use Rattle.kernel_core.specs.Outcome.{Touch}
+use Rattle.courses.specs.Course.{ComesTo}
 use Rattle.courses.specs.Ending.{EndsIn, HasCauses, refused_listing, too_long}
 use Rattle.courses.specs.Listed.{Behind, lines_course}
 use Rattle.courses.specs.Sure.{StandsSure}
@@ -17,12 +18,13 @@ TellsFault taken faults no_listing.TooLong old new exit = EndsIn taken faults ol
 TellsFault taken faults no_listing.ReadFault old new exit = (exit ≡ ReadFault) × (new ≡ old)
 TellsFault taken faults no_listing.OutOfMemory old new exit = (exit ≡ OutOfMemory) × (new ≡ old)
 
--- the call ends here, with no slot fetched: by what the known bytes come to, or where reading failed by what its lines do;
--- no entry is told
+-- the call ends here, with no slot fetched, however the slots of touches are counted: by what the known bytes come to, or
+-- where reading failed by what its lines do; no entry is told
 pub record EndsUnlisted (held held' taken taken' : Option (List ℕ)) (unread unread' unwritten unwritten' : ℕ) (exit : Exit) : Type 0 where
-  pub comes : (behind : Behind) (fetches : ℕ) → IfSome held (λ bytes. ComesTo taken taken' fetches fetches exit cached (lines_course behind (parts_of bytes)))
-  pub sure : exit ≡ ReadFault → (behind : Behind) (fetches : ℕ)
-      → StandsSure held held' taken taken' fetches fetches cached (λ bytes. lines_course behind (whole_lines [] bytes))
+  pub comes : (behind : Behind) (count : List Touch → ℕ) → count [] ≡ 0 → (fetches : ℕ)
+      → IfSome held (λ bytes. ComesTo taken taken' fetches fetches exit count (lines_course behind (parts_of bytes)))
+  pub sure : exit ≡ ReadFault → (behind : Behind) (count : List Touch → ℕ) → count [] ≡ 0 → (fetches : ℕ)
+      → StandsSure held held' taken taken' fetches fetches count (λ bytes. lines_course behind (whole_lines [] bytes))
   pub done : exit ≢ Done
   pub usage : exit ≢ Usage
   pub causes : HasCauses unread unread' unwritten unwritten' exit

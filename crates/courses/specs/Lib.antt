@@ -5,5 +5,6 @@ pub mod Entries
 pub mod Course
 pub mod Bounds
 pub mod Listed
+pub mod Running
 pub mod Sure
 pub mod Head

@@ -13,10 +13,10 @@ use Rattle.back_command.proofs.input.back.Goals as goal
 
 pub returns-in-Err-clause-comes : goal.returns-in-Err-clause-comes
 returns-in-Err-clause-comes g c =
-    known-output _ _ _ 0 0 _ cached (λ bytes. lines_course (back_course c.args.number) (parts_of bytes)) (c.in-Err.ensures.ended.comes (back_course c.args.number) 0)
+    known-output _ _ _ 0 0 _ cached (λ bytes. lines_course (back_course c.args.number) (parts_of bytes)) (c.in-Err.ensures.ended.comes (back_course c.args.number) cached refl 0)
 
 pub returns-in-Err-clause-sure : goal.returns-in-Err-clause-sure
-returns-in-Err-clause-sure g c = λ fault. (c.in-Err.ensures.ended.sure fault (back_course c.args.number) 0).writes
+returns-in-Err-clause-sure g c = λ fault. (c.in-Err.ensures.ended.sure fault (back_course c.args.number) cached refl 0).writes
 
 pub answer_lines-requires-clause-none : goal.answer_lines-requires-clause-none
 answer_lines-requires-clause-none g c = ap (λ (h : History). h.before) c.in-Ok-new-2.ensures.history

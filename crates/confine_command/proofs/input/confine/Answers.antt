@@ -1,4 +1,4 @@
-use Rattle.std.proofs.Common.{◌∙◌, [], IfSome, ap, subst}
+use Rattle.std.proofs.Common.{◌∙◌, [], IfSome, ap, refl, subst}
 use Rattle.coy_io.specs.Lines.{parts_of, whole_lines}
 use Rattle.confine_check.specs.Sides.{all_right}
 use Rattle.courses.proofs.Bytes.{on_bytes, stands_on-same, sure-behind}
@@ -10,7 +10,7 @@ use Rattle.confine_command.proofs.Concluding.{at_listing, of-listing}
 use Rattle.confine_command.proofs.input.confine.Goals as goal
 
 pub returns-in-Err-clause-sure : goal.returns-in-Err-clause-sure
-returns-in-Err-clause-sure g c = λ fault. c.in-Err.ensures.ended.sure fault confine_course _
+returns-in-Err-clause-sure g c = λ fault. c.in-Err.ensures.ended.sure fault confine_course cached refl _
 
 pub returns-clause-comes : goal.returns-clause-comes
 returns-clause-comes g c =

@@ -1,5 +1,4 @@
-use Rattle.std.proofs.Common.{◌≡◌, ◌∙◌, Result, Err, sym, ap}
-use Rattle.listing_read.specs.declared.fault.ListingFault.TheVariants.{ReadFault}
+use Rattle.std.proofs.Common.{◌∙◌, Err, sym, ap}
 use Rattle.courses.proofs.Unlisted.{ends-unlisted}
 use Rattle.courses.proofs.head.read_head.Goals as goal
 

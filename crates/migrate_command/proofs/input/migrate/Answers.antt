@@ -1,4 +1,4 @@
-use Rattle.std.proofs.Common.{[], IfSome, subst}
+use Rattle.std.proofs.Common.{[], IfSome, refl, subst}
 use Rattle.coy_io.specs.Lines.{parts_of, whole_lines}
 use Rattle.courses.proofs.Bytes.{on_bytes, sure-behind}
 use Rattle.courses.specs.Course.{ComesTo, cached}
@@ -9,7 +9,7 @@ use Rattle.migrate_command.proofs.Again.{bytes-migrated}
 use Rattle.migrate_command.proofs.input.migrate.Goals as goal
 
 pub returns-in-Err-clause-sure : goal.returns-in-Err-clause-sure
-returns-in-Err-clause-sure g c = λ fault fetches. c.in-Err.ensures.ended.sure fault migrate_course fetches
+returns-in-Err-clause-sure g c = λ fault fetches. c.in-Err.ensures.ended.sure fault migrate_course cached refl fetches
 
 pub returns-clause-comes : goal.returns-clause-comes
 returns-clause-comes g c = λ fetches.

@@ -13,10 +13,10 @@ pub answer_lines-requires-clause-nothing : goal.answer_lines-requires-clause-not
 answer_lines-requires-clause-nothing g c = ap kept_of c.in-Ok-boot.ensures.translator ∙ c.in-Ok-new.ensures.nothing
 
 pub returns-in-Err-clause-comes : goal.returns-in-Err-clause-comes
-returns-in-Err-clause-comes g c = c.in-Err.ensures.ended.comes (schedule_course c.args.command) _
+returns-in-Err-clause-comes g c = c.in-Err.ensures.ended.comes (schedule_course c.args.command) cached refl _
 
 pub returns-in-Err-clause-sure : goal.returns-in-Err-clause-sure
-returns-in-Err-clause-sure g c = λ fault. c.in-Err.ensures.ended.sure fault (schedule_course c.args.command) _
+returns-in-Err-clause-sure g c = λ fault. c.in-Err.ensures.ended.sure fault (schedule_course c.args.command) cached refl _
 
 pub returns-clause-comes : goal.returns-clause-comes
 returns-clause-comes g c =
