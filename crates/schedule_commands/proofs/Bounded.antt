@@ -1,6 +1,6 @@
 -- No more slots are fetched than the bounds on what a run comes to.
 use Rattle.std.proofs.Common.{◌≤◌, ◌+◌, ◌*◌, ℕ, List, Bool, true, false, if◌then◌else◌, nat_lt, arith}
-use Rattle.cap_format.specs.declared.kind.CapKind.TheVariants.{Gpt, Process}
+use Rattle.cap_format.specs.declared.kind.CapKind.TheVariants.{Process}
 use Rattle.coy_io.specs.Lines.{Part}
 use Rattle.image_builder.specs.Boot.{booted}
 use Rattle.listing_read.specs.Statement.{ListingValue}
@@ -13,13 +13,13 @@ use Rattle.kernel_core.specs.State.{State, space_of}
 use Rattle.map_cache.specs.Kept.{nothing}
 use Rattle.fetch_economy.proofs.Bound.{bound_in_every_run, slot_reads-most}
 use Rattle.fetch_economy.proofs.Economic.{fetch_economy}
-use Rattle.fetch_economy.specs.Economy.{need_fits}
 use Rattle.run_economy.proofs.Events.{run-ages}
 use Rattle.coyotos_words.specs.declared.command.Command.{Command}
 use Rattle.coyotos_words.specs.declared.command.Command.TheVariants.{Walk}
 use Rattle.courses.specs.Course.{ends_in}
 use Rattle.courses.proofs.Sound.{IsSound, ends-sound}
-use Rattle.schedule_commands.specs.Finished.{course_behind, course_of, finished, fetches_for, accesses_for, printed_for, last_accesses, last_fetches, last_printed, schedule_course}
+use Rattle.schedule_commands.specs.Finished.{course_behind, course_of, finished, fetches_for, accesses_for, printed_for, schedule_course}
+use Rattle.courses.specs.Running.{if_ended}
 use Rattle.schedule_commands.specs.Runs.{runs}
 use Rattle.schedule_replay.specs.Replay.{count_answer, run_answer}
 use Rattle.schedule_replay.specs.Scheduled.{Scheduled, scheduled}
@@ -35,7 +35,8 @@ for-most (Walk process kind address) s = on (nat_lt process (size_of s.store.ite
     on false = omega arith
 for-most _ s = omega arith
 
-last-most : (command : Command) (s : State) (answer : Replayed) → last_fetches command s answer ≤ 32 * last_accesses command s answer + 16 * last_printed command s answer
+last-most : (command : Command) (s : State) (answer : Replayed)
+    → if_ended (fetches_for command s) answer ≤ 32 * if_ended (accesses_for command s) answer + 16 * if_ended (printed_for command s) answer
 last-most command s (answers.Ended counts) = for-most command s
 last-most command s _ = omega arith
 

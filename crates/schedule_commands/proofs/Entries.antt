@@ -1,5 +1,5 @@
 -- The lines of entries.
-use Rattle.std.proofs.Common.{◌≡◌, List, [], ◌∷◌, ◌++◌, refl, ap, ◌∙◌}
+use Rattle.std.proofs.Common.{◌≡◌, List, [], ◌∷◌, ◌++◌, ap}
 use Rattle.map_cache.specs.declared.mapping.Mapping.{Mapping}
 use Rattle.schedule_commands.specs.Tables.{entry_text, entries_text}
 

@@ -3,7 +3,8 @@ ghost use Rattle.std.specs.Prelude.{◌≡◌, ◌<◌, ◌≤◌, ◌+◌, ◌*
 ghost use Rattle.kernel_core.specs.State.{state_of, space_of};
 ghost use Rattle.schedule_commands.specs.Runs.{runs};
 ghost use Rattle.courses.specs.Ending.{EndsIn, Fetches};
-ghost use Rattle.schedule_commands.specs.Finished.{finished, count_text, summary_text, access_text, last_state_text, fetches_for, Concludes};
+ghost use Rattle.courses.specs.Running.{ConcludesBy};
+ghost use Rattle.schedule_commands.specs.Finished.{finished, count_text, summary_text, access_text, last_state_text, fetches_for, runner_of};
 ghost use Rattle.map_cache.specs.Cache.{kept_of};
 ghost use Rattle.walk_meaning.specs.Trail.{slots};
 ghost use Rattle.walk_meaning.specs.Walk.{access};
@@ -36,7 +37,7 @@ pub(crate) fn conclude<K: Sink, L: Ledger>(
     fetches: &mut Steps<L>,
 ) -> Exit
     ensures concludes { let kept = kept_of machine.now.translator in
-        Concludes K.taken K.faults command (state_of machine.now) kept answer
+        ConcludesBy K.taken K.faults (runner_of command) (state_of machine.now) kept answer
         output.old output.new fetches.old fetches.new result }
     ensures stays { runs command ≡ false → fetches.new ≡ fetches.old }
 {

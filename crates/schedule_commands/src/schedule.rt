@@ -8,7 +8,8 @@ ghost use Rattle.kernel_core.specs.State.{state_of};
 ghost use Rattle.schedule_commands.specs.Runs.{mode_of, runs};
 ghost use Rattle.courses.specs.Ending.{HasCauses};
 ghost use Rattle.courses.specs.Course.{ComesTo, HasEntries, cached};
-ghost use Rattle.schedule_commands.specs.Finished.{course_of, StandsBehind};
+ghost use Rattle.courses.specs.Sure.{StandsOn};
+ghost use Rattle.schedule_commands.specs.Finished.{course_of};
 ghost use Rattle.schedule_replay.specs.Scheduled.{OnParts, scheduled};
 
 use crate::finishing::conclude;
@@ -41,9 +42,9 @@ pub(crate) fn answer_lines<S: Source, K: Sink, L: Ledger>(
         (course_of command (state_of machine.old) (scheduled machine.old.objects.harts lines.old.number parts))) }
     ensures end { result ≡ Exit.Done → IsAtEnd (S.held input.new) }
     ensures sure { result ≡ Exit.ReadFault →
-        StandsBehind machine.old.objects.harts lines.old lines.new
-        (S.held input.old) (S.held input.new) (K.taken output.old) (K.taken output.new)
-        fetches.old fetches.new cached (course_of command (state_of machine.old)) }
+        StandsOn lines.old lines.new (S.held input.old) (S.held input.new)
+        (K.taken output.old) (K.taken output.new) fetches.old fetches.new cached (λ parts.
+        course_of command (state_of machine.old) (scheduled machine.old.objects.harts lines.old.number parts)) }
 
     // What the entries of the mapping cache say then.
     ensures entries { result ≡ Exit.Done → OnParts (ahead lines.old (S.held input.old)) (λ parts.

@@ -1,12 +1,12 @@
 use Rattle.std.proofs.Common.{◌∙◌, [], IfSome, ap, refl, subst}
 use Rattle.coy_io.specs.Lines.{parts_of, whole_lines}
 use Rattle.map_cache.specs.Cache.{kept_of}
-use Rattle.courses.proofs.Bytes.{on_bytes, sure-behind}
+use Rattle.courses.proofs.Bytes.{on_bytes, on_parts-same, stands_on-same, sure-behind}
 use Rattle.courses.specs.Course.{ComesTo, HasEntries, cached}
 use Rattle.courses.specs.Listed.{lines_course}
 use Rattle.courses.specs.Sure.{StandsSure}
 use Rattle.schedule_commands.specs.Finished.{schedule_course}
-use Rattle.schedule_commands.proofs.Behind.{at_listing, stands-on}
+use Rattle.schedule_commands.proofs.Behind.{of-listing}
 use Rattle.schedule_commands.proofs.input.answer_schedule.Goals as goal
 
 pub answer_lines-requires-clause-nothing : goal.answer_lines-requires-clause-nothing
@@ -25,13 +25,13 @@ returns-clause-comes g c =
     ComesTo (g.K.Sink.taken o) (g.K.Sink.taken c.answer_lines.new.output) c.args.fetches.now c.answer_lines.new.fetches c.answer_lines.result cached (lines_course (schedule_course c.args.command) (parts_of bytes))))
     c.in-Ok.ensures.silent
     (on_bytes (schedule_course c.args.command) _ _ c.new-lines.result c.read_head.new.lines c.in-Ok.listing (ComesTo _ _ _ _ _ cached) c.new-lines.ensures c.in-Ok.ensures.listed
-    (at_listing c.args.command c.in-Ok.listing _ _ _ harts c.in-Ok-boot.ensures.state _ (ComesTo _ _ _ _ _ cached) c.answer_lines.ensures.comes))
+    (on_parts-same _ _ _ (ComesTo _ _ _ _ _ cached) (of-listing c.args.command c.in-Ok.listing _ _ _ harts c.in-Ok-boot.ensures.state) c.answer_lines.ensures.comes))
 
 pub returns-clause-entries : goal.returns-clause-entries
 returns-clause-entries g c =
     let harts = ap (λ sizes. sizes.harts) c.in-Ok-boot.ensures.sizes in
     λ done. on_bytes (schedule_course c.args.command) _ _ c.new-lines.result c.read_head.new.lines c.in-Ok.listing HasEntries c.new-lines.ensures c.in-Ok.ensures.listed
-    (at_listing c.args.command c.in-Ok.listing _ _ _ harts c.in-Ok-boot.ensures.state _ HasEntries (c.answer_lines.ensures.entries done))
+    (on_parts-same _ _ _ HasEntries (of-listing c.args.command c.in-Ok.listing _ _ _ harts c.in-Ok-boot.ensures.state) (c.answer_lines.ensures.entries done))
 
 pub returns-clause-sure : goal.returns-clause-sure
 returns-clause-sure g c =
@@ -41,4 +41,4 @@ returns-clause-sure g c =
     (λ bytes. lines_course (schedule_course c.args.command) (whole_lines [] bytes)))
     c.in-Ok.ensures.silent
     (sure-behind (schedule_course c.args.command) _ _ _ _ _ _ _ _ c.new-lines.result c.read_head.new.lines c.answer_lines.new.lines c.in-Ok.listing c.new-lines.ensures c.in-Ok.ensures.given
-    (stands-on c.args.command c.in-Ok.listing _ _ _ harts c.in-Ok-boot.ensures.state _ _ _ _ _ _ _ _ _ refl (c.answer_lines.ensures.sure fault)))
+    (stands_on-same _ _ _ _ _ _ _ _ _ _ _ (of-listing c.args.command c.in-Ok.listing _ _ _ harts c.in-Ok-boot.ensures.state) (c.answer_lines.ensures.sure fault)))
