@@ -44,7 +44,8 @@ pub(crate) fn answer_lines<S: Source, K: Sink, L: Ledger>(
     ensures sure { result ≡ Exit.ReadFault →
         StandsOn lines.old lines.new (S.held input.old) (S.held input.new)
         (K.taken output.old) (K.taken output.new) fetches.old fetches.new cached (λ parts.
-        course_of command (state_of machine.old) (scheduled machine.old.objects.harts lines.old.number parts)) }
+        course_of command (state_of machine.old)
+        (scheduled machine.old.objects.harts lines.old.number parts)) }
 
     // What the entries of the mapping cache say then.
     ensures entries { result ≡ Exit.Done → OnParts (ahead lines.old (S.held input.old)) (λ parts.

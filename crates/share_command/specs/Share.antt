@@ -4,12 +4,12 @@ use Rattle.kernel_core.specs.Outcome.{Touch}
 use Rattle.kernel_core.specs.State.{State}
 use Rattle.image_builder.specs.Boot.{booted}
 use Rattle.shared_leaves.specs.Kept.{SharedKept, cost_of, kept_after, kept_without, nothing}
+use Rattle.shared_economy.specs.Counts.{fetched_by, frames}
 use Rattle.schedule_replay.specs.Scheduled.{Scheduled, scheduled}
 use Rattle.schedule_replay.specs.declared.mode.Mode.TheVariants.{Records}
 use Rattle.courses.specs.Course.{Course}
 use Rattle.courses.specs.Listed.{Behind}
 use Rattle.courses.specs.Running.{Runner, running}
-use Rattle.share_command.specs.Frames.{fetched_by, frames}
 
 -- the line that tells how many frames are in use
 unfoldable pub frames_text : ℕ → List ℕ

@@ -11,6 +11,7 @@ ghost use Rattle.courses.specs.Course.{ComesTo};
 ghost use Rattle.courses.specs.Ending.{HasCauses};
 ghost use Rattle.courses.specs.Listed.{lines_course};
 ghost use Rattle.courses.specs.Sure.{StandsOn, StandsSure};
+ghost use Rattle.share_command.specs.Few.{IsSharedBounded, TellsFew};
 ghost use Rattle.share_command.specs.Share.{share_course, shared_fetched, sharing};
 
 use crate::telling::conclude;
@@ -34,12 +35,20 @@ pub fn share<S: Source, K: Sink, L: Ledger>(
 ) -> Exit
     // What the known bytes come to, and where the source stands then.
     ensures comes { IfSome (S.held input.old) (λ bytes.
-        ComesTo (K.taken output.old) (K.taken output.new) fetches.old fetches.new result shared_fetched
+        ComesTo (K.taken output.old) (K.taken output.new)
+        fetches.old fetches.new result shared_fetched
         (lines_course share_course (parts_of bytes))) }
     ensures end { result ≡ Exit.Done → IsAtEnd (S.held input.new) }
     ensures sure { result ≡ Exit.ReadFault →
         StandsSure (S.held input.old) (S.held input.new) (K.taken output.old) (K.taken output.new)
-        fetches.old fetches.new shared_fetched (λ bytes. lines_course share_course (whole_lines [] bytes)) }
+        fetches.old fetches.new shared_fetched (λ bytes.
+        lines_course share_course (whole_lines [] bytes)) }
+
+    // How many frames are told at most, and how many slots are fetched.
+    ensures fewer { result ≡ Exit.Done → IfSome (S.held input.old) (λ bytes.
+        TellsFew (lines_course share_course (parts_of bytes))) }
+    ensures bounded { IfSome (S.held input.old) (λ bytes.
+        IsSharedBounded fetches.old fetches.new (lines_course share_course (parts_of bytes))) }
 
     // Why it may end otherwise.
     ensures usage { result ≢ Exit.Usage }
@@ -76,13 +85,16 @@ fn answer_lines<S: Source, K: Sink, L: Ledger>(
 
     // What the known lines come to, and where the source stands then.
     ensures comes { OnParts (ahead lines.old (S.held input.old)) (λ parts.
-        ComesTo (K.taken output.old) (K.taken output.new) fetches.old fetches.new result shared_fetched
-        (sharing (state_of machine.old) (scheduled machine.old.objects.harts lines.old.number parts))) }
+        ComesTo (K.taken output.old) (K.taken output.new)
+        fetches.old fetches.new result shared_fetched
+        (sharing (state_of machine.old)
+        (scheduled machine.old.objects.harts lines.old.number parts))) }
     ensures end { result ≡ Exit.Done → IsAtEnd (S.held input.new) }
     ensures sure { result ≡ Exit.ReadFault →
         StandsOn lines.old lines.new (S.held input.old) (S.held input.new)
         (K.taken output.old) (K.taken output.new) fetches.old fetches.new shared_fetched
-        (λ parts. sharing (state_of machine.old) (scheduled machine.old.objects.harts lines.old.number parts)) }
+        (λ parts. sharing (state_of machine.old)
+        (scheduled machine.old.objects.harts lines.old.number parts)) }
 
     // Why it may end otherwise.
     ensures usage { result ≢ Exit.Usage }

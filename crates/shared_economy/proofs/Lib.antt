@@ -1,6 +1,6 @@
 pub mod Bound
 mod Keys
-mod Few
+pub mod Few
 mod Worked
 mod Sets
 mod Places
