@@ -6,8 +6,8 @@ use Rattle.clap.specs.Kinds.{Kinds}
 use Rattle.clap.specs.Faults.{defaults_fault, level_fault, walk_fault}
 use Rattle.clap.specs.declared.error.kind.ErrorKind.TheVariants.{MissingRequiredArgument, UnknownArgument}
 use Rattle.coyotos_words.specs.Command.{is_dashed}
-use Rattle.coyotos_words.specs.Forms.{forms, walk_form, make_form}
-use Rattle.coyotos_words.specs.Matches.{access_asked, number_asked, walk_asked, make_asked}
+use Rattle.coyotos_words.specs.Forms.{forms, walk_form, make_form, back_form}
+use Rattle.coyotos_words.specs.Matches.{access_asked, number_asked, undone_asked, walk_asked, make_asked, back_asked}
 use Rattle.coyotos_words.proofs.Plain.{stands, walked_plain, fault_plain, level_is}
 
 -- a form as `clap` builds it below the program
@@ -160,3 +160,36 @@ summary_more n s word rest plain_n plain_s plain =
     level_is (ready make_form) [] words false [] (walk make_places [] nothing_held words) _ refl
     (after_number n (s ∷ word ∷ rest) plain_n ∙ after_summary n s (word ∷ rest) plain_s
     ∙ fault_plain (ready make_form) [] (with_summary n s) 3 word rest plain refl)
+
+-- ---- `back N`
+
+abbrev back_places : List Rule
+back_places = (ready back_form).rules
+
+abbrev with_count : Text → Held
+with_count n = (to_positional back_places (arg_by_index back_places 1) n (stands nothing_held 1) nothing_held).held
+
+count_walk : (n : Text) → is_dashed n ≡ false → walk back_places [] nothing_held (n ∷ []) ≡ stands (with_count n) 2
+count_walk n plain = walked_plain back_places [] nothing_held 1 n plain refl
+
+after_count : (n : Text) (rest : List Text) → is_dashed n ≡ false
+    → walk_fault (ready back_form) [] (walk_from nothing_held) (n ∷ rest) ≡ walk_fault (ready back_form) [] (stands (with_count n) 2) rest
+after_count n rest plain = fault_plain (ready back_form) [] nothing_held 1 n rest plain refl
+
+pub no_count : fails back_form [] ≡ MissingRequiredArgument ∷ []
+unfolding walk_fault defaults_fault
+no_count = refl
+
+pub count_fault : (n : Text) → is_dashed n ≡ false → fails back_form (n ∷ []) ≡ []
+unfolding walk_fault defaults_fault
+count_fault n plain = level_is (ready back_form) [] (n ∷ []) false [] (stands (with_count n) 2) [] (count_walk n plain) (after_count n [] plain)
+
+pub count_rows : (n : Text) → is_dashed n ≡ false → back_asked (rows back_form (n ∷ [])) ≡ undone_asked (Some n)
+count_rows n plain = ap (λ (w : Walk). back_asked (finished back_places w.held)) (count_walk n plain)
+
+pub count_more : (n word : Text) (rest : List Text) → is_dashed n ≡ false → is_dashed word ≡ false
+    → fails back_form (n ∷ word ∷ rest) ≡ UnknownArgument ∷ []
+count_more n word rest plain_n plain =
+    let words = n ∷ word ∷ rest in
+    level_is (ready back_form) [] words false [] (walk back_places [] nothing_held words) _ refl
+    (after_count n (word ∷ rest) plain_n ∙ fault_plain (ready back_form) [] (with_count n) 2 word rest plain refl)

@@ -6,7 +6,7 @@ use Rattle.coy_text.specs.Numeral.{dec_of, hex_of}
 use Rattle.walk_meaning.specs.declared.kind.Kind.{Kind}
 use Rattle.walk_meaning.specs.declared.kind.Kind.TheVariants.{Fetch, Load, Store, CapLoad, CapStore}
 use Rattle.coyotos_words.specs.declared.command.Command.{Command}
-use Rattle.coyotos_words.specs.declared.command.Command.TheVariants.{Help, Check, Run, Trace, Tables, Walk, Make, Pack, Unpack, Migrate, Confine}
+use Rattle.coyotos_words.specs.declared.command.Command.TheVariants.{Help, Check, Run, Trace, Tables, Walk, Make, Pack, Unpack, Migrate, Confine, Back}
 
 -- a word that begins with `-`
 abbrev pub is_dashed : List ℕ → Bool
@@ -77,13 +77,23 @@ make_of (number ∷ []) = made_of number false
 make_of (number ∷ word ∷ []) = if bytes_eq word (codes "summary") then made_of number true else None
 make_of _ = None
 
+-- the undoing of the last events, as many as a decimal number says
+abbrev pub undone_of : List ℕ → Option Command
+undone_of number = option_map (λ n. Back n) (dec_of number)
+
+-- the words behind `back`
+abbrev pub back_of : List (List ℕ) → Option Command
+back_of (number ∷ []) = undone_of number
+back_of _ = None
+
 -- what words ask for of which none begins with `-`
 abbrev pub form_of : List (List ℕ) → Option Command
 form_of [] = None
 form_of (word ∷ words) =
     if bytes_eq word (codes "walk") then walk_of words
     else (if bytes_eq word (codes "make") then make_of words
-    else bare_of word words)
+    else (if bytes_eq word (codes "back") then back_of words
+    else bare_of word words))
 
 -- what the program's words ask for
 abbrev pub command_of : List (List ℕ) → Option Command

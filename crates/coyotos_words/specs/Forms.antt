@@ -16,6 +16,10 @@ walk_form = record (new_shape (codes "walk")) { rules = wanted (codes "process")
 abbrev pub make_form : Shape
 make_form = record (new_shape (codes "make")) { rules = wanted (codes "number") ∷ new_rule (codes "summary") ∷ [] }
 
+-- `back N`
+abbrev pub back_form : Shape
+back_form = record (new_shape (codes "back")) { rules = wanted (codes "number") ∷ [] }
+
 -- the program, which wants a form, and answers no word by itself
 abbrev pub top : App
 top = record {
@@ -35,4 +39,4 @@ with_bare = fold (λ app word. with_subcommand app (new_shape word))
 
 -- all forms
 abbrev pub forms : App
-forms = with_bare (with_subcommand (with_subcommand top walk_form) make_form) (map (λ e. e.0) bare_commands)
+forms = with_bare (with_subcommand (with_subcommand (with_subcommand top walk_form) make_form) back_form) (map (λ e. e.0) bare_commands)

@@ -33,6 +33,10 @@ pub enum Command {
     Migrate,
     /// Read a listing and the lines of a cut, and write whether the cut holds.
     Confine,
+    /// Run the input without a record, undo so many of its last events, and write the state before them.
+    Back {
+        number: u32,
+    },
 }
 
 /// The forms of one word, each with what it asks for.

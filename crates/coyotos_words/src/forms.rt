@@ -2,7 +2,7 @@
 ghost use Rattle.std.specs.Prelude.{◌≡◌, IfOk, map, true, false};
 ghost use Rattle.clap.specs.Words.{app_of, rule_of, with_subcommand, new_rule};
 ghost use Rattle.clap.specs.declared.builder.command.Command.TheViews.{out-Command as fields_of};
-ghost use Rattle.coyotos_words.specs.Forms.{forms, top, walk_form, make_form, with_bare};
+ghost use Rattle.coyotos_words.specs.Forms.{forms, top, walk_form, make_form, back_form, with_bare};
 
 use crate::command::{BARE_COMMANDS, Command};
 use clap::Arg;
@@ -14,7 +14,8 @@ pub(crate) fn forms<'a>(alloc: Global) -> Result<clap::Command<'a>, AllocError>
 {
     let walk = with_form(top(alloc), walk_form(alloc)?)?;
     let make = with_form(walk, make_form(alloc)?)?;
-    with_bare(alloc, make, &BARE_COMMANDS)
+    let back = with_form(make, back_form(alloc)?)?;
+    with_bare(alloc, back, &BARE_COMMANDS)
 }
 
 fn top<'a>(alloc: Global) -> clap::Command<'a>
@@ -74,6 +75,14 @@ fn make_form<'a>(alloc: Global) -> Result<clap::Command<'a>, AllocError>
     clap::Command::new(alloc, "make")
         .arg(wanted(alloc, "number"))?
         .arg(Arg::new(alloc, "summary"))
+}
+
+/// `back N`.
+fn back_form<'a>(alloc: Global) -> Result<clap::Command<'a>, AllocError>
+    ensures shape { IfOk result (λ r. (app_of r).top ≡ back_form) }
+    ensures local { IfOk result (λ r. (fields_of r).has_globals ≡ false) }
+{
+    clap::Command::new(alloc, "back").arg(wanted(alloc, "number"))
 }
 
 /// A place that has to be filled.

@@ -1,10 +1,10 @@
 //! What the words that `clap` took ask for.
 ghost use Rattle.std.specs.Prelude.{◌≡◌};
 ghost use Rattle.clap.specs.Words.{first_of, rows_of, found_of, subcommand_rows_of};
-ghost use Rattle.coyotos_words.specs.Matches.{text_in, asked, walk_asked, make_asked};
+ghost use Rattle.coyotos_words.specs.Matches.{text_in, asked, walk_asked, make_asked, back_asked};
 
 use crate::command::{BARE_COMMANDS, Command};
-use crate::places::{access_asked, bare_named, number_asked};
+use crate::places::{access_asked, bare_named, number_asked, undone_asked};
 use clap::ArgMatches;
 
 /// What the form that was entered asks for, by its places.
@@ -17,6 +17,9 @@ pub(crate) fn asked(matches: &ArgMatches<'_>) -> Option<Command>
     }
     if word == "make" {
         return make_asked(places);
+    }
+    if word == "back" {
+        return back_asked(places);
     }
     bare_named(&BARE_COMMANDS, word)
 }
@@ -35,6 +38,12 @@ fn make_asked(places: &ArgMatches<'_>) -> Option<Command>
     ensures { result ≡ make_asked (rows_of (found_of places.now)) }
 {
     number_asked(found(places, "number"), found(places, "summary"))
+}
+
+fn back_asked(places: &ArgMatches<'_>) -> Option<Command>
+    ensures { result ≡ back_asked (rows_of (found_of places.now)) }
+{
+    undone_asked(found(places, "number"))
 }
 
 /// The word in a place, as it was given.

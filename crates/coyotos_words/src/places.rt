@@ -1,7 +1,7 @@
 //! What stands in the places of a form.
 ghost use Rattle.std.specs.Prelude.{◌≡◌, map};
-ghost use Rattle.coyotos_words.specs.Command.{bare_named, process_named, kind_named, access_named, made_of};
-ghost use Rattle.coyotos_words.specs.Matches.{text_in, access_asked, number_asked};
+ghost use Rattle.coyotos_words.specs.Command.{bare_named, process_named, kind_named, access_named, made_of, undone_of};
+ghost use Rattle.coyotos_words.specs.Matches.{text_in, access_asked, number_asked, undone_asked};
 
 use crate::command::Command;
 use coy_text::{read_dec, read_hex};
@@ -81,4 +81,18 @@ fn made(number: &str, summary: bool) -> Option<Command>
 {
     let number = read_dec(number.as_bytes()).ok()?;
     Some(Command::Make { number, summary })
+}
+
+/// What `back` asks for.
+pub(crate) fn undone_asked(number: Option<&str>) -> Option<Command>
+    ensures { result ≡ undone_asked (text_in number.entry) }
+{
+    undone(number?)
+}
+
+fn undone(number: &str) -> Option<Command>
+    ensures { result ≡ undone_of number.now }
+{
+    let number = read_dec(number.as_bytes()).ok()?;
+    Some(Command::Back { number })
 }
