@@ -3,20 +3,20 @@ use Rattle.std.proofs.Common.{◌≡◌, ◌≢◌, ◌+◌, ◌∙◌, if◌the
 use Rattle.std.specs.List.{list_any}
 use Rattle.std.specs.Io.KnownBytes.{Appends}
 use Rattle.coy_io.specs.Causes.{Rose}
-use Rattle.coy_io.specs.Lines.{parts_of, whole_lines}
+use Rattle.coy_io.specs.Lines.{Part, parts_of, whole_lines}
 use Rattle.generated_text.specs.Text.{make_text}
-use Rattle.kernel_core.specs.Outcome.{Touch}
 use Rattle.coyotos_words.specs.Command.{is_dashed, is_help}
 use Rattle.coyotos_words.specs.declared.command.Command.{Command}
-use Rattle.coyotos_words.specs.declared.command.Command.TheVariants.{Help, Check, Make, Pack, Unpack, Migrate, Confine}
+use Rattle.coyotos_words.specs.declared.command.Command.TheVariants.{Help, Check, Make, Pack, Unpack, Migrate, Confine, Back}
 use Rattle.coyotos_words.proofs.Dashed.{bytes_dashed}
-use Rattle.coyotos_cli.specs.Command.{command_for, asks_input, asks_run, asks_schedule, summary_number}
+use Rattle.coyotos_cli.specs.Command.{command_for, asks_input, asks_run, summary_number, tells_fetches}
 use Rattle.courses.specs.Exit.{status_of}
 use Rattle.courses.specs.Ending.{Output, EndsNothing, Outputs, Completes, Ends, Fetches, HasCauses}
 use Rattle.courses.specs.Course.{Course, ends_in, cached, course_output, course_fetches, ComesTo, HasEntries}
 use Rattle.courses.specs.Bounds.{IsBounded}
-use Rattle.courses.specs.Listed.{listed_course, lines_course}
-use Rattle.courses.specs.Sure.{StandsSure}
+use Rattle.courses.specs.Listed.{Behind, listed_course, lines_course}
+use Rattle.courses.specs.Sure.{StandsSure, WritesSure}
+use Rattle.schedule_replay.specs.Scheduled.{Scheduled, scheduled}
 use Rattle.schedule_commands.specs.Runs.{runs}
 use Rattle.schedule_commands.proofs.Bounded.{schedule-sound}
 use Rattle.image_builder.specs.Boot.{booted}
@@ -26,6 +26,7 @@ use Rattle.migrate_command.specs.Migrate.{migrate_course}
 use Rattle.migrate_command.specs.Same.{Says, SaySame}
 use Rattle.migrate_command.proofs.Sound.{migrate-entries, migrate-sound}
 use Rattle.confine_command.proofs.Sound.{confine-entries, confine-sound}
+use Rattle.back_command.specs.Back.{back_course, undoing}
 use Rattle.image_binary.specs.Image.{unpacked}
 use Rattle.image_commands.specs.Packed.{pack_course, pack_output}
 use Rattle.image_commands.specs.Passed.{passed}
@@ -35,7 +36,7 @@ use Rattle.coyotos_cli.specs.Program.{input_course, command_course, words_course
 use Rattle.courses.proofs.Lasts.{IsLast, lines-entries, none-entries}
 use Rattle.courses.proofs.Sound.{IsSound, ends-sound, lines-sound, sound-bounded}
 use Rattle.coyotos_cli.specs.Laws.{SameCourseLaw}
-use Rattle.coyotos_cli.specs.Contract.{bytes_for, Answers, HasForm, FetchesFor}
+use Rattle.coyotos_cli.specs.Contract.{bytes_for, Answers, ComesFor, HasForm, StandsFor, FetchesFor}
 use Rattle.courses.specs.declared.exit.Exit.{Exit}
 use Rattle.courses.specs.declared.exit.Exit.TheVariants.{Usage, ReadFault, WriteFault, OutOfMemory}
 
@@ -80,30 +81,42 @@ summary-none (Make number false) asks none = refl
 summary-none (Make number true) asks none = cc
 summary-none _ asks none = cc
 
--- a command that asks for input and lets nothing run asks for no run
-pub run-input : (command : Command) → asks_schedule command ≡ true → asks_input command ≡ true → asks_run (Some command) ≡ false → runs command ≡ false
+-- whether it is one of the commands over a schedule that are of one crate
+abbrev is_scheduled : Command → Bool
+is_scheduled Pack = false
+is_scheduled Unpack = false
+is_scheduled Migrate = false
+is_scheduled Confine = false
+is_scheduled (Back number) = false
+is_scheduled _ = true
+
+-- one of these that asks for input and lets nothing run asks for no run
+pub run-input : (command : Command) → is_scheduled command ≡ true → asks_input command ≡ true → asks_run (Some command) ≡ false → runs command ≡ false
 run-input Check reads asks still = refl
 run-input (Make number summary) reads asks still = cc
 run-input _ reads asks still = cc
 
--- a command that asks for a schedule comes to what that does
-pub input-schedule : (command : Command) → asks_schedule command ≡ true → (input : Input) → input_course command input ≡ lines_course (schedule_course command) input.lines
+-- it comes to what is done with its schedule
+pub input-schedule : (command : Command) → is_scheduled command ≡ true → (input : Input) → input_course command input ≡ lines_course (schedule_course command) input.lines
 input-schedule Pack asks input = cc
 input-schedule Unpack asks input = cc
 input-schedule Migrate asks input = cc
 input-schedule Confine asks input = cc
+input-schedule (Back number) asks input = cc
 input-schedule _ asks input = refl
 
--- a command asks for one that is none of the others
-pub is-schedule : (command : Command) → command ≢ Pack → command ≢ Unpack → command ≢ Migrate → command ≢ Confine → asks_schedule command ≡ true
-is-schedule Pack packs unpacks migrates confines = absurd (packs refl)
-is-schedule Unpack packs unpacks migrates confines = absurd (unpacks refl)
-is-schedule Migrate packs unpacks migrates confines = absurd (migrates refl)
-is-schedule Confine packs unpacks migrates confines = absurd (confines refl)
-is-schedule _ packs unpacks migrates confines = refl
+-- a command is one of them that is none of the others
+pub is-schedule : (command : Command) → command ≢ Pack → command ≢ Unpack → command ≢ Migrate → command ≢ Confine → ((number : ℕ) → command ≢ Back number)
+    → is_scheduled command ≡ true
+is-schedule Pack packs unpacks migrates confines backs = absurd (packs refl)
+is-schedule Unpack packs unpacks migrates confines backs = absurd (unpacks refl)
+is-schedule Migrate packs unpacks migrates confines backs = absurd (migrates refl)
+is-schedule Confine packs unpacks migrates confines backs = absurd (confines refl)
+is-schedule (Back number) packs unpacks migrates confines backs = absurd (backs number refl)
+is-schedule _ packs unpacks migrates confines backs = refl
 
 -- what is so of the one is so of the other, for the known bytes
-pub known-schedule : (command : Command) → asks_schedule command ≡ true → (held : Option (List ℕ)) (Q : Course → Type 0) → IfSome held (λ bytes. Q (lines_course (schedule_course command) (parts_of bytes)))
+pub known-schedule : (command : Command) → is_scheduled command ≡ true → (held : Option (List ℕ)) (Q : Course → Type 0) → IfSome held (λ bytes. Q (lines_course (schedule_course command) (parts_of bytes)))
     → IfSome held (λ bytes. Q (input_course command (whole_input bytes)))
 known-schedule command asks None Q all = tt
 known-schedule command asks (Some bytes) Q all = subst Q (sym (input-schedule command asks (whole_input bytes))) all
@@ -127,13 +140,35 @@ pub known-confine : (held : Option (List ℕ)) → IfSome held (λ bytes. HasEnt
 known-confine None = tt
 known-confine (Some bytes) = lines-entries confine_course confine-entries (parts_of bytes)
 
--- inputs that say the same come to the same
-pub same-course : SameCourseLaw
-same-course bytes text same command asks =
-    input-schedule command asks (whole_input bytes) ∙ of_one bytes same.one ∙ sym (of_one text same.other) ∙ sym (input-schedule command asks (whole_input text))
+-- the entries of a state that is undone are none
+pub known-back : (number : ℕ) (held : Option (List ℕ)) → IfSome held (λ bytes. HasEntries (lines_course (back_course number) (parts_of bytes)))
+known-back number None = tt
+known-back number (Some bytes) = lines-entries (back_course number) (λ listing last rest. none-entries (back_course number listing last rest).last) (parts_of bytes)
+
+-- inputs that say the same come to the same, for a command that goes by their listing and by what their lines ask for alone
+same-behind : (bytes text : List ℕ) (same : SaySame bytes text) (behind : Behind) (after : Scheduled → Course)
+    → ((last : ℕ) (rest : List Part) → behind same.listing last rest ≡ after (scheduled same.listing.sizes.harts last rest))
+    → lines_course behind (parts_of bytes) ≡ lines_course behind (parts_of text)
+same-behind bytes text same behind after goes = of_one bytes same.one ∙ sym (of_one text same.other)
   where
-    of_one : (bytes : List ℕ) (one : Says bytes same.listing same.all) → lines_course (schedule_course command) (parts_of bytes) ≡ course_of command (booted same.listing) same.all
-    of_one bytes one = ap (listed_course (schedule_course command)) one.listed ∙ ap (course_of command (booted same.listing)) one.asked
+    of_one : (bytes : List ℕ) (one : Says bytes same.listing same.all) → lines_course behind (parts_of bytes) ≡ after same.all
+    of_one bytes one = ap (listed_course behind) one.listed ∙ goes one.last one.rest ∙ ap after one.asked
+
+same-scheduled : (bytes text : List ℕ) → SaySame bytes text → (command : Command) → is_scheduled command ≡ true
+    → input_course command (whole_input bytes) ≡ input_course command (whole_input text)
+same-scheduled bytes text same command is =
+    input-schedule command is (whole_input bytes)
+    ∙ same-behind bytes text same (schedule_course command) (course_of command (booted same.listing)) (λ last rest. refl)
+    ∙ sym (input-schedule command is (whole_input text))
+
+-- and so for each command that runs or counts them
+pub same-course : SameCourseLaw
+same-course bytes text same Pack asks = cc
+same-course bytes text same Unpack asks = cc
+same-course bytes text same Migrate asks = cc
+same-course bytes text same Confine asks = cc
+same-course bytes text same (Back number) asks = same-behind bytes text same (back_course number) (undoing number (booted same.listing)) (λ last rest. refl)
+same-course bytes text same command asks = same-scheduled bytes text same command refl
 
 -- ---- the bounds on what is fetched
 
@@ -146,29 +181,40 @@ command-sound Pack input = lines-sound pack_course (λ listing last rest. ends-s
 command-sound Unpack input = ends-sound _
 command-sound Migrate input = lines-sound migrate_course migrate-sound input.lines
 command-sound Confine input = lines-sound confine_course confine-sound input.lines
+command-sound (Back number) input = lines-sound (back_course number) (λ listing last rest. ends-sound _) input.lines
 command-sound command input = lines-sound (schedule_course command) (schedule-sound command) input.lines
 
 module _ (command : Command) (taken taken' : Option (List ℕ)) (fetches fetches' : ℕ) (exit : Exit) where
+  abbrev Comes : Course → Type 0
+  Comes = ComesFor (Some command) taken taken' fetches fetches' exit
+
+  -- what comes with all that it fetches
+  comes-told : (course : Course) → ComesTo taken taken' fetches fetches' exit cached course → Comes course
+  comes-told course comes = record { output = comes.output; fetched = λ tells. comes.fetched }
+
+  pub comes-known : (course : List ℕ → Course) (held : Option (List ℕ)) → IfSome held (λ bytes. ComesTo taken taken' fetches fetches' exit cached (course bytes)) → IfSome held (λ bytes. Comes (course bytes))
+  comes-known course None comes = tt
+  comes-known course (Some bytes) comes = comes-told (course bytes) comes
+
   -- what is so of the lines of the input is so of what the command comes to
   pub comes-input : (held : Option (List ℕ)) → asks_input command ≡ true
-      → IfSome held (λ bytes. ComesTo taken taken' fetches fetches' exit cached (input_course command (whole_input bytes)))
-      → IfSome (bytes_for (Some command) held) (λ bytes. ComesTo taken taken' fetches fetches' exit cached (command_course command (whole_input bytes)))
+      → IfSome held (λ bytes. Comes (input_course command (whole_input bytes)))
+      → IfSome (bytes_for (Some command) held) (λ bytes. Comes (command_course command (whole_input bytes)))
   comes-input held asks comes =
-      subst (λ read. IfSome (if read then held else Some []) (λ bytes. ComesTo taken taken' fetches fetches' exit cached (command_course command (whole_input bytes)))) (sym asks)
+      subst (λ read. IfSome (if read then held else Some []) (λ bytes. Comes (command_course command (whole_input bytes)))) (sym asks)
       (told held comes)
     where
-      told : (held : Option (List ℕ)) → IfSome held (λ bytes. ComesTo taken taken' fetches fetches' exit cached (input_course command (whole_input bytes)))
-          → IfSome held (λ bytes. ComesTo taken taken' fetches fetches' exit cached (command_course command (whole_input bytes)))
+      told : (held : Option (List ℕ)) → IfSome held (λ bytes. Comes (input_course command (whole_input bytes))) → IfSome held (λ bytes. Comes (command_course command (whole_input bytes)))
       told None comes = tt
-      told (Some bytes) comes = subst (ComesTo taken taken' fetches fetches' exit cached) (sym (course-input command (whole_input bytes) asks)) comes
+      told (Some bytes) comes = subst Comes (sym (course-input command (whole_input bytes) asks)) comes
 
   -- a command that asks for none comes to the same whatever it is
   pub comes-other : (held : Option (List ℕ)) → asks_input command ≡ false
       → ComesTo taken taken' fetches fetches' exit cached (command_course command no_input)
-      → IfSome (bytes_for (Some command) held) (λ bytes. ComesTo taken taken' fetches fetches' exit cached (command_course command (whole_input bytes)))
+      → IfSome (bytes_for (Some command) held) (λ bytes. Comes (command_course command (whole_input bytes)))
   comes-other held asks comes =
-      subst (λ read. IfSome (if read then held else Some []) (λ bytes. ComesTo taken taken' fetches fetches' exit cached (command_course command (whole_input bytes)))) (sym asks)
-      (subst (ComesTo taken taken' fetches fetches' exit cached) (sym (course-other command no_input asks)) comes)
+      subst (λ read. IfSome (if read then held else Some []) (λ bytes. Comes (command_course command (whole_input bytes)))) (sym asks)
+      (subst Comes (sym (course-other command no_input asks)) (comes-told (command_course command no_input) comes))
 
   -- where its text by itself was written, and nothing fetched
   pub comes-alone : (faults faults' : ℕ) → asks_input command ≡ false → asks_run (Some command) ≡ false
@@ -177,6 +223,13 @@ module _ (command : Command) (taken taken' : Option (List ℕ)) (fetches fetches
   comes-alone faults faults' asks still e same =
       subst (ComesTo taken taken' fetches fetches' exit cached) (sym (course-alone command asks still))
       (record { output = e.output; fetched = record { whole = λ given. omega (arith, same); most = omega (arith, same) } })
+
+-- what `back` comes to, of which the number of slots is not told
+pub comes-back : (number : ℕ) (taken taken' : Option (List ℕ)) (fetches fetches' : ℕ) (exit : Exit) (held : Option (List ℕ))
+    → IfSome held (λ bytes. Outputs taken taken' exit (course_output (lines_course (back_course number) (parts_of bytes))))
+    → IfSome held (λ bytes. ComesFor (Some (Back number)) taken taken' fetches fetches' exit (input_course (Back number) (whole_input bytes)))
+comes-back number taken taken' fetches fetches' exit None output = tt
+comes-back number taken taken' fetches fetches' exit (Some bytes) output = record { output = output; fetched = λ tells. cc }
 
 -- ---- the entries
 
@@ -216,26 +269,48 @@ causes-other unread unwritten unwritten' exit never causes = record {
   write_quiet = causes.write_quiet;
 }
 
--- what stands sure by what bytes come to stands so by another name of that
-pub stands-course : (held held' taken taken' : Option (List ℕ)) (fetches fetches' : ℕ) (count : List Touch → ℕ) (course other : List ℕ → Course)
-    → (s : StandsSure held held' taken taken' fetches fetches' count course) → course s.writes.bytes ≡ other s.writes.bytes
-    → StandsSure held held' taken taken' fetches fetches' count other
-stands-course held held' taken taken' fetches fetches' count course other s same = record {
-  writes = record {
-    bytes = s.writes.bytes;
-    read = s.writes.read;
-    goes_on = subst (λ c. EndsNothing (length (whole_lines [] s.writes.bytes)) c.last.exit) same s.writes.goes_on;
-    written = subst (λ c. Appends taken taken' c.records) same s.writes.written;
-  };
-  fetched = subst (λ c. fetches' ≡ fetches + count c.touches) same s.fetched;
-}
+-- ---- what stands where reading failed
+
+module _ (asked : Option Command) (held held' taken taken' : Option (List ℕ)) (fetches fetches' : ℕ) where
+  -- what stands with all that was fetched
+  pub stands-told : (course : List ℕ → Course) → StandsSure held held' taken taken' fetches fetches' cached course → StandsFor asked held held' taken taken' fetches fetches' course
+  stands-told course s = record { writes = s.writes; fetched = λ tells. s.fetched }
+
+  -- what stands by what bytes come to stands so by another name of that, and of what was asked for
+  pub stands-course : (other_asked : Option Command) (course other : List ℕ → Course) → asked ≡ other_asked
+      → (s : StandsFor asked held held' taken taken' fetches fetches' course) → course s.writes.bytes ≡ other s.writes.bytes
+      → StandsFor other_asked held held' taken taken' fetches fetches' other
+  stands-course other_asked course other is s same = record {
+    writes = record {
+      bytes = s.writes.bytes;
+      read = s.writes.read;
+      goes_on = subst (λ c. EndsNothing (length (whole_lines [] s.writes.bytes)) c.last.exit) same s.writes.goes_on;
+      written = subst (λ c. Appends taken taken' c.records) same s.writes.written;
+    };
+    fetched = λ tells. subst (λ c. fetches' ≡ fetches + cached c.touches) same (s.fetched (ap tells_fetches is ∙ tells));
+  }
+
+-- what stands of `back`, of which the number of slots is not told
+pub stands-back : (number : ℕ) (held held' taken taken' : Option (List ℕ)) (fetches fetches' : ℕ)
+    → WritesSure held held' taken taken' (λ bytes. lines_course (back_course number) (whole_lines [] bytes))
+    → StandsFor (Some (Back number)) held held' taken taken' fetches fetches' (λ bytes. input_course (Back number) (read_input bytes))
+stands-back number held held' taken taken' fetches fetches' w = record { writes = w; fetched = λ tells. cc }
+
+-- what stands of what is done with a schedule stands of the command
+pub stands-schedule : (command : Command) → is_scheduled command ≡ true → (held held' taken taken' : Option (List ℕ)) (fetches fetches' : ℕ)
+    → StandsSure held held' taken taken' fetches fetches' cached (λ bytes. lines_course (schedule_course command) (whole_lines [] bytes))
+    → StandsFor (Some command) held held' taken taken' fetches fetches' (λ bytes. input_course command (read_input bytes))
+unfolding stands-told
+stands-schedule command is held held' taken taken' fetches fetches' s =
+    stands-course (Some command) held held' taken taken' fetches fetches' (Some command) _ _ refl
+    (stands-told (Some command) held held' taken taken' fetches fetches' _ s) (sym (input-schedule command is (read_input s.writes.bytes)))
 
 -- what lines make sure, a command makes sure that asks for input
-pub sure-input : (command : Command) (held held' taken taken' : Option (List ℕ)) (fetches fetches' : ℕ) (count : List Touch → ℕ) (asks : asks_input command ≡ true)
-    → StandsSure held held' taken taken' fetches fetches' count (λ bytes. input_course command (read_input bytes))
-    → StandsSure held held' taken taken' fetches fetches' count (λ bytes. command_course command (read_input bytes))
-sure-input command held held' taken taken' fetches fetches' count asks s =
-    stands-course held held' taken taken' fetches fetches' count _ _ s (sym (course-input command (read_input s.writes.bytes) asks))
+pub sure-input : (command : Command) (held held' taken taken' : Option (List ℕ)) (fetches fetches' : ℕ) (asks : asks_input command ≡ true)
+    → StandsFor (Some command) held held' taken taken' fetches fetches' (λ bytes. input_course command (read_input bytes))
+    → StandsFor (Some command) held held' taken taken' fetches fetches' (λ bytes. command_course command (read_input bytes))
+sure-input command held held' taken taken' fetches fetches' asks s =
+    stands-course (Some command) held held' taken taken' fetches fetches' (Some command) _ _ refl s (sym (course-input command (read_input s.writes.bytes) asks))
 
 -- ---- what is so of a text
 
@@ -262,44 +337,50 @@ module _ (words : List (List ℕ)) (command : Command) (asked : command_for word
   bytes-read held = ap (λ asked. bytes_for asked held) asked
 
   module _ (taken taken' : Option (List ℕ)) (fetches fetches' : ℕ) (exit : Exit) where
-    abbrev Comes : List ℕ → Type 0
-    Comes bytes = ComesTo taken taken' fetches fetches' exit cached (command_course command (whole_input bytes))
+    abbrev Answer : List ℕ → Type 0
+    Answer bytes = ComesFor (Some command) taken taken' fetches fetches' exit (command_course command (whole_input bytes))
 
-    outputs : (told : Option (List ℕ)) → IfSome told Comes → IfSome told (λ bytes. Outputs taken taken' exit (out words bytes))
+    outputs : (told : Option (List ℕ)) → IfSome told Answer → IfSome told (λ bytes. Outputs taken taken' exit (out words bytes))
     outputs None comes = tt
     outputs (Some bytes) comes = subst (Outputs taken taken' exit) (ap course_output (sym (words-course (whole_input bytes)))) comes.output
 
-    fetches_all : (told : Option (List ℕ)) → IfSome told Comes → IfSome told (λ bytes. Fetches fetches fetches' exit (fetched words bytes))
-    fetches_all None comes = tt
-    fetches_all (Some bytes) comes = subst (Fetches fetches fetches' exit) (ap (course_fetches cached) (sym (words-course (whole_input bytes)))) comes.fetched
+    -- what is told of the words is told of the command
+    told-of : tells_fetches (command_for words) ≡ true → tells_fetches (Some command) ≡ true
+    told-of tells = sym (ap tells_fetches asked) ∙ tells
 
-    bounded_all : (told : Option (List ℕ)) → IfSome told Comes → IfSome told (λ bytes. IsBounded fetches fetches' (whole_course words bytes))
-    bounded_all None comes = tt
-    bounded_all (Some bytes) comes = subst (IsBounded fetches fetches') (sym (words-course (whole_input bytes))) (sound-bounded (command_course command (whole_input bytes)) fetches fetches' (command-sound command (whole_input bytes)) comes.fetched.most)
+    fetches_all : tells_fetches (Some command) ≡ true → (told : Option (List ℕ)) → IfSome told Answer → IfSome told (λ bytes. Fetches fetches fetches' exit (fetched words bytes))
+    fetches_all tells None comes = tt
+    fetches_all tells (Some bytes) comes = subst (Fetches fetches fetches' exit) (ap (course_fetches cached) (sym (words-course (whole_input bytes)))) (comes.fetched tells)
+
+    bounded_all : tells_fetches (Some command) ≡ true → (told : Option (List ℕ)) → IfSome told Answer → IfSome told (λ bytes. IsBounded fetches fetches' (whole_course words bytes))
+    bounded_all tells None comes = tt
+    bounded_all tells (Some bytes) comes =
+        subst (IsBounded fetches fetches') (sym (words-course (whole_input bytes)))
+        (sound-bounded (command_course command (whole_input bytes)) fetches fetches' (command-sound command (whole_input bytes)) (comes.fetched tells).most)
 
     -- what was written is what the words come to
-    pub answers-words : (held : Option (List ℕ)) → IfSome (bytes_for (Some command) held) Comes → (exit ≡ OutOfMemory → taken' ≡ taken) → Answers words held taken taken' exit
+    pub answers-words : (held : Option (List ℕ)) → IfSome (bytes_for (Some command) held) Answer → (exit ≡ OutOfMemory → taken' ≡ taken) → Answers words held taken taken' exit
     answers-words held comes unwritten = record {
       output = subst (λ told. IfSome told (λ bytes. Outputs taken taken' exit (out words bytes))) (sym (bytes-read held)) (outputs (bytes_for (Some command) held) comes);
       unwritten = unwritten;
     }
 
     -- and the slots that were fetched are those that the words fetch
-    pub fetches-words : (held : Option (List ℕ)) → IfSome (bytes_for (Some command) held) Comes
+    pub fetches-words : (held : Option (List ℕ)) → IfSome (bytes_for (Some command) held) Answer
         → (asks_run (Some command) ≡ false → fetches' ≡ fetches) → (exit ≡ OutOfMemory → fetches' ≡ fetches) → FetchesFor words held fetches fetches' exit
     fetches-words held comes stays unspent = record {
-      counted = subst (λ told. IfSome told (λ bytes. Fetches fetches fetches' exit (fetched words bytes))) (sym (bytes-read held)) (fetches_all (bytes_for (Some command) held) comes);
-      bounded = subst (λ told. IfSome told (λ bytes. IsBounded fetches fetches' (whole_course words bytes))) (sym (bytes-read held)) (bounded_all (bytes_for (Some command) held) comes);
+      counted = λ tells. subst (λ told. IfSome told (λ bytes. Fetches fetches fetches' exit (fetched words bytes))) (sym (bytes-read held)) (fetches_all (told-of tells) (bytes_for (Some command) held) comes);
+      bounded = λ tells. subst (λ told. IfSome told (λ bytes. IsBounded fetches fetches' (whole_course words bytes))) (sym (bytes-read held)) (bounded_all (told-of tells) (bytes_for (Some command) held) comes);
       unfetched = λ off. stays (sym (ap asks_run asked) ∙ off);
       unspent = unspent;
     }
 
   -- what a command makes sure is what the words make sure that ask for it
-  pub sure-words : (held held' taken taken' : Option (List ℕ)) (fetches fetches' : ℕ) (count : List Touch → ℕ)
-      → StandsSure held held' taken taken' fetches fetches' count (λ bytes. command_course command (read_input bytes))
-      → StandsSure held held' taken taken' fetches fetches' count (sure words)
-  sure-words held held' taken taken' fetches fetches' count s =
-      stands-course held held' taken taken' fetches fetches' count _ _ s (sym (words-course (read_input s.writes.bytes)))
+  pub sure-words : (held held' taken taken' : Option (List ℕ)) (fetches fetches' : ℕ)
+      → StandsFor (Some command) held held' taken taken' fetches fetches' (λ bytes. command_course command (read_input bytes))
+      → StandsFor (command_for words) held held' taken taken' fetches fetches' (sure words)
+  sure-words held held' taken taken' fetches fetches' s =
+      stands-course (Some command) held held' taken taken' fetches fetches' (command_for words) _ _ (sym asked) s (sym (words-course (read_input s.writes.bytes)))
 
   -- what is so of the text of a command is so of the words that ask for it
   pub text-words : (P : List ℕ → List ℕ → Type 0) (other : Command) → command_for words ≡ Some other → (held : Option (List ℕ))

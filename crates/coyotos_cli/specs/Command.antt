@@ -2,7 +2,7 @@
 use Rattle.std.specs.Prelude.{ℕ, Bool, true, false, List, Option, Some, None}
 use Rattle.coyotos_words.specs.Command.{command_of}
 use Rattle.coyotos_words.specs.declared.command.Command.{Command}
-use Rattle.coyotos_words.specs.declared.command.Command.TheVariants.{Help, Check, Make, Pack, Unpack, Migrate, Confine}
+use Rattle.coyotos_words.specs.declared.command.Command.TheVariants.{Help, Check, Make, Pack, Unpack, Migrate, Confine, Back}
 
 -- what these words ask for
 abbrev pub command_for : List (List ℕ) → Option Command
@@ -29,6 +29,11 @@ asks_run (Some Unpack) = false
 asks_run (Some Migrate) = false
 asks_run (Some (Make number summary)) = summary
 asks_run (Some command) = true
+
+-- whether the number of slots that are fetched is told: of all words but `back`, which walks ahead of each event as well
+abbrev pub tells_fetches : Option Command → Bool
+tells_fetches (Some (Back number)) = false
+tells_fetches _ = true
 
 -- whether a command reads a schedule, and runs its events or counts them
 abbrev pub asks_schedule : Command → Bool

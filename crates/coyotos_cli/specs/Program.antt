@@ -10,8 +10,9 @@ use Rattle.confine_command.specs.Confine.{confine_course}
 use Rattle.migrate_command.specs.Migrate.{migrate_course}
 use Rattle.image_commands.specs.Packed.{pack_course}
 use Rattle.image_commands.specs.Unpacked.{unpack_course}
+use Rattle.back_command.specs.Back.{back_course}
 use Rattle.coyotos_words.specs.declared.command.Command.{Command}
-use Rattle.coyotos_words.specs.declared.command.Command.TheVariants.{Help, Make, Pack, Unpack, Migrate, Confine}
+use Rattle.coyotos_words.specs.declared.command.Command.TheVariants.{Help, Make, Pack, Unpack, Migrate, Confine, Back}
 use Rattle.coyotos_cli.specs.Command.{command_for}
 use Rattle.coyotos_cli.specs.Input.{Input, read_input, whole_input}
 use Rattle.courses.specs.declared.exit.Exit.{Exit}
@@ -21,7 +22,7 @@ use Rattle.courses.specs.declared.exit.Exit.TheVariants.{Done, Usage}
 abbrev pub usage_text : List ℕ
 usage_text =
     codes "usage: coyotos check | run | trace | tables | walk P KIND ADDR | make N [summary]"
-    ++ codes " | pack | unpack | migrate | confine" ++ codes "\n"
+    ++ codes " | pack | unpack | migrate | confine | back N" ++ codes "\n"
 
 -- what a command comes to with its input: `unpack` takes it as an image, and every other one as lines
 abbrev pub input_course : Command → Input → Course
@@ -29,6 +30,7 @@ input_course Pack input = lines_course pack_course input.lines
 input_course Unpack input = unpack_course input.image
 input_course Migrate input = lines_course migrate_course input.lines
 input_course Confine input = lines_course confine_course input.lines
+input_course (Back number) input = lines_course (back_course number) input.lines
 input_course command input = lines_course (schedule_course command) input.lines
 
 -- how the program is used is written, and it ends so
@@ -59,13 +61,13 @@ whole_course words bytes = words_course (command_for words) (whole_input bytes)
 abbrev pub out : List (List ℕ) → List ℕ → Output
 out words bytes = course_output (whole_course words bytes)
 
--- how many slots the program fetches
+-- how many slots the program fetches, where their number is told
 abbrev pub fetched : List (List ℕ) → List ℕ → ℕ
 fetched words bytes = course_fetches cached (whole_course words bytes)
 
 -- ---- what stands where reading failed
 
 -- what bytes that were read make sure: the records of the whole lines in them, and the touches of these. What is written
--- last is not among it, and an image makes nothing sure
+-- last is not among it; an image makes nothing sure, nor do lines whose last events are undone
 abbrev pub sure : List (List ℕ) → List ℕ → Course
 sure words bytes = words_course (command_for words) (read_input bytes)

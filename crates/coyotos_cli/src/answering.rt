@@ -3,16 +3,16 @@ ghost use Rattle.std.specs.Prelude.{◌≡◌, ◌≢◌, true, false, IfSome, S
 ghost use Rattle.std.specs.Io.KnownBytes.{IsAtEnd};
 ghost use Rattle.coyotos_words.specs.declared.command.Command.TheVariants.{Help, Migrate, Pack};
 ghost use Rattle.coyotos_cli.specs.Command.{asks_input, asks_run, summary_number};
-ghost use Rattle.coyotos_cli.specs.Contract.{bytes_for};
+ghost use Rattle.coyotos_cli.specs.Contract.{ComesFor, StandsFor, bytes_for};
 ghost use Rattle.coyotos_cli.specs.Input.{no_input, read_input, whole_input};
 ghost use Rattle.coyotos_cli.specs.Program.{command_course, input_course, make_course, usage_text};
 ghost use Rattle.courses.specs.Course.{ComesTo, HasEntries, cached, course_output};
 ghost use Rattle.courses.specs.Ending.{HasCauses, IsGiven, EndsIn};
-ghost use Rattle.courses.specs.Sure.{StandsSure};
 ghost use Rattle.image_commands.specs.Same.{IsImageOf};
 ghost use Rattle.migrate_command.specs.Same.{IsMigrated};
 
 use crate::making::make;
+use back_command::back;
 use confine_command::confine;
 use courses::{Exit, end_with};
 use coy_io::{Sink, Source};
@@ -35,14 +35,15 @@ pub(crate) fn answer<S: Source, K: Sink, L: Ledger>(
 ) -> Exit
     // What the command comes to with the known bytes, and where the source stands then.
     ensures comes { IfSome (bytes_for (Some command) (S.held input.old)) (λ bytes.
-        ComesTo (K.taken output.old) (K.taken output.new) fetches.old fetches.new result cached
-        (command_course command (whole_input bytes))) }
+        ComesFor (Some command) (K.taken output.old) (K.taken output.new)
+        fetches.old fetches.new result (command_course command (whole_input bytes))) }
     ensures end { result ≡ Exit.Done → asks_input command ≡ true → IsAtEnd (S.held input.new) }
     ensures unread { asks_input command ≡ false → input.new ≡ input.old }
     ensures unfailed { asks_input command ≡ false → result ≢ Exit.ReadFault }
     ensures sure { result ≡ Exit.ReadFault →
-        StandsSure (S.held input.old) (S.held input.new) (K.taken output.old) (K.taken output.new)
-        fetches.old fetches.new cached (λ bytes. command_course command (read_input bytes)) }
+        StandsFor (Some command) (S.held input.old) (S.held input.new)
+        (K.taken output.old) (K.taken output.new) fetches.old fetches.new
+        (λ bytes. command_course command (read_input bytes)) }
 
     // What the entries of the mapping cache say then.
     ensures entries { result ≡ Exit.Done →
@@ -84,12 +85,13 @@ fn answer_input<S: Source, K: Sink, L: Ledger>(
 ) -> Exit
     requires { asks_input command ≡ true }
     ensures comes { IfSome (S.held input.old) (λ bytes.
-        ComesTo (K.taken output.old) (K.taken output.new) fetches.old fetches.new result cached
-        (input_course command (whole_input bytes))) }
+        ComesFor (Some command) (K.taken output.old) (K.taken output.new)
+        fetches.old fetches.new result (input_course command (whole_input bytes))) }
     ensures end { result ≡ Exit.Done → IsAtEnd (S.held input.new) }
     ensures sure { result ≡ Exit.ReadFault →
-        StandsSure (S.held input.old) (S.held input.new) (K.taken output.old) (K.taken output.new)
-        fetches.old fetches.new cached (λ bytes. input_course command (read_input bytes)) }
+        StandsFor (Some command) (S.held input.old) (S.held input.new)
+        (K.taken output.old) (K.taken output.new) fetches.old fetches.new
+        (λ bytes. input_course command (read_input bytes)) }
     ensures entries { result ≡ Exit.Done → IfSome (S.held input.old) (λ bytes.
         HasEntries (input_course command (whole_input bytes))) }
     ensures migrated { command ≡ Migrate → result ≡ Exit.Done → IfSome (S.held input.old) (λ bytes.
@@ -108,6 +110,7 @@ fn answer_input<S: Source, K: Sink, L: Ledger>(
         Command::Unpack => answer_unpack(alloc, input, output),
         Command::Migrate => migrate(alloc, input, output),
         Command::Confine => confine(alloc, input, output, fetches),
+        Command::Back { number } => back(alloc, number, input, output, fetches),
         _ => answer_schedule(alloc, command, input, output, fetches),
     }
 }
@@ -197,6 +200,6 @@ pub(crate) fn usage<K: Sink>(output: &mut K, exit: Exit) -> Exit
         (record { text = usage_text; exit = exit }) }
 {
     let line =
-        b"usage: coyotos check | run | trace | tables | walk P KIND ADDR | make N [summary] | pack | unpack | migrate | confine\n";
+        b"usage: coyotos check | run | trace | tables | walk P KIND ADDR | make N [summary] | pack | unpack | migrate | confine | back N\n";
     end_with(line.as_slice(), exit, output)
 }

@@ -5,11 +5,10 @@ ghost use Rattle.coyotos_words.specs.declared.command.Command.TheVariants.{Migra
 ghost use Rattle.image_commands.specs.Same.{IsImageOf};
 ghost use Rattle.migrate_command.specs.Same.{IsMigrated};
 ghost use Rattle.coyotos_cli.specs.Command.{command_for};
-ghost use Rattle.courses.specs.Course.{HasEntries, cached};
+ghost use Rattle.courses.specs.Course.{HasEntries};
 ghost use Rattle.courses.specs.Ending.{HasCauses, Completes};
-ghost use Rattle.courses.specs.Sure.{StandsSure};
 ghost use Rattle.coyotos_cli.specs.Program.{out, sure, whole_course};
-ghost use Rattle.coyotos_cli.specs.Contract.{bytes_for, Answers, HasForm, ReadsInput, FetchesFor};
+ghost use Rattle.coyotos_cli.specs.Contract.{bytes_for, Answers, HasForm, ReadsInput, StandsFor, FetchesFor};
 
 use crate::answering::{answer, usage};
 use courses::Exit;
@@ -40,9 +39,9 @@ pub fn coyotos<S: Source, K: Sink, L: Ledger>(
 
     // Where reading failed, no whole line that was read ended the call, and what was written and fetched is what these
     // lines come to.
-    ensures sure { let course = sure (map string_bytes words.now) in result ≡ Exit.ReadFault →
-        StandsSure (S.held input.old) (S.held input.new) (K.taken output.old) (K.taken output.new)
-        fetches.old fetches.new cached course }
+    ensures sure { let words = map string_bytes words.now in result ≡ Exit.ReadFault →
+        StandsFor (command_for words) (S.held input.old) (S.held input.new)
+        (K.taken output.old) (K.taken output.new) fetches.old fetches.new (sure words) }
 
     // How much of the input is read.
     ensures reads { ReadsInput S.held (map string_bytes words.now) input.old input.new result }

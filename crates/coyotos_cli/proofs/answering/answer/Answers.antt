@@ -11,7 +11,7 @@ returns-then-asks_input-clause-comes g c =
 
 pub returns-then-asks_input-clause-sure : goal.returns-then-asks_input-clause-sure
 returns-then-asks_input-clause-sure g c =
-    λ fault. sure-input c.args.command _ _ _ _ _ _ _ (sym c.asks_input.ensures ∙ c.if-asks_input.true) (c.answer_input.ensures.sure fault)
+    λ fault. sure-input c.args.command _ _ _ _ _ _ (sym c.asks_input.ensures ∙ c.if-asks_input.true) (c.answer_input.ensures.sure fault)
 
 pub returns-clause-comes : goal.returns-clause-comes
 returns-clause-comes g c =

@@ -22,7 +22,7 @@ returns-clause-complete g c =
 pub returns-clause-sure : goal.returns-clause-sure
 returns-clause-sure g c =
     let asked = sym c.in-Ok-Some.ensures.asked ∙ c.in-Ok-Some.field-0-is in
-    λ fault. sure-words (map string_bytes c.args.words.now) _ asked _ _ _ _ _ _ _ (c.answer.ensures.sure fault)
+    λ fault. sure-words (map string_bytes c.args.words.now) _ asked _ _ _ _ _ _ (c.answer.ensures.sure fault)
 
 pub returns-clause-form : goal.returns-clause-form
 returns-clause-form g c =
