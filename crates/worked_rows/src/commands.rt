@@ -1,4 +1,4 @@
-//! The commands `confine` and `migrate`: the text and status for their input, and what stands where a call fails.
+//! The commands `confine`, `migrate` and `back`: the text and status for their input, and what stands where a call fails.
 use crate::rows::{Calls, ask, words_of};
 use std::marker::Brand;
 use std::test::Fail;
@@ -105,7 +105,7 @@ fn cuts_are_checked_and_texts_migrated(rt: HostRuntime) -> Result<(), Fail> {
         (
             "confine now",
             "",
-            "usage: coyotos check | run | trace | tables | walk P KIND ADDR | make N [summary] | pack | unpack | migrate | confine\n",
+            "usage: coyotos check | run | trace | tables | walk P KIND ADDR | make N [summary] | pack | unpack | migrate | confine | back N\n",
             1,
         ),
         (
@@ -119,6 +119,105 @@ fn cuts_are_checked_and_texts_migrated(rt: HostRuntime) -> Result<(), Fail> {
             "coyotos 2\nmachine 1 1 0 1 1 0\nregion 0 0 1 1 r\nend\nround 2\n",
             "refused 3 NoObject\n",
             2,
+        ),
+    ];
+    for (words, input, output, status) in cases {
+        for piece in [1, 65536] {
+            let asked = words_of(rt.alloc(), words)?;
+            let bytes = input.as_bytes().to_vec(rt.alloc())?;
+            let answer = ask::<Brand>(
+                rt.alloc(),
+                asked,
+                bytes,
+                pieces_of(piece),
+                Permit::new(&rt),
+            )?;
+            assert!(rt;
+                answer.text.as_slice() == output.as_bytes() && answer.status == status,
+                "`{words}` in pieces of {piece}"
+            );
+        }
+    }
+    Ok(())
+}
+
+/// Rows whose expected outputs are worked out by hand: the state before the events that are undone, which are no more than
+/// there were, and no more than 256.
+#[test]
+fn the_last_events_are_undone(rt: HostRuntime) -> Result<(), Fail> {
+    // (words, input, output, status)
+    let cases = [
+        (
+            "back 1",
+            FOUR,
+            "back 1\nstate\nhart 0 0\npage 0 000 93005000371100002320110083210100\npage 1 000 05000000000000000000000000000000\nslot 0 0 page:0@12/00000+r\nslot 0 1 page:1@12/00000\nprocess 0 0000000c gpt:0@16/00000 schedule:3 null run\nreg 0 1 00000005\nreg 0 2 00001000\nend\n",
+            0,
+        ),
+        (
+            "back 2",
+            FOUR,
+            "back 2\nstate\nhart 0 0\npage 0 000 93005000371100002320110083210100\nslot 0 0 page:0@12/00000+r\nslot 0 1 page:1@12/00000\nprocess 0 00000008 gpt:0@16/00000 schedule:3 null run\nreg 0 1 00000005\nreg 0 2 00001000\nend\n",
+            0,
+        ),
+        (
+            "back 9",
+            FOUR,
+            "back 4\nstate\nhart 0 idle\nready 3 0\npage 0 000 93005000371100002320110083210100\nslot 0 0 page:0@12/00000+r\nslot 0 1 page:1@12/00000\nprocess 0 00000000 gpt:0@16/00000 schedule:3 null run\nend\n",
+            0,
+        ),
+        (
+            "back 0",
+            FOUR,
+            "back 0\nstate\nhart 0 0\npage 0 000 93005000371100002320110083210100\npage 1 000 05000000000000000000000000000000\nslot 0 0 page:0@12/00000+r\nslot 0 1 page:1@12/00000\nprocess 0 00000010 gpt:0@16/00000 schedule:3 null run\nreg 0 1 00000005\nreg 0 2 00001000\nreg 0 3 00000005\nend\n",
+            0,
+        ),
+        (
+            "back 17",
+            "coyotos 1\nmachine 2 3 0 2 2 0\ncode 0 000 ecall\ncode 0 004 lui x10 0x80\ncode 0 008 addi x10 x10 0x21\ncode 0 00c addi x11 x0 8\ncode 0 010 addi x12 x0 1\ncode 0 014 addi x13 x0 2\ncode 0 018 ecall\ncode 0 01c lui x10 0x10\ncode 0 020 addi x10 x10 0x24\ncode 0 024 addi x11 x0 9\ncode 0 028 addi x12 x0 2\ncode 0 02c addi x18 x0 3\ncode 0 030 ecall\ncode 0 034 lui x5 2\ncode 0 038 lw x6 0(x5)\ncode 1 000 lw x6 0(x5)\ncode 1 004 lw x7 0(x5)\npage 2 000 22222222\nslot 0 0 page:0@12/0\nslot 1 0 page:1@12/0\nslot 1 1 page:2@12/0\nprocess 0 0 gpt:0@16/0 schedule:3 null run\nreg 0 6 ffffffff\nreg 0 10 00010021\nreg 0 11 00000009\nreg 0 18 00000002\nreg 0 19 00000003\ncapreg 0 1 range\ncapreg 0 2 page:2@12/0\ncapreg 0 4 gpt:0@16/0\nprocess 1 0 gpt:1@16/0 schedule:5 null run\nreg 1 5 00001000\nend\nstep 1 1\nstep 0 15\nstep 1 1\n",
+            "back 17\nstate\nhart 0 idle\nhart 1 idle\nready 5 1\nready 3 0\npage 0 000 73000000370508001305150293058000\npage 0 010 13061000930620007300000037050100\npage 0 020 13054502930590001306200013093000\npage 0 030 73000000b722000003a3020000000000\npage 1 000 03a3020083a302000000000000000000\npage 2 000 22222222000000000000000000000000\nslot 0 0 page:0@12/00000\nslot 1 0 page:1@12/00000\nslot 1 1 page:2@12/00000\nprocess 0 00000000 gpt:0@16/00000 schedule:3 null run\nreg 0 6 ffffffff\nreg 0 10 00010021\nreg 0 11 00000009\nreg 0 18 00000002\nreg 0 19 00000003\ncapreg 0 1 range\ncapreg 0 2 page:2@12/00000\ncapreg 0 4 gpt:0@16/00000\nprocess 1 00000000 gpt:1@16/00000 schedule:5 null run\nreg 1 5 00001000\nend\n",
+            0,
+        ),
+        (
+            "back 4294967295",
+            "coyotos 1\nmachine 1 1 0 1 1 0\ncode 0 000 addi x1 x1 1\ncode 0 004 jal x0 -4\nslot 0 0 page:0@12/0\nprocess 0 0 gpt:0@16/0 schedule:3 null run\nend\nstep 0 300\n",
+            "back 256\nstate\nhart 0 0\npage 0 000 938010006ff0dfff0000000000000000\nslot 0 0 page:0@12/00000\nprocess 0 00000000 gpt:0@16/00000 schedule:3 null run\nreg 0 1 00000016\nend\n",
+            0,
+        ),
+        (
+            "back 1",
+            "coyotos 1\nmachine 1 0 0 0 1 0\nend\ntick 0\nstep 0 1\n",
+            "back 1\nstate\nhart 0 idle\nend\n",
+            0,
+        ),
+        (
+            "back 1",
+            "coyotos 1\nmachine 1 0 0 0 1 0\nend\n",
+            "back 0\nstate\nhart 0 idle\nend\n",
+            0,
+        ),
+        (
+            "back 1",
+            "coyotos 1\nmachine 1 1 0 1 1 0\nend\nstep 0 2\ntick 1\nstep 0 1\n",
+            "refused 5 NoHart\n",
+            3,
+        ),
+        (
+            "back 1",
+            "coyotos 1\nmachine 1 1 0 1 1 0\nstep 0 1\n",
+            "refused 3 UnknownStatement\n",
+            2,
+        ),
+        (
+            "back",
+            "",
+            "usage: coyotos check | run | trace | tables | walk P KIND ADDR | make N [summary] | pack | unpack | migrate | confine | back N\n",
+            1,
+        ),
+        (
+            "back 1 1",
+            "",
+            "usage: coyotos check | run | trace | tables | walk P KIND ADDR | make N [summary] | pack | unpack | migrate | confine | back N\n",
+            1,
         ),
     ];
     for (words, input, output, status) in cases {
@@ -181,6 +280,8 @@ fn a_failing_call_leaves_the_lines_before(rt: HostRuntime) -> Result<(), Fail> {
             5,
         ),
         ("confine", 9, 0, "", 4),
+        ("back 2", 9, 0, "", 4),
+        ("back 2", 0, 2, "back 2\n", 5),
     ];
     for (words, failing_take, failing_put, text, status) in cases {
         let calls = Calls {
