@@ -21,6 +21,7 @@ fn words_ask_for_what_their_form_says(rt: HostRuntime) -> Result<(), Fail> {
         address,
     };
     let make = |number, summary| Command::Make { number, summary };
+    let back = |number| Command::Back { number };
     // (words, what they ask for)
     let cases = [
         ("|check", Command::Check),
@@ -40,6 +41,10 @@ fn words_ask_for_what_their_form_says(rt: HostRuntime) -> Result<(), Fail> {
         ("|unpack", Command::Unpack),
         ("|migrate", Command::Migrate),
         ("|confine", Command::Confine),
+        ("|back|3", back(3)),
+        ("|back|0", back(0)),
+        ("|back|0000000007", back(7)),
+        ("|back|4294967295", back(4_294_967_295)),
     ];
     for (line, command) in cases {
         let words = words_of(rt.alloc(), line)?;
@@ -93,6 +98,16 @@ fn all_other_words_are_of_no_form(rt: HostRuntime) -> Result<(), Fail> {
         "|make|summary",
         "|make|7|summary|7",
         "|make|7|",
+        "|back",
+        "|back|",
+        "|back|x",
+        "|back|-1",
+        "|back|+1",
+        "|back|--|1",
+        "|back|4294967296",
+        "|back|00000000001",
+        "|back|1|1",
+        "|backs|1",
     ];
     for line in lines {
         let words = words_of(rt.alloc(), line)?;
