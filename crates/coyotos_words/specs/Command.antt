@@ -6,7 +6,7 @@ use Rattle.coy_text.specs.Numeral.{dec_of, hex_of}
 use Rattle.walk_meaning.specs.declared.kind.Kind.{Kind}
 use Rattle.walk_meaning.specs.declared.kind.Kind.TheVariants.{Fetch, Load, Store, CapLoad, CapStore}
 use Rattle.coyotos_words.specs.declared.command.Command.{Command}
-use Rattle.coyotos_words.specs.declared.command.Command.TheVariants.{Help, Check, Run, Trace, Tables, Walk, Make, Pack, Unpack, Migrate, Confine, Back}
+use Rattle.coyotos_words.specs.declared.command.Command.TheVariants.{Help, Check, Run, Trace, Tables, Walk, Make, Pack, Unpack, Migrate, Confine, Share, Back}
 
 -- a word that begins with `-`
 abbrev pub is_dashed : List ℕ → Bool
@@ -23,7 +23,7 @@ is_help (word ∷ other ∷ words) = false
 abbrev pub bare_commands : List (List ℕ × Command)
 bare_commands =
     (codes "check", Check) ∷ (codes "run", Run) ∷ (codes "trace", Trace) ∷ (codes "tables", Tables) ∷ (codes "pack", Pack) ∷ (codes "unpack", Unpack) ∷
-    (codes "migrate", Migrate) ∷ (codes "confine", Confine) ∷ []
+    (codes "migrate", Migrate) ∷ (codes "confine", Confine) ∷ (codes "share", Share) ∷ []
 
 -- what a form of one word asks for
 abbrev pub bare_named : List (List ℕ × Command) → List ℕ → Option Command

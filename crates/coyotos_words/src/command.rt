@@ -33,6 +33,9 @@ pub enum Command {
     Migrate,
     /// Read a listing and the lines of a cut, and write whether the cut holds.
     Confine,
+    /// Run the input over leaf tables that are shared between spaces, write the records that `Run` writes, and then how many
+    /// frames are in use.
+    Share,
     /// Run the input without a record, undo so many of its last events, and write the state before them.
     Back {
         number: u32,
@@ -40,7 +43,7 @@ pub enum Command {
 }
 
 /// The forms of one word, each with what it asks for.
-pub(crate) static BARE_COMMANDS: [(&str, Command); 8] = [
+pub(crate) static BARE_COMMANDS: [(&str, Command); 9] = [
     ("check", Command::Check),
     ("run", Command::Run),
     ("trace", Command::Trace),
@@ -49,4 +52,5 @@ pub(crate) static BARE_COMMANDS: [(&str, Command); 8] = [
     ("unpack", Command::Unpack),
     ("migrate", Command::Migrate),
     ("confine", Command::Confine),
+    ("share", Command::Share),
 ];
