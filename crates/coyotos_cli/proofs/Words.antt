@@ -1,15 +1,16 @@
 -- From what a command comes to, to what the words come to that ask for it.
-use Rattle.std.proofs.Common.{◌≡◌, ◌≢◌, ◌+◌, ◌∙◌, if◌then◌else◌, [], ℕ, List, map, Bool, true, false, Option, None, Some, IfSome, IsOk, Result, Ok, Err, length, inl, inr, refl, sym, ap, subst, arith}
+use Rattle.std.proofs.Common.{◌≡◌, ◌≢◌, ◌≤◌, ◌+◌, ◌∙◌, if◌then◌else◌, [], ℕ, List, map, Bool, true, false, Option, None, Some, IfSome, IsOk, Result, Ok, Err, length, inl, inr, refl, sym, ap, subst, arith}
 use Rattle.std.specs.List.{list_any}
 use Rattle.std.specs.Io.KnownBytes.{Appends}
 use Rattle.coy_io.specs.Causes.{Rose}
 use Rattle.coy_io.specs.Lines.{Part, parts_of, whole_lines}
 use Rattle.generated_text.specs.Text.{make_text}
+use Rattle.kernel_core.specs.Outcome.{Touch}
 use Rattle.coyotos_words.specs.Command.{is_dashed, is_help}
 use Rattle.coyotos_words.specs.declared.command.Command.{Command}
-use Rattle.coyotos_words.specs.declared.command.Command.TheVariants.{Help, Check, Make, Pack, Unpack, Migrate, Confine, Back}
+use Rattle.coyotos_words.specs.declared.command.Command.TheVariants.{Help, Check, Make, Pack, Unpack, Migrate, Confine, Share, Back}
 use Rattle.coyotos_words.proofs.Dashed.{bytes_dashed}
-use Rattle.coyotos_cli.specs.Command.{command_for, asks_input, asks_run, summary_number, tells_fetches}
+use Rattle.coyotos_cli.specs.Command.{command_for, asks_input, asks_run, count_of, has_cache, summary_number, tells_fetches}
 use Rattle.courses.specs.Exit.{status_of}
 use Rattle.courses.specs.Ending.{Output, EndsNothing, Outputs, Completes, Ends, Fetches, HasCauses}
 use Rattle.courses.specs.Course.{Course, ends_in, cached, course_output, course_fetches, ComesTo, HasEntries}
@@ -27,6 +28,9 @@ use Rattle.migrate_command.specs.Same.{Says, SaySame}
 use Rattle.migrate_command.proofs.Sound.{migrate-entries, migrate-sound}
 use Rattle.confine_command.proofs.Sound.{confine-entries, confine-sound}
 use Rattle.back_command.specs.Back.{back_course, undoing}
+use Rattle.share_command.specs.Few.{IsSharedBounded, TellsFew}
+use Rattle.share_command.specs.Share.{share_course, shared_fetched, sharing}
+use Rattle.share_command.proofs.Few.{done-given, lines-few, share-bounded}
 use Rattle.image_binary.specs.Image.{unpacked}
 use Rattle.image_commands.specs.Packed.{pack_course, pack_output}
 use Rattle.image_commands.specs.Passed.{passed}
@@ -36,9 +40,9 @@ use Rattle.coyotos_cli.specs.Program.{input_course, command_course, words_course
 use Rattle.courses.proofs.Lasts.{IsLast, lines-entries, none-entries}
 use Rattle.courses.proofs.Sound.{IsSound, ends-sound, lines-sound, sound-bounded}
 use Rattle.coyotos_cli.specs.Laws.{SameCourseLaw}
-use Rattle.coyotos_cli.specs.Contract.{bytes_for, Answers, ComesFor, HasForm, StandsFor, FetchesFor}
+use Rattle.coyotos_cli.specs.Contract.{bytes_for, Answers, ComesFor, HasForm, SharesFor, StandsFor, FetchesFor}
 use Rattle.courses.specs.declared.exit.Exit.{Exit}
-use Rattle.courses.specs.declared.exit.Exit.TheVariants.{Usage, ReadFault, WriteFault, OutOfMemory}
+use Rattle.courses.specs.declared.exit.Exit.TheVariants.{Done, Usage, ReadFault, WriteFault, OutOfMemory}
 
 -- ---- commands
 
@@ -87,6 +91,7 @@ is_scheduled Pack = false
 is_scheduled Unpack = false
 is_scheduled Migrate = false
 is_scheduled Confine = false
+is_scheduled Share = false
 is_scheduled (Back number) = false
 is_scheduled _ = true
 
@@ -102,18 +107,42 @@ input-schedule Pack asks input = cc
 input-schedule Unpack asks input = cc
 input-schedule Migrate asks input = cc
 input-schedule Confine asks input = cc
+input-schedule Share asks input = cc
 input-schedule (Back number) asks input = cc
 input-schedule _ asks input = refl
 
 -- a command is one of them that is none of the others
-pub is-schedule : (command : Command) → command ≢ Pack → command ≢ Unpack → command ≢ Migrate → command ≢ Confine → ((number : ℕ) → command ≢ Back number)
+pub is-schedule : (command : Command) → command ≢ Pack → command ≢ Unpack → command ≢ Migrate → command ≢ Confine → command ≢ Share
+    → ((number : ℕ) → command ≢ Back number)
     → is_scheduled command ≡ true
-is-schedule Pack packs unpacks migrates confines backs = absurd (packs refl)
-is-schedule Unpack packs unpacks migrates confines backs = absurd (unpacks refl)
-is-schedule Migrate packs unpacks migrates confines backs = absurd (migrates refl)
-is-schedule Confine packs unpacks migrates confines backs = absurd (confines refl)
-is-schedule (Back number) packs unpacks migrates confines backs = absurd (backs number refl)
-is-schedule _ packs unpacks migrates confines backs = refl
+is-schedule Pack packs unpacks migrates confines shares backs = absurd (packs refl)
+is-schedule Unpack packs unpacks migrates confines shares backs = absurd (unpacks refl)
+is-schedule Migrate packs unpacks migrates confines shares backs = absurd (migrates refl)
+is-schedule Confine packs unpacks migrates confines shares backs = absurd (confines refl)
+is-schedule Share packs unpacks migrates confines shares backs = absurd (shares refl)
+is-schedule (Back number) packs unpacks migrates confines shares backs = absurd (backs number refl)
+is-schedule _ packs unpacks migrates confines shares backs = refl
+
+-- ---- translators
+
+-- where words run over a mapping cache, its slots are counted
+count-cached : (asked : Option Command) → has_cache asked ≡ true → count_of asked ≡ cached
+count-cached (Some Share) has = cc
+count-cached _ has = refl
+
+-- so it is for each command over a schedule that is of one crate
+pub cache-schedule : (command : Command) → is_scheduled command ≡ true → has_cache (Some command) ≡ true
+cache-schedule Share is = cc
+cache-schedule _ is = refl
+
+-- and for each that asks for no input
+cache-other : (command : Command) → asks_input command ≡ false → has_cache (Some command) ≡ true
+cache-other Share asks = cc
+cache-other _ asks = refl
+
+-- and `share` has none
+pub cache-shared : {X : Type 0} (command : Command) → command ≡ Share → has_cache (Some command) ≡ true → X
+cache-shared command is has = let bad : false ≡ true = ap (λ c. has_cache (Some c)) (sym is) ∙ has in cc
 
 -- what is so of the one is so of the other, for the known bytes
 pub known-schedule : (command : Command) → is_scheduled command ≡ true → (held : Option (List ℕ)) (Q : Course → Type 0) → IfSome held (λ bytes. Q (lines_course (schedule_course command) (parts_of bytes)))
@@ -167,34 +196,47 @@ same-course bytes text same Pack asks = cc
 same-course bytes text same Unpack asks = cc
 same-course bytes text same Migrate asks = cc
 same-course bytes text same Confine asks = cc
+same-course bytes text same Share asks = same-behind bytes text same share_course (sharing (booted same.listing)) (λ last rest. refl)
 same-course bytes text same (Back number) asks = same-behind bytes text same (back_course number) (undoing number (booted same.listing)) (λ last rest. refl)
 same-course bytes text same command asks = same-scheduled bytes text same command refl
 
 -- ---- the bounds on what is fetched
 
--- what a command comes to is within them
-command-sound : (command : Command) (input : Input) → IsSound (command_course command input)
-command-sound Help input = ends-sound _
-command-sound (Make number false) input = ends-sound _
-command-sound (Make number true) input = lines-sound (schedule_course (Make number true)) (schedule-sound (Make number true)) (parts_of (make_text number))
-command-sound Pack input = lines-sound pack_course (λ listing last rest. ends-sound _) input.lines
-command-sound Unpack input = ends-sound _
-command-sound Migrate input = lines-sound migrate_course migrate-sound input.lines
-command-sound Confine input = lines-sound confine_course confine-sound input.lines
-command-sound (Back number) input = lines-sound (back_course number) (λ listing last rest. ends-sound _) input.lines
-command-sound command input = lines-sound (schedule_course command) (schedule-sound command) input.lines
+-- what a command comes to that runs over a mapping cache is within them
+command-sound : (command : Command) (input : Input) → has_cache (Some command) ≡ true → IsSound (command_course command input)
+command-sound Help input has = ends-sound _
+command-sound (Make number false) input has = ends-sound _
+command-sound (Make number true) input has = lines-sound (schedule_course (Make number true)) (schedule-sound (Make number true)) (parts_of (make_text number))
+command-sound Pack input has = lines-sound pack_course (λ listing last rest. ends-sound _) input.lines
+command-sound Unpack input has = ends-sound _
+command-sound Migrate input has = lines-sound migrate_course migrate-sound input.lines
+command-sound Confine input has = lines-sound confine_course confine-sound input.lines
+command-sound Share input has = cc
+command-sound (Back number) input has = lines-sound (back_course number) (λ listing last rest. ends-sound _) input.lines
+command-sound command input has = lines-sound (schedule_course command) (schedule-sound command) input.lines
 
 module _ (command : Command) (taken taken' : Option (List ℕ)) (fetches fetches' : ℕ) (exit : Exit) where
   abbrev Comes : Course → Type 0
   Comes = ComesFor (Some command) taken taken' fetches fetches' exit
 
   -- what comes with all that it fetches
-  comes-told : (course : Course) → ComesTo taken taken' fetches fetches' exit cached course → Comes course
-  comes-told course comes = record { output = comes.output; fetched = λ tells. comes.fetched }
+  comes-told : (count : List Touch → ℕ) → count_of (Some command) ≡ count → (course : Course) → ComesTo taken taken' fetches fetches' exit count course → Comes course
+  comes-told count is course comes = record {
+    output = comes.output;
+    fetched = λ tells. subst (λ n. Fetches fetches fetches' exit (course_fetches n course)) (sym is) comes.fetched;
+  }
 
-  pub comes-known : (course : List ℕ → Course) (held : Option (List ℕ)) → IfSome held (λ bytes. ComesTo taken taken' fetches fetches' exit cached (course bytes)) → IfSome held (λ bytes. Comes (course bytes))
-  comes-known course None comes = tt
-  comes-known course (Some bytes) comes = comes-told (course bytes) comes
+  pub comes-known : (count : List Touch → ℕ) → count_of (Some command) ≡ count → (course : List ℕ → Course) (held : Option (List ℕ))
+      → IfSome held (λ bytes. ComesTo taken taken' fetches fetches' exit count (course bytes)) → IfSome held (λ bytes. Comes (course bytes))
+  comes-known count is course None comes = tt
+  comes-known count is course (Some bytes) comes = comes-told count is (course bytes) comes
+
+  pub comes-schedule : is_scheduled command ≡ true → (held : Option (List ℕ))
+      → IfSome held (λ bytes. ComesTo taken taken' fetches fetches' exit cached (lines_course (schedule_course command) (parts_of bytes)))
+      → IfSome held (λ bytes. Comes (input_course command (whole_input bytes)))
+  comes-schedule is held comes =
+      comes-known cached (count-cached (Some command) (cache-schedule command is)) (λ bytes. input_course command (whole_input bytes)) held
+      (known-schedule command is held (ComesTo taken taken' fetches fetches' exit cached) comes)
 
   -- what is so of the lines of the input is so of what the command comes to
   pub comes-input : (held : Option (List ℕ)) → asks_input command ≡ true
@@ -214,7 +256,8 @@ module _ (command : Command) (taken taken' : Option (List ℕ)) (fetches fetches
       → IfSome (bytes_for (Some command) held) (λ bytes. Comes (command_course command (whole_input bytes)))
   comes-other held asks comes =
       subst (λ read. IfSome (if read then held else Some []) (λ bytes. Comes (command_course command (whole_input bytes)))) (sym asks)
-      (subst Comes (sym (course-other command no_input asks)) (comes-told (command_course command no_input) comes))
+      (subst Comes (sym (course-other command no_input asks))
+      (comes-told cached (count-cached (Some command) (cache-other command asks)) (command_course command no_input) comes))
 
   -- where its text by itself was written, and nothing fetched
   pub comes-alone : (faults faults' : ℕ) → asks_input command ≡ false → asks_run (Some command) ≡ false
@@ -273,8 +316,12 @@ causes-other unread unwritten unwritten' exit never causes = record {
 
 module _ (asked : Option Command) (held held' taken taken' : Option (List ℕ)) (fetches fetches' : ℕ) where
   -- what stands with all that was fetched
-  pub stands-told : (course : List ℕ → Course) → StandsSure held held' taken taken' fetches fetches' cached course → StandsFor asked held held' taken taken' fetches fetches' course
-  stands-told course s = record { writes = s.writes; fetched = λ tells. s.fetched }
+  pub stands-told : (count : List Touch → ℕ) → count_of asked ≡ count → (course : List ℕ → Course) → StandsSure held held' taken taken' fetches fetches' count course
+      → StandsFor asked held held' taken taken' fetches fetches' course
+  stands-told count is course s = record {
+    writes = s.writes;
+    fetched = λ tells. subst (λ n. fetches' ≡ fetches + n (course s.writes.bytes).touches) (sym is) s.fetched;
+  }
 
   -- what stands by what bytes come to stands so by another name of that, and of what was asked for
   pub stands-course : (other_asked : Option Command) (course other : List ℕ → Course) → asked ≡ other_asked
@@ -287,7 +334,9 @@ module _ (asked : Option Command) (held held' taken taken' : Option (List ℕ)) 
       goes_on = subst (λ c. EndsNothing (length (whole_lines [] s.writes.bytes)) c.last.exit) same s.writes.goes_on;
       written = subst (λ c. Appends taken taken' c.records) same s.writes.written;
     };
-    fetched = λ tells. subst (λ c. fetches' ≡ fetches + cached c.touches) same (s.fetched (ap tells_fetches is ∙ tells));
+    fetched = λ tells.
+        subst (λ a. fetches' ≡ fetches + count_of a (other s.writes.bytes).touches) is
+        (subst (λ (c : Course). fetches' ≡ fetches + count_of asked c.touches) same (s.fetched (ap tells_fetches is ∙ tells)));
   }
 
 -- what stands of `back`, of which the number of slots is not told
@@ -303,7 +352,7 @@ pub stands-schedule : (command : Command) → is_scheduled command ≡ true → 
 unfolding stands-told
 stands-schedule command is held held' taken taken' fetches fetches' s =
     stands-course (Some command) held held' taken taken' fetches fetches' (Some command) _ _ refl
-    (stands-told (Some command) held held' taken taken' fetches fetches' _ s) (sym (input-schedule command is (read_input s.writes.bytes)))
+    (stands-told (Some command) held held' taken taken' fetches fetches' cached (count-cached (Some command) (cache-schedule command is)) _ s) (sym (input-schedule command is (read_input s.writes.bytes)))
 
 -- what lines make sure, a command makes sure that asks for input
 pub sure-input : (command : Command) (held held' taken taken' : Option (List ℕ)) (fetches fetches' : ℕ) (asks : asks_input command ≡ true)
@@ -350,13 +399,17 @@ module _ (words : List (List ℕ)) (command : Command) (asked : command_for word
 
     fetches_all : tells_fetches (Some command) ≡ true → (told : Option (List ℕ)) → IfSome told Answer → IfSome told (λ bytes. Fetches fetches fetches' exit (fetched words bytes))
     fetches_all tells None comes = tt
-    fetches_all tells (Some bytes) comes = subst (Fetches fetches fetches' exit) (ap (course_fetches cached) (sym (words-course (whole_input bytes)))) (comes.fetched tells)
+    fetches_all tells (Some bytes) comes =
+        subst (λ a. Fetches fetches fetches' exit (course_fetches (count_of a) (words_course a (whole_input bytes)))) (sym asked) (comes.fetched tells)
 
-    bounded_all : tells_fetches (Some command) ≡ true → (told : Option (List ℕ)) → IfSome told Answer → IfSome told (λ bytes. IsBounded fetches fetches' (whole_course words bytes))
-    bounded_all tells None comes = tt
-    bounded_all tells (Some bytes) comes =
-        subst (IsBounded fetches fetches') (sym (words-course (whole_input bytes)))
-        (sound-bounded (command_course command (whole_input bytes)) fetches fetches' (command-sound command (whole_input bytes)) (comes.fetched tells).most)
+    bounded_all : tells_fetches (Some command) ≡ true → has_cache (Some command) ≡ true → (told : Option (List ℕ)) → IfSome told Answer
+        → IfSome told (λ bytes. IsBounded fetches fetches' (whole_course words bytes))
+    bounded_all tells has None comes = tt
+    bounded_all tells has (Some bytes) comes =
+        let course : Course = command_course command (whole_input bytes) in
+        let most : fetches' ≤ fetches + course_fetches cached course =
+        subst (λ n. fetches' ≤ fetches + course_fetches n course) (count-cached (Some command) has) (comes.fetched tells).most in
+        subst (IsBounded fetches fetches') (sym (words-course (whole_input bytes))) (sound-bounded course fetches fetches' (command-sound command (whole_input bytes) has) most)
 
     -- what was written is what the words come to
     pub answers-words : (held : Option (List ℕ)) → IfSome (bytes_for (Some command) held) Answer → (exit ≡ OutOfMemory → taken' ≡ taken) → Answers words held taken taken' exit
@@ -370,9 +423,40 @@ module _ (words : List (List ℕ)) (command : Command) (asked : command_for word
         → (asks_run (Some command) ≡ false → fetches' ≡ fetches) → (exit ≡ OutOfMemory → fetches' ≡ fetches) → FetchesFor words held fetches fetches' exit
     fetches-words held comes stays unspent = record {
       counted = λ tells. subst (λ told. IfSome told (λ bytes. Fetches fetches fetches' exit (fetched words bytes))) (sym (bytes-read held)) (fetches_all (told-of tells) (bytes_for (Some command) held) comes);
-      bounded = λ tells. subst (λ told. IfSome told (λ bytes. IsBounded fetches fetches' (whole_course words bytes))) (sym (bytes-read held)) (bounded_all (told-of tells) (bytes_for (Some command) held) comes);
+      bounded = λ tells has.
+          subst (λ told. IfSome told (λ bytes. IsBounded fetches fetches' (whole_course words bytes))) (sym (bytes-read held))
+          (bounded_all (told-of tells) (sym (ap has_cache asked) ∙ has) (bytes_for (Some command) held) comes);
       unfetched = λ off. stays (sym (ap asks_run asked) ∙ off);
       unspent = unspent;
+    }
+
+    -- `share` comes to what the lines of its input come to
+    shared-course : command ≡ Share → (bytes : List ℕ) → whole_course words bytes ≡ lines_course share_course (parts_of bytes)
+    shared-course is bytes = words-course (whole_input bytes) ∙ ap (λ c. command_course c (whole_input bytes)) is
+
+    frames_all : command ≡ Share → exit ≡ Done → (told : Option (List ℕ)) → IfSome told Answer → IfSome told (λ bytes. TellsFew (whole_course words bytes))
+    frames_all is done None comes = tt
+    frames_all is done (Some bytes) comes =
+        let ended : (command_course command (whole_input bytes)).last.exit ≡ Done = sym (comes.output.whole (done-given exit done)).0 ∙ done in
+        subst TellsFew (sym (shared-course is bytes)) (lines-few (parts_of bytes) (subst (λ c. (command_course c (whole_input bytes)).last.exit ≡ Done) is ended))
+
+    shared_all : command ≡ Share → (told : Option (List ℕ)) → IfSome told Answer → IfSome told (λ bytes. IsSharedBounded fetches fetches' (whole_course words bytes))
+    shared_all is None comes = tt
+    shared_all is (Some bytes) comes =
+        let most : fetches' ≤ fetches + course_fetches shared_fetched (lines_course share_course (parts_of bytes)) =
+        subst (λ c. fetches' ≤ fetches + course_fetches (count_of (Some c)) (command_course c (whole_input bytes))) is
+        (comes.fetched (ap (λ c. tells_fetches (Some c)) is)).most in
+        subst (IsSharedBounded fetches fetches') (sym (shared-course is bytes)) (share-bounded (parts_of bytes) fetches fetches' most)
+
+    -- what is so of `share` is so of the words that ask for it
+    pub shares-words : (held : Option (List ℕ)) → IfSome (bytes_for (Some command) held) Answer → SharesFor words held fetches fetches' exit
+    shares-words held comes = record {
+      frames = λ done is.
+          subst (λ told. IfSome told (λ bytes. TellsFew (whole_course words bytes))) (sym (bytes-read held))
+          (frames_all (let same : Some command ≡ Some Share = sym asked ∙ is in cc) done (bytes_for (Some command) held) comes);
+      bounded = λ is.
+          subst (λ told. IfSome told (λ bytes. IsSharedBounded fetches fetches' (whole_course words bytes))) (sym (bytes-read held))
+          (shared_all (let same : Some command ≡ Some Share = sym asked ∙ is in cc) (bytes_for (Some command) held) comes);
     }
 
   -- what a command makes sure is what the words make sure that ask for it

@@ -2,7 +2,10 @@
 use Rattle.std.specs.Prelude.{ℕ, Bool, true, false, List, Option, Some, None}
 use Rattle.coyotos_words.specs.Command.{command_of}
 use Rattle.coyotos_words.specs.declared.command.Command.{Command}
-use Rattle.coyotos_words.specs.declared.command.Command.TheVariants.{Help, Check, Make, Pack, Unpack, Migrate, Confine, Back}
+use Rattle.coyotos_words.specs.declared.command.Command.TheVariants.{Help, Check, Make, Pack, Unpack, Migrate, Confine, Share, Back}
+use Rattle.kernel_core.specs.Outcome.{Touch}
+use Rattle.courses.specs.Course.{cached}
+use Rattle.share_command.specs.Share.{shared_fetched}
 
 -- what these words ask for
 abbrev pub command_for : List (List ℕ) → Option Command
@@ -34,6 +37,16 @@ asks_run (Some command) = true
 abbrev pub tells_fetches : Option Command → Bool
 tells_fetches (Some (Back number)) = false
 tells_fetches _ = true
+
+-- whether words run over a mapping cache where they run; `share` runs over shared leaf tables
+abbrev pub has_cache : Option Command → Bool
+has_cache (Some Share) = false
+has_cache _ = true
+
+-- how many slots touches fetch over the translator of words
+abbrev pub count_of : Option Command → List Touch → ℕ
+count_of (Some Share) = shared_fetched
+count_of _ = cached
 
 -- whether a command reads a schedule, and runs its events or counts them
 abbrev pub asks_schedule : Command → Bool

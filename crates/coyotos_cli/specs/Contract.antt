@@ -3,10 +3,12 @@ use Rattle.std.specs.Prelude.{◌≡◌, ◌≢◌, ◌⊎◌, ◌+◌, ℕ, tru
 use Rattle.std.specs.List.{list_any}
 use Rattle.std.specs.Io.KnownBytes.{IsAtEnd}
 use Rattle.coyotos_words.specs.Command.{is_dashed}
-use Rattle.coyotos_cli.specs.Command.{command_for, reads_input, asks_run, tells_fetches}
-use Rattle.courses.specs.Course.{Course, cached, course_fetches, course_output}
+use Rattle.coyotos_cli.specs.Command.{command_for, count_of, has_cache, reads_input, asks_run, tells_fetches}
+use Rattle.courses.specs.Course.{Course, course_fetches, course_output}
 use Rattle.courses.specs.Ending.{Outputs, Fetches}
 use Rattle.courses.specs.Bounds.{IsBounded}
+use Rattle.share_command.specs.Few.{IsSharedBounded, TellsFew}
+use Rattle.coyotos_words.specs.declared.command.Command.TheVariants.{Share}
 use Rattle.courses.specs.Sure.{WritesSure}
 use Rattle.coyotos_cli.specs.Program.{out, fetched, whole_course}
 use Rattle.coyotos_words.specs.declared.command.Command.{Command}
@@ -39,18 +41,23 @@ pub record ReadsInput {S : Type 0} (held : S → Option (List ℕ)) (words : Lis
 -- what a call wrote and how it ended is what it comes to, and so is how many slots it fetched, where their number is told
 pub record ComesFor (asked : Option Command) (taken taken' : Option (List ℕ)) (fetches fetches' : ℕ) (exit : Exit) (course : Course) : Type 0 where
   pub output : Outputs taken taken' exit (course_output course)
-  pub fetched : tells_fetches asked ≡ true → Fetches fetches fetches' exit (course_fetches cached course)
+  pub fetched : tells_fetches asked ≡ true → Fetches fetches fetches' exit (course_fetches (count_of asked) course)
 
 -- reading failed behind bytes that end nothing, and exactly the records were written that they make sure; and exactly the
 -- slots were fetched that the touches of these cost, where their number is told
 pub record StandsFor (asked : Option Command) (held held' taken taken' : Option (List ℕ)) (fetches fetches' : ℕ) (course : List ℕ → Course) : Type 0 where
   pub writes : WritesSure held held' taken taken' course
-  pub fetched : tells_fetches asked ≡ true → fetches' ≡ fetches + cached (course writes.bytes).touches
+  pub fetched : tells_fetches asked ≡ true → fetches' ≡ fetches + count_of asked (course writes.bytes).touches
 
--- how many slots are fetched: where their number is told, those of the whole run and never more, and no more than the bounds
--- on it; and none for words that let nothing run or where memory was wanting
+-- how many slots are fetched: where their number is told, those of the whole run and never more, and over a mapping cache no
+-- more than the bounds on it; and none for words that let nothing run or where memory was wanting
 pub record FetchesFor (words : List (List ℕ)) (held : Option (List ℕ)) (fetches fetches' : ℕ) (exit : Exit) : Type 0 where
   pub counted : tells_fetches (command_for words) ≡ true → IfSome (bytes_for (command_for words) held) (λ bytes. Fetches fetches fetches' exit (fetched words bytes))
-  pub bounded : tells_fetches (command_for words) ≡ true → IfSome (bytes_for (command_for words) held) (λ bytes. IsBounded fetches fetches' (whole_course words bytes))
+  pub bounded : tells_fetches (command_for words) ≡ true → has_cache (command_for words) ≡ true → IfSome (bytes_for (command_for words) held) (λ bytes. IsBounded fetches fetches' (whole_course words bytes))
   pub unfetched : asks_run (command_for words) ≡ false → fetches' ≡ fetches
   pub unspent : exit ≡ OutOfMemory → fetches' ≡ fetches
+
+-- how few frames `share` tells where all was done, and how few slots it fetches
+pub record SharesFor (words : List (List ℕ)) (held : Option (List ℕ)) (fetches fetches' : ℕ) (exit : Exit) : Type 0 where
+  pub frames : exit ≡ Done → command_for words ≡ Some Share → IfSome (bytes_for (command_for words) held) (λ bytes. TellsFew (whole_course words bytes))
+  pub bounded : command_for words ≡ Some Share → IfSome (bytes_for (command_for words) held) (λ bytes. IsSharedBounded fetches fetches' (whole_course words bytes))

@@ -2,7 +2,7 @@
 -- project's own).
 use Rattle.std.specs.Prelude.{ℕ, Bool, true, false, List, ◌++◌, codes, Option, Some, None}
 use Rattle.generated_text.specs.Text.{make_text}
-use Rattle.courses.specs.Course.{Course, cached, course_fetches, course_output, ends_in}
+use Rattle.courses.specs.Course.{Course, course_fetches, course_output, ends_in}
 use Rattle.courses.specs.Ending.{Output}
 use Rattle.courses.specs.Listed.{lines_course}
 use Rattle.schedule_commands.specs.Finished.{schedule_course}
@@ -11,9 +11,10 @@ use Rattle.migrate_command.specs.Migrate.{migrate_course}
 use Rattle.image_commands.specs.Packed.{pack_course}
 use Rattle.image_commands.specs.Unpacked.{unpack_course}
 use Rattle.back_command.specs.Back.{back_course}
+use Rattle.share_command.specs.Share.{share_course}
 use Rattle.coyotos_words.specs.declared.command.Command.{Command}
-use Rattle.coyotos_words.specs.declared.command.Command.TheVariants.{Help, Make, Pack, Unpack, Migrate, Confine, Back}
-use Rattle.coyotos_cli.specs.Command.{command_for}
+use Rattle.coyotos_words.specs.declared.command.Command.TheVariants.{Help, Make, Pack, Unpack, Migrate, Confine, Share, Back}
+use Rattle.coyotos_cli.specs.Command.{command_for, count_of}
 use Rattle.coyotos_cli.specs.Input.{Input, read_input, whole_input}
 use Rattle.courses.specs.declared.exit.Exit.{Exit}
 use Rattle.courses.specs.declared.exit.Exit.TheVariants.{Done, Usage}
@@ -22,7 +23,7 @@ use Rattle.courses.specs.declared.exit.Exit.TheVariants.{Done, Usage}
 abbrev pub usage_text : List ℕ
 usage_text =
     codes "usage: coyotos check | run | trace | tables | walk P KIND ADDR | make N [summary]"
-    ++ codes " | pack | unpack | migrate | confine | back N" ++ codes "\n"
+    ++ codes " | pack | unpack | migrate | confine | share | back N" ++ codes "\n"
 
 -- what a command comes to with its input: `unpack` takes it as an image, and every other one as lines
 abbrev pub input_course : Command → Input → Course
@@ -30,6 +31,7 @@ input_course Pack input = lines_course pack_course input.lines
 input_course Unpack input = unpack_course input.image
 input_course Migrate input = lines_course migrate_course input.lines
 input_course Confine input = lines_course confine_course input.lines
+input_course Share input = lines_course share_course input.lines
 input_course (Back number) input = lines_course (back_course number) input.lines
 input_course command input = lines_course (schedule_course command) input.lines
 
@@ -63,7 +65,7 @@ out words bytes = course_output (whole_course words bytes)
 
 -- how many slots the program fetches, where their number is told
 abbrev pub fetched : List (List ℕ) → List ℕ → ℕ
-fetched words bytes = course_fetches cached (whole_course words bytes)
+fetched words bytes = course_fetches (count_of (command_for words)) (whole_course words bytes)
 
 -- ---- what stands where reading failed
 

@@ -2,7 +2,7 @@
 ghost use Rattle.std.specs.Prelude.{◌≡◌, ◌≢◌, true, false, IfSome, Some};
 ghost use Rattle.std.specs.Io.KnownBytes.{IsAtEnd};
 ghost use Rattle.coyotos_words.specs.declared.command.Command.TheVariants.{Help, Migrate, Pack};
-ghost use Rattle.coyotos_cli.specs.Command.{asks_input, asks_run, summary_number};
+ghost use Rattle.coyotos_cli.specs.Command.{asks_input, asks_run, has_cache, summary_number};
 ghost use Rattle.coyotos_cli.specs.Contract.{ComesFor, StandsFor, bytes_for};
 ghost use Rattle.coyotos_cli.specs.Input.{no_input, read_input, whole_input};
 ghost use Rattle.coyotos_cli.specs.Program.{command_course, input_course, make_course, usage_text};
@@ -21,6 +21,7 @@ use generated_text::MakeSource;
 use image_commands::{answer_pack, answer_unpack};
 use migrate_command::migrate;
 use schedule_commands::answer_schedule;
+use share_command::share;
 use std::alloc::Global;
 use std::sync::ledger::Ledger;
 use steps::Steps;
@@ -46,7 +47,7 @@ pub(crate) fn answer<S: Source, K: Sink, L: Ledger>(
         (λ bytes. command_course command (read_input bytes)) }
 
     // What the entries of the mapping cache say then.
-    ensures entries { result ≡ Exit.Done →
+    ensures entries { result ≡ Exit.Done → has_cache (Some command) ≡ true →
         IfSome (bytes_for (Some command) (S.held input.old)) (λ bytes.
         HasEntries (command_course command (whole_input bytes))) }
 
@@ -92,7 +93,8 @@ fn answer_input<S: Source, K: Sink, L: Ledger>(
         StandsFor (Some command) (S.held input.old) (S.held input.new)
         (K.taken output.old) (K.taken output.new) fetches.old fetches.new
         (λ bytes. input_course command (read_input bytes)) }
-    ensures entries { result ≡ Exit.Done → IfSome (S.held input.old) (λ bytes.
+    ensures entries { result ≡ Exit.Done → has_cache (Some command) ≡ true →
+        IfSome (S.held input.old) (λ bytes.
         HasEntries (input_course command (whole_input bytes))) }
     ensures migrated { command ≡ Migrate → result ≡ Exit.Done → IfSome (S.held input.old) (λ bytes.
         IsMigrated bytes (course_output (input_course command (whole_input bytes))).text) }
@@ -110,6 +112,7 @@ fn answer_input<S: Source, K: Sink, L: Ledger>(
         Command::Unpack => answer_unpack(alloc, input, output),
         Command::Migrate => migrate(alloc, input, output),
         Command::Confine => confine(alloc, input, output, fetches),
+        Command::Share => share(alloc, input, output, fetches),
         Command::Back { number } => back(alloc, number, input, output, fetches),
         _ => answer_schedule(alloc, command, input, output, fetches),
     }
@@ -200,6 +203,6 @@ pub(crate) fn usage<K: Sink>(output: &mut K, exit: Exit) -> Exit
         (record { text = usage_text; exit = exit }) }
 {
     let line =
-        b"usage: coyotos check | run | trace | tables | walk P KIND ADDR | make N [summary] | pack | unpack | migrate | confine | back N\n";
+        b"usage: coyotos check | run | trace | tables | walk P KIND ADDR | make N [summary] | pack | unpack | migrate | confine | share | back N\n";
     end_with(line.as_slice(), exit, output)
 }

@@ -1,14 +1,14 @@
 //! The top call.
-ghost use Rattle.std.specs.Prelude.{◌≡◌, map, string_bytes, IfSome, Some};
+ghost use Rattle.std.specs.Prelude.{◌≡◌, map, string_bytes, true, IfSome, Some};
 ghost use Rattle.coy_io.specs.Causes.{Rose};
 ghost use Rattle.coyotos_words.specs.declared.command.Command.TheVariants.{Migrate, Pack};
 ghost use Rattle.image_commands.specs.Same.{IsImageOf};
 ghost use Rattle.migrate_command.specs.Same.{IsMigrated};
-ghost use Rattle.coyotos_cli.specs.Command.{command_for};
+ghost use Rattle.coyotos_cli.specs.Command.{command_for, has_cache};
 ghost use Rattle.courses.specs.Course.{HasEntries};
 ghost use Rattle.courses.specs.Ending.{HasCauses, Completes};
 ghost use Rattle.coyotos_cli.specs.Program.{out, sure, whole_course};
-ghost use Rattle.coyotos_cli.specs.Contract.{bytes_for, Answers, HasForm, ReadsInput, StandsFor, FetchesFor};
+ghost use Rattle.coyotos_cli.specs.Contract.{bytes_for, Answers, HasForm, ReadsInput, SharesFor, StandsFor, FetchesFor};
 
 use crate::answering::{answer, usage};
 use courses::Exit;
@@ -54,7 +54,8 @@ pub fn coyotos<S: Source, K: Sink, L: Ledger>(
     // What the mapping lines of `tables` say: each is right and its space live, none comes twice, those of a space are in
     // order of address, and where the need of the run fits, each covered pair of the last state has one.
     ensures entries { let words = map string_bytes words.now in
-        result ≡ Exit.Done → IfSome (bytes_for (command_for words) (S.held input.old)) (λ bytes.
+        result ≡ Exit.Done → has_cache (command_for words) ≡ true →
+        IfSome (bytes_for (command_for words) (S.held input.old)) (λ bytes.
         HasEntries (whole_course words bytes)) }
 
     // What `migrate` writes is, read again, the same statements and events, if it is short enough to be an input.
@@ -68,6 +69,8 @@ pub fn coyotos<S: Source, K: Sink, L: Ledger>(
 
     // How many slots are fetched.
     ensures fetches { FetchesFor (map string_bytes words.now) (S.held input.old)
+        fetches.old fetches.new result }
+    ensures shared { SharesFor (map string_bytes words.now) (S.held input.old)
         fetches.old fetches.new result }
 {
     let command = match read_command(alloc, words) {

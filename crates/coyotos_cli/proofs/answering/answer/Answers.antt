@@ -25,11 +25,11 @@ returns-clause-causes g c = causes-other _ _ _ _ c.answer_other.ensures.read c.a
 
 pub returns-then-asks_input-clause-entries : goal.returns-then-asks_input-clause-entries
 returns-then-asks_input-clause-entries g c =
-    λ done. entries-input c.args.command _ (sym c.asks_input.ensures ∙ c.if-asks_input.true) (c.answer_input.ensures.entries done)
+    λ done has. entries-input c.args.command _ (sym c.asks_input.ensures ∙ c.if-asks_input.true) (c.answer_input.ensures.entries done has)
 
 pub returns-clause-entries : goal.returns-clause-entries
 returns-clause-entries g c =
-    λ done. entries-other c.args.command _ (sym c.asks_input.ensures ∙ c.if-asks_input.false) (c.answer_other.ensures.entries done)
+    λ done has. entries-other c.args.command _ (sym c.asks_input.ensures ∙ c.if-asks_input.false) (c.answer_other.ensures.entries done)
 
 pub returns-then-asks_input-clause-migrated : goal.returns-then-asks_input-clause-migrated
 returns-then-asks_input-clause-migrated g c =
