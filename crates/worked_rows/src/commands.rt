@@ -105,7 +105,7 @@ fn cuts_are_checked_and_texts_migrated(rt: HostRuntime) -> Result<(), Fail> {
         (
             "confine now",
             "",
-            "usage: coyotos check | run | trace | tables | walk P KIND ADDR | make N [summary] | pack | unpack | migrate | confine | back N\n",
+            "usage: coyotos check | run | trace | tables | walk P KIND ADDR | make N [summary] | pack | unpack | migrate | confine | share | back N\n",
             1,
         ),
         (
@@ -210,13 +210,13 @@ fn the_last_events_are_undone(rt: HostRuntime) -> Result<(), Fail> {
         (
             "back",
             "",
-            "usage: coyotos check | run | trace | tables | walk P KIND ADDR | make N [summary] | pack | unpack | migrate | confine | back N\n",
+            "usage: coyotos check | run | trace | tables | walk P KIND ADDR | make N [summary] | pack | unpack | migrate | confine | share | back N\n",
             1,
         ),
         (
             "back 1 1",
             "",
-            "usage: coyotos check | run | trace | tables | walk P KIND ADDR | make N [summary] | pack | unpack | migrate | confine | back N\n",
+            "usage: coyotos check | run | trace | tables | walk P KIND ADDR | make N [summary] | pack | unpack | migrate | confine | share | back N\n",
             1,
         ),
     ];

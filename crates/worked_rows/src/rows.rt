@@ -91,7 +91,7 @@ fn rows_give_what_is_written_down_for_them(rt: HostRuntime) -> Result<(), Fail> 
         (
             "run -x",
             "",
-            "usage: coyotos check | run | trace | tables | walk P KIND ADDR | make N [summary] | pack | unpack | migrate | confine | back N\n",
+            "usage: coyotos check | run | trace | tables | walk P KIND ADDR | make N [summary] | pack | unpack | migrate | confine | share | back N\n",
             1,
         ),
         ("run", "", "refused 1 BadHeader\n", 2),
@@ -254,7 +254,7 @@ fn rows_give_what_is_written_down_for_them(rt: HostRuntime) -> Result<(), Fail> 
         (
             "--help",
             "",
-            "usage: coyotos check | run | trace | tables | walk P KIND ADDR | make N [summary] | pack | unpack | migrate | confine | back N\n",
+            "usage: coyotos check | run | trace | tables | walk P KIND ADDR | make N [summary] | pack | unpack | migrate | confine | share | back N\n",
             0,
         ),
         (
@@ -266,49 +266,49 @@ fn rows_give_what_is_written_down_for_them(rt: HostRuntime) -> Result<(), Fail> 
         (
             "tr",
             "",
-            "usage: coyotos check | run | trace | tables | walk P KIND ADDR | make N [summary] | pack | unpack | migrate | confine | back N\n",
+            "usage: coyotos check | run | trace | tables | walk P KIND ADDR | make N [summary] | pack | unpack | migrate | confine | share | back N\n",
             1,
         ),
         (
             "help",
             "",
-            "usage: coyotos check | run | trace | tables | walk P KIND ADDR | make N [summary] | pack | unpack | migrate | confine | back N\n",
+            "usage: coyotos check | run | trace | tables | walk P KIND ADDR | make N [summary] | pack | unpack | migrate | confine | share | back N\n",
             1,
         ),
         (
             "--help run",
             "",
-            "usage: coyotos check | run | trace | tables | walk P KIND ADDR | make N [summary] | pack | unpack | migrate | confine | back N\n",
+            "usage: coyotos check | run | trace | tables | walk P KIND ADDR | make N [summary] | pack | unpack | migrate | confine | share | back N\n",
             1,
         ),
         (
             "make -- 7",
             "",
-            "usage: coyotos check | run | trace | tables | walk P KIND ADDR | make N [summary] | pack | unpack | migrate | confine | back N\n",
+            "usage: coyotos check | run | trace | tables | walk P KIND ADDR | make N [summary] | pack | unpack | migrate | confine | share | back N\n",
             1,
         ),
         (
             "make 7 verbose",
             "",
-            "usage: coyotos check | run | trace | tables | walk P KIND ADDR | make N [summary] | pack | unpack | migrate | confine | back N\n",
+            "usage: coyotos check | run | trace | tables | walk P KIND ADDR | make N [summary] | pack | unpack | migrate | confine | share | back N\n",
             1,
         ),
         (
             "make 4294967296",
             "",
-            "usage: coyotos check | run | trace | tables | walk P KIND ADDR | make N [summary] | pack | unpack | migrate | confine | back N\n",
+            "usage: coyotos check | run | trace | tables | walk P KIND ADDR | make N [summary] | pack | unpack | migrate | confine | share | back N\n",
             1,
         ),
         (
             "walk 0 load 0 0",
             "",
-            "usage: coyotos check | run | trace | tables | walk P KIND ADDR | make N [summary] | pack | unpack | migrate | confine | back N\n",
+            "usage: coyotos check | run | trace | tables | walk P KIND ADDR | make N [summary] | pack | unpack | migrate | confine | share | back N\n",
             1,
         ),
         (
             "walk 256 load 0",
             "",
-            "usage: coyotos check | run | trace | tables | walk P KIND ADDR | make N [summary] | pack | unpack | migrate | confine | back N\n",
+            "usage: coyotos check | run | trace | tables | walk P KIND ADDR | make N [summary] | pack | unpack | migrate | confine | share | back N\n",
             1,
         ),
         (
