@@ -47,6 +47,10 @@ mod rows;
 #[cfg(test)]
 mod running;
 #[cfg(test)]
+mod shared;
+#[cfg(test)]
+mod sharings;
+#[cfg(test)]
 mod strings;
 #[cfg(test)]
 mod texts;
