@@ -23,6 +23,7 @@ use Rattle.producers.specs.declared.walking.Walked.{Walked}
 
 -- ---- the producer of a walk
 
+-- whether a kind is that of GPTs
 abbrev pub is_gpt : CapKind → Bool
 is_gpt Gpt = true
 is_gpt _ = false
