@@ -15,6 +15,8 @@ mod command_words;
 #[cfg(test)]
 mod control_rows;
 #[cfg(test)]
+mod cuts;
+#[cfg(test)]
 mod deliveries;
 #[cfg(test)]
 mod faults;
@@ -50,6 +52,8 @@ mod running;
 mod shared;
 #[cfg(test)]
 mod sharings;
+#[cfg(test)]
+mod starts;
 #[cfg(test)]
 mod strings;
 #[cfg(test)]
