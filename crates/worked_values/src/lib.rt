@@ -59,4 +59,6 @@ mod strings;
 #[cfg(test)]
 mod texts;
 #[cfg(test)]
+mod undoing;
+#[cfg(test)]
 mod walks;
