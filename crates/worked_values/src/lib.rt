@@ -51,6 +51,8 @@ mod running;
 #[cfg(test)]
 mod shared;
 #[cfg(test)]
+mod shared_tables;
+#[cfg(test)]
 mod sharings;
 #[cfg(test)]
 mod starts;
