@@ -1,35 +1,56 @@
 //! Numbers and words by the grammar of the listing, worked out by hand.
 
+use crate::rows::{barred, check};
 use coy_text::{read_dec, read_hex, word, word_count, words_from};
+use std::process::Abort;
+
+/// What a word is as a decimal number and as a hexadecimal one, both written in decimal, or `-` where it is none, and
+/// the word in bars.
+const NUMBERS: &str = "\
+- - ||
+0 0 |0|
+1 - |0000000001|
+1 1 |00000001|
+- - |00000000001|
+4294967295 - |4294967295|
+- - |4294967296|
+- - |9999999999|
+- 3735928559 |deadBEEF|
+- 4294967295 |ffffffff|
+100000000 - |100000000|
+12 18 |12|
+- - |-1|
+- - |+1|
+- - |0x1|
+- - |1 |
+- - |1g|
+- - |/|
+- - |:|";
+
+/// The number that a row has in a column, if it has one there.
+fn wanted(row: &str, column: usize) -> Option<u32> {
+    row.split(' ').nth(column)?.parse().ok()
+}
+
+/// Reads the row's word as both numbers.
+fn check_number(rt: &impl Abort, row: &str) {
+    let (_, text) = barred(rt, row);
+    check(rt, read_dec(text.as_bytes()).ok() == wanted(row, 0), row);
+    check(rt, read_hex(text.as_bytes()).ok() == wanted(row, 1), row);
+}
 
 #[test]
 fn numbers_are_read_by_their_grammar(rt: HostRuntime) {
-    // (word, as a decimal number, as a hexadecimal number)
-    let cases = [
-        ("", None, None),
-        ("0", Some(0), Some(0)),
-        ("0000000001", Some(1), None),
-        ("00000001", Some(1), Some(1)),
-        ("00000000001", None, None),
-        ("4294967295", Some(4_294_967_295), None),
-        ("4294967296", None, None),
-        ("9999999999", None, None),
-        ("deadBEEF", None, Some(0xdead_beef)),
-        ("ffffffff", None, Some(0xffff_ffff)),
-        ("100000000", Some(100_000_000), None),
-        ("12", Some(12), Some(18)),
-        ("-1", None, None),
-        ("+1", None, None),
-        ("0x1", None, None),
-        ("1 ", None, None),
-        ("1g", None, None),
-        ("/", None, None),
-        (":", None, None),
-    ];
-    for (text, dec, hex) in cases {
-        assert_eq!(rt; read_dec(text.as_bytes()).ok(), dec, "decimal {text}");
-        assert_eq!(rt; read_hex(text.as_bytes()).ok(), hex, "hexadecimal {text}");
+    for row in NUMBERS.lines() {
+        check_number(&rt, row);
     }
+}
+
+/// Counts the words of a line, and takes its second word and what follows that.
+fn check_words(rt: &impl Abort, line: &str, count: usize, second: &str, rest: &str) {
+    check(rt, word_count(line.as_bytes()) == count, line);
+    check(rt, word(line.as_bytes(), 1) == second.as_bytes(), line);
+    check(rt, words_from(line.as_bytes(), 2) == rest.as_bytes(), line);
 }
 
 #[test]
@@ -44,16 +65,6 @@ fn words_stand_between_spaces(rt: HostRuntime) {
         ("a\tb c", 2, "c", ""),
     ];
     for (line, count, second, rest) in cases {
-        assert_eq!(rt; word_count(line.as_bytes()), count, "words of {line}");
-        assert_eq!(rt;
-            word(line.as_bytes(), 1),
-            second.as_bytes(),
-            "second word of {line}"
-        );
-        assert_eq!(rt;
-            words_from(line.as_bytes(), 2),
-            rest.as_bytes(),
-            "behind two words of {line}"
-        );
+        check_words(&rt, line, count, second, rest);
     }
 }
