@@ -1,17 +1,15 @@
 -- What one line more asks for, and the events of what is asked for.
-use Rattle.std.proofs.Common.{◌≡◌, ◌+◌, ◌∙◌, ◌∷◌, ◌++◌, [], ℕ, List, true, Option, Some, None, Result, Ok, Err, refl, sym, ap, subst, flat_map, append_assoc, append-nil}
+use Rattle.std.proofs.Common.{◌≡◌, ◌+◌, ◌∙◌, ◌∷◌, [], ℕ, List, true, Option, Some, None, Result, Ok, Err, refl, sym, ap, subst, flat_map}
 use Rattle.std.proofs.lemmas.List.Concat.{flat_map-cons}
 use Rattle.coy_io.specs.Lines.{Part, Line, LongLine, PastLimit}
 use Rattle.coy_io.specs.Reader.{Reader, Begins, IsDone, IsLine, IsNext, IsSpent, ahead, bytes_ahead}
-use Rattle.machine_state.specs.declared.event.Event.{Event}
 use Rattle.listing_read.specs.Schedule.{schedule_line}
 use Rattle.listing_read.specs.declared.fault.ScheduleFault.{ScheduleFault}
 use Rattle.listing_read.specs.declared.fault.ScheduleFault.TheVariants.{LineTooLong}
 use Rattle.listing_read.specs.declared.schedule.Timed.{Timed}
 use Rattle.schedule_replay.specs.Asked.{Asked, AskNone, AsksNext, asked, asks_first, asks_none, asks_with, of_line}
 use Rattle.schedule_replay.specs.Events.{line_events}
-use Rattle.schedule_replay.specs.Lines.{ReadsOn}
-use Rattle.schedule_replay.specs.Scheduled.{AtEnd, AtFault, AtLimit, Ending, Scheduled, asked_alone, asked_events, asked_with, ends, preceded, scheduled}
+use Rattle.schedule_replay.specs.Scheduled.{AtEnd, AtFault, AtLimit, Scheduled, asked_alone, asked_with, scheduled}
 use Rattle.schedule_replay.specs.declared.lines.Stop.{Stop}
 use Rattle.schedule_replay.proofs.ReadOn.{reads_on-line}
 use Rattle.schedule_replay.proofs.Reading.{gave, gave_none, on_begun, on_given, on_none, scheduled-end, scheduled-long, scheduled-past, scheduled-line}

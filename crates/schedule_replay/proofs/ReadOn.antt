@@ -1,8 +1,7 @@
 -- Line by line, what is made of the lines of an input.
-use Rattle.std.proofs.Common.{◌≡◌, ◌∙◌, ◌∷◌, ◌++◌, [], ℕ, List, true, false, Option, Some, None, Result, Ok, Err, refl, sym, ap, subst, append_assoc, append-nil}
+use Rattle.std.proofs.Common.{◌≡◌, ◌∙◌, ◌∷◌, ◌++◌, [], ℕ, List, true, Option, Some, None, Ok, refl, sym, ap, subst, append_assoc, append-nil}
 use Rattle.coy_io.specs.Lines.{Part, Line}
-use Rattle.coy_io.specs.Reader.{Reader, Advances, IsLine, IsNext, IsSpent, ahead, bytes_ahead}
-use Rattle.coy_io.specs.declared.lines.LineFault.{LineFault}
+use Rattle.coy_io.specs.Reader.{Reader, IsLine, IsNext, IsSpent, ahead, bytes_ahead}
 use Rattle.coy_io.proofs.GivenLaws.{Advances-nil, Advances-trans, GivesLines-nil, GivesLines-trans, GivesLines-kept, GivesLines-line}
 use Rattle.listing_read.specs.Reads.{IsStopped}
 use Rattle.schedule_replay.specs.Lines.{ReadsOn, FailsOn}

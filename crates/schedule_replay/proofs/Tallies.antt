@@ -1,7 +1,11 @@
 -- Counts of records, by parts.
-use Rattle.std.proofs.Common.{◌≡◌, ◌<◌, ◌≤◌, ◌+◌, ◌∙◌, ℕ, Bool, List, [], ◌∷◌, ◌++◌, length, get_or, drop, if◌then◌else◌, refl, sym, ap, arith}
+use Rattle.std.proofs.Common.{◌≡◌, ◌<◌, ◌≤◌, ◌+◌, ◌∙◌, ℕ, Bool, true, false, List, [], ◌∷◌, ◌++◌, length, get_or, drop, if◌then◌else◌, refl, sym, ap, arith}
 use Rattle.machine_state.specs.declared.event.Event.{Event}
 use Rattle.machine_state.specs.declared.record.Record.{Record}
+use Rattle.machine_state.specs.declared.record.Record.TheVariants.{Access, Insn, Message, Fault, Log, Destroy, Halt}
+use Rattle.std.proofs.lemmas.Bool.{and_parts, false≢true}
+use Rattle.std.specs.List.{list_all}
+use Rattle.schedule_replay.specs.Told.{is_detail}
 use Rattle.kernel_core.proofs.Ran.{run_records-nil, run_records-append}
 use Rattle.kernel_core.specs.Run.{run_state, run_records}
 use Rattle.kernel_core.specs.State.{State}
@@ -33,6 +37,33 @@ and_more-none counts told none =
     let zero : (test : Record → Bool) → how_many test told ≡ 0 = λ test. ap (how_many test) none ∙ how_many-nil test in
     let m = zero is_message in let f = zero is_fault in let l = zero is_log in let d = zero is_destroy in
     counts-same (and_more counts 0 told) counts (omega arith) (omega (arith, m)) (omega (arith, f)) (omega (arith, l)) (omega (arith, d))
+
+-- an access or an instruction is of none of the four kinds
+no_kind : (entry : Record) → is_detail entry ≡ true → (is_message entry ≡ false) × ((is_fault entry ≡ false) × ((is_log entry ≡ false) × (is_destroy entry ≡ false)))
+no_kind (Access _ _ _ _) detail = (refl, (refl, (refl, refl)))
+no_kind (Insn _ _ _) detail = (refl, (refl, (refl, refl)))
+no_kind (Message _ _ _ _ _ _ _) detail = absurd (false≢true detail)
+no_kind (Fault _ _ _ _) detail = absurd (false≢true detail)
+no_kind (Log _ _) detail = absurd (false≢true detail)
+no_kind (Destroy _ _) detail = absurd (false≢true detail)
+no_kind (Halt _) detail = absurd (false≢true detail)
+
+-- so no list of them has one
+details-none : (entries : List Record) → list_all is_detail entries ≡ true → (test : Record → Bool) → ((entry : Record) → is_detail entry ≡ true → test entry ≡ false) → how_many test entries ≡ 0
+unfolding how_many
+details-none [] all test passes = refl
+details-none (entry ∷ entries) all test passes =
+    let parts = and_parts (is_detail entry) (list_all is_detail entries) all in
+    let first = passes entry parts.0 in
+    let rest = details-none entries parts.1 test passes in
+    rw (first, rest) refl
+
+-- one event more, whose records are such
+pub and_more-details : (counts : Counts) (entries : List Record) → list_all is_detail entries ≡ true → record { events = counts.events + 1; messages = counts.messages; faults = counts.faults; logs = counts.logs; destroys = counts.destroys } ≡ and_more counts 1 entries
+and_more-details counts entries all =
+    let m = details-none entries all is_message (λ e d. (no_kind e d).0) in let f = details-none entries all is_fault (λ e d. (no_kind e d).1.0) in
+    let l = details-none entries all is_log (λ e d. (no_kind e d).1.1.0) in let d = details-none entries all is_destroy (λ e d. (no_kind e d).1.1.1) in
+    counts-same _ (and_more counts 1 entries) refl (omega (arith, m)) (omega (arith, f)) (omega (arith, l)) (omega (arith, d))
 
 -- some, and then more
 pub and_more-append : (counts : Counts) (n k : ℕ) (first second : List Record) → and_more (and_more counts n first) k second ≡ and_more counts (n + k) (first ++ second)

@@ -1,5 +1,7 @@
 -- The lines of records, by parts.
-use Rattle.std.proofs.Common.{◌≡◌, ◌<◌, ◌+◌, ℕ, suc, List, [], ◌∷◌, ◌++◌, length, get_or, drop, refl, sym, ap, ◌∙◌, append_assoc, append-nil, arith}
+use Rattle.std.proofs.Common.{◌≡◌, ◌<◌, ◌+◌, ℕ, suc, true, not, if◌then◌else◌, List, [], ◌∷◌, ◌++◌, length, get_or, drop, refl, sym, ap, ◌∙◌, append_assoc, append-nil, arith}
+use Rattle.std.proofs.lemmas.Bool.{and_parts, false≢true}
+use Rattle.std.specs.List.{list_all}
 use Rattle.std.proofs.Math.Seq.{drop-cons}
 use Rattle.machine_state.specs.declared.event.Event.{Event}
 use Rattle.machine_state.specs.declared.record.Record.{Record}
@@ -8,7 +10,9 @@ use Rattle.kernel_core.proofs.Ran.{run_records-nil, run_records-cons, run_record
 use Rattle.kernel_core.specs.Run.{run_state, run_records}
 use Rattle.kernel_core.specs.State.{State}
 use Rattle.schedule_replay.specs.declared.mode.Mode.{Mode}
-use Rattle.schedule_replay.specs.Told.{line_of, lines_of, told}
+use Rattle.schedule_replay.specs.declared.mode.Mode.TheVariants.{Silent, Records, Trace}
+use Rattle.run_text.specs.Record.{record_text}
+use Rattle.schedule_replay.specs.Told.{are_untold, is_detail, line_of, lines_of, told}
 
 pub lines_of-nil : (mode : Mode) → lines_of mode [] ≡ []
 unfolding lines_of
@@ -36,6 +40,27 @@ records_at entries i entry within same =
 pub lines_at : (mode : Mode) (entries : List Record) (i : ℕ) (entry : Record) → i < length entries → entry ≡ get_or entries i entry
     → lines_of mode (drop i entries) ≡ line_of mode entry ++ lines_of mode (drop (i + 1) entries)
 lines_at mode entries i entry within same = ap (lines_of mode) (records_at entries i entry within same) ∙ lines_of-cons mode entry (drop (i + 1) entries)
+
+-- a silent run tells nothing
+silent_untold : (entries : List Record) → lines_of Silent entries ≡ []
+unfolding lines_of
+silent_untold [] = refl
+silent_untold (entry ∷ entries) = silent_untold entries
+
+-- of accesses and instructions a run tells nothing
+details_untold : (entries : List Record) → list_all is_detail entries ≡ true → lines_of Records entries ≡ []
+unfolding lines_of
+details_untold [] all = refl
+details_untold (entry ∷ entries) all =
+    let parts = and_parts (is_detail entry) (list_all is_detail entries) all in
+    ap (λ b. (if not b then record_text entry else []) ++ lines_of Records entries) parts.0
+    ∙ details_untold entries parts.1
+
+-- of these records nothing is told, and all are accesses and instructions
+pub untold : (mode : Mode) (entries : List Record) → are_untold mode entries ≡ true → (lines_of mode entries ≡ []) × (list_all is_detail entries ≡ true)
+untold Silent entries all = (silent_untold entries, all)
+untold Records entries all = (details_untold entries all, all)
+untold Trace entries all = absurd (false≢true all)
 
 -- ---- the lines of events
 

@@ -1,5 +1,6 @@
 -- What is written of the records of events.
 use Rattle.std.specs.Prelude.{Bool, true, false, not, if◌then◌else◌, List, [], ◌∷◌, ◌++◌, ℕ}
+use Rattle.std.specs.List.{list_all}
 use Rattle.machine_state.specs.declared.event.Event.{Event}
 use Rattle.machine_state.specs.declared.record.Record.{Record}
 use Rattle.machine_state.specs.declared.record.Record.TheVariants.{Access, Insn}
@@ -24,6 +25,11 @@ is_told Trace entry = true
 -- the line of a record, where it is written
 abbrev pub line_of : Mode → Record → List ℕ
 line_of mode entry = if is_told mode entry then record_text entry else []
+
+-- whether none of these records is written, and none counted: accesses and instructions alone, and no trace
+abbrev pub are_untold : Mode → List Record → Bool
+are_untold Trace entries = false
+are_untold mode entries = list_all is_detail entries
 
 -- the lines of records
 unfoldable pub lines_of : Mode → List Record → List ℕ

@@ -15,7 +15,7 @@ use crate::events::Events;
 use crate::lines::{Stop, next_line};
 use crate::mode::Mode;
 use crate::replayed::Replayed;
-use crate::telling::put_records;
+use crate::telling::{are_untold, put_records};
 use coy_io::{LineReader, Sink, Source, WriteFault};
 use kernel_core::{Event, Machine, Records, event_into};
 use std::sync::ledger::Ledger;
@@ -97,7 +97,12 @@ fn perform<T: Translator, K: Sink, L: Ledger>(
     ensures most { (most : ℕ) → AreAtMost most counts.old → AreAtMost (most + 65) counts.new }
 {
     event_into(machine, event, records, fetches);
-    *counts = count_event(*counts, records.as_slice());
+    let all = records.as_slice();
+    if are_untold(mode, all) {
+        counts.events += 1;
+        return Ok(());
+    }
+    *counts = count_event(*counts, all);
     put_records(mode, records, output)
 }
 

@@ -1,9 +1,10 @@
 //! The lines of records.
+ghost use Rattle.std.specs.List.{list_all};
 ghost use Rattle.std.specs.Prelude.{◌≡◌};
 ghost use Rattle.coy_io.specs.Causes.{HasCause};
 ghost use Rattle.kernel_core.specs.Machine.{IsRecord};
 ghost use Rattle.run_text.specs.Written.{Writes};
-ghost use Rattle.schedule_replay.specs.Told.{is_told, line_of, lines_of};
+ghost use Rattle.schedule_replay.specs.Told.{are_untold, is_detail, is_told, line_of, lines_of};
 
 use crate::mode::Mode;
 use coy_io::{Sink, WriteFault, put_all};
@@ -51,7 +52,32 @@ fn is_told(mode: Mode, entry: &Record) -> bool
 {
     match mode {
         Mode::Silent => false,
-        Mode::Records => !matches!(entry, Record::Access { .. } | Record::Insn { .. }),
+        Mode::Records => !is_detail(entry),
         Mode::Trace => true,
     }
+}
+
+/// Whether none of these records is written, and none counted: accesses and instructions alone, and no trace.
+pub(crate) fn are_untold(mode: Mode, records: &[Record]) -> bool
+    ensures { result ≡ are_untold mode records.now }
+{
+    match mode {
+        Mode::Trace => false,
+        Mode::Silent => are_details(records),
+        Mode::Records => are_details(records),
+    }
+}
+
+/// Whether all of these are accesses and instructions, of which a trace alone tells.
+fn are_details(records: &[Record]) -> bool
+    ensures { result ≡ list_all is_detail records.now }
+{
+    records.iter().all(|entry| is_detail(entry))
+}
+
+/// Whether this is an access or an instruction.
+fn is_detail(entry: &Record) -> bool
+    ensures { result ≡ is_detail entry.now }
+{
+    matches!(entry, Record::Access { .. } | Record::Insn { .. })
 }
