@@ -89,7 +89,8 @@ fn answer_lines<T: Translator, S: Source, K: Sink, L: Ledger>(
     requires depth { reversible.old.depth ≡ DEPTH }
 
     // What the known lines come to, and where the source stands then.
-    ensures comes { let m = reversible.old.machine in OnParts (ahead lines.old (S.held input.old)) (λ parts.
+    ensures comes { let m = reversible.old.machine in
+        OnParts (ahead lines.old (S.held input.old)) (λ parts.
         Outputs (K.taken output.old) (K.taken output.new) result
         (course_output (undoing number (state_of m) (scheduled m.objects.harts lines.old.number parts)))) }
     ensures end { result ≡ Exit.Done → IsAtEnd (S.held input.new) }

@@ -30,7 +30,8 @@ pub(crate) fn read_sides<S: Source>(
     cut: &mut Cut,
 ) -> CutStop
     requires { lines.old.failed ≡ false }
-    ensures states { StatesRest cut.old cut.new lines.old lines.new (S.held source.old) (S.held source.new) result }
+    ensures states { StatesRest cut.old cut.new lines.old
+        lines.new (S.held source.old) (S.held source.new) result }
     ensures told { TellsEnd lines.old (S.held source.old) → TellsEnd lines.new (S.held source.new) }
     ensures end { result ≡ CutStop.End → lines.new.ended ≡ true }
     ensures read { result ≡ CutStop.ReadFault → Rose (S.faults source.old) (S.faults source.new) }
@@ -47,7 +48,8 @@ pub(crate) fn read_sides<S: Source>(
 /// Reads the next line, and puts on the left what it names. After a fault the cut is as before.
 fn next_cut<S: Source>(lines: &mut LineReader, source: &mut S, cut: &mut Cut) -> Result<(), CutStop>
     requires { lines.old.failed ≡ false }
-    ensures next { StatesNext cut.old cut.new lines.old lines.new (S.held source.old) (S.held source.new) result }
+    ensures next { StatesNext cut.old cut.new lines.old lines.new
+        (S.held source.old) (S.held source.new) result }
 
     // What happens to the reader.
     ensures shorter { OnOk result (lines.new.room < lines.old.room) }
@@ -56,7 +58,8 @@ fn next_cut<S: Source>(lines: &mut LineReader, source: &mut S, cut: &mut Cut) ->
     ensures end { result ≡ Err CutStop.End → lines.new.ended ≡ true }
 
     // What happens to the source.
-    ensures read { result ≡ Err CutStop.ReadFault → Rose (S.faults source.old) (S.faults source.new) }
+    ensures read { result ≡ Err CutStop.ReadFault →
+        Rose (S.faults source.old) (S.faults source.new) }
     ensures quiet { result ≢ Err CutStop.ReadFault → S.faults source.new ≡ S.faults source.old }
 {
     let number = lines.number();

@@ -24,6 +24,7 @@ economy_bound course = 33 * all_uncovered course + gpt_calls course.touches + 16
 abbrev pub sharp_run_bound : Course → ℕ
 sharp_run_bound course = 32 * all_accesses course + slot_reads course.touches + 16 * course.printed
 
+-- the same where the need fits: 32 slots for each access that has to be walked
 abbrev pub sharp_economy_bound : Course → ℕ
 sharp_economy_bound course = 32 * all_uncovered course + slot_reads course.touches + 16 * course.printed
 

@@ -181,7 +181,8 @@ fn summarize<K: Sink, L: Ledger>(
 fn answer_alone<K: Sink>(command: Command, output: &mut K) -> Exit
     requires still { asks_run (Some command) ≡ false }
     requires alone { asks_input command ≡ false }
-    ensures { EndsIn K.taken K.faults output.old output.new result (command_course command no_input).last }
+    ensures { EndsIn K.taken K.faults output.old output.new
+        result (command_course command no_input).last }
 {
     match command {
         Command::Make { number, .. } => make(number, output),

@@ -28,7 +28,8 @@ impl Mappings {
         requires bare { leaf_for (value_of self.old) space (va / 4096) ≡ None }
         requires items { Each (λ n. IsItem n.item) reads.now }
         requires few { length reads.now ≤ 66 }
-        ensures done { Remembers (value_of self.old) (value_of self.new) hart space (va / 4096) leaf reads.now }
+        ensures done { Remembers (value_of self.old)
+            (value_of self.new) hart space (va / 4096) leaf reads.now }
         ensures kept { IsKept self.new }
     {
         let Err(Wanting) = self.keep(hart, space, va, leaf, reads) else {

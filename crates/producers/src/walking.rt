@@ -43,7 +43,8 @@ pub fn walk<L: Ledger>(
         answer_meaning (place_of result) ≡ access o c address kind }
     ensures place { IfOk result (λ walked. IsReached objects.now.items kind walked.place) }
     ensures offset { IfOk result (λ walked. walked.place.offset ≡ address % 4096) }
-    ensures produced { let o = map_of objects.now.items in let c = meaning objects.now.items space in
+    ensures produced { let o = map_of objects.now.items in
+        let c = meaning objects.now.items space in
         IfOk result (λ walked. walked.produced ≡ produced_by o (join_of o c address kind)) }
     ensures handler { IfErr result (λ fault. HandlerLives objects.now.items fault.handler) }
 
@@ -89,7 +90,8 @@ pub fn walk<L: Ledger>(
 fn here(objects: &Objects, cap: Cap, at: At, left: u8, trail: &Trail) -> Option<Produced>
     requires live { is_live objects.now.items cap ≡ true }
     requires background { Below (size_of objects.now.items CapKind.Gpt) at.background }
-    ensures { result ≡ produced_by (map_of objects.now.items) (here left (bare cap) at trail.now.items) }
+    ensures { result ≡
+        produced_by (map_of objects.now.items) (here left (bare cap) at trail.now.items) }
 {
     if cap.kind() != CapKind::Gpt {
         return None;

@@ -16,7 +16,8 @@ use listing_read::Timed;
 /// the answer is never a fault of writing. The counts are those of events alone.
 pub fn count_lines<S: Source>(lines: &mut LineReader, source: &mut S, harts: u8) -> Replayed
     requires { lines.old.failed ≡ false }
-    ensures counted { Counted harts lines.old lines.new (S.held source.old) (S.held source.new) result }
+    ensures counted { Counted harts lines.old lines.new
+        (S.held source.old) (S.held source.new) result }
     ensures reasons { HasReasons (S.faults source.old) (S.faults source.new) 0 0 result }
     ensures told { TellsEnd lines.old (S.held source.old) → TellsEnd lines.new (S.held source.new) }
     ensures end { (counts : Counts) → result ≡ Replayed.Ended counts → lines.new.ended ≡ true }

@@ -30,8 +30,10 @@ pub fn next_line<S: Source>(
     harts: u8,
 ) -> Result<Option<Timed>, Stop>
     requires { lines.old.failed ≡ false }
-    ensures next { IsNextLine harts lines.old lines.new (S.held source.old) (S.held source.new) result }
-    ensures asked { AsksNext harts lines.old lines.new (S.held source.old) (S.held source.new) result }
+    ensures next { IsNextLine harts lines.old lines.new
+        (S.held source.old) (S.held source.new) result }
+    ensures asked { AsksNext harts lines.old lines.new
+        (S.held source.old) (S.held source.new) result }
     ensures timed { IfOk result (λ asked. IfSome asked (IsTimed harts)) }
 
     // What happens to the reader.

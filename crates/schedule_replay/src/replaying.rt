@@ -93,7 +93,8 @@ fn perform<T: Translator, K: Sink, L: Ledger>(
         Writes (K.taken output.old) (K.taken output.new) result text }
     ensures cause { HasCause (K.faults output.old) (K.faults output.new) result }
     ensures silent { mode ≡ Mode.Silent → output.new ≡ output.old }
-    ensures counts { counts.new ≡ and_more counts.old 1 (run_records (state_of machine.old) (event ∷ [])) }
+    ensures counts { counts.new ≡
+        and_more counts.old 1 (run_records (state_of machine.old) (event ∷ [])) }
     ensures most { (most : ℕ) → AreAtMost most counts.old → AreAtMost (most + 65) counts.new }
 {
     event_into(machine, event, records, fetches);

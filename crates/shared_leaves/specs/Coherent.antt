@@ -45,6 +45,7 @@ IsEntryIn o space Root place entry P = ⊥
 IsEntryIn o space (Region region) place entry P = IsFresh o space (region * 1024 + place) entry (λ n. P (cut n))
 IsEntryIn o space (Joins key) place entry P = IsJoined o key place entry P
 
+-- an entry of a key's leaf table is fresh as those of that table are
 abbrev pub IsEntry : Items → Key → ℕ → Entry → (Noted → Type 0) → Type 0
 IsEntry o k place entry P = IsEntryIn o k.space k.table place entry P
 
@@ -72,6 +73,7 @@ IsLinkTo o space region s Root P = ⊥
 IsLinkTo o space region s (Region r) P = (s ≡ space) × (r ≡ region)
 IsLinkTo o space region s (Joins key) P = IsMet o space region key P
 
+-- a link of a space's region to a key's leaf table is right as those to that table are
 abbrev pub IsLink : Items → Capability → ℕ → Key → (Noted → Type 0) → Type 0
 IsLink o space region k P = IsLinkTo o space region k.space k.table P
 

@@ -38,6 +38,7 @@ abbrev pub use_in : Table → SharedUse
 use_in Root = RootUse
 use_in _ = LeafUse
 
+-- what the frame of a key is used for
 abbrev pub use_of : Key → SharedUse
 use_of k = use_in k.table
 

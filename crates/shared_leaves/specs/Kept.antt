@@ -110,6 +110,7 @@ addition_by o space page reads (Some p) = record {
   entry_reads = background_reads (key_of o p).background ++ map cut (drop (length p.before) reads);
 }
 
+-- what a data access adds
 abbrev pub addition_of : Items → Capability → ℕ → Kind → Addition
 addition_of o c address kind = addition_by o (counted o c) (address / 4096) (trail o c address kind) (join_of o c address kind)
 

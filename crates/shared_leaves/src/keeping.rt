@@ -70,7 +70,8 @@ impl Leaves {
         requires agrees { Agrees (value_of self.old) key.now (va / 4096 % 1024) leaf }
         requires link_items { Each (λ n. IsItem n.item) link_reads.now }
         requires entry_items { Each (λ n. IsItem n.item) entry_reads.now }
-        ensures ok { OnOk result (Keeps (value_of self.old) (value_of self.new) hart space (va / 4096) leaf
+        ensures ok { OnOk result
+            (Keeps (value_of self.old) (value_of self.new) hart space (va / 4096) leaf
             (addition key.now link_reads.now entry_reads.now)) }
         ensures kept { OnOk result (IsKept self.new) }
         ensures wanting { OnErr result (fits (added (kept_of (value_of self.old)) space (va / 4096)
@@ -91,7 +92,8 @@ impl Leaves {
     /// The frame of a key; a new one where it has none.
     fn frame_for(&mut self, key: &Key) -> Result<u16, Wanting>
         requires { IsKept self.old }
-        ensures ok { IfOk result (λ frame. HasFrame (value_of self.old) (value_of self.new) key.now frame) }
+        ensures ok { IfOk result
+            (λ frame. HasFrame (value_of self.old) (value_of self.new) key.now frame) }
         ensures kept { OnOk result (IsKept self.new) }
         ensures wanting { OnErr result (256 < length (with_key self.old.keys.items key.now)) }
         ensures harts { length self.new.tlbs.items ≡ length self.old.tlbs.items }
@@ -165,8 +167,10 @@ impl Leaves {
     fn set(&mut self, table: u16, va: u32, entry: Leaf)
         requires kept { IsKept self.old }
         requires leaf { IsLeafTable self.old.tables table }
-        requires agrees { (e : AnyLeaf) → entry_at self.old.tables table (va / 4096 % 1024) ≡ Some e → e ≡ entry }
-        ensures done { SetsPlace (value_of self.old) (value_of self.new) (key_at self.old.keys.items table) table (va / 4096 % 1024) entry }
+        requires agrees { (e : AnyLeaf) →
+            entry_at self.old.tables table (va / 4096 % 1024) ≡ Some e → e ≡ entry }
+        ensures done { SetsPlace (value_of self.old) (value_of self.new)
+            (key_at self.old.keys.items table) table (va / 4096 % 1024) entry }
         ensures kept { IsKept self.new }
     {
         self.tables.set(table, va, entry);

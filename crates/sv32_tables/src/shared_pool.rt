@@ -76,7 +76,8 @@ impl SharedPool {
         requires { IsSharedRoot self.now root }
         ensures leaf { result_ok result ≡ shared_leaf_at self.now root (va / 4096) }
         // What the walk of Sv32 over these words makes of each access there.
-        ensures sv32 { WalksTo self.now.words root (va / 4096) (shared_leaf_at self.now root (va / 4096)) }
+        ensures sv32 { WalksTo self.now.words root (va / 4096)
+            (shared_leaf_at self.now root (va / 4096)) }
     {
         let first = get(&self.words, root, region_of(va));
         let Some(table) = table_of(first) else {
