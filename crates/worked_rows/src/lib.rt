@@ -19,8 +19,6 @@ mod machines;
 #[cfg(test)]
 mod rows;
 #[cfg(test)]
-mod shared_rows;
-#[cfg(test)]
 mod starts;
 #[cfg(test)]
 mod turns;
