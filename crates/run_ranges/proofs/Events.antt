@@ -1,5 +1,5 @@
 -- Ranges along events, case by case, and along runs.
-use Rattle.std.proofs.Common.{◌≡◌, ℕ, ◌+◌, ◌*◌, ◌<◌, ◌≤◌, ◌^◌, ◌%◌, ◌==◌, nat_le, ◌&&◌, ◌++◌, Bool, true, false, if◌then◌else◌, List, [], ◌∷◌, All, length, map, min, drop, slice_get, slice_index, slice_set, Option, Some, None, IfSome, Result, Ok, Err, refl, sym, ap, ◌∙◌, subst, arith}
+use Rattle.std.proofs.Common.{◌≡◌, ℕ, ◌+◌, ◌*◌, ◌<◌, ◌≤◌, ◌^◌, ◌%◌, ◌==◌, nat_le, ◌&&◌, ◌++◌, Bool, true, false, if◌then◌else◌, List, [], ◌∷◌, All, length, min, drop, slice_get, slice_index, slice_set, Option, Some, None, IfSome, Result, Ok, Err, refl, ap, ◌∙◌, arith}
 use Rattle.std.proofs.lemmas.Bool.{cond_both}
 use Rattle.std.proofs.lemmas.List.{length-map}
 use Rattle.std.proofs.lemmas.List.Elements.{All-map, All-set, All-drop}
@@ -18,14 +18,14 @@ use Rattle.cap_format.specs.Capability.{Capability}
 use Rattle.page_store.specs.Page.{with_bytes}
 use Rattle.page_store.specs.CapPage.{cap_at, with_cap}
 use Rattle.process_objects.specs.Accept.{AcceptValue}
-use Rattle.process_objects.specs.Process.{ProcessValue, capreg_of, with_pc, with_reg, with_regs, with_capreg}
-use Rattle.object_store.specs.Store.{Store, page_at, cappage_at, process_at, with_page, with_cappage}
+use Rattle.process_objects.specs.Process.{ProcessValue, capreg_of, with_pc, with_regs, with_capreg}
+use Rattle.object_store.specs.Store.{page_at, cappage_at, with_page, with_cappage}
 use Rattle.schedules.specs.Queues.{hart_of}
 use Rattle.operations.specs.System.{System, Meant, system}
-use Rattle.operations.specs.Change.{Change, applied_all, item_in}
+use Rattle.operations.specs.Change.{item_in}
 use Rattle.operations.specs.Memory.{is_gpt, is_granted, kind_row, memory_operation}
 use Rattle.operations.specs.Request.{w1}
-use Rattle.operations.specs.Row.{Answer, Row, Settled, nothing, refused, granted, settled, settled_row, reply_of}
+use Rattle.operations.specs.Row.{Settled, nothing, refused, granted, settled, settled_row, reply_of}
 use Rattle.operations.specs.Control.{control_operation}
 use Rattle.operations.proofs.Fits.{table_fits}
 use Rattle.invocation.specs.declared.callee.Callee.{Callee}
@@ -35,9 +35,7 @@ use Rattle.invocation.specs.Invocation.{InvocationValue, parsed}
 use Rattle.invocation.specs.Answerer.{Answer as WhoAnswers, entered}
 use Rattle.invocation.specs.Answerer.Answer.{Dead as Nobody, Open as Receiver, Busy as Busied}
 use Rattle.invocation.specs.Target.{called_by, called as called_through, callee}
-use Rattle.invocation.specs.Delivery.{sent_by}
 use Rattle.string_move.specs.declared.piece.Piece.{Piece}
-use Rattle.string_move.specs.Spans.{spans}
 use Rattle.string_move.specs.Move.{size_of_pieces}
 use Rattle.walk_meaning.specs.declared.kind.Kind.{Kind}
 use Rattle.walk_meaning.specs.declared.kind.Kind.TheVariants.{Fetch, Load, Store as Put, CapLoad, CapStore}
@@ -53,17 +51,17 @@ use Rattle.rv32_user.specs.Step.{effect_of, registers_after, loaded}
 use Rattle.machine_state.specs.declared.event.Event.{Event}
 use Rattle.machine_state.specs.declared.event.Event.TheVariants.{Step, Tick}
 use Rattle.machine_state.specs.State.{State, process, register_of, pc_of, space_of, schedule_slot}
-use Rattle.machine_state.specs.Setters.{advance, dispatch, halted, leave, set_process, set_registers, set_capreg, yielded}
-use Rattle.machine_state.specs.Outcome.{Outcome, Touch, touched}
+use Rattle.machine_state.specs.Setters.{advance, dispatch, halted, leave, set_registers, set_capreg}
+use Rattle.machine_state.specs.Outcome.{Outcome, touched}
 use Rattle.machine_state.specs.Outcome.Touch.{GptCall}
 use Rattle.machine_state.specs.DataAccess.{data_access, data_touch, number_at, bytes_of}
 use Rattle.machine_state.specs.CapAccess.{cap_access, cap_found, slot_in}
 use Rattle.machine_state.specs.Messaging.{told_state}
-use Rattle.machine_state.specs.Operation.{first_sent, request_of, gpt_touches, change_touches, memory_touches, changed_by}
+use Rattle.machine_state.specs.Operation.{first_sent, request_of, change_touches, changed_by}
 use Rattle.machine_state.specs.Reply.{answered, replied_with, replied, set_reply}
 use Rattle.messages.specs.declared.string_fault.StringFault.{StringFault}
 use Rattle.messages.specs.Fault.{fault, malformed}
-use Rattle.messages.specs.Strings.{side, side_outcome}
+use Rattle.messages.specs.Strings.{side_outcome}
 use Rattle.messages.specs.Message.{accept_in, sent_side, received_side, bytes_moved, message_of, sent_off, message_told, delivered, sent_on, sent_by_fault, send_open}
 use Rattle.messages.specs.Waiting.{wait_on, listening_from, listen}
 use Rattle.kernel_core.specs.declared.system_call.SystemCall.{SystemCall}

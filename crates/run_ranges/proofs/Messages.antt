@@ -1,32 +1,30 @@
 -- What becomes of messages, of faults and of those who listen, in their ranges.
-use Rattle.std.proofs.Common.{◌≡◌, ℕ, zero, suc, ◌+◌, ◌*◌, ◌<◌, ◌≤◌, ◌^◌, ◌==◌, ◌⊎◌, inl, inr, Bool, true, false, if◌then◌else◌, List, [], ◌∷◌, All, length, map, min, slice_index, slice_index_or, Option, Some, None, IfSome, Result, Ok, Err, refl, sym, ap, ◌∙◌, subst, arith}
+use Rattle.std.proofs.Common.{◌≡◌, ℕ, zero, suc, ◌+◌, ◌*◌, ◌<◌, ◌≤◌, ◌^◌, ◌==◌, ◌⊎◌, inl, inr, Bool, true, false, if◌then◌else◌, List, [], ◌∷◌, All, length, Option, Some, None, IfSome, Result, Ok, Err, refl, sym, ap, ◌∙◌, subst, arith}
 use Rattle.std.proofs.lemmas.Bool.{cond_both, cases_lt}
 use Rattle.std.proofs.lemmas.List.{length-set, get_or_past}
 use Rattle.std.proofs.lemmas.List.Elements.{All-cons, All-nil, All-head, All-tail}
 use Rattle.cap_format.specs.declared.kind.CapKind.{CapKind}
-use Rattle.cap_format.specs.declared.kind.CapKind.TheVariants.{Null, Page, CapPage, Gpt, Endpoint, Process}
+use Rattle.cap_format.specs.declared.kind.CapKind.TheVariants.{Page, CapPage, Gpt, Endpoint, Process}
 use Rattle.cap_format.specs.declared.fault.FaultCode.{FaultCode}
 use Rattle.cap_format.specs.declared.fault.FaultCode.TheVariants.{Stopped, InvalidDataReference, InvalidCapReference, DataAccessTypeError, CapAccessTypeError, AccessViolation, MalformedSpace, NoSchedule, MalformedSyscall, BadAlign, BadOpcode, Breakpoint}
 use Rattle.cap_format.specs.Codes.{fault_number}
-use Rattle.cap_format.specs.Kind.{is_object, object_limit, payload_limit}
-use Rattle.cap_format.specs.Guard.{IsGuard}
-use Rattle.cap_format.specs.Capability.{Capability, IsCapability, null, to_object}
+use Rattle.cap_format.specs.Kind.{is_object, object_limit}
+use Rattle.cap_format.specs.Capability.{Capability, null, to_object}
 use Rattle.cap_format.proofs.Ranges.{IsGuard-none, limits}
 use Rattle.process_objects.specs.Accept.{AcceptValue}
-use Rattle.process_objects.specs.Process.{ProcessValue, slot_of, empty_process, empty_slots, with_reg, with_capreg, with_state}
+use Rattle.process_objects.specs.Process.{ProcessValue, slot_of, empty_process, empty_slots, with_capreg, with_state}
 use Rattle.process_objects.specs.declared.state.State.TheVariants.{Receiving, Faulted}
 use Rattle.endpoint_objects.specs.declared.endpoint.Endpoint.{Endpoint as EndpointValue}
-use Rattle.endpoint_objects.specs.Endpoint.{raised}
 use Rattle.object_store.specs.Store.{Items, Store, slot_at, process_at, endpoint_at}
 use Rattle.schedules.specs.Queues.{QueuesValue, sleepers_of}
 use Rattle.schedules.specs.Ready.{Runs, runs_of, process_in, readied_process, readied, woken, unslept, with_processes}
 use Rattle.invocation.specs.declared.message.Message.{Message}
 use Rattle.invocation.specs.Answerer.{Answer, answerer}
 use Rattle.invocation.specs.Answerer.Answer.{Dead, Open, Busy}
-use Rattle.invocation.specs.Delivery.{passed, passed_at, accepted, accepting, number_given, status_of, worded, told as told_process, given, received, delivered}
+use Rattle.invocation.specs.Delivery.{passed, passed_at, accepted, accepting, number_given, status_of, told as told_process, given, received, delivered}
 use Rattle.operations.specs.System.{System, Meant, system, schedule_by}
 use Rattle.message_path.specs.Messages.{told, waiting, receiving, listening}
-use Rattle.fault_path.specs.Fault.{is_answer, handler_of, heard_by, fault_message, faulted, answered, fault_of}
+use Rattle.fault_path.specs.Fault.{is_answer, handler_of, heard_by, fault_message, faulted, answered}
 use Rattle.walk_meaning.specs.declared.at.At.{At}
 use Rattle.walk_meaning.specs.declared.kind.Kind.{Kind}
 use Rattle.walk_meaning.specs.declared.place.Place.{Place}

@@ -1,5 +1,5 @@
 -- Objects in their ranges, and what keeps them there.
-use Rattle.std.proofs.Common.{◌≡◌, ℕ, ◌+◌, ◌<◌, ◌≤◌, ◌^◌, ◌==◌, Bool, true, false, if◌then◌else◌, List, [], ◌∷◌, All, length, map, slice_index, slice_index_or, slice_set, replicate, refl, sym, ap, ◌∙◌, subst, arith}
+use Rattle.std.proofs.Common.{◌≡◌, ℕ, ◌+◌, ◌<◌, ◌≤◌, ◌^◌, ◌==◌, false, if◌then◌else◌, List, [], ◌∷◌, All, length, map, slice_index, slice_set, refl, sym, ◌∙◌, arith}
 use Rattle.std.proofs.lemmas.Bool.{cond_both}
 use Rattle.std.proofs.lemmas.Bool.{eqb-false}
 use Rattle.std.proofs.lemmas.List.{length-set, length-map}
@@ -17,13 +17,12 @@ use Rattle.process_objects.specs.Process.{ProcessValue, empty_process, empty_reg
 use Rattle.process_objects.specs.declared.state.State.{State as RunState}
 use Rattle.endpoint_objects.specs.declared.endpoint.Endpoint.{Endpoint as EndpointValue}
 use Rattle.endpoint_objects.specs.Endpoint.{empty_endpoint}
-use Rattle.object_store.specs.Store.{CountsValue, Items, Store, gpt_at, slot_at, count_of, page_at, cappage_at, process_at, endpoint_at, recounted, set_slot, set_header, with_items, with_page, with_cappage, with_process, with_endpoint, emptied}
-use Rattle.object_store.specs.Ranges.{IsTable, AreCounts, IsRanged}
+use Rattle.object_store.specs.Store.{Items, Store, gpt_at, slot_at, count_of, page_at, cappage_at, process_at, endpoint_at, set_slot, set_header, with_items, with_page, with_cappage, with_process, with_endpoint, emptied}
+use Rattle.object_store.specs.Ranges.{IsTable, IsRanged}
 use Rattle.object_store.specs.Meaning.{gpt_map, process_map, endpoint_map, store_map}
 use Rattle.object_store.specs.Destruction.{names, forget, destruction}
 use Rattle.object_store.proofs.Lists.{All-at}
 use Rattle.object_store.proofs.Ranged.{IsRanged-set_gpt, IsGpt-gpt_at}
-use Rattle.schedules.specs.Queues.{QueuesValue}
 use Rattle.schedules.specs.Ready.{Runs, process_in, readied_state, readied_process, readied, readied_all, with_processes}
 use Rattle.run_ranges.specs.Ranges.{IsModelCap, IsWord, IsByte, IsRangedState, IsRangedProcess, IsRangedEndpoint, AreInRanges}
 use Rattle.run_ranges.proofs.Words.{word_at}

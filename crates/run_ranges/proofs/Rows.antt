@@ -1,37 +1,35 @@
 -- Operations of the kernel, row by row: what changes and what is told is in its ranges.
-use Rattle.std.proofs.Common.{◌≡◌, ℕ, ◌+◌, ◌-◌, ◌*◌, ◌/◌, ◌%◌, ◌<◌, ◌≤◌, ◌^◌, ◌==◌, nat_lt, nat_le, not, ◌&&◌, ◌||◌, Bool, true, false, true≢false, if◌then◌else◌, List, [], ◌∷◌, All, length, slice_index, Option, Some, None, IfSome, refl, sym, ap, ◌∙◌, subst, arith}
+use Rattle.std.proofs.Common.{◌≡◌, ℕ, ◌+◌, ◌-◌, ◌*◌, ◌/◌, ◌%◌, ◌<◌, ◌≤◌, ◌^◌, ◌==◌, nat_lt, nat_le, not, ◌&&◌, ◌||◌, Bool, true, false, true≢false, if◌then◌else◌, List, [], ◌∷◌, All, slice_index, Option, Some, None, IfSome, refl, sym, ap, ◌∙◌, subst, arith}
 use Rattle.std.proofs.lemmas.Bool.{cond_both, and_parts, or_parts, ltb-true, ltb-false, leb-true, eqb-true}
 use Rattle.std.proofs.lemmas.List.Elements.{All-cons, All-nil, All-set}
 use Rattle.cap_format.specs.declared.kind.CapKind.{CapKind}
-use Rattle.cap_format.specs.declared.kind.CapKind.TheVariants.{Null, Page, CapPage, Gpt, Window, LocalWindow, Endpoint, Entry, Process, Schedule, Range, Discrim}
+use Rattle.cap_format.specs.declared.kind.CapKind.TheVariants.{Null, Page, CapPage, Gpt, Window, LocalWindow, Endpoint, Process, Schedule, Range, Discrim}
 use Rattle.cap_format.specs.declared.code.Code.{Code}
 use Rattle.cap_format.specs.declared.code.Code.TheVariants.{UnknownRequest, InvalidCap, NoAccess, RequestError, CountSpent}
 use Rattle.cap_format.specs.declared.request.Request.{Request}
-use Rattle.cap_format.specs.Kind.{kind_with, number_of, is_memory, is_window, is_object, object_limit}
-use Rattle.cap_format.specs.Guard.{GuardValue, IsGuard, Divides, guard_of}
+use Rattle.cap_format.specs.Kind.{kind_with, is_memory, is_window, object_limit}
+use Rattle.cap_format.specs.Guard.{IsGuard, guard_of}
 use Rattle.cap_format.specs.Restr.{has}
-use Rattle.cap_format.specs.Capability.{Capability, IsCapability, null, entry, schedule, window, local_window, with_guard, to_object}
+use Rattle.cap_format.specs.Capability.{Capability, entry, schedule, window, with_guard, to_object}
 use Rattle.cap_format.specs.Weakening.{reduced, weakened, weakened_kind, is_harmless}
 use Rattle.cap_format.proofs.KindNumbers.{number_small}
 use Rattle.cap_format.proofs.Ranges.{IsCapability-reduced, IsGuard-none, limits, matches_small}
-use Rattle.gpt_objects.specs.Header.{HeaderValue, IsHeader}
+use Rattle.gpt_objects.specs.Header.{IsHeader}
 use Rattle.page_store.specs.Page.{empty_page}
 use Rattle.page_store.specs.CapPage.{cap_at, with_cap, empty_cappage}
-use Rattle.process_objects.specs.Process.{ProcessValue, reg_of, capreg_of, slot_of, with_pc, with_reg, with_capreg, with_slot, with_state, stopped}
+use Rattle.process_objects.specs.Process.{stopped}
 use Rattle.process_objects.specs.declared.state.State.{State as RunState}
 use Rattle.process_objects.specs.declared.state.State.TheVariants.{Running, Receiving, Faulted}
-use Rattle.endpoint_objects.specs.declared.endpoint.Endpoint.{Endpoint as EndpointValue}
-use Rattle.object_store.specs.Store.{Items, Store, size_of, count_of, header_at, slot_at, page_at, cappage_at, process_at, endpoint_at}
-use Rattle.object_store.specs.Ranges.{IsRanged}
+use Rattle.object_store.specs.Store.{Store, size_of, count_of, header_at, slot_at, page_at, cappage_at, process_at, endpoint_at}
 use Rattle.object_store.proofs.Ranged.{IsHeader-header_at}
 use Rattle.schedules.specs.Queues.{QueuesValue}
 use Rattle.operations.specs.System.{System, Meant, system, schedule_by}
 use Rattle.operations.specs.Change.{Change, PageIs, CapPageIs, SlotIs, HeaderIs, EndpointIs, ProcessIs, Left, Readied, Woken, Destroyed, applied, applied_all}
-use Rattle.operations.specs.Row.{Answer, Row, Settled, nothing, tells, gives, does, refused, granted, settled, settled_row}
+use Rattle.operations.specs.Row.{Answer, Row, Settled, tells, gives, does, refused, granted, settled, settled_row}
 use Rattle.operations.specs.Request.{w1, w2, w3, w4}
 use Rattle.operations.specs.Weak.{read_through}
-use Rattle.operations.specs.Memory.{is_guard, is_multiple, may_have, bit, window_is_local, window_local_slot, window_l2g, window_restr, window_error, window_of, kind_row, reduce_row, getguard_row, setguard_row, getrestr_row, clear_page_row, copy_row, page_table, clear_cappage_row, get_row, set_row, cappage_table, getslot_row, setslot_row as setslot_of_gpt, getheader_row, setheader_row, setwindow_row, gpt_table, own_table as memory_own_table, memory_table, memory_operation}
-use Rattle.operations.specs.Control.{setrecipient_row, getid_row, setid_row, setmatch_row, makeentry_row, setpayload_row, endpoint_table, number_in, with_number, getreg_row, setreg_row, getcapreg_row, setcapreg_row, getslot_row as getslot_of_process, setslot_row as setslot_of_process, tells_state, process_of, getstate_row, resume_row, stop_row, process_table, priority_row, lower_row, schedule_table, obtained, getcap_row, is_process, destruction_of, destroy_row, range_table, classify_row, discrim_table, own_table, control_table, is_null, control_operation}
+use Rattle.operations.specs.Memory.{is_guard, is_multiple, may_have, bit, window_is_local, window_l2g, window_error, window_of, kind_row, reduce_row, getguard_row, setguard_row, getrestr_row, clear_page_row, copy_row, page_table, clear_cappage_row, get_row, set_row, cappage_table, getslot_row, setslot_row as setslot_of_gpt, getheader_row, setheader_row, setwindow_row, gpt_table, own_table as memory_own_table, memory_table, memory_operation}
+use Rattle.operations.specs.Control.{setrecipient_row, getid_row, setid_row, setmatch_row, makeentry_row, setpayload_row, endpoint_table, number_in, with_number, getreg_row, setreg_row, getcapreg_row, setcapreg_row, getslot_row as getslot_of_process, setslot_row as setslot_of_process, tells_state, getstate_row, resume_row, stop_row, process_table, priority_row, lower_row, schedule_table, obtained, getcap_row, is_process, destruction_of, destroy_row, range_table, classify_row, discrim_table, own_table, control_table, is_null, control_operation}
 use Rattle.operations.proofs.Fits.{table_fits}
 use Rattle.run_ranges.specs.Ranges.{IsModelCap, IsWord, IsByte, IsRangedState, IsRangedProcess, IsRangedEndpoint, AreInRanges}
 use Rattle.run_ranges.proofs.Words.{word_at}

@@ -1,5 +1,5 @@
 -- What an invocation asks for, and the accesses to the spans of a string, in their ranges.
-use Rattle.std.proofs.Common.{◌≡◌, ℕ, zero, suc, ◌+◌, ◌*◌, ◌<◌, ◌≤◌, ◌^◌, ◌==◌, nat_lt, ◌&&◌, ◌||◌, Bool, true, false, if◌then◌else◌, List, [], ◌∷◌, ◌++◌, All, length, take, drop, min, slice_index, Option, Some, None, Result, Ok, Err, refl, sym, ap, ◌∙◌, subst, arith}
+use Rattle.std.proofs.Common.{◌≡◌, ℕ, ◌+◌, ◌*◌, ◌<◌, ◌≤◌, ◌^◌, ◌==◌, nat_lt, ◌&&◌, ◌||◌, Bool, true, false, if◌then◌else◌, List, [], ◌∷◌, ◌++◌, All, length, take, drop, slice_index, Option, Some, None, Result, Ok, Err, refl, sym, ap, ◌∙◌, arith}
 use Rattle.std.proofs.lemmas.Bool.{cond_both, or_parts, ltb-false}
 use Rattle.std.proofs.lemmas.List.{length-take}
 use Rattle.std.proofs.lemmas.List.Sums.{sum_by-cons}
@@ -11,7 +11,7 @@ use Rattle.process_objects.specs.declared.state.State.{State as RunState}
 use Rattle.process_objects.specs.declared.state.State.TheVariants.{Running, Receiving, Faulted}
 use Rattle.object_store.specs.Store.{Store, page_at}
 use Rattle.invocation.specs.declared.malformed.MalformedSyscall.{MalformedSyscall as Malformed}
-use Rattle.invocation.specs.Invocation.{InvocationValue, longest_string, sends, receives, sent_count, accepted_count, acceptance, has_too_many, names_no_register, is_no_string, sends_no_string, accepts_no_string, is_malformed, invocation_of, parsed}
+use Rattle.invocation.specs.Invocation.{InvocationValue, longest_string, sends, receives, sent_count, accepted_count, has_too_many, names_no_register, is_no_string, sends_no_string, accepts_no_string, is_malformed, invocation_of, parsed}
 use Rattle.invocation.specs.Delivery.{accepted}
 use Rattle.page_store.specs.Page.{with_bytes}
 use Rattle.string_move.specs.declared.piece.Piece.{Piece}
@@ -23,17 +23,17 @@ use Rattle.walk_meaning.specs.declared.kind.Kind.{Kind}
 use Rattle.walk_meaning.specs.declared.place.WalkFault.{WalkFault}
 use Rattle.walk_meaning.specs.Walk.{is_data}
 use Rattle.walk_engine.specs.declared.hit.Hit.{Hit}
-use Rattle.machine_state.specs.State.{State, process, space_of}
+use Rattle.machine_state.specs.State.{State, space_of}
 use Rattle.machine_state.specs.Outcome.{Outcome, Touch}
 use Rattle.machine_state.specs.Outcome.Touch.{DataAccess, CapAccess, GptCall, Changed}
 use Rattle.machine_state.specs.DataAccess.{data_access}
 use Rattle.messages.specs.declared.string_fault.StringFault.{StringFault}
 use Rattle.messages.specs.Followed.{followed}
-use Rattle.messages.specs.Strings.{Side, piece_of, side, span_side, side_outcome}
+use Rattle.messages.specs.Strings.{Side, piece_of, side, span_side}
 use Rattle.shared_economy.specs.Accesses.{IsAccess, AreAccesses}
-use Rattle.run_ranges.specs.Ranges.{IsModelCap, IsWord, IsByte, IsRangedState, AreInRanges}
+use Rattle.run_ranges.specs.Ranges.{IsWord, IsByte, IsRangedState, AreInRanges}
 use Rattle.run_ranges.proofs.Words.{word_at}
-use Rattle.run_ranges.proofs.Objects.{process-in, page-in, process_slot-in, with_page-in}
+use Rattle.run_ranges.proofs.Objects.{page-in, process_slot-in, with_page-in}
 use Rattle.run_ranges.proofs.Messages.{IsHandler, IsHitAnswer, data_access-answer}
 
 -- ---- invocations

@@ -1,6 +1,6 @@
 -- What instructions make of words are words.
-use Rattle.std.proofs.Common.{◌≡◌, ℕ, zero, suc, ◌+◌, ◌-◌, ◌*◌, ◌/◌, ◌%◌, ◌<◌, ◌≤◌, ◌^◌, ◌==◌, Bool, true, false, if◌then◌else◌, List, [], ◌∷◌, All, length, slice_index, take, refl, sym, subst, arith, div-le_self}
-use Rattle.std.specs.Prelude.{ℤ, pos, negsuc, ◌+ℤ◌, bit_and, Option, Some, None, IfSome}
+use Rattle.std.proofs.Common.{◌≡◌, ℕ, zero, suc, ◌+◌, ◌-◌, ◌*◌, ◌/◌, ◌%◌, ◌<◌, ◌≤◌, ◌^◌, ◌==◌, Bool, true, false, if◌then◌else◌, List, [], ◌∷◌, All, slice_index, take, arith, div-le_self}
+use Rattle.std.specs.Prelude.{ℤ, pos, negsuc, ◌+ℤ◌, bit_and, Some, IfSome}
 use Rattle.std.proofs.lemmas.Bool.{cond_both}
 use Rattle.std.proofs.lemmas.Nat.{or_lt, xor_lt, and_le_l}
 use Rattle.std.proofs.Math.Nat.{pow-le-pow_right}
@@ -9,7 +9,7 @@ use Rattle.std.proofs.lemmas.Grind.{pow_more}
 use Rattle.object_store.proofs.Lists.{All-at}
 use Rattle.rv32_decode.specs.declared.insn.Insn.{Insn}
 use Rattle.rv32_decode.specs.declared.insn.Insn.TheVariants.{Add, Sub, Sll, Slt, Sltu, Xor, Srl, Sra, Or, And, Addi, Slti, Sltiu, Xori, Ori, Andi, Slli, Srli, Srai, Lb, Lh, Lw, Lbu, Lhu, Jalr, Sb, Sh, Sw, Beq, Bne, Blt, Bge, Bltu, Bgeu, Jal, Lui, Auipc, Fence, Ecall, Ebreak}
-use Rattle.rv32_decode.specs.Table.{Row, Form, made, found, rows, insn_at}
+use Rattle.rv32_decode.specs.Table.{Row, made, found, rows, insn_at}
 use Rattle.rv32_user.specs.declared.effect.Effect.{Effect}
 use Rattle.rv32_user.specs.declared.effect.Effect.TheVariants.{Next, Load, Store, Syscall, Break, Misaligned}
 use Rattle.rv32_user.specs.declared.action.Action.{Action}
