@@ -19,6 +19,8 @@ mod machines;
 #[cfg(test)]
 mod rows;
 #[cfg(test)]
+mod shared_rows;
+#[cfg(test)]
 mod starts;
 #[cfg(test)]
 mod turns;
