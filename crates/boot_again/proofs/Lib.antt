@@ -4,5 +4,6 @@ mod Boots
 mod Kept
 mod AtRest
 mod Ready
+mod Ranges
 mod Again
 mod Text

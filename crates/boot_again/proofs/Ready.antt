@@ -54,7 +54,7 @@ range_more n =
     sym (map-id (range_with_len 0 (n + 1))) ∙ map-range_with_len_more (λ (k : ℕ). k) 0 n n (omega arith) ∙ ap (λ ks. ks ++ n ∷ []) (map-id (range_with_len 0 n))
 
 -- one process more
-made_more : (runs : ℕ → Bool) (n : ℕ) (s : State) → made_ready runs (suc n) s ≡ (if runs n then ready (made_ready runs n s) n else made_ready runs n s)
+pub made_more : (runs : ℕ → Bool) (n : ℕ) (s : State) → made_ready runs (suc n) s ≡ (if runs n then ready (made_ready runs n s) n else made_ready runs n s)
 made_more runs n s =
     let next : suc n ≡ n + 1 = omega arith in
     ap (λ m. made_ready runs m s) next

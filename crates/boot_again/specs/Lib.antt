@@ -1,3 +1,4 @@
 pub mod Boots
 pub mod Again
 pub mod Text
+pub mod Ranges

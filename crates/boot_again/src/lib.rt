@@ -1,14 +1,19 @@
-//! Laws: a printed state, read and booted, is that state again.
+//! Laws of the machine that a listing boots: it starts in its ranges, and what is printed of it makes it again.
 //!
-//! There is no code here. Each function has a law as its contract.
+//! There is no code here but what reads the values of a listing. Each function has a law as its contract.
 #![tactic(auto)]
 
 ghost use Rattle.std.specs.Prelude.{◌≡◌};
+ghost use Rattle.std.specs.List.{All};
+ghost use Rattle.run_ranges.specs.Ranges.{AreInRanges};
+ghost use Rattle.listing_read.specs.Statement.{IsListing};
+ghost use Rattle.statement_text.specs.Typed.{IsTyped};
 ghost use Rattle.image_builder.specs.Boot.{booted};
 ghost use Rattle.read_back.specs.Listable.{IsListable};
 ghost use Rattle.boot_again.specs.Boots.{PrintedObjectsBoot, printed_listing};
 ghost use Rattle.boot_again.specs.Again.{AllAccepted, BootedIsListable, BootedAgain};
 ghost use Rattle.boot_again.specs.Text.{PrintedIsListing};
+ghost use Rattle.boot_again.specs.Ranges.{BootedIsInRanges};
 
 use listing_read::Listing;
 use statement_text::listing_is_typed;
@@ -39,9 +44,7 @@ pub fn listing_boots_again(listing: &Listing)
     ensures again { AllAccepted listing.now →
         booted (printed_listing (booted listing.now).store) ≡ booted listing.now }
 {
-    let _sizes = listing.sizes();
-    let _statements = listing.statements();
-    listing_is_typed(listing);
+    tell_listing(listing);
     booted_is_listable();
     booted_again();
 }
@@ -51,3 +54,27 @@ pub fn listing_boots_again(listing: &Listing)
 pub fn printed_is_listing()
     ensures { PrintedIsListing }
 {}
+
+/// Where the values of a listing are in the ranges of their types, the machine that is booted from it holds nothing that
+/// isn't in its range.
+pub fn booted_is_in_ranges()
+    ensures { BootedIsInRanges }
+{}
+
+/// The same law of a listing that was read: nothing is asked of its values, since their types keep the ranges.
+pub fn listing_boots_in_ranges(listing: &Listing)
+    ensures { AreInRanges (booted listing.now).store }
+{
+    tell_listing(listing);
+    booted_is_in_ranges();
+}
+
+/// What every listing keeps. It reads the listing and does nothing else.
+fn tell_listing(listing: &Listing)
+    ensures kept { IsListing listing.now }
+    ensures typed { All IsTyped listing.now.statements }
+{
+    let _sizes = listing.sizes();
+    let _statements = listing.statements();
+    listing_is_typed(listing);
+}
