@@ -29,8 +29,7 @@ use Rattle.migrate_command.proofs.Sound.{migrate-entries, migrate-sound}
 use Rattle.confine_command.proofs.Sound.{confine-entries, confine-sound}
 use Rattle.back_command.specs.Back.{back_course, undoing}
 use Rattle.share_command.specs.Few.{IsSharedBounded, TellsFew}
-use Rattle.share_command.specs.Share.{share_course, shared_fetched, sharing}
-use Rattle.share_command.proofs.Few.{done-given, lines-few, share-bounded}
+use Rattle.share_command.specs.Share.{share_course, sharing}
 use Rattle.image_binary.specs.Image.{unpacked}
 use Rattle.image_commands.specs.Packed.{pack_course, pack_output}
 use Rattle.image_commands.specs.Passed.{passed}
@@ -200,6 +199,26 @@ same-course bytes text same Share asks = same-behind bytes text same share_cours
 same-course bytes text same (Back number) asks = same-behind bytes text same (back_course number) (undoing number (booted same.listing)) (λ last rest. refl)
 same-course bytes text same command asks = same-scheduled bytes text same command refl
 
+-- ---- what is so of a course
+
+-- what is so of what the lines of the input come to is so of what a command comes to that asks for input
+pub known-input : (Q : Course → Type 0) (command : Command) (held : Option (List ℕ)) → asks_input command ≡ true
+    → IfSome held (λ bytes. Q (input_course command (whole_input bytes)))
+    → IfSome (bytes_for (Some command) held) (λ bytes. Q (command_course command (whole_input bytes)))
+known-input Q command held asks known =
+    subst (λ read. IfSome (if read then held else Some []) (λ bytes. Q (command_course command (whole_input bytes)))) (sym asks) (told held known)
+  where
+    told : (held : Option (List ℕ)) → IfSome held (λ bytes. Q (input_course command (whole_input bytes))) → IfSome held (λ bytes. Q (command_course command (whole_input bytes)))
+    told None known = tt
+    told (Some bytes) known = subst Q (sym (course-input command (whole_input bytes) asks)) known
+
+-- and of what the words come to that ask for it
+pub known-words : (Q : Course → Type 0) (words : List (List ℕ)) (command : Command) → command_for words ≡ Some command → (held : Option (List ℕ))
+    → IfSome (bytes_for (Some command) held) (λ bytes. Q (command_course command (whole_input bytes)))
+    → IfSome (bytes_for (command_for words) held) (λ bytes. Q (whole_course words bytes))
+known-words Q words command asked held known =
+    subst (λ a. IfSome (bytes_for a held) (λ bytes. Q (words_course a (whole_input bytes)))) (sym asked) known
+
 -- ---- the bounds on what is fetched
 
 -- what a command comes to that runs over a mapping cache is within them
@@ -214,6 +233,16 @@ command-sound Confine input has = lines-sound confine_course confine-sound input
 command-sound Share input has = cc
 command-sound (Back number) input has = lines-sound (back_course number) (λ listing last rest. ends-sound _) input.lines
 command-sound command input has = lines-sound (schedule_course command) (schedule-sound command) input.lines
+
+-- how few frames `share` tells, and how few slots it fetches, is so of the words that ask for it
+pub shares-words : (words : List (List ℕ)) (command : Command) → command_for words ≡ Some command → (held : Option (List ℕ)) (fetches fetches' : ℕ) (exit : Exit)
+    → (command ≡ Share → exit ≡ Done → IfSome (bytes_for (Some command) held) (λ bytes. TellsFew (command_course command (whole_input bytes))))
+    → (command ≡ Share → IfSome (bytes_for (Some command) held) (λ bytes. IsSharedBounded fetches fetches' (command_course command (whole_input bytes))))
+    → SharesFor words held fetches fetches' exit
+shares-words words command asked held fetches fetches' exit few bounded = record {
+  frames = λ done is. known-words TellsFew words command asked held (few (let same : Some command ≡ Some Share = sym asked ∙ is in cc) done);
+  bounded = λ is. known-words (IsSharedBounded fetches fetches') words command asked held (bounded (let same : Some command ≡ Some Share = sym asked ∙ is in cc));
+}
 
 module _ (command : Command) (taken taken' : Option (List ℕ)) (fetches fetches' : ℕ) (exit : Exit) where
   abbrev Comes : Course → Type 0
@@ -242,13 +271,7 @@ module _ (command : Command) (taken taken' : Option (List ℕ)) (fetches fetches
   pub comes-input : (held : Option (List ℕ)) → asks_input command ≡ true
       → IfSome held (λ bytes. Comes (input_course command (whole_input bytes)))
       → IfSome (bytes_for (Some command) held) (λ bytes. Comes (command_course command (whole_input bytes)))
-  comes-input held asks comes =
-      subst (λ read. IfSome (if read then held else Some []) (λ bytes. Comes (command_course command (whole_input bytes)))) (sym asks)
-      (told held comes)
-    where
-      told : (held : Option (List ℕ)) → IfSome held (λ bytes. Comes (input_course command (whole_input bytes))) → IfSome held (λ bytes. Comes (command_course command (whole_input bytes)))
-      told None comes = tt
-      told (Some bytes) comes = subst Comes (sym (course-input command (whole_input bytes) asks)) comes
+  comes-input held asks comes = known-input Comes command held asks comes
 
   -- a command that asks for none comes to the same whatever it is
   pub comes-other : (held : Option (List ℕ)) → asks_input command ≡ false
@@ -276,16 +299,7 @@ comes-back number taken taken' fetches fetches' exit (Some bytes) output = recor
 
 -- ---- the entries
 
--- those of the lines of the input are those of the command
-pub entries-input : (command : Command) (held : Option (List ℕ)) → asks_input command ≡ true → IfSome held (λ bytes. HasEntries (input_course command (whole_input bytes)))
-    → IfSome (bytes_for (Some command) held) (λ bytes. HasEntries (command_course command (whole_input bytes)))
-entries-input command held asks entries =
-    subst (λ read. IfSome (if read then held else Some []) (λ bytes. HasEntries (command_course command (whole_input bytes)))) (sym asks) (told held entries)
-  where
-    told : (held : Option (List ℕ)) → IfSome held (λ bytes. HasEntries (input_course command (whole_input bytes))) → IfSome held (λ bytes. HasEntries (command_course command (whole_input bytes)))
-    told None entries = tt
-    told (Some bytes) entries = subst HasEntries (sym (course-input command (whole_input bytes) asks)) entries
-
+-- a command that asks for no input has the same whatever the lines
 pub entries-other : (command : Command) (held : Option (List ℕ)) → asks_input command ≡ false → HasEntries (command_course command no_input)
     → IfSome (bytes_for (Some command) held) (λ bytes. HasEntries (command_course command (whole_input bytes)))
 entries-other command held asks entries =
@@ -295,13 +309,6 @@ entries-other command held asks entries =
 -- a text by itself has none
 pub entries-alone : (command : Command) → asks_input command ≡ false → asks_run (Some command) ≡ false → HasEntries (command_course command no_input)
 entries-alone command asks still = subst HasEntries (sym (course-alone command asks still)) (none-entries (command_course command no_input).last)
-
--- words that ask for a command have its entries
-pub entries-words : (words : List (List ℕ)) (command : Command) → command_for words ≡ Some command → (held : Option (List ℕ))
-    → IfSome (bytes_for (Some command) held) (λ bytes. HasEntries (command_course command (whole_input bytes)))
-    → IfSome (bytes_for (command_for words) held) (λ bytes. HasEntries (whole_course words bytes))
-entries-words words command asked held entries =
-    subst (λ a. IfSome (bytes_for a held) (λ bytes. HasEntries (words_course a (whole_input bytes)))) (sym asked) entries
 
 -- no source is at fault where none was asked
 pub causes-other : (unread unwritten unwritten' : ℕ) (exit : Exit) → exit ≢ ReadFault → HasCauses 0 0 unwritten unwritten' exit → HasCauses unread unread unwritten unwritten' exit
@@ -428,35 +435,6 @@ module _ (words : List (List ℕ)) (command : Command) (asked : command_for word
           (bounded_all (told-of tells) (sym (ap has_cache asked) ∙ has) (bytes_for (Some command) held) comes);
       unfetched = λ off. stays (sym (ap asks_run asked) ∙ off);
       unspent = unspent;
-    }
-
-    -- `share` comes to what the lines of its input come to
-    shared-course : command ≡ Share → (bytes : List ℕ) → whole_course words bytes ≡ lines_course share_course (parts_of bytes)
-    shared-course is bytes = words-course (whole_input bytes) ∙ ap (λ c. command_course c (whole_input bytes)) is
-
-    frames_all : command ≡ Share → exit ≡ Done → (told : Option (List ℕ)) → IfSome told Answer → IfSome told (λ bytes. TellsFew (whole_course words bytes))
-    frames_all is done None comes = tt
-    frames_all is done (Some bytes) comes =
-        let ended : (command_course command (whole_input bytes)).last.exit ≡ Done = sym (comes.output.whole (done-given exit done)).0 ∙ done in
-        subst TellsFew (sym (shared-course is bytes)) (lines-few (parts_of bytes) (subst (λ c. (command_course c (whole_input bytes)).last.exit ≡ Done) is ended))
-
-    shared_all : command ≡ Share → (told : Option (List ℕ)) → IfSome told Answer → IfSome told (λ bytes. IsSharedBounded fetches fetches' (whole_course words bytes))
-    shared_all is None comes = tt
-    shared_all is (Some bytes) comes =
-        let most : fetches' ≤ fetches + course_fetches shared_fetched (lines_course share_course (parts_of bytes)) =
-        subst (λ c. fetches' ≤ fetches + course_fetches (count_of (Some c)) (command_course c (whole_input bytes))) is
-        (comes.fetched (ap (λ c. tells_fetches (Some c)) is)).most in
-        subst (IsSharedBounded fetches fetches') (sym (shared-course is bytes)) (share-bounded (parts_of bytes) fetches fetches' most)
-
-    -- what is so of `share` is so of the words that ask for it
-    pub shares-words : (held : Option (List ℕ)) → IfSome (bytes_for (Some command) held) Answer → SharesFor words held fetches fetches' exit
-    shares-words held comes = record {
-      frames = λ done is.
-          subst (λ told. IfSome told (λ bytes. TellsFew (whole_course words bytes))) (sym (bytes-read held))
-          (frames_all (let same : Some command ≡ Some Share = sym asked ∙ is in cc) done (bytes_for (Some command) held) comes);
-      bounded = λ is.
-          subst (λ told. IfSome told (λ bytes. IsSharedBounded fetches fetches' (whole_course words bytes))) (sym (bytes-read held))
-          (shared_all (let same : Some command ≡ Some Share = sym asked ∙ is in cc) (bytes_for (Some command) held) comes);
     }
 
   -- what a command makes sure is what the words make sure that ask for it

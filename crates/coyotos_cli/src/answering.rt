@@ -1,7 +1,7 @@
 //! A command, with the input or without.
 ghost use Rattle.std.specs.Prelude.{◌≡◌, ◌≢◌, true, false, IfSome, Some};
 ghost use Rattle.std.specs.Io.KnownBytes.{IsAtEnd};
-ghost use Rattle.coyotos_words.specs.declared.command.Command.TheVariants.{Help, Migrate, Pack};
+ghost use Rattle.coyotos_words.specs.declared.command.Command.TheVariants.{Help, Migrate, Pack, Share};
 ghost use Rattle.coyotos_cli.specs.Command.{asks_input, asks_run, has_cache, summary_number};
 ghost use Rattle.coyotos_cli.specs.Contract.{ComesFor, StandsFor, bytes_for};
 ghost use Rattle.coyotos_cli.specs.Input.{no_input, read_input, whole_input};
@@ -10,6 +10,7 @@ ghost use Rattle.courses.specs.Course.{ComesTo, HasEntries, cached, course_outpu
 ghost use Rattle.courses.specs.Ending.{HasCauses, IsGiven, EndsIn};
 ghost use Rattle.image_commands.specs.Same.{IsImageOf};
 ghost use Rattle.migrate_command.specs.Same.{IsMigrated};
+ghost use Rattle.share_command.specs.Few.{IsSharedBounded, TellsFew};
 
 use crate::making::make;
 use back_command::back;
@@ -59,6 +60,14 @@ pub(crate) fn answer<S: Source, K: Sink, L: Ledger>(
     ensures packed { command ≡ Pack → result ≡ Exit.Done → IfSome (S.held input.old) (λ bytes.
         IsImageOf bytes (course_output (command_course command (whole_input bytes))).text) }
 
+    // How few frames `share` tells, and how few slots it fetches.
+    ensures fewer { command ≡ Share → result ≡ Exit.Done →
+        IfSome (bytes_for (Some command) (S.held input.old)) (λ bytes.
+        TellsFew (command_course command (whole_input bytes))) }
+    ensures bounded { command ≡ Share →
+        IfSome (bytes_for (Some command) (S.held input.old)) (λ bytes.
+        IsSharedBounded fetches.old fetches.new (command_course command (whole_input bytes))) }
+
     // Why it may end otherwise.
     ensures usage { result ≢ Exit.Usage }
     ensures memory { command ≡ Help → result ≢ Exit.OutOfMemory }
@@ -100,6 +109,10 @@ fn answer_input<S: Source, K: Sink, L: Ledger>(
         IsMigrated bytes (course_output (input_course command (whole_input bytes))).text) }
     ensures packed { command ≡ Pack → result ≡ Exit.Done → IfSome (S.held input.old) (λ bytes.
         IsImageOf bytes (course_output (input_course command (whole_input bytes))).text) }
+    ensures fewer { command ≡ Share → result ≡ Exit.Done → IfSome (S.held input.old) (λ bytes.
+        TellsFew (input_course command (whole_input bytes))) }
+    ensures bounded { command ≡ Share → IfSome (S.held input.old) (λ bytes.
+        IsSharedBounded fetches.old fetches.new (input_course command (whole_input bytes))) }
     ensures usage { result ≢ Exit.Usage }
     ensures causes { HasCauses (S.faults input.old) (S.faults input.new)
         (K.faults output.old) (K.faults output.new) result }

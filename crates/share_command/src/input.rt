@@ -15,6 +15,7 @@ ghost use Rattle.share_command.specs.Few.{IsSharedBounded, TellsFew};
 ghost use Rattle.share_command.specs.Share.{share_course, shared_fetched, sharing};
 
 use crate::telling::conclude;
+use boot_again::listing_boots_in_ranges;
 use courses::{Exit, read_head};
 use coy_io::{LineReader, Sink, Source};
 use image_builder::boot;
@@ -44,7 +45,7 @@ pub fn share<S: Source, K: Sink, L: Ledger>(
         fetches.old fetches.new shared_fetched (λ bytes.
         lines_course share_course (whole_lines [] bytes)) }
 
-    // How many frames are told at most, and how many slots are fetched.
+    // How many frames are told, and how many slots are fetched at most.
     ensures fewer { result ≡ Exit.Done → IfSome (S.held input.old) (λ bytes.
         TellsFew (lines_course share_course (parts_of bytes))) }
     ensures bounded { IfSome (S.held input.old) (λ bytes.
@@ -62,6 +63,7 @@ pub fn share<S: Source, K: Sink, L: Ledger>(
         Ok(listing) => listing,
         Err(exit) => return exit,
     };
+    listing_boots_in_ranges(&listing);
     let Ok(leaves) = SharedLeaves::new(alloc, listing.sizes().harts) else {
         return Exit::OutOfMemory;
     };

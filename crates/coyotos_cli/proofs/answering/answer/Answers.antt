@@ -1,8 +1,10 @@
 use Rattle.std.proofs.Common.{◌∙◌, refl, sym}
-use Rattle.coyotos_words.specs.declared.command.Command.TheVariants.{Migrate, Pack}
+use Rattle.courses.specs.Course.{HasEntries}
+use Rattle.coyotos_words.specs.declared.command.Command.TheVariants.{Migrate, Pack, Share}
 use Rattle.image_commands.specs.Same.{IsImageOf}
 use Rattle.migrate_command.specs.Same.{IsMigrated}
-use Rattle.coyotos_cli.proofs.Words.{causes-other, comes-input, entries-input, entries-other, comes-other, sure-input, text-input, text-other}
+use Rattle.share_command.specs.Few.{IsSharedBounded, TellsFew}
+use Rattle.coyotos_cli.proofs.Words.{causes-other, comes-input, entries-other, known-input, comes-other, sure-input, text-input, text-other}
 use Rattle.coyotos_cli.proofs.answering.answer.Goals as goal
 
 pub returns-then-asks_input-clause-comes : goal.returns-then-asks_input-clause-comes
@@ -25,7 +27,7 @@ returns-clause-causes g c = causes-other _ _ _ _ c.answer_other.ensures.read c.a
 
 pub returns-then-asks_input-clause-entries : goal.returns-then-asks_input-clause-entries
 returns-then-asks_input-clause-entries g c =
-    λ done has. entries-input c.args.command _ (sym c.asks_input.ensures ∙ c.if-asks_input.true) (c.answer_input.ensures.entries done has)
+    λ done has. known-input HasEntries c.args.command _ (sym c.asks_input.ensures ∙ c.if-asks_input.true) (c.answer_input.ensures.entries done has)
 
 pub returns-clause-entries : goal.returns-clause-entries
 returns-clause-entries g c =
@@ -44,3 +46,21 @@ returns-then-asks_input-clause-packed g c =
 
 pub returns-clause-packed : goal.returns-clause-packed
 returns-clause-packed g c = λ asked done. text-other c.args.command Pack asked refl (sym c.asks_input.ensures ∙ c.if-asks_input.false)
+
+pub returns-then-asks_input-clause-fewer : goal.returns-then-asks_input-clause-fewer
+returns-then-asks_input-clause-fewer g c =
+    λ asked done. known-input TellsFew c.args.command _
+    (sym c.asks_input.ensures ∙ c.if-asks_input.true) (c.answer_input.ensures.fewer asked done)
+
+pub returns-clause-fewer : goal.returns-clause-fewer
+returns-clause-fewer g c =
+    λ asked done. text-other c.args.command Share asked refl (sym c.asks_input.ensures ∙ c.if-asks_input.false)
+
+pub returns-then-asks_input-clause-bounded : goal.returns-then-asks_input-clause-bounded
+returns-then-asks_input-clause-bounded g c =
+    λ asked. known-input (IsSharedBounded c.args.fetches.now c.answer_input.new.fetches) c.args.command _
+    (sym c.asks_input.ensures ∙ c.if-asks_input.true) (c.answer_input.ensures.bounded asked)
+
+pub returns-clause-bounded : goal.returns-clause-bounded
+returns-clause-bounded g c =
+    λ asked. text-other c.args.command Share asked refl (sym c.asks_input.ensures ∙ c.if-asks_input.false)

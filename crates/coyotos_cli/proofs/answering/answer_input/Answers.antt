@@ -88,3 +88,15 @@ returns-in_default-clause-migrated g c = λ asked. absurd (c.in_default.not-Migr
 
 pub returns-in_default-clause-packed : goal.returns-in_default-clause-packed
 returns-in_default-clause-packed g c = λ asked. absurd (c.in_default.not-Pack asked)
+
+pub returns-in-Share-clause-fewer : goal.returns-in-Share-clause-fewer
+returns-in-Share-clause-fewer g c = λ asked done. rw c.in-Share.is (c.share.ensures.fewer done)
+
+pub returns-in-Share-clause-bounded : goal.returns-in-Share-clause-bounded
+returns-in-Share-clause-bounded g c = λ asked. rw c.in-Share.is c.share.ensures.bounded
+
+pub returns-in_default-clause-fewer : goal.returns-in_default-clause-fewer
+returns-in_default-clause-fewer g c = λ asked. absurd (c.in_default.not-Share asked)
+
+pub returns-in_default-clause-bounded : goal.returns-in_default-clause-bounded
+returns-in_default-clause-bounded g c = λ asked. absurd (c.in_default.not-Share asked)

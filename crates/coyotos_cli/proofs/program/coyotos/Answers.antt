@@ -1,9 +1,10 @@
 use Rattle.std.proofs.Common.{◌∙◌, sym, ap, map, string_bytes}
+use Rattle.courses.specs.Course.{HasEntries}
 use Rattle.coyotos_cli.specs.Command.{has_cache}
 use Rattle.coyotos_words.specs.declared.command.Command.TheVariants.{Migrate, Pack}
 use Rattle.image_commands.specs.Same.{IsImageOf}
 use Rattle.migrate_command.specs.Same.{IsMigrated}
-use Rattle.coyotos_cli.proofs.Words.{answers-words, completes-words, entries-words, fetches-words, shares-words, sure-words, form-words, form-memory, text-words}
+use Rattle.coyotos_cli.proofs.Words.{answers-words, completes-words, known-words, fetches-words, shares-words, sure-words, form-words, form-memory, text-words}
 use Rattle.coyotos_cli.proofs.program.coyotos.Goals as goal
 
 pub returns-in-Err-clause-form : goal.returns-in-Err-clause-form
@@ -38,12 +39,12 @@ returns-clause-fetches g c =
 pub returns-clause-shared : goal.returns-clause-shared
 returns-clause-shared g c =
     let asked = sym c.in-Ok-Some.ensures.asked ∙ c.in-Ok-Some.field-0-is in
-    shares-words (map string_bytes c.args.words.now) _ asked _ _ _ _ _ _ c.answer.ensures.comes
+    shares-words (map string_bytes c.args.words.now) _ asked _ _ _ _ c.answer.ensures.fewer c.answer.ensures.bounded
 
 pub returns-clause-entries : goal.returns-clause-entries
 returns-clause-entries g c =
     let asked = sym c.in-Ok-Some.ensures.asked ∙ c.in-Ok-Some.field-0-is in
-    λ done has. entries-words (map string_bytes c.args.words.now) _ asked _ (c.answer.ensures.entries done (sym (ap has_cache asked) ∙ has))
+    λ done has. known-words HasEntries (map string_bytes c.args.words.now) _ asked _ (c.answer.ensures.entries done (sym (ap has_cache asked) ∙ has))
 
 pub returns-clause-migrated : goal.returns-clause-migrated
 returns-clause-migrated g c =

@@ -7,7 +7,7 @@ use Rattle.courses.specs.Listed.{lines_course}
 use Rattle.courses.specs.Sure.{StandsSure}
 use Rattle.share_command.specs.Share.{share_course, shared_fetched}
 use Rattle.share_command.proofs.Behind.{of-listing}
-use Rattle.share_command.proofs.Few.{known-bounded, known-few}
+use Rattle.share_command.proofs.Few.{call-bounded, call-few, unspent-bounded}
 use Rattle.share_command.proofs.input.share.Goals as goal
 
 pub answer_lines-requires-clause-nothing : goal.answer_lines-requires-clause-nothing
@@ -45,10 +45,14 @@ pub returns-in-Err-clause-fewer : goal.returns-in-Err-clause-fewer
 returns-in-Err-clause-fewer g c = λ done. absurd (c.in-Err.ensures.ended.done done)
 
 pub returns-in-Err-clause-bounded : goal.returns-in-Err-clause-bounded
-returns-in-Err-clause-bounded g c = known-bounded _ _ _ _ _ _ (returns-in-Err-clause-comes g c)
+returns-in-Err-clause-bounded g c = unspent-bounded _ _
 
 pub returns-clause-fewer : goal.returns-clause-fewer
-returns-clause-fewer g c = known-few _ _ _ _ _ _ (returns-clause-comes g c)
+returns-clause-fewer g c =
+    call-few _ _ _ _ _ _ _ c.new-lines.result c.read_head.new.lines c.in-Ok.listing c.new-lines.ensures
+    c.in-Ok.ensures.listed c.listing_boots_in_ranges.ensures (returns-clause-comes g c)
 
 pub returns-clause-bounded : goal.returns-clause-bounded
-returns-clause-bounded g c = known-bounded _ _ _ _ _ _ (returns-clause-comes g c)
+returns-clause-bounded g c =
+    call-bounded _ _ _ _ _ _ _ c.new-lines.result c.read_head.new.lines c.in-Ok.listing c.new-lines.ensures
+    c.in-Ok.ensures.listed c.listing_boots_in_ranges.ensures (returns-clause-comes g c)
