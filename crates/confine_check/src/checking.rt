@@ -37,7 +37,8 @@ pub fn confined<T: Translator, L: Ledger>(
     ensures means { meant result ≡ verdict_in (cut_of cut.now) (state_of machine.now) }
     ensures exactly { (result ≡ Yes) ↔ Holds (cut_of cut.now) (system_of (state_of machine.now)) }
     ensures separated { result ≡ Yes → Separated (cut_of cut.now) (state_of machine.now) }
-    ensures counted { fetches.new ≡ fetches.old + reads_to result (size_of machine.now.objects.items Gpt) }
+    ensures counted { fetches.new ≡
+        fetches.old + reads_to result (size_of machine.now.objects.items Gpt) }
     ensures most { fetches.new ≤ fetches.old + 16 * size_of machine.now.objects.items Gpt }
 {
     tell_full(machine.objects());
@@ -51,7 +52,8 @@ fn verdict<T: Translator, L: Ledger>(
     fetches: &mut Steps<L>,
 ) -> Verdict
     ensures verdict { result ≡ verdict_of (cut_of cut.now) machine.now.objects machine.now.queues }
-    ensures counted { fetches.new ≡ fetches.old + reads_to result (size_of machine.now.objects.items Gpt) }
+    ensures counted { fetches.new ≡
+        fetches.old + reads_to result (size_of machine.now.objects.items Gpt) }
     ensures most { fetches.new ≤ fetches.old + 16 * size_of machine.now.objects.items Gpt }
 {
     let objects = machine.objects();
