@@ -119,7 +119,8 @@ fn stop(objects: &mut Objects, queues: &mut Queues, p: u16, code: FaultCode, add
     requires there { p < size_of objects.old.items Process }
     requires sizes { length queues.old.sleepers ≡ size_of objects.old.items Process }
     requires agrees { Agrees (runs_of objects.old queues.old) }
-    ensures after { system objects.new queues.new ≡ faulted (system objects.old queues.old) p code address }
+    ensures after { system objects.new queues.new ≡
+        faulted (system objects.old queues.old) p code address }
     ensures means { let w = system (state_map objects.old) queues.old in
         system (state_map objects.new) queues.new ≡ faulted w p code address }
     ensures process { objects.new ≡
