@@ -22,6 +22,7 @@ head_fields =
     magic ⨟ λ _. size 1 8 ⨟ λ _. size 0 4096 ⨟ λ _. size 0 256 ⨟ λ _. size 0 1024 ⨟ λ _. size 0 256 ⨟ λ _. size 0 1024 ⨟ λ _.
     word
 
+-- the bytes of the head of an image of these sizes and this number of statements
 abbrev pub head_bytes : Sizes → ℕ → List ℕ
 head_bytes sizes count =
     head_fields.bytes (tt, (sizes.harts, (sizes.pages, (sizes.cappages, (sizes.gpts, (sizes.processes, (sizes.endpoints, count)))))))
@@ -31,6 +32,7 @@ abbrev pub sizes_of : ℕ → ℕ → ℕ → ℕ → ℕ → ℕ → Sizes
 sizes_of harts pages cappages gpts processes endpoints =
     record { harts = harts; pages = pages; cappages = cappages; gpts = gpts; processes = processes; endpoints = endpoints }
 
+-- the head that bytes begin with, or its first fault
 unfoldable pub head_of : List ℕ → Read Head
 head_of bytes =
     made

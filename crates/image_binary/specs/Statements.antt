@@ -84,6 +84,7 @@ form_number forms.CapReg = 9
 form_number forms.Count = 10
 form_number forms.Region = 11
 
+-- all forms, in the order of their type numbers
 unfoldable pub all_forms : List Form
 all_forms =
     forms.Page ∷ forms.Code ∷ forms.CapSlot ∷ forms.Gpt ∷ forms.GptSlot ∷ forms.Endpoint ∷ forms.Process ∷ forms.Reg ∷
@@ -93,9 +94,11 @@ all_forms =
 abbrev pub form_with : ℕ → Option Form
 form_with number = find (λ form. form_number form == number) all_forms
 
+-- the form that a byte gives; of no other number is there one
 unfoldable pub form_judged : List ℕ → Result Form ImageWord
 form_judged bytes = ok_or (form_with (little_number 1 bytes)) BadType
 
+-- a form is one byte
 abbrev pub form : Fields Form
 form = field 1 (λ form. little_bytes 1 (form_number form)) form_judged
 

@@ -68,11 +68,13 @@ size least most = number 2 (λ n. nat_le least n && nat_le n most) BadMachine
 abbrev pub mark_number : Bool → ℕ
 mark_number mark = if mark then 1 else 0
 
+-- the mark that a byte gives: 0 or 1, and no other number
 unfoldable pub mark_of : List ℕ → Result Bool ImageWord
 mark_of bytes = do
   n ← tested 1 (λ n. nat_le n 1) BadValue bytes
   Ok (n == 1)
 
+-- a mark is one byte
 abbrev pub mark : Fields Bool
 mark = field 1 (λ mark. little_bytes 1 (mark_number mark)) mark_of
 
@@ -82,6 +84,7 @@ flags_of bytes = do
   n ← tested 1 (λ n. nat_le n 3) BadValue bytes
   Ok (n % 2 == 1, nat_le 2 n)
 
+-- flags are one byte
 abbrev pub flags : Fields (Bool × Bool)
 flags = field 1 (λ flags. little_bytes 1 (mark_number flags.0 + 2 * mark_number flags.1)) flags_of
 
@@ -89,6 +92,7 @@ flags = field 1 (λ flags. little_bytes 1 (mark_number flags.0 + 2 * mark_number
 unfoldable pub magic_of : List ℕ → Result (Unit {0}) ImageWord
 magic_of bytes = ensured (bytes_eq bytes (codes "COYIMG02")) BadMagic
 
+-- they are `COYIMG02`, and no others
 abbrev pub magic : Fields (Unit {0})
 magic = field 8 (λ _. codes "COYIMG02") magic_of
 
@@ -98,23 +102,29 @@ magic = field 8 (λ _. codes "COYIMG02") magic_of
 unfoldable pub object_kinds : List CapKind
 object_kinds = kinds.Page ∷ kinds.CapPage ∷ kinds.Gpt ∷ kinds.Endpoint ∷ kinds.Process ∷ []
 
+-- the kind of objects of a type number
 abbrev pub object_kind_with : ℕ → Option CapKind
 object_kind_with number = find (λ kind. number_of kind == number) object_kinds
 
+-- the kind of objects that a byte gives; of no other number is there one
 unfoldable pub object_kind_of : List ℕ → Result CapKind ImageWord
 object_kind_of bytes = ok_or (object_kind_with (little_number 1 bytes)) BadValue
 
+-- a kind of objects is one byte
 abbrev pub kind_of_object : Fields CapKind
 kind_of_object = field 1 (λ kind. little_bytes 1 (number_of kind)) object_kind_of
 
 -- ---- an instruction, by the one word that is written for it
 
+-- the instruction that these 32 bits are written for
 abbrev pub instruction_with : ℕ → Option Insn
 instruction_with bits = option_and_then (λ insn. if word_of insn == bits then Some insn else None) (insn_at bits)
 
+-- the instruction that four bytes give; other words are none
 unfoldable pub instruction_of : List ℕ → Result Insn ImageWord
 instruction_of bytes = ok_or (instruction_with (little_number 4 bytes)) BadInstruction
 
+-- an instruction is four bytes, its least first
 abbrev pub instruction : Fields Insn
 instruction = field 4 (λ insn. little_bytes 4 (word_of insn)) instruction_of
 
@@ -154,12 +164,14 @@ uncounted_of bytes = option_and_then (spelled_by bytes) (kind_with (type_of byte
 abbrev pub is_there : Sizes → Capability → Bool
 is_there sizes cap = not (is_counted cap.kind) || nat_lt cap.object (size_in sizes (object_kind cap.kind))
 
+-- the capability that bytes give: its fields are judged first, then whether its object is there
 unfoldable pub cap_of : Sizes → List ℕ → Result Capability ImageWord
 cap_of sizes bytes = do
   cap ← ok_or (uncounted_of bytes) BadCap
   _ ← ensured (is_there sizes cap) NoObject
   Ok cap
 
+-- a capability is sixteen bytes
 abbrev pub cap : Sizes → Fields Capability
 cap sizes = field 16 spelling (cap_of sizes)
 
@@ -171,5 +183,6 @@ recipient_of sizes bytes = do
   _ ← ensured (is_there sizes cap) NoObject
   Ok cap
 
+-- a recipient is sixteen bytes
 abbrev pub recipient : Sizes → Fields Capability
 recipient sizes = field 16 spelling (recipient_of sizes)

@@ -72,7 +72,8 @@ fn read_image<S: Source>(alloc: Global, input: &mut S) -> Result<Listing, ImageF
 
 /// Reads the start of an image.
 fn read_head<S: Source>(reader: &mut ImageReader, input: &mut S) -> Result<Head, ImageFault>
-    ensures steps { Steps head_of reader.old reader.new (S.held input.old) (S.held input.new) result }
+    ensures steps { Steps head_of reader.old reader.new (S.held input.old)
+        (S.held input.new) result }
     ensures range { IfOk result (λ head. IsWithinLimits head.sizes) }
     ensures read { result ≡ Err ImageFault.ReadFault →
         Rose (S.faults input.old) (S.faults input.new) }
