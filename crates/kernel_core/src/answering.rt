@@ -37,7 +37,8 @@ pub(crate) fn answer_call<T: Translator>(
 )
     requires there { p < size_of machine.old.objects.items Process }
     requires none { reply.cap ≡ None }
-    ensures state { state_of machine.new ≡ (answered_call (state_of machine.old) p inv.now reply).state }
+    ensures state { state_of machine.new ≡
+        (answered_call (state_of machine.old) p inv.now reply).state }
     ensures leaves { Leaves (process_name p ∷ []) machine.old machine.new }
     ensures translator { machine.new.translator ≡ machine.old.translator }
 {

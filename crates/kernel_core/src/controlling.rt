@@ -40,10 +40,12 @@ pub(crate) fn control_op<T: Translator, L: Ledger>(
     requires live { is_live machine.old.objects.items cap ≡ true }
     requires kind { is_control cap.kind ≡ true }
     requires room { HasRoom 1 records.old }
-    ensures came { let outcome = control_op (advance (state_of machine.old) p) p inv.now (bare cap) in
+    ensures came { let outcome =
+        control_op (advance (state_of machine.old) p) p inv.now (bare cap) in
         Came T.kept T.cost T.after T.without
         outcome machine.old records.old _fetches.old machine.new records.new _fetches.new }
-    ensures leaves { let outcome = control_op (advance (state_of machine.old) p) p inv.now (bare cap) in
+    ensures leaves { let outcome =
+        control_op (advance (state_of machine.old) p) p inv.now (bare cap) in
         Leaves (process_name p ∷ outcome.changed) machine.old machine.new }
 {
     machine.advance(p);

@@ -115,12 +115,15 @@ fn send_to<T: Translator, L: Ledger>(
     requires room { HasRoom 40 records.old }
     requires inv { parsed (process (state_of machine.old) p).regs ≡ Ok inv.now }
     requires reached { IsReached machine.old.objects callee }
-    ensures delivered { result ≡ (sent_to (state_of machine.old) p inv.now (bare_callee callee)).delivers }
+    ensures delivered { result ≡
+        (sent_to (state_of machine.old) p inv.now (bare_callee callee)).delivers }
     ensures on_hart { result ≡ true → IsOnHart machine.new.queues p }
-    ensures came { let outcome = (sent_to (state_of machine.old) p inv.now (bare_callee callee)).outcome in
+    ensures came { let outcome =
+        (sent_to (state_of machine.old) p inv.now (bare_callee callee)).outcome in
         Came T.kept T.cost T.after T.without
         outcome machine.old records.old fetches.old machine.new records.new fetches.new }
-    ensures leaves { let outcome = (sent_to (state_of machine.old) p inv.now (bare_callee callee)).outcome in
+    ensures leaves { let outcome =
+        (sent_to (state_of machine.old) p inv.now (bare_callee callee)).outcome in
         Leaves (process_name p ∷ outcome.changed) machine.old machine.new }
 {
     match callee {
@@ -162,7 +165,8 @@ fn wait_or_refuse<T: Translator, L: Ledger>(
 /// A send phase that is over with a code.
 fn refuse_call<T: Translator>(machine: &mut Machine<T>, p: u16, inv: &Invocation, code: Code)
     requires there { p < size_of machine.old.objects.items Process }
-    ensures state { state_of machine.new ≡ (refused_call (state_of machine.old) p inv.now code).state }
+    ensures state { state_of machine.new ≡
+        (refused_call (state_of machine.old) p inv.now code).state }
     ensures leaves { Leaves (process_name p ∷ []) machine.old machine.new }
     ensures translator { machine.new.translator ≡ machine.old.translator }
 {

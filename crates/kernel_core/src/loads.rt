@@ -43,10 +43,12 @@ pub(crate) fn load<T: Translator, L: Ledger>(
     requires size { IsSize wanted.size }
     requires register { wanted.rd < 32 }
     requires room { HasRoom 1 records.old }
-    ensures came { let outcome = load (state_of machine.old) p wanted.at wanted.size wanted.signed wanted.rd in
+    ensures came { let outcome =
+        load (state_of machine.old) p wanted.at wanted.size wanted.signed wanted.rd in
         Came T.kept T.cost T.after T.without
         outcome machine.old records.old fetches.old machine.new records.new fetches.new }
-    ensures leaves { let outcome = load (state_of machine.old) p wanted.at wanted.size wanted.signed wanted.rd in
+    ensures leaves { let outcome =
+        load (state_of machine.old) p wanted.at wanted.size wanted.signed wanted.rd in
         Leaves (process_name p ∷ outcome.changed) machine.old machine.new }
 {
     let at = wanted.at;
@@ -74,9 +76,13 @@ fn loaded_from<T: Translator>(
     requires within { hit.offset + wanted.size ≤ 4096 }
     requires register { wanted.rd < 32 }
     requires room { HasRoom 1 records.old }
-    ensures came { let outcome = loaded_from (state_of machine.old) p wanted.at wanted.size wanted.signed wanted.rd (Ok hit) in
+    ensures came { let outcome =
+        loaded_from (state_of machine.old) p wanted.at wanted.size wanted.signed wanted.rd
+        (Ok hit) in
         CameUnasked outcome machine.old records.old machine.new records.new }
-    ensures leaves { let outcome = loaded_from (state_of machine.old) p wanted.at wanted.size wanted.signed wanted.rd (Ok hit) in
+    ensures leaves { let outcome =
+        loaded_from (state_of machine.old) p wanted.at wanted.size wanted.signed wanted.rd
+        (Ok hit) in
         Leaves (process_name p ∷ outcome.changed) machine.old machine.new }
 {
     records.push_access(p, Kind::Load, wanted.at, hit.page);

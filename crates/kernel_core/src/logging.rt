@@ -104,11 +104,13 @@ fn log_found<T: Translator, L: Ledger>(
     requires pieces { ArePieces machine.old.objects.items found.now.pieces }
     requires most { size_of_pieces found.now.pieces ≤ 256 }
     requires room { HasRoom 1 records.old }
-    ensures came { let fault = string_fault_map (meaning machine.old.objects.items) found.now.fault in
+    ensures came { let fault =
+        string_fault_map (meaning machine.old.objects.items) found.now.fault in
         let outcome = logged (state_of machine.old) p inv.now found.now.pieces fault in
         Came T.kept T.cost T.after T.without
         outcome machine.old records.old fetches.old machine.new records.new fetches.new }
-    ensures leaves { let fault = string_fault_map (meaning machine.old.objects.items) found.now.fault in
+    ensures leaves { let fault =
+        string_fault_map (meaning machine.old.objects.items) found.now.fault in
         let outcome = logged (state_of machine.old) p inv.now found.now.pieces fault in
         Leaves (process_name p ∷ outcome.changed) machine.old machine.new }
 {

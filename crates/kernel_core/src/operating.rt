@@ -70,10 +70,12 @@ fn memory_op<T: Translator, L: Ledger>(
     requires there { p < size_of machine.old.objects.items Process }
     requires live { is_live machine.old.objects.items cap ≡ true }
     requires kind { is_memory cap.kind ≡ true }
-    ensures came { let outcome = memory_op (advance (state_of machine.old) p) p inv.now (bare cap) in
+    ensures came { let outcome =
+        memory_op (advance (state_of machine.old) p) p inv.now (bare cap) in
         Came T.kept T.cost T.after T.without
         outcome machine.old records.old fetches.old machine.new records.new fetches.new }
-    ensures leaves { let outcome = memory_op (advance (state_of machine.old) p) p inv.now (bare cap) in
+    ensures leaves { let outcome =
+        memory_op (advance (state_of machine.old) p) p inv.now (bare cap) in
         Leaves (process_name p ∷ outcome.changed) machine.old machine.new }
 {
     let _ = records;
