@@ -39,7 +39,8 @@ impl<T: Translator> Machine<T> {
         ensures page { IfOk result
             (λ place. place.number < size_of self.now.objects.items CapKind.CapPage) }
         ensures within { IfOk result (λ place. place.offset < 4096) }
-        ensures handler { IfErr result (λ fault. HandlerLives self.now.objects.items fault.handler) }
+        ensures handler { IfErr result
+            (λ fault. HandlerLives self.now.objects.items fault.handler) }
         ensures counted { let s = state_of self.now in
             fetches.new ≡ fetches.old + slots s.store.items (space_of s p) address kind }
     {
@@ -52,7 +53,8 @@ impl<T: Translator> Machine<T> {
     pub fn cap_at(&self, place: Place) -> Cap
         requires page { place.number < size_of self.now.objects.items CapKind.CapPage }
         requires within { place.offset < 4096 }
-        ensures means { meaning self.now.objects.items result ≡ cap_found (state_of self.now) place }
+        ensures means { meaning self.now.objects.items result ≡
+            cap_found (state_of self.now) place }
         ensures behind { IsBehind self.now.objects.items result }
     {
         let slot = (place.offset / 16) as u8;

@@ -64,7 +64,8 @@ impl<T: Translator> Machine<T> {
             hit_map f result ≡ data_access (state_of self.old) p address kind }
         ensures page { IfOk result (λ hit. hit.page < size_of self.new.objects.items CapKind.Page) }
         ensures offset { IfOk result (λ hit. hit.offset ≡ address % 4096) }
-        ensures handler { IfErr result (λ fault. HandlerLives self.new.objects.items fault.handler) }
+        ensures handler { IfErr result
+            (λ fault. HandlerLives self.new.objects.items fault.handler) }
         ensures state { state_of self.new ≡ state_of self.old }
         ensures objects { self.new.objects ≡ self.old.objects }
         ensures queues { self.new.queues ≡ self.old.queues }
@@ -103,7 +104,8 @@ impl<T: Translator> Machine<T> {
             hit_map f result ≡ data_access (state_of self.old) q address kind }
         ensures page { IfOk result (λ hit. hit.page < size_of self.new.objects.items CapKind.Page) }
         ensures offset { IfOk result (λ hit. hit.offset ≡ address % 4096) }
-        ensures handler { IfErr result (λ fault. HandlerLives self.new.objects.items fault.handler) }
+        ensures handler { IfErr result
+            (λ fault. HandlerLives self.new.objects.items fault.handler) }
         ensures state { state_of self.new ≡ state_of self.old }
         ensures objects { self.new.objects ≡ self.old.objects }
         ensures queues { self.new.queues ≡ self.old.queues }
@@ -142,7 +144,8 @@ impl<T: Translator> Machine<T> {
             hit_map f result ≡ data_access (state_of self.old) p address kind }
         ensures page { IfOk result (λ hit. hit.page < size_of self.new.objects.items CapKind.Page) }
         ensures offset { IfOk result (λ hit. hit.offset ≡ address % 4096) }
-        ensures handler { IfErr result (λ fault. HandlerLives self.new.objects.items fault.handler) }
+        ensures handler { IfErr result
+            (λ fault. HandlerLives self.new.objects.items fault.handler) }
         ensures state { state_of self.new ≡ state_of self.old }
         ensures objects { self.new.objects ≡ self.old.objects }
         ensures queues { self.new.queues ≡ self.old.queues }

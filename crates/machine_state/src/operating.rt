@@ -30,7 +30,8 @@ impl<T: Translator> Machine<T> {
     #[tactic(auto, using(crate::proofs::Operated::first_register))]
     pub fn request(&self, p: u16, inv: &Invocation) -> Request
         requires there { p < size_of self.now.objects.items Process }
-        ensures means { request_map bare result ≡ request_of (process (state_of self.now) p) inv.now }
+        ensures means { request_map bare result ≡
+            request_of (process (state_of self.now) p) inv.now }
         ensures live { is_live self.now.objects.items result.sent ≡ true }
     {
         let words = inv.words();

@@ -87,7 +87,8 @@ impl Past {
         requires there { number < size_of machine.now.objects.items kind }
         requires holds { Holds self.old machine.now.objects }
         requires list { length self.old.places < 288 }
-        requires room { next_place kind number self.old.places < size_of self.old.copies.items kind }
+        requires room { next_place kind number self.old.places <
+            size_of self.old.copies.items kind }
         ensures holds { Holds self.new machine.now.objects }
         ensures names { names_in self.new ≡ names_in self.old ++ object_name kind number ∷ [] }
         ensures used { (k : CapKind) →

@@ -21,7 +21,8 @@ impl<T: Translator> Machine<T> {
     /// machine is halted are as they were then.
     pub fn restore<L: Ledger>(&mut self, past: &Past, fetches: &mut Steps<L>)
         requires there { AreThere self.old.objects (names_in past.now) }
-        requires machine { IsMachine (restored (saved_in past.now) self.old.objects) past.now.queues }
+        requires machine { IsMachine
+            (restored (saved_in past.now) self.old.objects) past.now.queues }
         ensures objects { self.new.objects ≡ restored (saved_in past.now) self.old.objects }
         ensures queues { self.new.queues ≡ past.now.queues }
         ensures halted { self.new.halted ≡ past.now.halted }

@@ -20,7 +20,8 @@ impl<T: Translator> Machine<T> {
         ensures state { let s = state_of self.old in
             state_of self.new ≡ set_store s (copied s.store from.now to.now) }
         ensures leaves { Leaves (page_names to.now) self.old self.new }
-        ensures processes { self.new.objects.contents.processes ≡ self.old.objects.contents.processes }
+        ensures processes { self.new.objects.contents.processes ≡
+            self.old.objects.contents.processes }
         ensures queues { self.new.queues ≡ self.old.queues }
         ensures translator { self.new.translator ≡ self.old.translator }
     {
