@@ -19,10 +19,13 @@ use operations::{done, hand_over, read_through, refuse};
 pub(crate) fn cap_page(objects: &mut Objects, cap: Cap, request: Request) -> Reply
     requires kind { cap.kind ≡ CapPage }
     requires live { is_live objects.old.items cap ≡ true }
-    ensures reply { let settled = settled_row (cappage_table objects.old cap request (w1 request)) in
+    ensures reply { let settled =
+        settled_row (cappage_table objects.old cap request (w1 request)) in
         result ≡ reply_of settled }
-    ensures objects { let settled = settled_row (cappage_table objects.old cap request (w1 request)) in
-        (q : QueuesValue) → applied_all Stored (system objects.old q) settled.answer.changes ≡ system objects.new q }
+    ensures objects { let settled =
+        settled_row (cappage_table objects.old cap request (w1 request)) in
+        (q : QueuesValue) → applied_all Stored (system objects.old q) settled.answer.changes ≡
+        system objects.new q }
 {
     match request.words[0] {
         8 => clear(objects, cap),

@@ -96,10 +96,13 @@ fn own<L: Ledger>(
 ) -> Reply
     requires live { is_live objects.old.items cap ≡ true }
     requires sent { is_live objects.old.items request.sent ≡ true }
-    ensures reply { let settled = settled_row (own_table objects.old cap request cap.kind (w1 request)) in
+    ensures reply { let settled =
+        settled_row (own_table objects.old cap request cap.kind (w1 request)) in
         result ≡ reply_of settled }
-    ensures objects { let settled = settled_row (own_table objects.old cap request cap.kind (w1 request)) in
-        (q : QueuesValue) → applied_all Stored (system objects.old q) settled.answer.changes ≡ system objects.new q }
+    ensures objects { let settled =
+        settled_row (own_table objects.old cap request cap.kind (w1 request)) in
+        (q : QueuesValue) → applied_all Stored (system objects.old q) settled.answer.changes ≡
+        system objects.new q }
     ensures counted { fetches.new ≡ fetches.old + reads cap.kind (w1 request) result.code }
 {
     match cap.kind() {

@@ -23,7 +23,8 @@ fn guard_from(l2g: u32, matches: u32) -> Option<Guard>
 #[tactic(auto, using(operations::proofs::Tests::is_multiple_true, operations::proofs::Tests::is_multiple_false), unfolding(operations::specs::Memory::may_have))]
 pub(crate) fn guarded(cap: Cap, l2g: u32, matches: u32) -> Option<Cap>
     requires { is_memory cap.kind ≡ true }
-    ensures { result ≡ (if may_have cap l2g matches then Some (with_guard cap (guard_of l2g matches)) else None) }
+    ensures { result ≡
+        (if may_have cap l2g matches then Some (with_guard cap (guard_of l2g matches)) else None) }
 {
     let guard = guard_from(l2g, matches)?;
     cap.with_guard(guard).ok()
