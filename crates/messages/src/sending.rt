@@ -104,12 +104,16 @@ fn send_found<T: Translator, L: Ledger>(
     requires room { HasRoom 18 records.old }
     ensures delivered { let f = meaning machine.old.objects.items in
         result ≡ is_whole (string_fault_map f found.now.fault) }
-    ensures came { let fault = string_fault_map (meaning machine.old.objects.items) found.now.fault in
-        let outcome = sent_by_fault (state_of machine.old) p endpoint to inv.now found.now.pieces fault in
+    ensures came { let fault =
+        string_fault_map (meaning machine.old.objects.items) found.now.fault in
+        let outcome =
+        sent_by_fault (state_of machine.old) p endpoint to inv.now found.now.pieces fault in
         Came T.kept T.cost T.after T.without
         outcome machine.old records.old fetches.old machine.new records.new fetches.new }
-    ensures leaves { let fault = string_fault_map (meaning machine.old.objects.items) found.now.fault in
-        let outcome = sent_by_fault (state_of machine.old) p endpoint to inv.now found.now.pieces fault in
+    ensures leaves { let fault =
+        string_fault_map (meaning machine.old.objects.items) found.now.fault in
+        let outcome =
+        sent_by_fault (state_of machine.old) p endpoint to inv.now found.now.pieces fault in
         Leaves (process_name p ∷ outcome.changed) machine.old machine.new }
     ensures on_hart { result ≡ true → IsOnHart machine.new.queues p }
     ensures most { length records.new ≤ length records.old + 18 }

@@ -39,9 +39,11 @@ pub(crate) fn deliver<T: Translator>(
     requires enough { size_of_pieces into.now ≤ size_of_pieces from.now }
     requires longest { size_of_pieces into.now ≤ 65536 }
     requires room { HasRoom 1 records.old }
-    ensures came { let outcome = delivered (state_of machine.old) p endpoint to inv.now from.now into.now in
+    ensures came { let outcome =
+        delivered (state_of machine.old) p endpoint to inv.now from.now into.now in
         CameUnasked outcome machine.old records.old machine.new records.new }
-    ensures leaves { let outcome = delivered (state_of machine.old) p endpoint to inv.now from.now into.now in
+    ensures leaves { let outcome =
+        delivered (state_of machine.old) p endpoint to inv.now from.now into.now in
         Leaves (process_name p ∷ outcome.changed) machine.old machine.new }
     ensures on_hart { IsOnHart machine.new.queues p }
     ensures one { length records.new ≡ length records.old + 1 }
@@ -68,7 +70,8 @@ fn tell<T: Translator>(
     requires room { HasRoom 1 records.old }
     ensures came { let outcome = message_told (state_of machine.old) p endpoint to inv.now length in
         CameUnasked outcome machine.old records.old machine.new records.new }
-    ensures leaves { let outcome = message_told (state_of machine.old) p endpoint to inv.now length in
+    ensures leaves { let outcome =
+        message_told (state_of machine.old) p endpoint to inv.now length in
         Leaves (process_name p ∷ outcome.changed) machine.old machine.new }
     ensures on_hart { IsOnHart machine.new.queues p }
 {
