@@ -73,7 +73,8 @@ fn keep_reach<T: Translator, L: Ledger>(
     requires others { (k : CapKind) → k ≢ Process → used k past.old.places ≡ 0 }
     requires count { length past.old.places ≤ 256 }
     ensures stands { StandsFor past.new machine.now }
-    ensures more { (kind : CapKind) (n : ℕ) → IsAmong kind n (names_in past.old) → IsAmong kind n (names_in past.new) }
+    ensures more { (kind : CapKind) (n : ℕ) → IsAmong kind n (names_in past.old) →
+        IsAmong kind n (names_in past.new) }
     ensures kept { Remembers past.new machine.now.objects (names_of reach.now) }
 {
     match reach {
@@ -98,7 +99,8 @@ fn keep_pages<T: Translator, L: Ledger>(
     requires none { used Page past.old.places ≡ 0 }
     requires count { length past.old.places ≤ 257 }
     ensures stands { StandsFor past.new machine.now }
-    ensures more { (kind : CapKind) (n : ℕ) → IsAmong kind n (names_in past.old) → IsAmong kind n (names_in past.new) }
+    ensures more { (kind : CapKind) (n : ℕ) → IsAmong kind n (names_in past.old) →
+        IsAmong kind n (names_in past.new) }
     ensures kept { Remembers past.new machine.now.objects (page_names pieces.now) }
 {
     let list = pieces.as_slice();
@@ -120,9 +122,11 @@ fn keep_object<T: Translator, L: Ledger>(
     requires place { HasPlace kind past.old.places }
     requires count { length past.old.places < 288 }
     ensures stands { StandsFor past.new machine.now }
-    ensures more { (k : CapKind) (n : ℕ) → IsAmong k n (names_in past.old) → IsAmong k n (names_in past.new) }
+    ensures more { (k : CapKind) (n : ℕ) → IsAmong k n (names_in past.old) →
+        IsAmong k n (names_in past.new) }
     ensures kept { Remembers past.new machine.now.objects (object_name kind number ∷ []) }
-    ensures used { (k : CapKind) → used k past.new.places ≤ used k past.old.places + same_kind kind k }
+    ensures used { (k : CapKind) →
+        used k past.new.places ≤ used k past.old.places + same_kind kind k }
     ensures count { length past.new.places ≤ length past.old.places + 1 }
 {
     let objects = machine.objects();

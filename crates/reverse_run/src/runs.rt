@@ -57,8 +57,10 @@ fn call<T: Translator, W: Listener, L: Ledger>(
     fetches: &mut Steps<L>,
 )
     requires { IsOfHart reversible.old.machine.objects.harts call }
-    ensures history { history_of reversible.new ≡ after_call reversible.old.depth (history_of reversible.old) call }
-    ensures answer { W.told listener.new ≡ W.told listener.old ++ answer_of (history_of reversible.old) call ∷ [] }
+    ensures history { history_of reversible.new ≡
+        after_call reversible.old.depth (history_of reversible.old) call }
+    ensures answer { W.told listener.new ≡
+        W.told listener.old ++ answer_of (history_of reversible.old) call ∷ [] }
     ensures depth { reversible.new.depth ≡ reversible.old.depth }
     ensures harts { reversible.new.machine.objects.harts ≡ reversible.old.machine.objects.harts }
 {
