@@ -27,7 +27,8 @@ pub struct Outcome {
 pub fn evaluate(regs: &[u32; 32], pc: u32, insn: Insn) -> Outcome
     requires { InRange insn }
     ensures effect { result.effect ≡ effect_of regs.now pc insn }
-    ensures registers { with_register regs.now result.rd result.value ≡ registers_after regs.now pc insn }
+    ensures registers { with_register regs.now result.rd result.value ≡
+        registers_after regs.now pc insn }
     ensures register { result.rd < 32 }
 
     // What callers know without looking the instruction up.
