@@ -229,7 +229,8 @@ fn take_away(
     harts: &mut Vec<Option<u16>>,
     p: u16,
 )
-    requires { let lists = sum_by (times_in p) ready.old.items + sum_by (times_in p) sleepers.old.items in
+    requires { let lists =
+        sum_by (times_in p) ready.old.items + sum_by (times_in p) sleepers.old.items in
         lists + sum_by (times_on p) harts.old.items ≤ 1 }
     ensures ready { ready.new.items ≡ map (without p) ready.old.items }
     ensures sleepers { sleepers.new.items ≡ map (without p) sleepers.old.items }
