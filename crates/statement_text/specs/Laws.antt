@@ -39,6 +39,7 @@ StatementsAreRead =
 abbrev pub TextsAreListed : Type 0
 TextsAreListed = (terms : Terms) (text : List ℕ) (statement : Statement) → ReadsBack terms text statement → Lists terms text (statement ∷ [])
 
+-- no text lists no statements
 abbrev pub NothingIsListed : Type 0
 NothingIsListed = (terms : Terms) → Lists terms [] []
 

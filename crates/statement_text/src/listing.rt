@@ -53,7 +53,8 @@ fn put_machine<K: Sink>(
     line: &mut LineBuf,
     output: &mut K,
 ) -> Result<(), WriteFault>
-    ensures { WroteTo K.taken K.faults output.old output.new result (machine_text listing.now.sizes) }
+    ensures { WroteTo K.taken K.faults output.old output.new result
+        (machine_text listing.now.sizes) }
 {
     make_machine(line, listing.sizes());
     put_line(line, output)
