@@ -1,22 +1,10 @@
 //! The images of listings: what `pack` and `unpack` write, for each other and alone, and what they refuse.
 use crate::kernel_rows::kernel_table;
 use crate::machines::WHOLE;
-use crate::rows::{ask, words_of};
-use std::alloc::Global;
+use crate::rows::{ask, listing_of, words_of};
 use std::marker::Brand;
 use std::test::Fail;
 use steps::Permit;
-
-/// The listing of an input, without the schedule behind it.
-fn listing_of(alloc: Global, input: &str) -> Result<Vec<u8>, Fail> {
-    let front = match input.split_once("\nend\n") {
-        Some((front, _)) => front,
-        None => input,
-    };
-    let mut listing = front.as_bytes().to_vec(alloc)?;
-    listing.extend_from_slice(b"\nend\n".as_slice())?;
-    Ok(listing)
-}
 
 /// For each row an image is written whose listing is the migrated text of the row's.
 #[test]

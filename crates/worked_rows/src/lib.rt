@@ -5,8 +5,6 @@
 #![tactic(auto)]
 
 #[cfg(test)]
-mod both_translators;
-#[cfg(test)]
 mod commands;
 #[cfg(test)]
 mod failures;
@@ -23,4 +21,8 @@ mod shared_rows;
 #[cfg(test)]
 mod starts;
 #[cfg(test)]
+mod translators;
+#[cfg(test)]
 mod turns;
+#[cfg(test)]
+mod undone;

@@ -77,6 +77,17 @@ pub(crate) fn words_of(alloc: Global, line: &str) -> Result<Vec<String>, Fail> {
     Ok(words)
 }
 
+/// The listing of an input, without the schedule behind it.
+pub(crate) fn listing_of(alloc: Global, input: &str) -> Result<Vec<u8>, Fail> {
+    let front = match input.split_once("\nend\n") {
+        Some((front, _)) => front,
+        None => input,
+    };
+    let mut listing = front.as_bytes().to_vec(alloc)?;
+    listing.extend_from_slice(b"\nend\n".as_slice())?;
+    Ok(listing)
+}
+
 /// The same for each of the rows, whose expected outputs are worked out by hand.
 #[test]
 fn rows_give_what_is_written_down_for_them(rt: HostRuntime) -> Result<(), Fail> {

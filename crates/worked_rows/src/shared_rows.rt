@@ -1,4 +1,5 @@
 //! The command `share`: its text and status for its input.
+use crate::kernel_rows::kernel_table;
 use crate::rows::{Calls, ask, words_of};
 use std::marker::Brand;
 use std::test::Fail;
@@ -75,6 +76,33 @@ fn the_frames_of_shared_leaf_tables_are_told(rt: HostRuntime) -> Result<(), Fail
                 "`{words}` in pieces of {piece}"
             );
         }
+    }
+    Ok(())
+}
+
+/// What `share` writes for the input of a row of the kernel, for three of them: the records of its run, and the frames of a
+/// root and of a leaf table for the space of each of its two processes.
+fn shared_output(name: &str) -> Option<&'static str> {
+    match name {
+        "alias-rewritten" => Some("frames 4\n"),
+        "l2v-changed" => Some("fault 0 InvalidDataReference 00001004 to 1\nframes 4\n"),
+        "page-destroyed-and-got-again" => Some(
+            "destroy page 2\nfault 1 InvalidDataReference 00001000 unheard\nframes 4\n",
+        ),
+        _ => None,
+    }
+}
+
+#[test]
+fn the_records_stand_before_the_frames(rt: HostRuntime) -> Result<(), Fail> {
+    for (name, _, input, _) in kernel_table() {
+        let Some(output) = shared_output(name) else {
+            continue;
+        };
+        let asked = words_of(rt.alloc(), "share")?;
+        let bytes = input.as_bytes().to_vec(rt.alloc())?;
+        let answer = ask::<Brand>(rt.alloc(), asked, bytes, pieces_of(65536), Permit::new(&rt))?;
+        assert!(rt; answer.text.as_slice() == output.as_bytes(), "row {name}");
     }
     Ok(())
 }
