@@ -1,8 +1,9 @@
 -- Which words spell a capability, and what they spell: one function for each form of the words. What a kind has not is
 -- 0, and its guard is 12/0. Where there may be names, one may stand in place of an object's number, behind a `$`; the
 -- number is 0 then.
-use Rattle.std.specs.Prelude.{ℕ, ◌≡◌, ◌<◌, ◌+◌, ◌*◌, ◌==◌, ◌||◌, not, nat_le, Bool, true, false, if◌then◌else◌, List, [], ◌∷◌, length, Option, Some, None, option_map, bytes_eq, codes}
+use Rattle.std.specs.Prelude.{ℕ, ◌≡◌, ◌<◌, ◌+◌, ◌*◌, ◌==◌, ◌||◌, not, nat_le, Bool, false, if◌then◌else◌, List, [], ◌∷◌, length, Option, Some, None, option_map, bytes_eq, codes}
 use Rattle.coy_text.specs.Numeral.{dec_of, hex_of}
+use Rattle.coy_text.specs.Reading.{◌>>=◌, given}
 use Rattle.coy_text.specs.Words.{cut_at}
 use Rattle.cap_format.specs.declared.kind.CapKind.{CapKind}
 use Rattle.cap_format.specs.declared.kind.CapKind.TheVariants.{Null, Page, CapPage, Gpt, Window, LocalWindow, Endpoint, Entry, Process, Schedule, Range, Discrim, KernLog, SysCtl}
@@ -11,17 +12,6 @@ use Rattle.cap_format.specs.Kind.{is_counted, is_memory, object_limit, payload_l
 use Rattle.cap_words.specs.declared.spelling.Spelled.{Spelled}
 use Rattle.cap_words.specs.declared.spelling.Guarded.{Guarded}
 use Rattle.cap_words.specs.Name.{name_of, called}
-
-infixl 10 ◌>>=◌
--- what is read after something else was, where that could be read
-abbrev pub ◌>>=◌ : {A B : Type 0} → Option A → (A → Option B) → Option B
-None >>= next = None
-(Some x) >>= next = next x
-
--- goes on where the test holds
-abbrev pub given : Bool → Option (Unit {0})
-given true = Some tt
-given false = None
 
 -- a decimal number of at most `most`
 unfoldable pub dec_to : ℕ → List ℕ → Option ℕ

@@ -5,12 +5,10 @@
 
 mod letters;
 mod name;
-mod numbers;
 mod spelling;
 mod text;
 
 pub use letters::restrictions;
 pub use name::{Name, called, read_name};
-pub use numbers::{push_number, push_numbered, push_value};
 pub use spelling::{Guarded, Spelled, number_to, read_spelled};
 pub use text::{push_capability, push_letters};

@@ -3,7 +3,6 @@ ghost use Rattle.std.specs.Prelude.{◌≡◌, ◌≤◌, ◌+◌, ◌++◌, cod
 ghost use Rattle.coy_text.specs.Numeral.{hex_text};
 ghost use Rattle.cap_words.specs.Text.{letter, letters, restr_text, guard_text, cap_word, cap_text};
 
-use crate::numbers::push_numbered;
 use bitflags::Flags;
 use cap_format::{Cap, CapKind, Guard};
 use coy_text::LineBuf;
@@ -31,24 +30,24 @@ fn push_spelling(line: &mut LineBuf, kind: CapKind, cap: Cap)
         CapKind::Discrim => line.push_word("discrim"),
         CapKind::KernLog => line.push_word("kernlog"),
         CapKind::SysCtl => line.push_word("sysctl"),
-        CapKind::Schedule => push_numbered(line, "schedule:", cap.object()),
-        CapKind::Endpoint => push_numbered(line, "endpoint:", cap.object()),
-        CapKind::Process => push_numbered(line, "process:", cap.object()),
+        CapKind::Schedule => line.push_numbered("schedule:", cap.object()),
+        CapKind::Endpoint => line.push_numbered("endpoint:", cap.object()),
+        CapKind::Process => line.push_numbered("process:", cap.object()),
         CapKind::Entry => {
-            push_numbered(line, "entry:", cap.object());
+            line.push_numbered("entry:", cap.object());
             line.push_word(":");
             line.push_hex(cap.payload(), 8);
         }
         CapKind::Page => {
-            push_numbered(line, "page:", cap.object());
+            line.push_numbered("page:", cap.object());
             push_guard(line, cap);
         }
         CapKind::CapPage => {
-            push_numbered(line, "cappage:", cap.object());
+            line.push_numbered("cappage:", cap.object());
             push_guard(line, cap);
         }
         CapKind::Gpt => {
-            push_numbered(line, "gpt:", cap.object());
+            line.push_numbered("gpt:", cap.object());
             push_guard(line, cap);
         }
         CapKind::Window => {
@@ -57,7 +56,7 @@ fn push_spelling(line: &mut LineBuf, kind: CapKind, cap: Cap)
             push_guard(line, cap);
         }
         CapKind::LocalWindow => {
-            push_numbered(line, "local:", cap.slot() as u32);
+            line.push_numbered("local:", cap.slot() as u32);
             line.push_word(":");
             line.push_hex(cap.object(), 8);
             push_guard(line, cap);
@@ -73,7 +72,7 @@ fn push_guard(line: &mut LineBuf, cap: Cap)
     ensures len { length line.new ≤ length line.old + 24 }
 {
     let guard = cap.guard();
-    push_numbered(line, "@", guard.l2g() as u32);
+    line.push_numbered("@", guard.l2g() as u32);
     push_match(line, guard);
     push_restrictions(line, cap.restr().bits());
 }

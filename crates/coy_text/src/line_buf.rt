@@ -1,5 +1,5 @@
 //! The buffer in which a line is put together before it is written.
-ghost use Rattle.std.specs.Prelude.{ℕ, List, ◌≡◌, ◌+◌, ◌^◌, ◌<◌, ◌≤◌, [], ◌∷◌, ◌++◌, length, decimal};
+ghost use Rattle.std.specs.Prelude.{ℕ, List, ◌≡◌, ◌+◌, ◌^◌, ◌<◌, ◌≤◌, [], ◌∷◌, ◌++◌, length, codes, decimal};
 ghost use Rattle.coy_text.specs.Numeral.{hex_text};
 
 use arrayvec::ArrayString;
@@ -79,15 +79,34 @@ impl LineBuf {
         self.push_byte(b'0' + (value % 10) as u8);
     }
 
-    /// Appends a text as it is, and a number in decimal behind it.
+    /// Appends a number of 32 bits in decimal, which takes at most 10 digits.
     #[tactic(auto, using(crate::proofs::NumeralLaws::length_decimal_32))]
+    pub fn push_number(&mut self, number: u32)
+        requires { length self.old + 10 ≤ 1024 }
+        ensures text { self.new ≡ self.old ++ decimal number }
+        ensures len { length self.new ≤ length self.old + 10 }
+    {
+        self.push_dec(u64::from(number));
+    }
+
+    /// Appends a text as it is, and a number in decimal behind it.
     pub fn push_numbered(&mut self, word: &str, number: u32)
         requires { length self.old + length word.now + 10 ≤ 1024 }
         ensures text { self.new ≡ self.old ++ word.now ++ decimal number }
         ensures len { length self.new ≤ length self.old + length word.now + 10 }
     {
         self.push_word(word);
-        self.push_dec(u64::from(number));
+        self.push_number(number);
+    }
+
+    /// Appends a space, and a word of 32 bits in eight hexadecimal digits.
+    pub fn push_value(&mut self, value: u32)
+        requires { length self.old + 9 ≤ 1024 }
+        ensures text { self.new ≡ self.old ++ codes " " ++ hex_text 8 value }
+        ensures len { length self.new ≡ length self.old + 9 }
+    {
+        self.push_word(" ");
+        self.push_hex(value, 8);
     }
 
     /// Appends a number in exactly `digits` hexadecimal digits, in lower case and with leading zeros.

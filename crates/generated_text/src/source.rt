@@ -148,17 +148,6 @@ fn make_piece(line: &mut LineBuf, n: u32, done: u8)
     push_tail(line, n, count);
 }
 
-/// Appends a word and a decimal number.
-#[tactic(auto, using(coy_text::proofs::NumeralLaws::length_decimal_32))]
-fn push_numbered(line: &mut LineBuf, word: &str, number: u32)
-    requires { length line.old + length word.now ≤ 1000 }
-    ensures text { line.new ≡ line.old ++ word.now ++ decimal number }
-    ensures len { length line.new ≤ length line.old + length word.now + 10 }
-{
-    line.push_word(word);
-    line.push_dec(number as u64);
-}
-
 /// Appends the first two lines.
 #[tactic(auto, unfolding(crate::specs::Text::head_text))]
 fn push_head(line: &mut LineBuf, n: u32, count: u8)
@@ -171,11 +160,11 @@ fn push_head(line: &mut LineBuf, n: u32, count: u8)
     let twice = 2 * count as u32;
     line.push_word("coyotos 1");
     line.push_word("\n");
-    push_numbered(line, "machine ", 1 + n % 8);
-    push_numbered(line, " ", twice);
-    push_numbered(line, " 0 ", twice);
-    push_numbered(line, " ", twice);
-    push_numbered(line, " ", twice);
+    line.push_numbered("machine ", 1 + n % 8);
+    line.push_numbered(" ", twice);
+    line.push_numbered(" 0 ", twice);
+    line.push_numbered(" ", twice);
+    line.push_numbered(" ", twice);
     line.push_word("\n");
 }
 
@@ -190,6 +179,6 @@ fn push_tail(line: &mut LineBuf, n: u32, count: u8)
 {
     line.push_word("end");
     line.push_word("\n");
-    push_numbered(line, "round ", count as u32 * (13 * calls(n) + 20));
+    line.push_numbered("round ", count as u32 * (13 * calls(n) + 20));
     line.push_word("\n");
 }

@@ -3,7 +3,7 @@ use Rattle.std.proofs.Common.{ℕ, ◌≡◌, ◌<◌, ◌≤◌, ◌+◌, ◌*�
 use Rattle.std.specs.Prelude.{option_map}
 use Rattle.std.proofs.lemmas.List.{drop_more}
 use Rattle.std.proofs.Math.ListN.{drop_of_length-le}
-use Rattle.cap_words.specs.Spelling.{◌>>=◌}
+use Rattle.coy_text.specs.Reading.{◌>>=◌}
 use Rattle.listing_read.specs.Bytes.{byte_of, bytes_of}
 
 -- the two digits that stand next

@@ -1,7 +1,7 @@
 -- Bytes written as pairs of hexadecimal digits.
 use Rattle.std.specs.Prelude.{ℕ, ◌+◌, ◌*◌, List, [], ◌∷◌, Option, Some, None}
 use Rattle.coy_text.specs.Numeral.{hex_digit}
-use Rattle.cap_words.specs.Spelling.{◌>>=◌}
+use Rattle.coy_text.specs.Reading.{◌>>=◌}
 
 -- the byte of two digits
 unfoldable pub byte_of : ℕ → ℕ → Option ℕ

@@ -4,7 +4,8 @@ use Rattle.object_store.specs.declared.sizes.Sizes.{Sizes}
 use Rattle.listing_read.specs.declared.terms.Version.{Version}
 use Rattle.listing_read.specs.declared.terms.Version.TheVariants.{One, Two}
 use Rattle.listing_read.specs.Fields.{field}
-use Rattle.cap_words.specs.Spelling.{◌>>=◌, given, dec_to}
+use Rattle.coy_text.specs.Reading.{◌>>=◌, given}
+use Rattle.cap_words.specs.Spelling.{dec_to}
 
 -- the version that a number names
 abbrev pub version_named : List ℕ → Option Version

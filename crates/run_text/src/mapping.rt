@@ -3,7 +3,7 @@ ghost use Rattle.std.specs.Prelude.{◌≡◌, ◌≤◌, ◌+◌, ◌++◌, len
 ghost use Rattle.run_text.specs.Mapping.{rights_text, mapping_text};
 
 use cap_format::Cap;
-use cap_words::{push_capability, push_numbered};
+use cap_words::push_capability;
 use coy_text::LineBuf;
 
 /// Makes the line of a page of a space at an address, with its line feed: the number of the page, and whether it may be
@@ -16,7 +16,7 @@ pub fn mapping_line(space: Cap, va: u32, page: u16, write: bool, execute: bool, 
     push_capability(line, space);
     line.push_word(" ");
     line.push_hex(va, 8);
-    push_numbered(line, " page ", page as u32);
+    line.push_numbered(" page ", page as u32);
     line.push_word(" ");
     push_rights(line, write, execute);
     line.push_word("\n");

@@ -8,7 +8,7 @@ ghost use Rattle.run_text.specs.Objects.{is_null, is_stopped, is_still, wait_tex
 
 use crate::names::fault_name;
 use crate::statements::is_null;
-use cap_words::{push_capability, push_number, push_numbered, push_value};
+use cap_words::push_capability;
 use coy_text::LineBuf;
 use object_store::Objects;
 use process_objects::{Accept, Process, State, Wait};
@@ -24,8 +24,8 @@ pub(crate) fn push_process(line: &mut LineBuf, objects: &Objects, n: u16, proces
     if is_empty(objects, process) {
         return;
     }
-    push_numbered(line, "process ", n as u32);
-    push_value(line, process.pc());
+    line.push_numbered("process ", n as u32);
+    line.push_value(process.pc());
     push_held(line, objects, process, 0);
     push_held(line, objects, process, 1);
     push_held(line, objects, process, 2);
@@ -132,7 +132,7 @@ fn push_state(line: &mut LineBuf, state: State)
             }
             line.push_word("faulted ");
             line.push_word(fault_name(code));
-            push_value(line, address);
+            line.push_value(address);
         }
     }
 }
@@ -144,11 +144,11 @@ fn push_accept(line: &mut LineBuf, accept: Accept)
     ensures len { length line.new ≤ length line.old + 92 }
 {
     push_wait(line, accept.wait());
-    push_numbered(line, " ", accept.caps() as u32);
+    line.push_numbered(" ", accept.caps() as u32);
     line.push_word(" ");
     push_registers(line, &accept.regs());
-    push_value(line, accept.at());
-    push_numbered(line, " ", accept.bound());
+    line.push_value(accept.at());
+    line.push_numbered(" ", accept.bound());
 }
 
 fn push_registers(line: &mut LineBuf, registers: &[u8; 4])
@@ -156,10 +156,10 @@ fn push_registers(line: &mut LineBuf, registers: &[u8; 4])
     ensures text { line.new ≡ line.old ++ registers_text registers.now }
     ensures len { length line.new ≤ length line.old + 43 }
 {
-    push_number(line, registers[0] as u32);
-    push_numbered(line, " ", registers[1] as u32);
-    push_numbered(line, " ", registers[2] as u32);
-    push_numbered(line, " ", registers[3] as u32);
+    line.push_number(registers[0] as u32);
+    line.push_numbered(" ", registers[1] as u32);
+    line.push_numbered(" ", registers[2] as u32);
+    line.push_numbered(" ", registers[3] as u32);
 }
 
 fn push_wait(line: &mut LineBuf, wait: Wait)

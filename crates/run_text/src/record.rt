@@ -7,7 +7,6 @@ ghost use Rattle.run_text.specs.Record.{access_said, insn_said, envelope_said, f
 
 use crate::names::{access_name, fault_name, object_name, target_name};
 use cap_format::FaultCode;
-use cap_words::{push_number, push_numbered, push_value};
 use coy_text::LineBuf;
 use kernel_core::Record;
 use rv32_asm::disassemble;
@@ -50,8 +49,8 @@ fn push_record(line: &mut LineBuf, entry: &Record)
         } => {
             push_envelope(line, *from, *to, *endpoint, *payload);
             push_words(line, words);
-            push_numbered(line, " len=", *length);
-            push_numbered(line, " caps=", *caps as u32);
+            line.push_numbered(" len=", *length);
+            line.push_numbered(" caps=", *caps as u32);
         }
         Record::Fault {
             process,
@@ -60,16 +59,16 @@ fn push_record(line: &mut LineBuf, entry: &Record)
             to,
         } => push_fault(line, *process, *code, *address, *to),
         Record::Log { process, bytes } => {
-            push_numbered(line, "log ", *process as u32);
+            line.push_numbered("log ", *process as u32);
             line.push_word(" ");
             push_bytes(line, bytes.as_slice());
         }
         Record::Destroy { kind, number } => {
             line.push_word("destroy ");
             line.push_word(object_name(*kind));
-            push_numbered(line, " ", *number as u32);
+            line.push_numbered(" ", *number as u32);
         }
-        Record::Halt { process } => push_numbered(line, "halt ", *process as u32),
+        Record::Halt { process } => line.push_numbered("halt ", *process as u32),
     }
 }
 
@@ -83,7 +82,7 @@ fn push_access(line: &mut LineBuf, process: u16, kind: Kind, address: u32, numbe
     push_place(line, process, address);
     line.push_word(" ");
     line.push_word(target_name(kind));
-    push_numbered(line, " ", number as u32);
+    line.push_numbered(" ", number as u32);
 }
 
 fn push_insn(line: &mut LineBuf, process: u16, at: u32, insn: Insn)
@@ -103,10 +102,10 @@ fn push_fault(line: &mut LineBuf, process: u16, code: FaultCode, address: u32, t
     ensures text { line.new ≡ line.old ++ fault_said process code address to }
     ensures len { length line.new ≤ length line.old + 100 }
 {
-    push_numbered(line, "fault ", process as u32);
+    line.push_numbered("fault ", process as u32);
     line.push_word(" ");
     line.push_word(fault_name(code));
-    push_value(line, address);
+    line.push_value(address);
     line.push_word(" ");
     push_hearer(line, to);
 }
@@ -118,7 +117,7 @@ fn push_hearer(line: &mut LineBuf, to: Option<u16>)
     ensures len { length line.new ≤ length line.old + 13 }
 {
     match to {
-        Some(process) => push_numbered(line, "to ", process as u32),
+        Some(process) => line.push_numbered("to ", process as u32),
         None => line.push_word("unheard"),
     }
 }
@@ -129,8 +128,8 @@ fn push_place(line: &mut LineBuf, process: u16, address: u32)
     ensures text { line.new ≡ line.old ++ place_text process address }
     ensures len { length line.new ≤ length line.old + 19 }
 {
-    push_number(line, process as u32);
-    push_value(line, address);
+    line.push_number(process as u32);
+    line.push_value(address);
 }
 
 /// From whom a message came, to whom it went, and through what.
@@ -139,9 +138,9 @@ fn push_envelope(line: &mut LineBuf, from: u16, to: u16, endpoint: u16, payload:
     ensures text { line.new ≡ line.old ++ envelope_said from to endpoint payload }
     ensures len { length line.new ≤ length line.old + 100 }
 {
-    push_numbered(line, "msg ", from as u32);
-    push_numbered(line, " ", to as u32);
-    push_numbered(line, " endpoint=", endpoint as u32);
+    line.push_numbered("msg ", from as u32);
+    line.push_numbered(" ", to as u32);
+    line.push_numbered(" endpoint=", endpoint as u32);
     line.push_word(" payload=");
     line.push_hex(payload, 8);
 }

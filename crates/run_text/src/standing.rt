@@ -7,7 +7,6 @@ ghost use Rattle.run_text.specs.State.{queue_line, harts_text, ready_text, sleep
 ghost use Rattle.run_text.specs.Written.{WroteTo};
 
 use crate::writing::{put_line, put_text};
-use cap_words::push_numbered;
 use coy_io::{Sink, WriteFault};
 use coy_text::LineBuf;
 use schedules::Queues;
@@ -58,7 +57,7 @@ fn make_hart(line: &mut LineBuf, hart: u8, occupant: Option<u16>)
     ensures { line.new ≡ hart_text hart occupant }
 {
     line.clear();
-    push_numbered(line, "hart ", hart as u32);
+    line.push_numbered("hart ", hart as u32);
     push_occupant(line, occupant);
     line.push_word("\n");
 }
@@ -69,7 +68,7 @@ fn push_occupant(line: &mut LineBuf, occupant: Option<u16>)
     ensures len { length line.new ≤ length line.old + 11 }
 {
     match occupant {
-        Some(p) => push_numbered(line, " ", p as u32),
+        Some(p) => line.push_numbered(" ", p as u32),
         None => line.push_word(" idle"),
     }
 }
@@ -144,8 +143,8 @@ fn make_name(line: &mut LineBuf, queue: Queue)
 {
     line.clear();
     match queue {
-        Queue::Ready(priority) => push_numbered(line, "ready ", priority as u32),
-        Queue::Sleepers(on) => push_numbered(line, "sleepers ", on as u32),
+        Queue::Ready(priority) => line.push_numbered("ready ", priority as u32),
+        Queue::Sleepers(on) => line.push_numbered("sleepers ", on as u32),
     }
 }
 
@@ -193,6 +192,6 @@ fn put_member<K: Sink>(p: u16, line: &mut LineBuf, output: &mut K) -> Result<(),
     ensures { WroteTo K.taken K.faults output.old output.new result (member_text p) }
 {
     line.clear();
-    push_numbered(line, " ", p as u32);
+    line.push_numbered(" ", p as u32);
     put_line(line, output)
 }

@@ -8,7 +8,7 @@ ghost use Rattle.run_text.specs.Objects.{is_null_kind, is_empty_header, is_empty
 use crate::names::object_name;
 use crate::record::push_bytes;
 use cap_format::{Cap, CapKind};
-use cap_words::{push_capability, push_numbered, push_value};
+use cap_words::push_capability;
 use coy_text::LineBuf;
 use endpoint_objects::Endpoint;
 use gpt_objects::GptHeader;
@@ -32,8 +32,8 @@ pub(crate) fn push_count(line: &mut LineBuf, kind: CapKind, n: u16, count: u32)
     }
     line.push_word("count ");
     line.push_word(object_name(kind));
-    push_numbered(line, " ", n as u32);
-    push_numbered(line, " ", count);
+    line.push_numbered(" ", n as u32);
+    line.push_numbered(" ", count);
     line.push_word("\n");
 }
 
@@ -56,7 +56,7 @@ pub(crate) fn push_row(line: &mut LineBuf, n: u16, at: u16, bytes: &[u8])
     if is_zero(bytes) {
         return;
     }
-    push_numbered(line, "page ", n as u32);
+    line.push_numbered("page ", n as u32);
     line.push_word(" ");
     line.push_hex(at as u32, 3);
     line.push_word(" ");
@@ -76,8 +76,8 @@ pub(crate) fn push_slot(line: &mut LineBuf, word: &str, n: u16, slot: u8, cap: C
         return;
     }
     line.push_word(word);
-    push_numbered(line, " ", n as u32);
-    push_numbered(line, " ", slot as u32);
+    line.push_numbered(" ", n as u32);
+    line.push_numbered(" ", slot as u32);
     line.push_word(" ");
     push_capability(line, cap);
     line.push_word("\n");
@@ -99,8 +99,8 @@ pub(crate) fn push_header(line: &mut LineBuf, n: u16, header: GptHeader)
     if is_empty_header(header) {
         return;
     }
-    push_numbered(line, "gpt ", n as u32);
-    push_numbered(line, " ", header.l2v() as u32);
+    line.push_numbered("gpt ", n as u32);
+    line.push_numbered(" ", header.l2v() as u32);
     push_if(line, header.ha(), " ha");
     push_if(line, header.bg(), " bg");
     line.push_word("\n");
@@ -137,11 +137,11 @@ pub(crate) fn push_endpoint(line: &mut LineBuf, n: u16, endpoint: Endpoint)
     if is_empty_endpoint(endpoint) {
         return;
     }
-    push_numbered(line, "endpoint ", n as u32);
+    line.push_numbered("endpoint ", n as u32);
     line.push_word(" ");
     push_capability(line, endpoint.recipient);
-    push_value(line, endpoint.id);
-    push_value(line, endpoint.payload);
+    line.push_value(endpoint.id);
+    line.push_value(endpoint.payload);
     line.push_word(if endpoint.matching {
         " match"
     } else {
@@ -160,8 +160,8 @@ pub(crate) fn push_register(line: &mut LineBuf, n: u16, i: u8, value: u32)
     if value == 0 {
         return;
     }
-    push_numbered(line, "reg ", n as u32);
-    push_numbered(line, " ", i as u32);
-    push_value(line, value);
+    line.push_numbered("reg ", n as u32);
+    line.push_numbered(" ", i as u32);
+    line.push_value(value);
     line.push_word("\n");
 }

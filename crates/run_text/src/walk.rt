@@ -6,7 +6,7 @@ ghost use Rattle.run_text.specs.Walk.{met_text, reach_text, handler_text, unreac
 use crate::names::{fault_name, object_name};
 use bitflags::Flags;
 use cap_format::Cap;
-use cap_words::{push_capability, push_letters, push_numbered};
+use cap_words::{push_capability, push_letters};
 use coy_text::LineBuf;
 use walk_meaning::{Place, WalkFault};
 
@@ -32,7 +32,7 @@ fn push_reach(line: &mut LineBuf, place: Place)
 {
     line.push_word("reach ");
     line.push_word(object_name(place.kind));
-    push_numbered(line, " ", place.number as u32);
+    line.push_numbered(" ", place.number as u32);
     line.push_word(" ");
     line.push_hex(place.offset as u32, 3);
     line.push_word(" ");

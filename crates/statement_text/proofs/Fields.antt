@@ -14,7 +14,7 @@ use Rattle.listing_read.specs.Fields.{hex_number_of, number_of_object, object_of
 use Rattle.listing_read.specs.Terms.{has_names}
 use Rattle.listing_read.specs.declared.terms.Terms.{Terms}
 use Rattle.listing_read.specs.StatementLines.{kind_of, hex_bytes_of}
-use Rattle.cap_words.specs.Spelling.{◌>>=◌}
+use Rattle.coy_text.specs.Reading.{◌>>=◌}
 use Rattle.listing_read.specs.Bytes.{byte_of, bytes_of}
 use Rattle.statement_text.specs.Words.{kind_word, bytes_text}
 use Rattle.statement_text.proofs.Called.{called-decimal}

@@ -2,7 +2,6 @@
 ghost use Rattle.std.specs.Prelude.{◌≡◌, ◌≤◌, ◌+◌, length};
 ghost use Rattle.statement_text.specs.Text.{event_text};
 
-use cap_words::push_numbered;
 use coy_text::LineBuf;
 use listing_read::Timed;
 
@@ -14,11 +13,11 @@ pub fn write_event(event: Timed, line: &mut LineBuf)
     line.clear();
     match event {
         Timed::Step { hart, times } => {
-            push_numbered(line, "step ", hart as u32);
-            push_numbered(line, " ", times);
+            line.push_numbered("step ", hart as u32);
+            line.push_numbered(" ", times);
         }
-        Timed::Tick { hart } => push_numbered(line, "tick ", hart as u32),
-        Timed::Round { times } => push_numbered(line, "round ", times),
+        Timed::Tick { hart } => line.push_numbered("tick ", hart as u32),
+        Timed::Round { times } => line.push_numbered("round ", times),
     }
     line.push_word("\n");
 }

@@ -7,7 +7,6 @@ ghost use Rattle.statement_text.specs.Written.{WroteTo};
 
 use crate::memory_lines::push_three;
 use crate::statement::push_statement;
-use cap_words::push_numbered;
 use coy_io::{Sink, WriteFault, put_all};
 use coy_text::LineBuf;
 use listing_read::{Listing, Statement};

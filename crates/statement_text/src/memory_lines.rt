@@ -9,7 +9,7 @@ ghost use Rattle.statement_text.specs.Text.{behind, line_feed, statement_text};
 
 use bitflags::Flags;
 use cap_format::{Cap, Restr};
-use cap_words::{push_capability, push_letters, push_numbered};
+use cap_words::{push_capability, push_letters};
 use coy_text::LineBuf;
 use gpt_objects::GptHeader;
 use listing_read::Statement;
@@ -25,7 +25,7 @@ pub fn push_page(line: &mut LineBuf, number: u16, at: u16, bytes: &[u8])
     ensures text { line.new ≡ line.old ++ statement_text (Statement.Page number at bytes.now) }
     ensures len { length line.new ≤ length line.old + 160 }
 {
-    push_numbered(line, "page ", number as u32);
+    line.push_numbered("page ", number as u32);
     push_offset(line, at);
     line.push_word(" ");
     push_bytes(line, bytes);
@@ -64,7 +64,7 @@ pub fn push_code(line: &mut LineBuf, number: u16, at: u16, insn: Insn)
     ensures text { line.new ≡ line.old ++ statement_text (Statement.Code number at insn) }
     ensures len { length line.new ≤ length line.old + 60 }
 {
-    push_numbered(line, "code ", number as u32);
+    line.push_numbered("code ", number as u32);
     push_offset(line, at);
     push_insn(line, insn);
     line.push_word("\n");
@@ -110,8 +110,8 @@ pub(crate) fn push_held(line: &mut LineBuf, number: u16, place: u8, cap: Cap)
         (behind (decimal number ∷ decimal place ∷ cap_text cap ∷ []) ++ line_feed) }
     ensures len { length line.new ≤ length line.old + 110 }
 {
-    push_numbered(line, " ", number as u32);
-    push_numbered(line, " ", place as u32);
+    line.push_numbered(" ", number as u32);
+    line.push_numbered(" ", place as u32);
     line.push_word(" ");
     push_capability(line, cap);
     line.push_word("\n");
@@ -124,8 +124,8 @@ pub fn push_gpt(line: &mut LineBuf, number: u16, header: GptHeader)
     ensures text { line.new ≡ line.old ++ statement_text (Statement.Gpt number header) }
     ensures len { length line.new ≤ length line.old + 40 }
 {
-    push_numbered(line, "gpt ", number as u32);
-    push_numbered(line, " ", header.l2v() as u32);
+    line.push_numbered("gpt ", number as u32);
+    line.push_numbered(" ", header.l2v() as u32);
     push_flags(line, header.ha(), header.bg());
     line.push_word("\n");
 }
@@ -152,7 +152,7 @@ pub fn push_region(line: &mut LineBuf, gpt: u16, slot: u8, count: u8, page: u16,
         line.new ≡ line.old ++ statement_text statement }
     ensures len { length line.new ≤ length line.old + 60 }
 {
-    push_numbered(line, "region ", gpt as u32);
+    line.push_numbered("region ", gpt as u32);
     push_three(line, slot as u32, count as u32, page as u32);
     push_restrictions(line, restr.bits());
     line.push_word("\n");
@@ -165,9 +165,9 @@ pub(crate) fn push_three(line: &mut LineBuf, first: u32, second: u32, third: u32
         behind (decimal first ∷ decimal second ∷ decimal third ∷ []) }
     ensures len { length line.new ≤ length line.old + 33 }
 {
-    push_numbered(line, " ", first);
-    push_numbered(line, " ", second);
-    push_numbered(line, " ", third);
+    line.push_numbered(" ", first);
+    line.push_numbered(" ", second);
+    line.push_numbered(" ", third);
 }
 
 /// Appends the letters of restrictions behind a space, where there are any.

@@ -10,7 +10,7 @@ use crate::memory_lines::{
     push_cap_slot, push_code, push_gpt, push_gpt_slot, push_held, push_page, push_region,
 };
 use cap_format::{Cap, CapKind};
-use cap_words::{push_capability, push_numbered, push_value};
+use cap_words::push_capability;
 use coy_text::LineBuf;
 use listing_read::Statement;
 
@@ -90,7 +90,7 @@ pub fn push_endpoint(
         line.new ≡ line.old ++ statement_text statement }
     ensures len { length line.new ≤ length line.old + 140 }
 {
-    push_numbered(line, "endpoint ", number as u32);
+    line.push_numbered("endpoint ", number as u32);
     line.push_word(" ");
     push_capability(line, recipient);
     push_taking(line, id, payload, matching);
@@ -104,8 +104,8 @@ fn push_taking(line: &mut LineBuf, id: u32, payload: u32, matching: bool)
         behind (hex_text 8 id ∷ hex_text 8 payload ∷ match_word matching ∷ []) }
     ensures len { length line.new ≤ length line.old + 24 }
 {
-    push_value(line, id);
-    push_value(line, payload);
+    line.push_value(id);
+    line.push_value(payload);
     push_match(line, matching);
 }
 
@@ -134,8 +134,8 @@ pub fn push_process(
         line.new ≡ line.old ++ statement_text statement }
     ensures len { length line.new ≤ length line.old + 300 }
 {
-    push_numbered(line, "process ", number as u32);
-    push_value(line, pc);
+    line.push_numbered("process ", number as u32);
+    line.push_value(pc);
     push_slots(line, space, schedule, handler);
     push_state(line, runs);
     line.push_word("\n");
@@ -172,9 +172,9 @@ pub fn push_register(line: &mut LineBuf, number: u16, index: u8, value: u32)
     ensures text { line.new ≡ line.old ++ statement_text (Statement.Reg number index value) }
     ensures len { length line.new ≤ length line.old + 40 }
 {
-    push_numbered(line, "reg ", number as u32);
-    push_numbered(line, " ", index as u32);
-    push_value(line, value);
+    line.push_numbered("reg ", number as u32);
+    line.push_numbered(" ", index as u32);
+    line.push_value(value);
     line.push_word("\n");
 }
 
@@ -187,8 +187,8 @@ pub fn push_count(line: &mut LineBuf, kind: CapKind, number: u16, count: u32)
 {
     line.push_word("count ");
     line.push_word(kind_word(kind));
-    push_numbered(line, " ", number as u32);
-    push_numbered(line, " ", count);
+    line.push_numbered(" ", number as u32);
+    line.push_numbered(" ", count);
     line.push_word("\n");
 }
 
