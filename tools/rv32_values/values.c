@@ -1,6 +1,6 @@
 /*
  * Prints what RV32I's instructions leave in their registers for edge operands, for the
- * tables in crates/worked_values/src/machine.rt. It needs no C library. With Debian's packages
+ * tables in crates/worked_texts/src/machine.rt. It needs no C library. With Debian's packages
  * gcc-riscv64-unknown-elf and qemu-user:
  *
  *   riscv64-unknown-elf-gcc -O1 -march=rv32i -mabi=ilp32 -mno-relax -nostdlib -static \

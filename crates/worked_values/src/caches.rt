@@ -1,10 +1,11 @@
 //! Words of the hardware's tables, worked out by hand from the formats of Sv32, and a record in the table of records.
 
-use crate::rows::hex;
+use crate::rows::{check, hex};
 use cap_format::{CapKind, Item};
 use depend_table::Depends;
 use guard_math::Block;
 use std::alloc::Global;
+use std::process::Abort;
 use std::test::Fail;
 use sv32_tables::{Leaf, TablePool};
 use tlb_model::Tlb;
@@ -44,25 +45,31 @@ fn words_of(alloc: Global, leaf: Leaf) -> Result<(u32, u32), Fail> {
     Ok((pool.word(0, 0), pool.word(1, 0)))
 }
 
+/// The row's leaf has the row's word.
+fn check_leaf(rt: &impl Abort, alloc: Global, row: &str) -> Result<(), Fail> {
+    let leaf = Leaf {
+        page: u16::try_from(hex(rt, row, 0))?,
+        write: hex(rt, row, 1) == 1,
+        execute: hex(rt, row, 2) == 1,
+    };
+    let (pointer, word) = words_of(alloc, leaf)?;
+    check(rt, pointer == 0x0040_0401, row);
+    check(rt, word == hex(rt, row, 3), row);
+    Ok(())
+}
+
 #[test]
 fn leaves_have_the_words_that_are_written_down(rt: HostRuntime) -> Result<(), Fail> {
     for row in LEAVES.lines() {
-        let leaf = Leaf {
-            page: u16::try_from(hex(&rt, row, 0))?,
-            write: hex(&rt, row, 1) == 1,
-            execute: hex(&rt, row, 2) == 1,
-        };
-        let words = words_of(rt.alloc(), leaf)?;
-        assert_eq!(rt; words, (0x0040_0401, hex(&rt, row, 3)), "{row}");
+        check_leaf(&rt, rt.alloc(), row)?;
     }
     Ok(())
 }
 
-/// Two pages installed one after the other in the first root: the word that leads to its first table, the first leaf,
-/// and then the second leaf beside it.
-#[test]
-fn two_installs_leave_the_words_that_are_written_down(rt: HostRuntime) -> Result<(), Fail> {
-    let mut pool = TablePool::new(rt.alloc())?;
+/// A pool with page 1 at the second address of its first root, and with page 0 at the first one behind it, where that
+/// is wanted.
+fn installed(alloc: Global, both: bool) -> Result<TablePool, Fail> {
+    let mut pool = TablePool::new(alloc)?;
     let root = pool.make_root()?;
     let first = Leaf {
         page: 1,
@@ -70,20 +77,32 @@ fn two_installs_leave_the_words_that_are_written_down(rt: HostRuntime) -> Result
         execute: true,
     };
     pool.install(root, 0x1000, first)?;
-    assert_eq!(rt;
-        (pool.word(0, 0), pool.word(1, 1)),
-        (0x0040_0401, 0x0000_04df)
-    );
-    let second = Leaf {
-        page: 0,
-        write: false,
-        execute: true,
-    };
-    pool.install(root, 0, second)?;
-    assert_eq!(rt;
-        (pool.word(1, 0), pool.word(1, 1)),
-        (0x0000_00db, 0x0000_04df)
-    );
+    if both {
+        let second = Leaf {
+            page: 0,
+            write: false,
+            execute: true,
+        };
+        pool.install(root, 0, second)?;
+    }
+    Ok(pool)
+}
+
+/// The word that leads to the first table, and the first leaf.
+#[test]
+fn an_install_leaves_the_words_that_are_written_down(rt: HostRuntime) -> Result<(), Fail> {
+    let pool = installed(rt.alloc(), false)?;
+    check(&rt, pool.word(0, 0) == 0x0040_0401, "pointer");
+    check(&rt, pool.word(1, 1) == 0x0000_04df, "leaf");
+    Ok(())
+}
+
+/// The second leaf beside the first.
+#[test]
+fn two_installs_leave_the_words_that_are_written_down(rt: HostRuntime) -> Result<(), Fail> {
+    let pool = installed(rt.alloc(), true)?;
+    check(&rt, pool.word(1, 0) == 0x0000_00db, "second leaf");
+    check(&rt, pool.word(1, 1) == 0x0000_04df, "first leaf");
     Ok(())
 }
 
@@ -101,7 +120,7 @@ fn the_oldest_leaf_goes_first(rt: HostRuntime) {
     }
     for page in 0..66_u16 {
         let held = tlb.look(7, u32::from(page) * 4096 + 5).is_some();
-        assert_eq!(rt; held, page > 1, "page {page}");
+        check(&rt, held == (page > 1), "a page");
     }
 }
 
@@ -117,8 +136,9 @@ fn a_record_more_than_16384_is_refused(rt: HostRuntime) -> Result<(), Fail> {
         }
     }
     let header = Item::Header(CapKind::Process, 255);
-    assert!(rt; records.note(header, 7, page).is_err());
-    assert!(rt; records.note(Item::Slot(1023, 15), 7, page).is_ok());
+    check(&rt, records.note(header, 7, page).is_err(), "another");
+    let again = records.note(Item::Slot(1023, 15), 7, page).is_ok();
+    check(&rt, again, "the last again");
     Ok(())
 }
 
@@ -128,6 +148,6 @@ fn a_record_is_noted_and_taken(rt: HostRuntime) -> Result<(), Fail> {
     let header = Item::Header(CapKind::Process, 255);
     let page = Block::around(0x1234_5678, 12);
     records.note(header, 7, page)?;
-    assert_eq!(rt; records.take_one(header), Some((7, page)));
+    check(&rt, records.take_one(header) == Some((7, page)), "taken");
     Ok(())
 }

@@ -11,7 +11,7 @@ ghost use Rattle.schedules.specs.Ready.{Agrees, runs_of};
 ghost use Rattle.control_caps.specs.Kinds.{is_control};
 
 use crate::requests::{cap_at, reply_at, request_at, short};
-use crate::rows::byte;
+use crate::rows::{byte, check};
 use cap_format::{Cap, CapKind, Reply, Request};
 use control_caps::invoke;
 use coy_text::word;
@@ -245,6 +245,34 @@ fn spot_of(rt: &impl Abort, queues: &Queues, objects: &Objects, row: &str) -> Re
     Ok(queues.place(p))
 }
 
+/// The row's process stands where the row says.
+fn check_spot(rt: &impl Abort, queues: &Queues, objects: &Objects, row: &str) -> Result<(), Fail>
+    requires { length queues.now.sleepers ≡ size_of objects.now.items Process }
+{
+    let spot = spot_of(rt, queues, objects, row)?;
+    check(rt, spot == spot_at(rt, row)?, row);
+    Ok(())
+}
+
+/// Asks what the row asks, and compares.
+fn check_reply(
+    rt: &impl Abort,
+    objects: &mut Objects,
+    queues: &mut Queues,
+    row: &str,
+) -> Result<(), Fail>
+    requires none_ahead { NoneAhead objects.old }
+    requires sizes { length queues.old.sleepers ≡ size_of objects.old.items Process }
+    requires agrees { Agrees (runs_of objects.old queues.old) }
+    ensures none_ahead { NoneAhead objects.new }
+    ensures sizes { length queues.new.sleepers ≡ size_of objects.new.items Process }
+    ensures agrees { Agrees (runs_of objects.new queues.new) }
+{
+    let answer = ask(rt, objects, queues, row)?;
+    check(rt, answer == reply_at(rt, row, 16)?, row);
+    Ok(())
+}
+
 /// Does what the row says, and compares.
 fn perform(
     rt: &impl Abort,
@@ -259,20 +287,11 @@ fn perform(
     ensures sizes { length queues.new.sleepers ≡ size_of objects.new.items Process }
     ensures agrees { Agrees (runs_of objects.new queues.new) }
 {
-    let verb = word(row.as_bytes(), 0);
-    if verb == b"ask".as_slice() {
-        let answer = ask(rt, objects, queues, row)?;
-        assert_eq!(rt; answer, reply_at(rt, row, 16)?, "{row}");
-    } else if verb == b"sleep".as_slice() {
-        sleep(rt, objects, queues, row)?;
-    } else {
-        assert_eq!(rt;
-            spot_of(rt, queues, objects, row)?,
-            spot_at(rt, row)?,
-            "{row}"
-        );
+    match word(row.as_bytes(), 0) {
+        b"ask" => check_reply(rt, objects, queues, row),
+        b"sleep" => sleep(rt, objects, queues, row),
+        _ => check_spot(rt, queues, objects, row),
     }
-    Ok(())
 }
 
 #[test]

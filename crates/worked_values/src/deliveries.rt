@@ -1,7 +1,7 @@
 //! What a message leaves of its receiver and of its endpoint, worked out by hand from the rules. The rows are done one
 //! after the other on one machine, so that a later row meets what an earlier one left.
 use crate::requests::short;
-use crate::rows::{byte, hex, letter};
+use crate::rows::{byte, check, hex, letter};
 use cap_format::{Cap, CapKind, FaultCode};
 use endpoint_objects::Endpoint;
 use invocation::{Callee, CapList, Message, deliver, target};
@@ -55,27 +55,30 @@ fn prepare(rt: &impl Abort, objects: &mut Objects, p: u16, state: State) {
     process.set_state(state);
 }
 
-/// Endpoint `number` has process `recipient` as its recipient.
-fn lead(
-    rt: &impl Abort,
-    objects: &mut Objects,
-    number: u16,
-    recipient: u16,
-    (id, payload, matching): (u32, u32, bool),
-) {
+/// An endpoint, the process that is its recipient, its id, its payload, and 1 where that has to match.
+const ENDPOINTS: &str = "\
+0 0 9 5 1
+1 1 7 5 0
+2 1 8 5 0
+3 3 1 ffffffff 1
+4 2 7 6 1
+5 4 7 5 0";
+
+/// Makes the row's endpoint.
+fn lead(rt: &impl Abort, objects: &mut Objects, row: &str) {
+    let (number, recipient) = (short(rt, row, 0), short(rt, row, 1));
     assert!(rt; number < objects.sizes().endpoints && recipient < 256);
     *objects.endpoint_mut(number) = Endpoint {
         recipient: Cap::to_object(CapKind::Process, recipient, 0),
-        id,
-        payload,
-        matching,
+        id: hex(rt, row, 2),
+        payload: hex(rt, row, 3),
+        matching: hex(rt, row, 4) == 1,
     };
 }
 
-/// The machine of the rows: process 0 takes two capabilities, both into c5; process 1 waits for id 7 and takes three;
+/// The processes of the rows: process 0 takes two capabilities, both into c5; process 1 waits for id 7 and takes three;
 /// process 2 was stopped; process 3 takes none. There is no process 4.
-fn receivers(rt: &impl Abort, alloc: Global) -> Result<Objects, Fail> {
-    let mut objects = Objects::new(alloc, SIZES)?;
+fn prepare_all(rt: &impl Abort, objects: &mut Objects) {
     let twice = Accept::new(Wait::Open, 2, [5, 5, 0, 0], 0, 0);
     let closed = Accept::new(Wait::Closed(7), 3, [0, 6, 7, 0], 0, 0);
     let none = Accept::new(Wait::Open, 0, [0; 4], 0, 0);
@@ -83,16 +86,19 @@ fn receivers(rt: &impl Abort, alloc: Global) -> Result<Objects, Fail> {
         code: FaultCode::Stopped,
         address: 0,
     };
-    prepare(rt, &mut objects, 0, State::Receiving(twice));
-    prepare(rt, &mut objects, 1, State::Receiving(closed));
-    prepare(rt, &mut objects, 2, stopped);
-    prepare(rt, &mut objects, 3, State::Receiving(none));
-    lead(rt, &mut objects, 0, 0, (9, 5, true));
-    lead(rt, &mut objects, 1, 1, (7, 5, false));
-    lead(rt, &mut objects, 2, 1, (8, 5, false));
-    lead(rt, &mut objects, 3, 3, (1, u32::MAX, true));
-    lead(rt, &mut objects, 4, 2, (7, 6, true));
-    lead(rt, &mut objects, 5, 4, (7, 5, false));
+    prepare(rt, objects, 0, State::Receiving(twice));
+    prepare(rt, objects, 1, State::Receiving(closed));
+    prepare(rt, objects, 2, stopped);
+    prepare(rt, objects, 3, State::Receiving(none));
+}
+
+/// The machine of the rows.
+fn receivers(rt: &impl Abort, alloc: Global) -> Result<Objects, Fail> {
+    let mut objects = Objects::new(alloc, SIZES)?;
+    prepare_all(rt, &mut objects);
+    for row in ENDPOINTS.lines() {
+        lead(rt, &mut objects, row);
+    }
     Ok(objects)
 }
 
@@ -171,22 +177,36 @@ fn kinds(process: &Process, endpoint: &Endpoint) -> [u32; 5] {
     ]
 }
 
+/// The type numbers and the payload that the row has.
+fn expected(rt: &impl Abort, row: &str) -> [u32; 5] {
+    [
+        hex(rt, row, 19),
+        hex(rt, row, 20),
+        hex(rt, row, 21),
+        hex(rt, row, 22),
+        hex(rt, row, 24),
+    ]
+}
+
 /// Compares the row's process and endpoint with what they have to be.
 fn compare(rt: &impl Abort, objects: &Objects, row: &str) {
     let (endpoint, p) = (short(rt, row, 0), short(rt, row, 8));
     let sizes = objects.sizes();
     assert!(rt; endpoint < sizes.endpoints && p < sizes.processes);
     let process = objects.process(p);
-    assert_eq!(rt; process.regs(), registers(rt, row), "{row}");
-    let expected = [
-        hex(rt, row, 19),
-        hex(rt, row, 20),
-        hex(rt, row, 21),
-        hex(rt, row, 22),
-        hex(rt, row, 24),
-    ];
+    check(rt, process.regs() == registers(rt, row), row);
     let kinds = kinds(process, objects.endpoint(endpoint));
-    assert_eq!(rt; kinds, expected, "{row}");
+    check(rt, kinds == expected(rt, row), row);
+}
+
+/// Sends the row's message, and compares who answered it.
+fn deliver_row(rt: &impl Abort, objects: &mut Objects, row: &str) -> Result<(), Fail> {
+    let endpoint = short(rt, row, 0);
+    assert!(rt; endpoint < 1024);
+    let entry = Cap::entry(endpoint, 0, hex(rt, row, 1));
+    let callee = send(objects, entry, message(rt, row));
+    check(rt, callee == answer(rt, row)?, row);
+    Ok(())
 }
 
 #[test]
@@ -195,11 +215,7 @@ fn a_delivery_leaves_the_receiver_and_the_endpoint_as_its_row_says(
 ) -> Result<(), Fail> {
     let mut objects = receivers(&rt, rt.alloc())?;
     for row in ROWS.lines() {
-        let endpoint = short(&rt, row, 0);
-        assert!(rt; endpoint < 1024);
-        let entry = Cap::entry(endpoint, 0, hex(&rt, row, 1));
-        let callee = send(&mut objects, entry, message(&rt, row));
-        assert_eq!(rt; callee, answer(&rt, row)?, "{row}");
+        deliver_row(&rt, &mut objects, row)?;
         compare(&rt, &objects, row);
     }
     Ok(())

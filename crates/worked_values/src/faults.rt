@@ -2,7 +2,7 @@
 ghost use Rattle.std.specs.Prelude.{◌<◌};
 
 use crate::requests::short;
-use crate::rows::{hex, number};
+use crate::rows::{check, hex, number};
 use crate::running::Running;
 use cap_format::{Cap, CapKind, FaultCode};
 use fault_path::Outcome;
@@ -36,26 +36,39 @@ const ROWS: &str = "\
 2 5 | - - | 1 f0 f5 0 1 | 0 0 0 0 0 0 0 0 | 0 the walk's is dead, and there is no other
 2 5 | 3 6 | 3 f0 f5 0 1 | 0 0 0 0 0 0 0 0 | 0 both are dead";
 
-/// The machine of the rows. Process 0 has the hart, and its pc is 40 (hexadecimal).
-fn machine(rt: &impl Abort, alloc: Global) -> Result<Running, Fail> {
-    let mut machine = Running::new(alloc)?;
-    let faulting = Cap::to_object(CapKind::Process, 0, 0);
-    let matching = Cap::to_object(CapKind::Endpoint, 3, 0);
-    machine.ask(rt, faulting, [9, 0, 0x40, 0], Cap::null());
+/// Endpoint 3 wants the payload 7.
+fn match_payload(rt: &impl Abort, machine: &mut Running) {
+    let endpoint = Cap::to_object(CapKind::Endpoint, 3, 0);
+    machine.ask(rt, endpoint, [11, 1, 0, 0], Cap::null());
+    machine.ask(rt, endpoint, [13, 7, 0, 0], Cap::null());
+}
+
+/// Endpoints 0, 1, 3 and 4 lead to processes.
+fn lead_all(rt: &impl Abort, machine: &mut Running) {
     machine.lead(rt, 0, 1, 0xa0);
     machine.lead(rt, 1, 2, 0xa1);
     machine.lead(rt, 3, 3, 0xa3);
     machine.lead(rt, 4, 4, 0xa4);
-    machine.ask(rt, matching, [11, 1, 0, 0], Cap::null());
-    machine.ask(rt, matching, [13, 7, 0, 0], Cap::null());
-    for p in 0..5_u16 {
-        if p != 2 {
-            machine.run(rt, p, 3);
-        }
+}
+
+/// All processes run but process 2, and two of them receive.
+fn run_all(rt: &impl Abort, machine: &mut Running) {
+    for p in [0, 1, 3, 4] {
+        machine.run(rt, p, 3);
     }
     machine.listen(rt, 1);
     machine.listen(rt, 3);
-    assert_eq!(rt; machine.dispatch(), Some(0));
+}
+
+/// The machine of the rows. Process 0 has the hart, and its pc is 40 (hexadecimal).
+fn machine(rt: &impl Abort, alloc: Global) -> Result<Running, Fail> {
+    let mut machine = Running::new(alloc)?;
+    let faulting = Cap::to_object(CapKind::Process, 0, 0);
+    machine.ask(rt, faulting, [9, 0, 0x40, 0], Cap::null());
+    lead_all(rt, &mut machine);
+    match_payload(rt, &mut machine);
+    run_all(rt, &mut machine);
+    check(rt, machine.dispatch() == Some(0), "process 0 has the hart");
     Ok(machine)
 }
 
@@ -126,21 +139,32 @@ fn expected(rt: &impl Abort, row: &str) -> [u32; 13] {
     ]
 }
 
+/// Process 0 faults with the row's handlers.
+fn fault_of(rt: &impl Abort, machine: &mut Running, row: &str) -> Outcome {
+    if let Some(handler) = entry(rt, row, 3) {
+        let faulting = Cap::to_object(CapKind::Process, 0, 0);
+        machine.ask(rt, faulting, [13, 2, 0, 0], handler);
+    }
+    let fault = (FaultCode::AccessViolation, 0x1234);
+    machine.fault(rt, 0, fault, entry(rt, row, 0))
+}
+
+/// What the row says comes of the row's fault.
+fn check_fault(rt: &impl Abort, alloc: Global, row: &str) -> Result<(), Fail> {
+    let mut machine = machine(rt, alloc)?;
+    let came = fault_of(rt, &mut machine, row);
+    check(rt, machine.on_hart().is_none(), row);
+    let observed = observed(rt, &machine, came, short(rt, row, 6));
+    check(rt, observed == expected(rt, row), row);
+    Ok(())
+}
+
 #[test]
 fn a_fault_is_heard_by_the_first_handler_that_somebody_answers(
     rt: HostRuntime,
 ) -> Result<(), Fail> {
     for row in ROWS.lines() {
-        let mut machine = machine(&rt, rt.alloc())?;
-        if let Some(handler) = entry(&rt, row, 3) {
-            let faulting = Cap::to_object(CapKind::Process, 0, 0);
-            machine.ask(&rt, faulting, [13, 2, 0, 0], handler);
-        }
-        let fault = (FaultCode::AccessViolation, 0x1234);
-        let came = machine.fault(&rt, 0, fault, entry(&rt, row, 0));
-        assert!(rt; machine.on_hart().is_none());
-        let observed = observed(&rt, &machine, came, short(&rt, row, 6));
-        assert_eq!(rt; observed, expected(&rt, row), "{row}");
+        check_fault(&rt, rt.alloc(), row)?;
     }
     Ok(())
 }

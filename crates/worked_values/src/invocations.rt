@@ -1,10 +1,8 @@
 //! Messages: registers that are an invocation or are malformed, and who answers, worked out by hand from the rules.
-ghost use Rattle.std.specs.Prelude.{◌<◌};
-
-use crate::rows::{byte, hex};
+use crate::rows::{byte, check, hex};
 use cap_format::{Cap, CapKind};
 use endpoint_objects::Endpoint;
-use invocation::{Callee, parse, target};
+use invocation::{Callee, Invocation, parse, target};
 use object_store::{Objects, Sizes};
 use process_objects::{Accept, State, Wait};
 use std::alloc::Global;
@@ -49,24 +47,31 @@ const EDGES: &str = "\
 40 0 0 0 0 ffff0001 10000 0 point 6: behind the last address
 21 0 0 0 0 ffff0001 10001 1 point 6: not without a receive phase";
 
+/// The registers of a row.
+fn registers(rt: &impl Abort, row: &str) -> [u32; 32] {
+    let mut regs = [0; 32];
+    regs[10] = hex(rt, row, 0);
+    regs[15] = hex(rt, row, 1);
+    regs[16] = hex(rt, row, 2);
+    regs[18] = hex(rt, row, 3);
+    regs[19] = hex(rt, row, 4);
+    regs[20] = hex(rt, row, 5);
+    regs[21] = hex(rt, row, 6);
+    regs
+}
+
 #[test]
 fn each_point_of_malformed_calls_has_its_edge(rt: HostRuntime) {
     for row in EDGES.lines() {
-        let mut regs = [0; 32];
-        regs[10] = hex(&rt, row, 0);
-        regs[15] = hex(&rt, row, 1);
-        regs[16] = hex(&rt, row, 2);
-        regs[18] = hex(&rt, row, 3);
-        regs[19] = hex(&rt, row, 4);
-        regs[20] = hex(&rt, row, 5);
-        regs[21] = hex(&rt, row, 6);
-        assert_eq!(rt; parse(&regs).is_ok(), hex(&rt, row, 7) == 1, "{row}");
+        let is_call = parse(&registers(&rt, row)).is_ok();
+        check(&rt, is_call == (hex(&rt, row, 7) == 1), row);
     }
 }
 
-/// The registers of a call that uses every field, but for x10.
-fn all_fields() -> [u32; 32] {
+/// The call that uses every field, with this x10.
+fn parsed(rt: &impl Abort, x10: u32) -> Invocation {
     let mut regs = [0; 32];
+    regs[10] = x10;
     regs[11] = 0x11;
     regs[12] = 0x22;
     regs[13] = 0x33;
@@ -78,33 +83,63 @@ fn all_fields() -> [u32; 32] {
     regs[20] = 0x2000;
     regs[21] = 0x30;
     regs[22] = 0x99;
-    regs
+    parse(&regs).expect(rt, "an invocation")
+}
+
+/// Where the string that is sent begins and how long it is, and where one may be received and how long that may be.
+fn strings(call: &Invocation) -> [u32; 4] {
+    let accept = call.accept();
+    [call.at(), call.length(), accept.at(), accept.bound()]
+}
+
+/// The call has these flags: it sends, it receives, and it doesn't wait.
+fn check_flags(rt: &impl Abort, call: &Invocation, flags: [bool; 3]) {
+    let found = [call.send(), call.receive(), call.nonblocking()];
+    check(rt, found == flags, "flags");
+}
+
+/// The call has register c3, these words, and two registers of capabilities that are sent.
+fn check_sent(rt: &impl Abort, call: &Invocation) {
+    check(rt, call.capreg() == 3, "register");
+    check(rt, call.words() == [0x11, 0x22, 0x33, 0x44], "words");
+    check(rt, call.sent().as_slice() == [4, 5].as_slice(), "sent");
+}
+
+/// The call waits so, and accepts so many capabilities into these registers.
+fn check_accept(rt: &impl Abort, call: &Invocation, wait: Wait, caps: u8) {
+    let accept = call.accept();
+    check(rt, accept.wait() == wait, "wait");
+    check(rt, accept.caps() == caps, "capabilities");
+    check(rt, accept.regs() == [6, 7, 8, 0], "registers");
+}
+
+/// c3, all four flags, two capabilities sent and three accepted.
+#[test]
+fn each_field_is_read_from_its_register(rt: HostRuntime) {
+    let both = parsed(&rt, 0x001a_01e3);
+    check_flags(&rt, &both, [true, true, true]);
+    check_sent(&rt, &both);
+    check_accept(&rt, &both, Wait::Closed(0x99), 3);
+    check(
+        &rt,
+        strings(&both) == [0x1000, 0x20, 0x2000, 0x30],
+        "strings",
+    );
 }
 
 #[test]
-fn each_field_is_read_from_its_register(rt: HostRuntime) {
-    let mut regs = all_fields();
-    // c3, all four flags, two capabilities sent and three accepted.
-    regs[10] = 0x001a_01e3;
-    let both = parse(&regs).expect(&rt, "an invocation");
-    assert_eq!(rt; both.capreg(), 3);
-    assert!(rt; both.send() && both.receive() && both.nonblocking());
-    assert_eq!(rt; both.sent().as_slice(), [4, 5].as_slice());
-    assert_eq!(rt; both.accept().wait(), Wait::Closed(0x99));
-    assert_eq!(rt; both.accept().caps(), 3);
-    assert_eq!(rt; both.accept().regs(), [6, 7, 8, 0]);
-    assert_eq!(rt; (both.accept().at(), both.accept().bound()), (0x2000, 0x30));
-    assert_eq!(rt; both.words(), [0x11, 0x22, 0x33, 0x44]);
-    assert_eq!(rt; (both.at(), both.length()), (0x1000, 0x20));
-    regs[10] = 0x001a_00c3;
-    let receives = parse(&regs).expect(&rt, "an invocation");
-    assert_eq!(rt; receives.accept().wait(), Wait::Open);
-    assert_eq!(rt; (receives.at(), receives.length()), (0, 0));
-    regs[10] = 0x001a_0123;
-    let sends = parse(&regs).expect(&rt, "an invocation");
-    assert_eq!(rt; sends.accept().wait(), Wait::Open);
-    assert_eq!(rt; sends.accept().regs(), [6, 7, 8, 0]);
-    assert_eq!(rt; (sends.accept().at(), sends.accept().bound()), (0, 0));
+fn a_call_that_only_receives_sends_no_string(rt: HostRuntime) {
+    let receives = parsed(&rt, 0x001a_00c3);
+    check(&rt, receives.accept().wait() == Wait::Open, "wait");
+    check(&rt, strings(&receives) == [0, 0, 0x2000, 0x30], "strings");
+}
+
+#[test]
+fn a_call_that_only_sends_receives_no_string(rt: HostRuntime) {
+    let sends = parsed(&rt, 0x001a_0123);
+    check(&rt, sends.accept().wait() == Wait::Open, "wait");
+    check(&rt, sends.accept().regs() == [6, 7, 8, 0], "registers");
+    check(&rt, strings(&sends) == [0x1000, 0x20, 0, 0], "strings");
 }
 
 const SIZES: Sizes = Sizes {
@@ -116,38 +151,55 @@ const SIZES: Sizes = Sizes {
     endpoints: 8,
 };
 
-fn process(number: u16, count: u32) -> Cap
-    requires number { number < 256 }
-    requires count { count < 16 }
-{
-    Cap::to_object(CapKind::Process, number, count)
+/// An endpoint, the type number, the object and the count of its recipient, its id, its payload, and 1 where that has to
+/// match.
+const ENDPOINTS: &str = "\
+0 8 0 0 9 5 1
+1 8 1 0 7 5 0
+2 8 1 0 8 5 0
+3 8 2 0 7 5 0
+5 9 3 0 7 5 0
+6 8 0 1 7 5 0
+7 8 2 0 7 ffffffff 1";
+
+/// The row's recipient.
+fn recipient(rt: &impl Abort, row: &str) -> Cap {
+    let (number, count) = (byte(rt, row, 2), hex(rt, row, 3));
+    assert!(rt; number < 8 && count < 2);
+    match byte(rt, row, 1) {
+        8 => Cap::to_object(CapKind::Process, u16::from(number), count),
+        _ => Cap::schedule(number),
+    }
 }
 
-fn endpoint(recipient: Cap, id: u32, payload: u32, matching: bool) -> Endpoint {
-    Endpoint {
-        recipient,
-        id,
-        payload,
-        matching,
-    }
+/// Makes the row's endpoint.
+fn put_endpoint(rt: &impl Abort, objects: &mut Objects, row: &str) {
+    let number = u16::from(byte(rt, row, 0));
+    assert!(rt; number < objects.sizes().endpoints);
+    *objects.endpoint_mut(number) = Endpoint {
+        recipient: recipient(rt, row),
+        id: hex(rt, row, 4),
+        payload: hex(rt, row, 5),
+        matching: hex(rt, row, 6) == 1,
+    };
+}
+
+/// A process receives.
+fn receive(rt: &impl Abort, objects: &mut Objects, p: u16, accept: Accept) {
+    assert!(rt; p < objects.sizes().processes);
+    objects.process_mut(p).set_state(State::Receiving(accept));
 }
 
 /// Process 0 receives from all endpoints, process 1 from the one with id 7, and process 2 was stopped.
 fn receivers(rt: &impl Abort, alloc: Global) -> Result<Objects, Fail> {
     let mut objects = Objects::new(alloc, SIZES)?;
-    let sizes = objects.sizes();
-    assert!(rt; sizes.processes == 3 && sizes.endpoints == 8);
     let open = Accept::new(Wait::Open, 2, [5, 5, 0, 0], 0, 0);
     let closed = Accept::new(Wait::Closed(7), 2, [0, 6, 0, 0], 0, 0);
-    objects.process_mut(0).set_state(State::Receiving(open));
-    objects.process_mut(1).set_state(State::Receiving(closed));
-    *objects.endpoint_mut(0) = endpoint(process(0, 0), 9, 5, true);
-    *objects.endpoint_mut(1) = endpoint(process(1, 0), 7, 5, false);
-    *objects.endpoint_mut(2) = endpoint(process(1, 0), 8, 5, false);
-    *objects.endpoint_mut(3) = endpoint(process(2, 0), 7, 5, false);
-    *objects.endpoint_mut(5) = endpoint(Cap::schedule(3), 7, 5, false);
-    *objects.endpoint_mut(6) = endpoint(process(0, 1), 7, 5, false);
-    *objects.endpoint_mut(7) = endpoint(process(2, 0), 7, u32::MAX, true);
+    receive(rt, &mut objects, 0, open);
+    receive(rt, &mut objects, 1, closed);
+    for row in ENDPOINTS.lines() {
+        put_endpoint(rt, &mut objects, row);
+    }
     Ok(objects)
 }
 
@@ -178,16 +230,31 @@ fn answer(rt: &impl Abort, row: &str) -> Callee {
     }
 }
 
+/// The row's entry has the row's answer.
+fn check_answer(rt: &impl Abort, objects: &Objects, row: &str) {
+    let (number, count) = (hex(rt, row, 0), hex(rt, row, 1));
+    assert!(rt; number < 8 && count < 2);
+    let entry = Cap::entry(number as u16, count, hex(rt, row, 2));
+    check(rt, target(objects, entry) == answer(rt, row), row);
+}
+
 #[test]
 fn each_entry_has_one_who_answers(rt: HostRuntime) -> Result<(), Fail> {
     let objects = receivers(&rt, rt.alloc())?;
     for row in ANSWERS.lines() {
-        let (number, count) = (hex(&rt, row, 0), hex(&rt, row, 1));
-        assert!(rt; number < 8 && count < 2);
-        let entry = Cap::entry(number as u16, count, hex(&rt, row, 2));
-        assert_eq!(rt; target(&objects, entry), answer(&rt, row), "{row}");
+        check_answer(&rt, &objects, row);
     }
+    Ok(())
+}
+
+#[test]
+fn the_kernel_answers_what_is_no_entry(rt: HostRuntime) -> Result<(), Fail> {
+    let objects = receivers(&rt, rt.alloc())?;
     let range = Cap::plain(CapKind::Range);
-    assert_eq!(rt; target(&objects, range), Callee::Kernel(range));
+    check(
+        &rt,
+        target(&objects, range) == Callee::Kernel(range),
+        "Range",
+    );
     Ok(())
 }

@@ -9,10 +9,6 @@ mod cached;
 #[cfg(test)]
 mod caches;
 #[cfg(test)]
-mod capabilities;
-#[cfg(test)]
-mod command_words;
-#[cfg(test)]
 mod control_rows;
 #[cfg(test)]
 mod cuts;
@@ -21,25 +17,13 @@ mod deliveries;
 #[cfg(test)]
 mod faults;
 #[cfg(test)]
-mod images;
-#[cfg(test)]
-mod instructions;
-#[cfg(test)]
 mod invocations;
-#[cfg(test)]
-mod lines;
-#[cfg(test)]
-mod listings;
-#[cfg(test)]
-mod machine;
 #[cfg(test)]
 mod mappings;
 #[cfg(test)]
 mod meetings;
 #[cfg(test)]
 mod memory_rows;
-#[cfg(test)]
-mod numbers;
 #[cfg(test)]
 mod objects;
 #[cfg(test)]
@@ -58,8 +42,6 @@ mod sharings;
 mod starts;
 #[cfg(test)]
 mod strings;
-#[cfg(test)]
-mod texts;
 #[cfg(test)]
 mod undoing;
 #[cfg(test)]

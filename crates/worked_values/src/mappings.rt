@@ -6,7 +6,7 @@ ghost use Rattle.walk_meaning.specs.Walk.{is_data};
 
 use crate::cached::Cached;
 use crate::requests::short;
-use crate::rows::{byte, hex, letter, number};
+use crate::rows::{byte, check, check_number, hex, letter, number};
 use bitflags::Flags;
 use cap_format::{Cap, CapKind, Guard, Restr};
 use std::marker::Brand;
@@ -220,7 +220,7 @@ fn fill<L: Ledger>(
     assert!(rt; hart < 2 && shift < 32);
     for n in hex(rt, row, 4)..=hex(rt, row, 5) {
         let hit = cached.access(hart, space, n << shift, Kind::Load, fetches);
-        assert!(rt; hit.is_ok());
+        check(rt, hit.is_ok(), row);
     }
     Ok(())
 }
@@ -314,7 +314,7 @@ fn perform_all<L: Ledger>(
     let mut fetches = Steps::<L>::new(permit);
     for row in rows.lines() {
         let answer = perform(rt, cached, row, &mut fetches)?;
-        assert_eq!(rt; answer, number(rt, row, 0), "{row}");
+        check_number(rt, answer, number(rt, row, 0), row);
     }
     Ok(())
 }

@@ -4,11 +4,13 @@ ghost use Rattle.std.specs.Prelude.{◌≡◌};
 ghost use Rattle.steps.specs.Permit.{permit_for};
 
 use crate::requests::{cap_at, reply_at, request_at};
+use crate::rows::check;
 use cap_format::{Cap, Reply, Request};
 use memory_caps::invoke;
 use object_store::{Objects, Sizes};
 use std::alloc::Global;
 use std::marker::Brand;
+use std::process::Abort;
 use std::sync::ledger::Ledger;
 use std::test::Fail;
 use steps::{Permit, Steps};
@@ -119,23 +121,20 @@ const ROWS: &str = "\
 3 0 0 c 0 0 | 8 5 0 0 | 0 0 | 0 0 0 0 | 4 5000 1 c 2 0 | - - - | getslot: the refusals changed nothing
 ";
 
-/// The reply to a request under a counter of its own.
+/// The reply to a request.
 fn reply<L: Ledger>(
     objects: &mut Objects,
     cap: Cap,
     request: Request,
-    permit: Permit,
-) -> Result<Reply, Fail>
-    requires ledger { permit ≡ permit_for L.name L.parts }
-{
-    let mut fetches = Steps::<L>::new(permit);
+    fetches: &mut Steps<L>,
+) -> Result<Reply, Fail> {
     let cap = objects.live(cap);
     let sent = objects.live(request.sent);
     if !cap.kind().is_memory() {
         return Err(Fail::new("no memory capability"));
     }
     let words = request.words;
-    Ok(invoke(objects, cap, Request { words, sent }, &mut fetches))
+    Ok(invoke(objects, cap, Request { words, sent }, fetches))
 }
 
 /// Two pages with ab and cd as their first bytes, and one of each other object, empty.
@@ -156,17 +155,45 @@ fn first_byte(objects: &Objects, n: u16) -> Result<u8, Fail> {
     Ok(bytes[0])
 }
 
+/// Asks what the row asks, and compares.
+fn perform<L: Ledger>(
+    rt: &impl Abort,
+    objects: &mut Objects,
+    row: &str,
+    fetches: &mut Steps<L>,
+) -> Result<(), Fail> {
+    let request = request_at(rt, row, 7)?;
+    let cap = cap_at(rt, row, 0)?;
+    let answer = reply(objects, cap, request, fetches)?;
+    check(rt, answer == reply_at(rt, row, 15)?, row);
+    Ok(())
+}
+
+/// Does the rows, one after the other.
+fn perform_all<L: Ledger>(
+    rt: &impl Abort,
+    objects: &mut Objects,
+    permit: Permit,
+) -> Result<(), Fail>
+    requires ledger { permit ≡ permit_for L.name L.parts }
+{
+    let mut fetches = Steps::<L>::new(permit);
+    for row in ROWS.lines() {
+        perform(rt, objects, row, &mut fetches)?;
+    }
+    Ok(())
+}
+
+/// Page 0 was copied to page 1 before it was cleared.
+fn check_bytes(rt: &impl Abort, objects: &Objects) -> Result<(), Fail> {
+    check(rt, first_byte(objects, 0)? == 0, "page 0");
+    check(rt, first_byte(objects, 1)? == 0xab, "page 1");
+    Ok(())
+}
+
 #[test]
 fn requests_to_the_memory_kinds_are_replied_as_their_rows_say(rt: HostRuntime) -> Result<(), Fail> {
     let mut objects = built(rt.alloc())?;
-    for row in ROWS.lines() {
-        let request = request_at(&rt, row, 7)?;
-        let cap = cap_at(&rt, row, 0)?;
-        let answer = reply::<Brand>(&mut objects, cap, request, Permit::new(&rt))?;
-        assert_eq!(rt; answer, reply_at(&rt, row, 15)?, "{row}");
-    }
-    // Page 0 was copied to page 1 before it was cleared.
-    assert_eq!(rt; first_byte(&objects, 0)?, 0);
-    assert_eq!(rt; first_byte(&objects, 1)?, 0xab);
-    Ok(())
+    perform_all::<Brand>(&rt, &mut objects, Permit::new(&rt))?;
+    check_bytes(&rt, &objects)
 }

@@ -2,6 +2,7 @@
 ghost use Rattle.std.specs.Prelude.{◌≡◌};
 ghost use Rattle.steps.specs.Permit.{permit_for};
 
+use crate::rows::check;
 use cap_format::{Cap, CapKind};
 use object_store::{Objects, Sizes};
 use schedules::Queues;
@@ -31,7 +32,7 @@ fn bytes_of_a_counter<L: Ledger>(permit: Permit) -> usize
 #[test]
 fn a_counter_has_no_bytes(rt: HostRuntime) {
     let bytes = bytes_of_a_counter::<Brand>(Permit::new(&rt));
-    assert_eq!(rt; bytes, 0);
+    check(&rt, bytes == 0, "a counter");
 }
 
 /// Slot 15 of GPT 2, read under a counter of its own.
@@ -44,13 +45,18 @@ fn last_slot<L: Ledger>(rt: &impl Abort, objects: &Objects, permit: Permit) -> C
 }
 
 #[test]
-fn objects_and_queues_are_made(rt: HostRuntime) -> Result<(), Fail> {
+fn objects_are_made(rt: HostRuntime) -> Result<(), Fail> {
     let mut objects = Objects::new(rt.alloc(), SIZES)?;
     let cap = Cap::plain(CapKind::KernLog);
     objects.set_gpt_slot(2, 15, cap);
     let read = last_slot::<Brand>(&rt, &objects, Permit::new(&rt));
-    assert_eq!(rt; read, cap);
+    check(&rt, read == cap, "slot 15 of GPT 2");
+    Ok(())
+}
+
+#[test]
+fn queues_are_made(rt: HostRuntime) -> Result<(), Fail> {
     let queues = Queues::new(rt.alloc(), SIZES)?;
-    assert_eq!(rt; queues.on_hart(1), None);
+    check(&rt, queues.on_hart(1).is_none(), "hart 1 is idle");
     Ok(())
 }

@@ -44,3 +44,8 @@ pub fn check(rt: &impl Abort, holds: bool, row: &str) {
 pub fn check_text(rt: &impl Abort, told: &str, wanted: &str, row: &str) {
     assert_eq!(rt; told, wanted, "{row}");
 }
+
+/// Fails with the row, where another number was told than it wants, or one where it wants none.
+pub fn check_number(rt: &impl Abort, told: Option<u32>, wanted: Option<u32>, row: &str) {
+    assert_eq!(rt; told, wanted, "{row}");
+}

@@ -5,6 +5,7 @@ ghost use Rattle.object_store.specs.Store.{size_of};
 ghost use Rattle.object_store.specs.Ahead.{NoneAhead};
 ghost use Rattle.schedules.specs.Ready.{Agrees, runs_of};
 
+use crate::rows::check;
 use cap_format::{Cap, CapKind, Code, FaultCode, Request};
 use control_caps::invoke;
 use fault_path::{Outcome, deliver_fault};
@@ -58,7 +59,7 @@ impl Running {
         assert!(rt; cap.kind() == CapKind::Process || cap.kind() == CapKind::Endpoint);
         let request = Request { words, sent };
         let reply = invoke(&mut self.objects, &mut self.queues, cap, request);
-        assert_eq!(rt; reply.code, Code::Ok);
+        check(rt, reply.code == Code::Ok, "Ok");
     }
 
     /// A process that was stopped is made ready at a priority.
@@ -82,7 +83,7 @@ impl Running {
     pub fn wait(&mut self, rt: &impl Abort, p: u16, on: u16) {
         let processes = self.objects.sizes().processes;
         assert!(rt; p < processes && on < processes);
-        assert_eq!(rt; self.objects.process(p).state(), State::Running);
+        assert!(rt; self.objects.process(p).state() == State::Running);
         wait(&self.objects, &mut self.queues, p, on);
     }
 
@@ -124,7 +125,7 @@ impl Running {
         walked: Option<Cap>,
     ) -> Outcome {
         assert!(rt; p < self.objects.sizes().processes);
-        assert_eq!(rt; self.objects.process(p).state(), State::Running);
+        assert!(rt; self.objects.process(p).state() == State::Running);
         deliver_fault(
             &mut self.objects,
             &mut self.queues,

@@ -4,7 +4,7 @@ ghost use Rattle.std.specs.Prelude.{◌≡◌, ◌<◌};
 ghost use Rattle.sv32_tables.specs.Shared.{IsLeafTable, IsSharedRoot};
 
 use crate::requests::short;
-use crate::rows::{byte, hex, letter, number};
+use crate::rows::{byte, check, check_number, hex, letter, number};
 use arrayvec::ArrayVec;
 use guard_math::Block;
 use std::alloc::Global;
@@ -155,7 +155,7 @@ impl Shared {
     /// So many leaf tables more.
     fn fill(&mut self, rt: &impl Abort, count: u16) {
         for _ in 0..count {
-            assert!(rt; self.make_table().is_some());
+            check(rt, self.make_table().is_some(), "a table");
         }
     }
 
@@ -254,7 +254,7 @@ impl Shared {
 fn find_all(rt: &impl Abort, shared: &Shared, row: &str) {
     for (n, place) in PLACES.lines().enumerate() {
         let found = shared.found(rt, place, 0);
-        assert_eq!(rt; found, number(rt, row, n), "{row}");
+        check_number(rt, found, number(rt, row, n), row);
     }
 }
 
@@ -277,7 +277,7 @@ fn a_pool_of_shared_tables_has_256_frames(rt: HostRuntime) -> Result<(), Fail> {
     let mut shared = Shared::new(rt.alloc())?;
     for row in EDGE.lines() {
         let answer = shared.perform(&rt, row);
-        assert_eq!(rt; answer, number(&rt, row, 0), "{row}");
+        check_number(&rt, answer, number(&rt, row, 0), row);
     }
     Ok(())
 }

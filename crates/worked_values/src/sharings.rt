@@ -5,7 +5,7 @@ ghost use Rattle.steps.specs.Permit.{permit_for};
 ghost use Rattle.walk_meaning.specs.Walk.{is_data};
 
 use crate::requests::short;
-use crate::rows::{byte, hex, letter, number};
+use crate::rows::{byte, check_number, hex, letter, number};
 use crate::shared::Shared;
 use bitflags::Flags;
 use cap_format::{Cap, CapKind, Guard, Restr};
@@ -154,7 +154,7 @@ fn perform_all<L: Ledger>(rt: &impl Abort, shared: &mut Shared, permit: Permit) 
     let mut fetches = Steps::<L>::new(permit);
     for row in ROWS.lines() {
         let answer = perform(rt, shared, row, &mut fetches)?;
-        assert_eq!(rt; answer, number(rt, row, 0), "{row}");
+        check_number(rt, answer, number(rt, row, 0), row);
     }
     Ok(())
 }

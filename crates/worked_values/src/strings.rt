@@ -1,8 +1,9 @@
 //! Strings: how they are cut at pages, and how their bytes move, worked out by hand.
 ghost use Rattle.string_move.specs.Move.{ArePieces};
 
-use crate::rows::hex;
+use crate::rows::{byte, check, hex};
 use object_store::{Objects, Sizes};
+use std::alloc::Global;
 use std::process::Abort;
 use std::test::Fail;
 use string_move::{Piece, Pieces, Scratch, Spans, copy, cut};
@@ -54,13 +55,18 @@ fn ends_of(rt: &impl Abort, row: &str) -> [u32; 5] {
     ]
 }
 
+/// The row's string is cut as the row says.
+fn check_cut(rt: &impl Abort, row: &str) {
+    let (at, size) = (hex(rt, row, 0), hex(rt, row, 1));
+    assert!(rt; size <= 65536 && u64::from(at) + u64::from(size) <= 1 << 32);
+    let spans = cut(at, size);
+    check(rt, ends(&spans) == ends_of(rt, row), row);
+}
+
 #[test]
 fn a_string_is_cut_at_each_page(rt: HostRuntime) {
     for row in CUTS.lines() {
-        let (at, size) = (hex(&rt, row, 0), hex(&rt, row, 1));
-        assert!(rt; size <= 65536 && u64::from(at) + u64::from(size) <= 1 << 32);
-        let spans = cut(at, size);
-        assert_eq!(rt; ends(&spans), ends_of(&rt, row), "{row}");
+        check_cut(&rt, row);
     }
 }
 
@@ -95,23 +101,57 @@ fn string(rt: &impl Abort, objects: &Objects, first: u16, at: u32, size: u32) ->
 }
 
 /// Two pieces of pages that are there.
-fn two(rt: &impl Abort, objects: &Objects, one: Piece, other: Piece) -> Pieces
+fn two(rt: &impl Abort, objects: &Objects, both: [Piece; 2]) -> Pieces
     ensures { ArePieces objects.now.items result }
 {
     let mut pieces = Pieces::new();
-    add(rt, objects, &mut pieces, one);
-    add(rt, objects, &mut pieces, other);
+    add(rt, objects, &mut pieces, both[0]);
+    add(rt, objects, &mut pieces, both[1]);
     pieces
 }
 
 /// Moves the bytes of some pieces to others.
-fn carry(rt: &impl Abort, objects: &mut Objects, from: &Pieces, to: &Pieces, room: &mut Scratch)
+fn carry(
+    rt: &impl Abort,
+    alloc: Global,
+    objects: &mut Objects,
+    from: &Pieces,
+    to: &Pieces,
+) -> Result<(), Fail>
     requires from_there { ArePieces objects.old.items from.now }
     requires to_there { ArePieces objects.old.items to.now }
 {
     let size = to.size();
     assert!(rt; size <= 65536 && size <= from.size());
-    copy(objects, from, to, room);
+    let mut room = Scratch::new(alloc)?;
+    copy(objects, from, to, &mut room);
+    Ok(())
+}
+
+/// Moves a string from a page and an offset to others.
+fn carry_string(
+    rt: &impl Abort,
+    alloc: Global,
+    objects: &mut Objects,
+    (from, to): ((u16, u32), (u16, u32)),
+    size: u32,
+) -> Result<(), Fail> {
+    let from = string(rt, objects, from.0, from.1, size);
+    let to = string(rt, objects, to.0, to.1, size);
+    carry(rt, alloc, objects, &from, &to)
+}
+
+/// Moves the bytes of two pieces to two others.
+fn carry_two(
+    rt: &impl Abort,
+    alloc: Global,
+    objects: &mut Objects,
+    from: [Piece; 2],
+    to: [Piece; 2],
+) -> Result<(), Fail> {
+    let from = two(rt, objects, from);
+    let to = two(rt, objects, to);
+    carry(rt, alloc, objects, &from, &to)
 }
 
 /// Writes bytes to a page.
@@ -132,27 +172,45 @@ fn piece(page: u16, at: u16, len: u16) -> Piece {
     Piece { page, at, len }
 }
 
-/// Six bytes move up by two places; a move byte by byte would repeat the first two. Then two pieces that change places,
-/// of which a move byte by byte, or piece by piece, would lose one; and fewer bytes than there are.
+/// Objects whose page 3 begins with these eight bytes.
+fn beginning(rt: &impl Abort, alloc: Global, bytes: [u8; 8]) -> Result<Objects, Fail> {
+    let mut objects = Objects::new(alloc, SIZES)?;
+    put(rt, &mut objects, 3, 0, &bytes);
+    Ok(objects)
+}
+
+/// A move byte by byte would repeat the first two.
+#[test]
+fn six_bytes_move_up_by_two_places(rt: HostRuntime) -> Result<(), Fail> {
+    let mut objects = beginning(&rt, rt.alloc(), [1, 2, 3, 4, 5, 6, 7, 8])?;
+    carry_string(&rt, rt.alloc(), &mut objects, ((3, 0), (3, 2)), 6)?;
+    let page = eight(&rt, &objects, 3, 0);
+    check(&rt, page == [1, 2, 1, 2, 3, 4, 5, 6], "page 3");
+    Ok(())
+}
+
+/// A move byte by byte, or piece by piece, would lose one of them.
+#[test]
+fn two_pieces_change_places(rt: HostRuntime) -> Result<(), Fail> {
+    let mut objects = beginning(&rt, rt.alloc(), [1, 2, 1, 2, 3, 4, 5, 6])?;
+    let (low, high) = (piece(3, 0, 4), piece(3, 4, 4));
+    carry_two(&rt, rt.alloc(), &mut objects, [low, high], [high, low])?;
+    let page = eight(&rt, &objects, 3, 0);
+    check(&rt, page == [3, 4, 5, 6, 1, 2, 1, 2], "page 3");
+    Ok(())
+}
+
+/// Fewer bytes than there are, two of them to another page.
 #[test]
 fn pieces_that_overlap_are_read_before_any_is_written(rt: HostRuntime) -> Result<(), Fail> {
-    let mut objects = Objects::new(rt.alloc(), SIZES)?;
-    let mut room = Scratch::new(rt.alloc())?;
-    put(&rt, &mut objects, 3, 0, &[1, 2, 3, 4, 5, 6, 7, 8]);
-    let from = string(&rt, &objects, 3, 0, 6);
-    let to = string(&rt, &objects, 3, 2, 6);
-    carry(&rt, &mut objects, &from, &to, &mut room);
-    assert_eq!(rt; eight(&rt, &objects, 3, 0), [1, 2, 1, 2, 3, 4, 5, 6]);
-    let (low, high) = (piece(3, 0, 4), piece(3, 4, 4));
-    let from = two(&rt, &objects, low, high);
-    let to = two(&rt, &objects, high, low);
-    carry(&rt, &mut objects, &from, &to, &mut room);
-    assert_eq!(rt; eight(&rt, &objects, 3, 0), [3, 4, 5, 6, 1, 2, 1, 2]);
-    let from = two(&rt, &objects, low, high);
-    let to = two(&rt, &objects, piece(3, 1, 3), piece(4, 7, 2));
-    carry(&rt, &mut objects, &from, &to, &mut room);
-    assert_eq!(rt; eight(&rt, &objects, 3, 0), [3, 3, 4, 5, 1, 2, 1, 2]);
-    assert_eq!(rt; eight(&rt, &objects, 4, 4), [0, 0, 0, 6, 1, 0, 0, 0]);
+    let mut objects = beginning(&rt, rt.alloc(), [3, 4, 5, 6, 1, 2, 1, 2])?;
+    let from = [piece(3, 0, 4), piece(3, 4, 4)];
+    let to = [piece(3, 1, 3), piece(4, 7, 2)];
+    carry_two(&rt, rt.alloc(), &mut objects, from, to)?;
+    let page = eight(&rt, &objects, 3, 0);
+    check(&rt, page == [3, 3, 4, 5, 1, 2, 1, 2], "page 3");
+    let other = eight(&rt, &objects, 4, 4);
+    check(&rt, other == [0, 0, 0, 6, 1, 0, 0, 0], "page 4");
     Ok(())
 }
 
@@ -168,27 +226,46 @@ f f 8e
 10 10 8f
 11 11 91 the string ends before its last byte";
 
+/// Objects each of whose pages has its number in its first byte and in its last.
+fn numbered(rt: &impl Abort, alloc: Global) -> Result<Objects, Fail> {
+    let mut objects = Objects::new(alloc, SIZES)?;
+    for page in 0..18_u8 {
+        put(rt, &mut objects, u16::from(page), 0, &[page + 1]);
+        put(rt, &mut objects, u16::from(page), 4095, &[page + 0x80]);
+    }
+    Ok(objects)
+}
+
+/// The row's page has the row's first and last byte.
+fn check_page(rt: &impl Abort, objects: &Objects, row: &str) {
+    let page = u16::from(byte(rt, row, 0));
+    check(rt, eight(rt, objects, page, 0)[0] == byte(rt, row, 1), row);
+    let last = eight(rt, objects, page, 4088)[7];
+    check(rt, last == byte(rt, row, 2), row);
+}
+
+#[test]
+fn the_longest_string_within_a_page_is_cut_in_seventeen(rt: HostRuntime) -> Result<(), Fail> {
+    let objects = Objects::new(rt.alloc(), SIZES)?;
+    let low = string(&rt, &objects, 0, 0xfff, 65536).as_slice().len();
+    let high = string(&rt, &objects, 1, 0xfff, 65536).as_slice().len();
+    check(&rt, low == 17, "from page 0");
+    check(&rt, high == 17, "from page 1");
+    Ok(())
+}
+
 #[test]
 fn seventeen_pieces_move_onto_seventeen_that_overlap_them(rt: HostRuntime) -> Result<(), Fail> {
-    let mut objects = Objects::new(rt.alloc(), SIZES)?;
-    let mut room = Scratch::new(rt.alloc())?;
-    for page in 0..18_u8 {
-        put(&rt, &mut objects, u16::from(page), 0, &[page + 1]);
-        put(&rt, &mut objects, u16::from(page), 4095, &[page + 0x80]);
-    }
-    let from = string(&rt, &objects, 0, 0xfff, 65536);
-    let to = string(&rt, &objects, 1, 0xfff, 65536);
-    assert_eq!(rt; (from.as_slice().len(), to.as_slice().len()), (17, 17));
-    carry(&rt, &mut objects, &from, &to, &mut room);
+    let mut objects = numbered(&rt, rt.alloc())?;
+    carry_string(
+        &rt,
+        rt.alloc(),
+        &mut objects,
+        ((0, 0xfff), (1, 0xfff)),
+        65536,
+    )?;
     for row in MOVED.lines() {
-        let page = u16::try_from(hex(&rt, row, 0))?;
-        let first = u32::from(eight(&rt, &objects, page, 0)[0]);
-        let last = u32::from(eight(&rt, &objects, page, 4088)[7]);
-        assert_eq!(rt;
-            (first, last),
-            (hex(&rt, row, 1), hex(&rt, row, 2)),
-            "{row}"
-        );
+        check_page(&rt, &objects, row);
     }
     Ok(())
 }

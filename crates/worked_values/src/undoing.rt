@@ -202,7 +202,7 @@ fn check_state<T: Translator, L: Ledger>(
     fetches: &mut Steps<L>,
 ) -> Result<(), Fail> {
     let text = state_text(alloc, reversible.machine(), fetches)?;
-    assert!(rt; text.as_slice() == wanted);
+    check(rt, text.as_slice() == wanted, "the same text");
     Ok(())
 }
 
@@ -217,7 +217,7 @@ fn undo_all<T: Translator, L: Ledger>(
     fetches: &mut Steps<L>,
 ) -> Result<(), Fail> {
     for text in texts.iter().rev().skip(1).take(count as usize) {
-        assert!(rt; reversible.undo(fetches));
+        check(rt, reversible.undo(fetches), "undone");
         check_state(rt, alloc, reversible, text.as_slice(), fetches)?;
     }
     undo_nothing(rt, alloc, reversible, fetches)
@@ -231,8 +231,8 @@ fn undo_nothing<T: Translator, L: Ledger>(
     fetches: &mut Steps<L>,
 ) -> Result<(), Fail> {
     let before = state_text(alloc, reversible.machine(), fetches)?;
-    assert!(rt; reversible.remembered() == 0);
-    assert!(rt; !reversible.undo(fetches));
+    check(rt, reversible.remembered() == 0, "nothing is left");
+    check(rt, !reversible.undo(fetches), "nothing is undone");
     check_state(rt, alloc, reversible, before.as_slice(), fetches)
 }
 
@@ -287,7 +287,7 @@ fn run_twice<T: Translator, L: Ledger>(
 ) -> Result<(), Fail> {
     let texts = perform_and_undo(rt, alloc, reversible, run, fetches)?;
     let again = perform_all(rt, alloc, reversible, run, fetches)?;
-    assert!(rt; again.as_slice() == texts.as_slice());
+    check(rt, again.as_slice() == texts.as_slice(), "the same texts");
     Ok(())
 }
 
@@ -322,7 +322,8 @@ fn undo_last<T: Translator, L: Ledger>(
     fetches: &mut Steps<L>,
 ) -> Result<(), Fail> {
     let texts = perform_all(rt, alloc, reversible, Run::Destroyed, fetches)?;
-    assert!(rt; texts.len() == 20 && reversible.remembered() == count);
+    check(rt, texts.len() == 20, "twenty states");
+    check(rt, reversible.remembered() == count, "remembered");
     undo_all(rt, alloc, reversible, count, texts.as_slice(), fetches)
 }
 

@@ -2,12 +2,15 @@
 ghost use Rattle.std.specs.Prelude.{◌≡◌};
 ghost use Rattle.steps.specs.Permit.{permit_for};
 
+use crate::requests::{cap_at, short};
+use crate::rows::{barred, byte, check_text, hex, letter};
 use bitflags::Flags;
-use cap_format::{Cap, CapKind, FaultCode, Guard, Item, Restr};
+use cap_format::{Cap, CapKind, Guard, Restr};
 use gpt_objects::GptHeader;
 use object_store::{Objects, Sizes};
 use std::alloc::Global;
 use std::marker::Brand;
+use std::process::Abort;
 use std::sync::ledger::Ledger;
 use std::test::Fail;
 use steps::{Permit, Steps};
@@ -23,336 +26,207 @@ const SIZES: Sizes = Sizes {
     endpoints: 0,
 };
 
-/// A machine of the table.
-#[derive(Clone, Copy)]
-enum Machine {
-    /// GPT 0 of 2^28 bytes a slot: page 0 (RO) and page 1.
-    WholeSpace,
-    /// GPT 0: page 0 (RO), page 0 (NX), capability page 0, and a local window on its own slot 3.
-    Kinds,
-    /// GPT 0 whose slot 0 names it.
-    SelfNaming,
-    /// GPT 0 of 2^16 bytes a slot, with a background: GPT 1 in slot 1, and GPT 2 in slot 14. In slot 2 of
-    /// GPT 1 a window at offset 5000 (hexadecimal), and in slot 5 of GPT 2 page 3.
-    Background,
-    /// The same, with Range as the handler of GPT 0.
-    Handler,
+/// A machine of the table: `header` with a GPT, the logarithm of the size of its slots, and 1 each for a handler and a
+/// background; `slot` with a GPT, a slot, and the type number, object or offset, restrictions, l2g, match and local slot
+/// of its capability.
+///
+/// GPT 0 of 2^28 bytes a slot: page 0 (RO) and page 1.
+const WHOLE_SPACE: &str = "\
+header 0 1c 0 0
+slot 0 0 1 0 1 c 0 0
+slot 0 1 1 1 0 c 0 0";
+
+/// GPT 0: page 0 (RO), page 0 (NX), capability page 0, and a local window on its own slot 3.
+const KINDS: &str = "\
+slot 0 0 1 0 1 c 0 0
+slot 0 1 1 0 2 c 0 0
+slot 0 2 2 0 0 c 0 0
+slot 0 3 5 0 0 c 0 3";
+
+/// GPT 0 whose slot 0 names it.
+const SELF_NAMING: &str = "\
+slot 0 0 3 0 0 c 0 0";
+
+/// GPT 0 of 2^16 bytes a slot, with a background: GPT 1 in slot 1, and GPT 2 in slot 14. In slot 2 of GPT 1 a window at
+/// offset 5000 (hexadecimal), and in slot 5 of GPT 2 page 3.
+const BACKGROUND: &str = "\
+header 0 10 0 1
+slot 0 1 3 1 0 10 0 0
+slot 0 e 3 2 0 14 0 0
+slot 1 2 4 5000 0 c 0 0
+slot 2 5 1 3 0 c 0 0";
+
+/// The same, with Range as the handler of GPT 0.
+const HANDLER: &str = "\
+header 0 10 1 1
+slot 0 1 3 1 0 10 0 0
+slot 0 e 3 2 0 14 0 0
+slot 1 2 4 5000 0 c 0 0
+slot 2 5 1 3 0 c 0 0
+slot 0 f a 0 0 c 0 0";
+
+/// The machine by its first letter, the l2g and the restrictions of the capability to GPT 0, an address and the kind of
+/// the access: `load`, `store`, `fetch` or `capload`. In bars what it comes to: the object, the offset and the
+/// restrictions of the place, or the fault and its handler. Behind that each read of the trail, where the place is
+/// reached: the item, the lowest address of its block and the logarithm of its size, all in decimal but addresses.
+const ROWS: &str = "\
+whole 20 0 ffc load the last word of page 0 |Page 0 ffc 1; Header(Gpt, 0) 0 32; \
+    Slot(0, 0) 0 28; Header(Page, 0) 0 28|
+whole 20 0 ffffffff load the last slot is Null |InvalidDataReference -|
+kinds 10 0 0 store RO at the page |AccessViolation -|
+kinds 10 0 1000 fetch NX at the page |AccessViolation -|
+kinds 10 0 2000 load bytes of a capability page |DataAccessTypeError -|
+kinds 10 0 0 capload a capability of a page |CapAccessTypeError -|
+kinds 10 0 2010 capload a slot of a capability page |CapPage 0 10 0; Header(Gpt, 0) 0 32; \
+    Slot(0, 2) 2000 12; Header(CapPage, 0) 2000 12|
+kinds 10 1 1000 load through RO |Page 0 0 3; Header(Gpt, 0) 0 32; \
+    Slot(0, 1) 1000 12; Header(Page, 0) 1000 12|
+kinds 10 1 1000 store through RO |AccessViolation -|
+self 10 0 0 load a GPT that names itself |MalformedSpace -|
+kinds 10 0 3000 load a local window on its own slot |MalformedSpace -|
+background 20 0 12034 load through the window |Page 3 34 0; Header(Gpt, 0) 0 32; \
+    Slot(0, 1) 10000 16; Header(Gpt, 1) 10000 16; Slot(1, 2) 12000 12; Slot(0, 14) 12000 12; Header(Gpt, 2) 12000 12; \
+    Slot(2, 5) 12000 12; Header(Page, 3) 12000 12|
+background 20 0 e0000 load the slot of the background |InvalidDataReference -|
+handler 20 0 e0000 load Range handles |InvalidDataReference Range|
+handler 20 10 e0000 load NC holds it back |InvalidDataReference -|";
+
+/// The row's machine.
+fn machine(row: &str) -> &'static str {
+    match letter(row, 0) {
+        b'w' => WHOLE_SPACE,
+        b'k' => KINDS,
+        b's' => SELF_NAMING,
+        b'b' => BACKGROUND,
+        _ => HANDLER,
+    }
 }
 
-/// One read of a trail: the item, and the block's lowest address and size.
-type Read = (Item, u32, u8);
-
-/// A walk from GPT 0, with a guard of `l2g` and these restrictions, its answer, and its reads where it reaches.
-#[derive(Drop)]
-struct Row<'a> {
-    name: &'a str,
-    machine: Machine,
-    l2g: u8,
-    restr: Restr,
-    address: u32,
-    kind: Kind,
-    answer: Result<Place, WalkFault>,
-    reads: &'a [Read],
+/// Sets the header or the slot of a row of a machine.
+fn put(rt: &impl Abort, objects: &mut Objects, row: &str) -> Result<(), Fail> {
+    let gpt = short(rt, row, 1);
+    assert!(rt; gpt < objects.sizes().gpts);
+    let second = byte(rt, row, 2);
+    if letter(row, 0) == b'h' {
+        assert!(rt; 12 <= second && second <= 31);
+        let header = GptHeader::new(second, hex(rt, row, 3) == 1, hex(rt, row, 4) == 1);
+        objects.set_gpt_header(gpt, header);
+    } else {
+        assert!(rt; second < 16);
+        objects.set_gpt_slot(gpt, second, cap_at(rt, row, 3)?);
+    }
+    Ok(())
 }
 
-fn object(kind: CapKind, number: u32, l2g: u8, restr: Restr) -> Result<Cap, Fail> {
-    match Cap::try_new(kind, restr, 0, Guard::new(l2g, 0)?, number, 0, 0) {
+/// The objects of the row's machine.
+fn built(rt: &impl Abort, alloc: Global, row: &str) -> Result<Objects, Fail> {
+    let mut objects = Objects::new(alloc, SIZES)?;
+    for part in machine(row).lines() {
+        put(rt, &mut objects, part)?;
+    }
+    Ok(objects)
+}
+
+/// The row's capability to GPT 0.
+fn space(rt: &impl Abort, row: &str) -> Result<Cap, Fail> {
+    let restr = Restr::from_bits_retain(byte(rt, row, 2));
+    let guard = Guard::new(byte(rt, row, 1), 0)?;
+    match Cap::try_new(CapKind::Gpt, restr, 0, guard, 0, 0, 0) {
         Some(cap) => Ok(cap),
         None => Err(Fail::new("no such capability")),
     }
 }
 
-fn put(objects: &mut Objects, gpt: u16, i: u8, cap: Cap) -> Result<(), Fail> {
-    if gpt >= objects.sizes().gpts || i > 15 {
-        return Err(Fail::new("no such slot"));
+/// The row's kind of access.
+fn kind(row: &str) -> Kind {
+    match letter(row, 4) {
+        b'l' => Kind::Load,
+        b's' => Kind::Store,
+        b'f' => Kind::Fetch,
+        _ => Kind::CapLoad,
     }
-    objects.set_gpt_slot(gpt, i, cap);
+}
+
+/// The word for a handler.
+fn handler_word(handler: Option<Cap>) -> &'static str {
+    match handler {
+        None => "-",
+        Some(cap) if cap == Cap::plain(CapKind::Range) => "Range",
+        Some(_) => "another",
+    }
+}
+
+/// What a walk comes to, in words.
+fn answer_text(alloc: Global, answer: Result<Place, WalkFault>) -> Result<String, Fail> {
+    let text = match answer {
+        Ok(place) => {
+            let restr = place.restr.bits();
+            format!(in alloc;
+                "{:?} {} {:x} {restr}",
+                place.kind, place.number, place.offset
+            )?
+        }
+        Err(fault) => {
+            let handler = handler_word(fault.handler);
+            format!(in alloc; "{:?} {handler}", fault.code)?
+        }
+    };
+    Ok(text)
+}
+
+/// Puts a read behind a text.
+fn push_read(alloc: Global, text: &mut String, noted: Noted) -> Result<(), Fail> {
+    let (base, l2) = (noted.block.base(), noted.block.l2());
+    let read = format!(in alloc; "; {:?} {base:x} {l2}", noted.item)?;
+    text.push_str(read.as_str())?;
     Ok(())
 }
 
-fn set_header(objects: &mut Objects, gpt: u16, header: GptHeader) -> Result<(), Fail> {
-    if gpt >= objects.sizes().gpts {
-        return Err(Fail::new("no such GPT"));
-    }
-    objects.set_gpt_header(gpt, header);
-    Ok(())
-}
-
-fn built(alloc: Global, machine: Machine) -> Result<Objects, Fail> {
-    let none = Restr::empty();
-    let mut objects = Objects::new(alloc, SIZES)?;
-    match machine {
-        Machine::WholeSpace => {
-            set_header(&mut objects, 0, GptHeader::new(28, false, false))?;
-            put(&mut objects, 0, 0, object(CapKind::Page, 0, 12, Restr::RO)?)?;
-            put(&mut objects, 0, 1, object(CapKind::Page, 1, 12, none)?)?;
-        }
-        Machine::Kinds => put_kinds(&mut objects)?,
-        Machine::SelfNaming => put(&mut objects, 0, 0, object(CapKind::Gpt, 0, 12, none)?)?,
-        Machine::Background => put_background(&mut objects, false)?,
-        Machine::Handler => {
-            put_background(&mut objects, true)?;
-            put(&mut objects, 0, 15, Cap::plain(CapKind::Range))?;
-        }
-    }
-    Ok(objects)
-}
-
-fn put_kinds(objects: &mut Objects) -> Result<(), Fail> {
-    let none = Restr::empty();
-    let window = Cap::local_window(3, none, Guard::page(), 0)?;
-    put(objects, 0, 0, object(CapKind::Page, 0, 12, Restr::RO)?)?;
-    put(objects, 0, 1, object(CapKind::Page, 0, 12, Restr::NX)?)?;
-    put(objects, 0, 2, object(CapKind::CapPage, 0, 12, none)?)?;
-    put(objects, 0, 3, window)
-}
-
-fn put_background(objects: &mut Objects, ha: bool) -> Result<(), Fail> {
-    let none = Restr::empty();
-    let window = Cap::window(none, Guard::page(), 0x5000)?;
-    set_header(objects, 0, GptHeader::new(16, ha, true))?;
-    put(objects, 0, 1, object(CapKind::Gpt, 1, 16, none)?)?;
-    put(objects, 0, 14, object(CapKind::Gpt, 2, 20, none)?)?;
-    put(objects, 1, 2, window)?;
-    put(objects, 2, 5, object(CapKind::Page, 3, 12, none)?)
-}
-
-/// The walk under a counter of its own.
-fn walked<L: Ledger>(
+/// What a walk comes to, and its reads.
+fn told<L: Ledger>(
+    alloc: Global,
     objects: &Objects,
     space: Cap,
-    address: u32,
-    kind: Kind,
-    trail: &mut Trail,
-    permit: Permit,
-) -> Result<Place, WalkFault>
+    (address, kind): (u32, Kind),
+    fetches: &mut Steps<L>,
+) -> Result<String, Fail> {
+    let mut trail = Trail::new();
+    let answer = walk(objects, space, address, kind, &mut trail, fetches);
+    let mut text = answer_text(alloc, answer)?;
+    for noted in trail.as_slice() {
+        push_read(alloc, &mut text, *noted)?;
+    }
+    Ok(text)
+}
+
+/// Walks as the row says, and compares.
+fn check_walk<L: Ledger>(
+    rt: &impl Abort,
+    alloc: Global,
+    row: &str,
+    fetches: &mut Steps<L>,
+) -> Result<(), Fail> {
+    let (front, wanted) = barred(rt, row);
+    let objects = built(rt, alloc, front)?;
+    let space = space(rt, front)?;
+    let asked = (hex(rt, front, 3), kind(front));
+    let told = told(alloc, &objects, space, asked, fetches)?;
+    check_text(rt, told.as_str(), wanted, front);
+    Ok(())
+}
+
+/// Walks as each row says.
+fn check_walks<L: Ledger>(rt: &impl Abort, alloc: Global, permit: Permit) -> Result<(), Fail>
     requires ledger { permit ≡ permit_for L.name L.parts }
 {
     let mut fetches = Steps::<L>::new(permit);
-    walk(objects, space, address, kind, trail, &mut fetches)
-}
-
-fn reach(kind: CapKind, number: u16, offset: u16, restr: Restr) -> Result<Place, WalkFault> {
-    Ok(Place {
-        kind,
-        number,
-        offset,
-        restr,
-    })
-}
-
-fn fault(code: FaultCode, handler: Option<Cap>) -> Result<Place, WalkFault> {
-    Err(WalkFault { code, handler })
-}
-
-fn is_read(noted: Noted, read: Read) -> bool {
-    noted.item == read.0 && noted.block.base() == read.1 && noted.block.l2() == read.2
-}
-
-fn are_reads(trail: &[Noted], reads: &[Read]) -> bool {
-    trail.len() == reads.len()
-        && trail
-            .iter()
-            .zip(reads.iter())
-            .all(|(noted, read)| is_read(*noted, *read))
+    for row in ROWS.lines() {
+        check_walk(rt, alloc, row, &mut fetches)?;
+    }
+    Ok(())
 }
 
 #[test]
 fn worked_walks_give_their_place_or_fault_and_their_reads(rt: HostRuntime) -> Result<(), Fail> {
-    let rows = [
-        Row {
-            name: "whole-space-guard: the last word of page 0",
-            machine: Machine::WholeSpace,
-            l2g: 32,
-            restr: Restr::empty(),
-            address: 0xffc,
-            kind: Kind::Load,
-            answer: reach(CapKind::Page, 0, 0xffc, Restr::RO),
-            reads: &[
-                (Item::Header(CapKind::Gpt, 0), 0, 32),
-                (Item::Slot(0, 0), 0, 28),
-                (Item::Header(CapKind::Page, 0), 0, 28),
-            ],
-        },
-        Row {
-            name: "whole-space-guard: the last slot is Null",
-            machine: Machine::WholeSpace,
-            l2g: 32,
-            restr: Restr::empty(),
-            address: 0xffff_ffff,
-            kind: Kind::Load,
-            answer: fault(FaultCode::InvalidDataReference, None),
-            reads: &[],
-        },
-        Row {
-            name: "kinds-and-restrictions: RO at the page",
-            machine: Machine::Kinds,
-            l2g: 16,
-            restr: Restr::empty(),
-            address: 0,
-            kind: Kind::Store,
-            answer: fault(FaultCode::AccessViolation, None),
-            reads: &[],
-        },
-        Row {
-            name: "kinds-and-restrictions: NX at the page",
-            machine: Machine::Kinds,
-            l2g: 16,
-            restr: Restr::empty(),
-            address: 0x1000,
-            kind: Kind::Fetch,
-            answer: fault(FaultCode::AccessViolation, None),
-            reads: &[],
-        },
-        Row {
-            name: "kinds-and-restrictions: bytes of a capability page",
-            machine: Machine::Kinds,
-            l2g: 16,
-            restr: Restr::empty(),
-            address: 0x2000,
-            kind: Kind::Load,
-            answer: fault(FaultCode::DataAccessTypeError, None),
-            reads: &[],
-        },
-        Row {
-            name: "kinds-and-restrictions: a capability of a page",
-            machine: Machine::Kinds,
-            l2g: 16,
-            restr: Restr::empty(),
-            address: 0,
-            kind: Kind::CapLoad,
-            answer: fault(FaultCode::CapAccessTypeError, None),
-            reads: &[],
-        },
-        Row {
-            name: "kinds-and-restrictions: a slot of a capability page",
-            machine: Machine::Kinds,
-            l2g: 16,
-            restr: Restr::empty(),
-            address: 0x2010,
-            kind: Kind::CapLoad,
-            answer: reach(CapKind::CapPage, 0, 0x010, Restr::empty()),
-            reads: &[
-                (Item::Header(CapKind::Gpt, 0), 0, 32),
-                (Item::Slot(0, 2), 0x2000, 12),
-                (Item::Header(CapKind::CapPage, 0), 0x2000, 12),
-            ],
-        },
-        Row {
-            name: "kinds-and-restrictions: a load through RO",
-            machine: Machine::Kinds,
-            l2g: 16,
-            restr: Restr::RO,
-            address: 0x1000,
-            kind: Kind::Load,
-            answer: reach(CapKind::Page, 0, 0, Restr::RO.union(Restr::NX)),
-            reads: &[
-                (Item::Header(CapKind::Gpt, 0), 0, 32),
-                (Item::Slot(0, 1), 0x1000, 12),
-                (Item::Header(CapKind::Page, 0), 0x1000, 12),
-            ],
-        },
-        Row {
-            name: "kinds-and-restrictions: a store through RO",
-            machine: Machine::Kinds,
-            l2g: 16,
-            restr: Restr::RO,
-            address: 0x1000,
-            kind: Kind::Store,
-            answer: fault(FaultCode::AccessViolation, None),
-            reads: &[],
-        },
-        Row {
-            name: "self-naming-gpt",
-            machine: Machine::SelfNaming,
-            l2g: 16,
-            restr: Restr::empty(),
-            address: 0,
-            kind: Kind::Load,
-            answer: fault(FaultCode::MalformedSpace, None),
-            reads: &[],
-        },
-        Row {
-            name: "local-window-fault",
-            machine: Machine::Kinds,
-            l2g: 16,
-            restr: Restr::empty(),
-            address: 0x3000,
-            kind: Kind::Load,
-            answer: fault(FaultCode::MalformedSpace, None),
-            reads: &[],
-        },
-        Row {
-            name: "background-window: through the window",
-            machine: Machine::Background,
-            l2g: 32,
-            restr: Restr::empty(),
-            address: 0x12034,
-            kind: Kind::Load,
-            answer: reach(CapKind::Page, 3, 0x034, Restr::empty()),
-            reads: &[
-                (Item::Header(CapKind::Gpt, 0), 0, 32),
-                (Item::Slot(0, 1), 0x10000, 16),
-                (Item::Header(CapKind::Gpt, 1), 0x10000, 16),
-                (Item::Slot(1, 2), 0x12000, 12),
-                (Item::Slot(0, 14), 0x12000, 12),
-                (Item::Header(CapKind::Gpt, 2), 0x12000, 12),
-                (Item::Slot(2, 5), 0x12000, 12),
-                (Item::Header(CapKind::Page, 3), 0x12000, 12),
-            ],
-        },
-        Row {
-            name: "background-window: the slot of the background",
-            machine: Machine::Background,
-            l2g: 32,
-            restr: Restr::empty(),
-            address: 0xe0000,
-            kind: Kind::Load,
-            answer: fault(FaultCode::InvalidDataReference, None),
-            reads: &[],
-        },
-        Row {
-            name: "handler-of-a-walk: Range handles",
-            machine: Machine::Handler,
-            l2g: 32,
-            restr: Restr::empty(),
-            address: 0xe0000,
-            kind: Kind::Load,
-            answer: fault(
-                FaultCode::InvalidDataReference,
-                Some(Cap::plain(CapKind::Range)),
-            ),
-            reads: &[],
-        },
-        Row {
-            name: "handler-of-a-walk: NC holds it back",
-            machine: Machine::Handler,
-            l2g: 32,
-            restr: Restr::NC,
-            address: 0xe0000,
-            kind: Kind::Load,
-            answer: fault(FaultCode::InvalidDataReference, None),
-            reads: &[],
-        },
-    ];
-    for row in rows.iter() {
-        let objects = built(rt.alloc(), row.machine)?;
-        let space = object(CapKind::Gpt, 0, row.l2g, row.restr)?;
-        let mut trail = Trail::new();
-        let answer = walked::<Brand>(
-            &objects,
-            space,
-            row.address,
-            row.kind,
-            &mut trail,
-            Permit::new(&rt),
-        );
-        assert_eq!(rt; answer, row.answer, "{}", row.name);
-        assert!(rt;
-            are_reads(trail.as_slice(), row.reads),
-            "reads of {}",
-            row.name
-        );
-    }
-    Ok(())
+    check_walks::<Brand>(&rt, rt.alloc(), Permit::new(&rt))
 }

@@ -1,6 +1,6 @@
 //! Images byte by byte, worked out by hand from the tables of their fields, and where they are refused.
 use crate::rows::{barred, check, check_text};
-use coy_io::{INPUT_LIMIT, LineReader, MemSink, MemSource, Source, SureSource, WriteFault};
+use coy_io::{INPUT_LIMIT, LineReader, MemSink, MemSource, Source, SureSource};
 use image_binary::{ImageFault, ImageWord, pack, unpack};
 use listing_read::{Listing, read_listing};
 use std::alloc::Global;
@@ -134,7 +134,7 @@ fn check_cut(rt: &impl Abort, alloc: Global, len: u32, start: u32) -> Result<(),
     bytes.truncate(len as usize);
     let mut source = source_of(alloc, bytes, 5);
     let cut = Some((start, ImageWord::Cut));
-    assert_eq!(rt; refusal(alloc, &mut source)?, cut, "{len} bytes");
+    check(rt, refusal(alloc, &mut source)? == cut, "a cut image");
     Ok(())
 }
 
@@ -147,17 +147,6 @@ fn a_cut_image_is_refused_at_the_field_that_is_cut(rt: HostRuntime) -> Result<()
             check_cut(&rt, rt.alloc(), len, pair[0])?;
         }
     }
-    Ok(())
-}
-
-#[test]
-fn a_whole_image_is_read_and_refused_with_a_byte_more(rt: HostRuntime) -> Result<(), Fail> {
-    let alloc = rt.alloc();
-    let mut bytes = bytes_of(alloc, REGION)?;
-    assert!(rt; refusal(alloc, &mut source_of(alloc, bytes.clone()?, 1))?.is_none());
-    bytes.push(0)?;
-    let trailing = Some((32, ImageWord::Trailing));
-    assert!(rt; refusal(alloc, &mut source_of(alloc, bytes, 1))? == trailing);
     Ok(())
 }
 
@@ -187,13 +176,31 @@ fn judged<S: Source>(alloc: Global, source: &mut S) -> Result<String, Fail> {
     }
 }
 
+/// Reads an image in pieces of this size, and judges it.
+fn check_judged(
+    rt: &impl Abort,
+    alloc: Global,
+    image: &str,
+    piece: usize,
+    wanted: &str,
+) -> Result<(), Fail> {
+    let mut source = source_of(alloc, bytes_of(alloc, image)?, piece);
+    let told = judged(alloc, &mut source)?;
+    check_text(rt, told.as_str(), wanted, image);
+    Ok(())
+}
+
+#[test]
+fn a_whole_image_is_read_and_refused_with_a_byte_more(rt: HostRuntime) -> Result<(), Fail> {
+    check_judged(&rt, rt.alloc(), REGION, 1, "-")?;
+    let longer = format!(in rt.alloc(); "{} 00", REGION)?;
+    check_judged(&rt, rt.alloc(), longer.as_str(), 1, "32 Trailing")
+}
+
 /// Reads an image in pieces of this size, and judges it as the row says.
 fn judge(rt: &impl Abort, alloc: Global, image: &str, piece: usize, row: &str) -> Result<(), Fail> {
     let (wanted, _) = barred(rt, row);
-    let mut source = source_of(alloc, bytes_of(alloc, image)?, piece);
-    let told = judged(alloc, &mut source)?;
-    check_text(rt, told.as_str(), wanted, row);
-    Ok(())
+    check_judged(rt, alloc, image, piece, wanted)
 }
 
 #[test]
@@ -270,16 +277,21 @@ const STATEMENTS: &str = "\
 29 NoObject |0b 0000 00 02 0100 20|
 31 BadValue |0b 0000 00 01 0100 20|";
 
+/// Judges the image of the row's statement, in pieces of three sizes.
+fn judge_statement(rt: &impl Abort, alloc: Global, row: &str) -> Result<(), Fail> {
+    let (_, statement) = barred(rt, row);
+    let head = "434f59494d473032 0200 0200 0200 0200 0200 0200 01000000";
+    let image = format!(in alloc; "{head} {statement}")?;
+    for piece in [1, 7, usize::MAX] {
+        judge(rt, alloc, image.as_str(), piece, row)?;
+    }
+    Ok(())
+}
+
 #[test]
 fn a_statement_is_refused_at_its_first_fault(rt: HostRuntime) -> Result<(), Fail> {
-    let alloc = rt.alloc();
-    let head = "434f59494d473032 0200 0200 0200 0200 0200 0200 01000000";
     for row in STATEMENTS.lines() {
-        let (_, statement) = barred(&rt, row);
-        let image = format!(in alloc; "{head} {statement}")?;
-        judge(&rt, alloc, image.as_str(), 1, row)?;
-        judge(&rt, alloc, image.as_str(), 7, row)?;
-        judge(&rt, alloc, image.as_str(), usize::MAX, row)?;
+        judge_statement(&rt, rt.alloc(), row)?;
     }
     Ok(())
 }
@@ -290,10 +302,8 @@ fn check_failing(rt: &impl Abort, alloc: Global, call: u64) -> Result<(), Fail> 
     source.failing.push(call)?;
     let read = unpack(alloc, &mut source);
     let failed = matches!(read, Err(ImageFault::ReadFault));
-    assert!(rt;
-        failed == (call < 6) && read.is_ok() == (call == 6),
-        "call {call}"
-    );
+    check(rt, failed == (call < 6), "fails");
+    check(rt, read.is_ok() == (call == 6), "is read");
     Ok(())
 }
 
@@ -311,9 +321,9 @@ fn a_source_that_fails_hides_no_fault(rt: HostRuntime) -> Result<(), Fail> {
     let alloc = rt.alloc();
     let mut source = source_of(alloc, bytes_of(alloc, "434f59494d473031 0100")?, 8);
     source.failing.push(2)?;
-    let refused = Some((0, ImageWord::BadMagic));
-    assert!(rt; refusal(alloc, &mut source)? == refused);
-    assert!(rt; source.faults == 0);
+    let told = judged(alloc, &mut source)?;
+    check_text(&rt, told.as_str(), "0 BadMagic", "letters");
+    check(&rt, source.faults == 0, "no fault");
     Ok(())
 }
 
@@ -327,23 +337,28 @@ fn check_front(
 ) -> Result<(), Fail> {
     let failing = vec![in alloc; call; 1]?;
     let mut sink = MemSink::new(alloc, 64, failing, 8).ok().ok_or("memory")?;
-    assert!(rt; pack(listing, &mut sink) == Err(WriteFault), "call {call}");
+    check(rt, pack(listing, &mut sink).is_err(), "it fails");
     let taken = call.saturating_sub(1).saturating_mul(8) as usize;
-    assert!(rt;
-        image.get(..taken) == Some(sink.bytes.as_slice()),
-        "call {call}"
-    );
+    let front = image.get(..taken).unwrap_or(image);
+    check(rt, front == sink.bytes.as_slice(), "the front");
     Ok(())
+}
+
+/// The listing of the region's image.
+fn region(alloc: Global) -> Result<Listing, Fail> {
+    let mut source = source_of(alloc, bytes_of(alloc, REGION)?, 8);
+    match unpack(alloc, &mut source) {
+        Ok(listing) => Ok(listing),
+        Err(_) => Err(Fail::from("it is an image")),
+    }
 }
 
 #[test]
 fn a_sink_that_fails_has_the_front_of_the_image(rt: HostRuntime) -> Result<(), Fail> {
-    let alloc = rt.alloc();
-    let image = bytes_of(alloc, REGION)?;
-    let mut source = source_of(alloc, image.clone()?, 8);
-    let listing = unpack(alloc, &mut source).ok().ok_or("it is an image")?;
+    let image = bytes_of(rt.alloc(), REGION)?;
+    let listing = region(rt.alloc())?;
     for call in 1..5u64 {
-        check_front(&rt, alloc, &listing, image.as_slice(), call)?;
+        check_front(&rt, rt.alloc(), &listing, image.as_slice(), call)?;
     }
     Ok(())
 }
@@ -361,40 +376,52 @@ fn full_image(alloc: Global, count: u32) -> Result<Vec<u8>, Fail> {
     Ok(image)
 }
 
+/// What is read of a full image for which so many statements are announced, with so many bytes behind it: how many
+/// statements, or the fault.
+fn told_of(alloc: Global, count: u32, more: usize) -> Result<String, Fail> {
+    let mut bytes = full_image(alloc, count)?;
+    bytes.extend_from_slice(vec![in alloc; 0; more]?.as_slice())?;
+    let mut source = SureSource { bytes, at: 0 };
+    let text = match unpack(alloc, &mut source) {
+        Ok(listing) => format!(in alloc; "{}", listing.statements().len())?,
+        Err(fault) => format!(in alloc; "{fault:?}")?,
+    };
+    Ok(text)
+}
+
+/// Reads such an image.
+fn check_full(
+    rt: &impl Abort,
+    alloc: Global,
+    count: u32,
+    more: usize,
+    wanted: &str,
+) -> Result<(), Fail> {
+    let told = told_of(alloc, count, more)?;
+    check_text(rt, told.as_str(), wanted, "a full image");
+    Ok(())
+}
+
+#[test]
+fn a_full_image_has_16_777_216_bytes(rt: HostRuntime) -> Result<(), Fail> {
+    let image = full_image(rt.alloc(), 239_675)?;
+    check(&rt, image.len() == INPUT_LIMIT, "its length");
+    Ok(())
+}
+
 #[test]
 fn a_byte_behind_the_limit_is_one_too_many(rt: HostRuntime) -> Result<(), Fail> {
-    let alloc = rt.alloc();
-    let limit = INPUT_LIMIT as u32;
     // (how many statements are announced, bytes behind the full image, what is read)
     let cases = [
-        (239_675, 0, Ok(239_675)),
-        (239_675, 1, Err(ImageFault::TooLong)),
-        (239_675, 9, Err(ImageFault::TooLong)),
-        (
-            239_676,
-            0,
-            Err(ImageFault::Refused {
-                offset: limit,
-                fault: ImageWord::Cut,
-            }),
-        ),
-        (239_676, 1, Err(ImageFault::TooLong)),
-        (
-            239_674,
-            9,
-            Err(ImageFault::Refused {
-                offset: limit - 12,
-                fault: ImageWord::Trailing,
-            }),
-        ),
+        (239_675, 0, "239675"),
+        (239_675, 1, "TooLong"),
+        (239_675, 9, "TooLong"),
+        (239_676, 0, "Refused { offset: 16777216, fault: Cut }"),
+        (239_676, 1, "TooLong"),
+        (239_674, 9, "Refused { offset: 16777204, fault: Trailing }"),
     ];
-    for (count, more, read) in cases {
-        let mut bytes = full_image(alloc, count)?;
-        assert_eq!(rt; bytes.len(), INPUT_LIMIT);
-        bytes.extend_from_slice(&[0; 9][..more])?;
-        let mut source = SureSource { bytes, at: 0 };
-        let found = unpack(alloc, &mut source).map(|listing| listing.statements().len());
-        assert_eq!(rt; found, read, "{count} and {more}");
+    for (count, more, wanted) in cases {
+        check_full(&rt, rt.alloc(), count, more, wanted)?;
     }
     Ok(())
 }

@@ -684,17 +684,21 @@ impl Source for Made {
     }
 }
 
-#[test]
-fn a_listing_has_16_777_216_bytes_at_most(rt: HostRuntime) -> Result<(), Fail> {
-    for (size, long) in [(INPUT_LIMIT, false), (INPUT_LIMIT + 1, true)] {
-        let mut lines = LineReader::new();
-        let mut source = Made { size, at: 0 };
-        let answer = match read_listing(rt.alloc(), &mut lines, &mut source) {
-            Ok(_) => false,
-            Err(ListingFault::TooLong) => true,
-            Err(_) => return Err(Fail::from("a comment is refused")),
-        };
-        assert_eq!(rt; answer, long, "{size} bytes");
+/// Reads a listing of so many bytes: `-`, or the word for its fault.
+fn read_made(alloc: Global, size: usize) -> &'static str {
+    let mut lines = LineReader::new();
+    let mut source = Made { size, at: 0 };
+    match read_listing(alloc, &mut lines, &mut source) {
+        Ok(_) => "-",
+        Err(ListingFault::TooLong) => "TooLong",
+        Err(_) => "another fault",
     }
-    Ok(())
+}
+
+#[test]
+fn a_listing_has_16_777_216_bytes_at_most(rt: HostRuntime) {
+    let most = read_made(rt.alloc(), INPUT_LIMIT);
+    check_text(&rt, most, "-", "as many bytes as there may be");
+    let more = read_made(rt.alloc(), INPUT_LIMIT + 1);
+    check_text(&rt, more, "TooLong", "one more");
 }

@@ -1,9 +1,10 @@
 //! Every kind of line that is printed, written out by hand from the format.
-ghost use Rattle.std.specs.Prelude.{◌≡◌, ◌<◌, length};
+ghost use Rattle.std.specs.Prelude.{◌≡◌, ◌<◌, length, IfOk};
 ghost use Rattle.object_store.specs.Store.{size_of};
 ghost use Rattle.kernel_core.specs.Machine.{IsRecord};
 ghost use Rattle.steps.specs.Permit.{permit_for};
 
+use crate::rows::check_bytes;
 use cap_format::{Cap, CapKind, FaultCode, decode};
 use coy_io::{MemSink, put_all};
 use coy_text::LineBuf;
@@ -99,11 +100,7 @@ fn put_log(output: &mut MemSink) -> Result<(), Fail> {
     put_record(Record::Log { process: 3, bytes }, output)
 }
 
-#[test]
-fn each_kind_of_record_has_its_line(rt: HostRuntime) -> Result<(), Fail> {
-    let mut output = sink(rt.alloc())?;
-    put_accesses(&mut output)?;
-    put_faults(&mut output)?;
+fn put_insn(output: &mut MemSink) -> Result<(), Fail> {
     let insn = Insn::Add {
         rd: 6,
         rs1: 6,
@@ -114,16 +111,32 @@ fn each_kind_of_record_has_its_line(rt: HostRuntime) -> Result<(), Fail> {
         at: 16,
         insn,
     };
-    put_record(entry, &mut output)?;
-    put_message(&mut output)?;
-    put_log(&mut output)?;
+    put_record(entry, output)
+}
+
+fn put_destroy(output: &mut MemSink) -> Result<(), Fail> {
     let entry = Record::Destroy {
         kind: CapKind::CapPage,
         number: 17,
     };
-    put_record(entry, &mut output)?;
-    put_record(Record::Halt { process: 9 }, &mut output)?;
-    assert_eq!(rt; output.bytes.as_slice(), RECORDS.as_bytes());
+    put_record(entry, output)
+}
+
+fn put_records(output: &mut MemSink) -> Result<(), Fail> {
+    put_accesses(output)?;
+    put_faults(output)?;
+    put_insn(output)?;
+    put_message(output)?;
+    put_log(output)?;
+    put_destroy(output)?;
+    put_record(Record::Halt { process: 9 }, output)
+}
+
+#[test]
+fn each_kind_of_record_has_its_line(rt: HostRuntime) -> Result<(), Fail> {
+    let mut output = sink(rt.alloc())?;
+    put_records(&mut output)?;
+    check_bytes(&rt, output.bytes.as_slice(), RECORDS);
     Ok(())
 }
 
@@ -178,20 +191,39 @@ fn sleep(queues: &mut Queues, p: u16, on: u16)
 }
 
 /// Process 2 is on hart 0, 4 and 6 are ready behind each other, 7 alone, and 5 and 3 sleep on 1.
+fn start_all(queues: &mut Queues, objects: &mut Objects)
+    requires there { 7 < length queues.old.sleepers }
+    requires hart { 0 < length queues.old.harts }
+    requires sizes { length queues.old.sleepers ≡ size_of objects.old.items CapKind.Process }
+    ensures sleepers { length queues.new.sleepers ≡ length queues.old.sleepers }
+    ensures harts { length queues.new.harts ≡ length queues.old.harts }
+{
+    start(queues, objects, 4, 3);
+    start(queues, objects, 2, 6);
+    start(queues, objects, 6, 3);
+    start(queues, objects, 7, 5);
+    queues.dispatch(0);
+    sleep(queues, 5, 1);
+    sleep(queues, 3, 1);
+}
+
+/// These queues, of two harts and eight processes.
+fn standing(alloc: Global) -> Result<Queues, Fail>
+    ensures harts { IfOk result (λ queues. length queues.harts ≡ 2) }
+    ensures sleepers { IfOk result (λ queues. length queues.sleepers ≡ 8) }
+{
+    let mut objects = Objects::new(alloc, SIZES)?;
+    let mut queues = Queues::new(alloc, SIZES)?;
+    start_all(&mut queues, &mut objects);
+    Ok(queues)
+}
+
 #[test]
 fn harts_queues_and_sleepers_have_their_lines(rt: HostRuntime) -> Result<(), Fail> {
-    let mut objects = Objects::new(rt.alloc(), SIZES)?;
-    let mut queues = Queues::new(rt.alloc(), SIZES)?;
-    start(&mut queues, &mut objects, 4, 3);
-    start(&mut queues, &mut objects, 2, 6);
-    start(&mut queues, &mut objects, 6, 3);
-    start(&mut queues, &mut objects, 7, 5);
-    queues.dispatch(0);
-    sleep(&mut queues, 5, 1);
-    sleep(&mut queues, 3, 1);
+    let queues = standing(rt.alloc())?;
     let mut output = sink(rt.alloc())?;
     put_front(&queues, SIZES, true, &mut LineBuf::new(), &mut output)?;
-    assert_eq!(rt; output.bytes.as_slice(), FRONT.as_bytes());
+    check_bytes(&rt, output.bytes.as_slice(), FRONT);
     Ok(())
 }
 
@@ -340,17 +372,27 @@ fn put_all_objects<L: Ledger>(
     Ok(())
 }
 
+fn fill_all(objects: &mut Objects) -> Result<(), Fail> {
+    fill_pages(objects)?;
+    fill_gpts(objects)?;
+    fill_endpoints(objects)?;
+    fill_states(objects)?;
+    fill_processes(objects)
+}
+
+/// Objects of each kind, some of them filled.
+fn filled(alloc: Global) -> Result<Objects, Fail> {
+    let mut objects = Objects::new(alloc, SIZES)?;
+    fill_all(&mut objects)?;
+    Ok(objects)
+}
+
 #[test]
 fn each_object_that_is_not_empty_has_its_lines(rt: HostRuntime) -> Result<(), Fail> {
-    let mut objects = Objects::new(rt.alloc(), SIZES)?;
-    fill_pages(&mut objects)?;
-    fill_gpts(&mut objects)?;
-    fill_endpoints(&mut objects)?;
-    fill_states(&mut objects)?;
-    fill_processes(&mut objects)?;
+    let objects = filled(rt.alloc())?;
     let mut output = sink(rt.alloc())?;
     put_all_objects::<Brand>(&objects, &mut output, Permit::new(&rt))?;
-    assert_eq!(rt; output.bytes.as_slice(), OBJECTS.as_bytes());
+    check_bytes(&rt, output.bytes.as_slice(), OBJECTS);
     Ok(())
 }
 

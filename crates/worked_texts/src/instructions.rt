@@ -1,7 +1,7 @@
 //! Words of instructions with their texts, as the GNU assembler for RV32I wrote and read them. Operands are spelled
 //! here with spaces and plain registers.
 
-use crate::rows::hex;
+use crate::rows::{check, hex};
 use coy_text::{LineBuf, cut, read_hex};
 use rv32_asm::{AsmFault, assemble, disassemble};
 use rv32_decode::{Insn, decode, encode};
@@ -1010,51 +1010,66 @@ fn parts(row: &[u8]) -> (&[u8], &[u8]) {
     cut(row, b'|').unwrap_or((row, b"".as_slice()))
 }
 
-/// Asserts that the text assembles to the word, and that the word is an instruction printed as `printed`.
-fn check_row(rt: &impl Abort, row: &str, text: &[u8], word: &[u8], printed: &[u8]) {
-    let word = read_hex(word).expect(rt, "a word");
-    assert_eq!(rt; assemble(text), Ok(word), "{row}");
+/// The word is an instruction with this text.
+fn check_printed(rt: &impl Abort, row: &str, word: u32, printed: &[u8]) {
     let insn = decode(word).expect(rt, "an instruction");
     let mut line = LineBuf::new();
     disassemble(insn, &mut line);
-    assert_eq!(rt; line.as_bytes(), printed, "{row}");
+    check(rt, line.as_bytes() == printed, row);
+}
+
+/// The text assembles to the word, and the word is an instruction printed as `printed`.
+fn check_row(rt: &impl Abort, row: &str, text: &[u8], word: &[u8], printed: &[u8]) {
+    let word = read_hex(word).expect(rt, "a word");
+    check(rt, assemble(text) == Ok(word), row);
+    check_printed(rt, row, word, printed);
+}
+
+/// The same of a row with a word and its text.
+fn check_instruction(rt: &impl Abort, row: &str) {
+    let (word, text) = parts(row.as_bytes());
+    check_row(rt, row, text, word, text);
+}
+
+/// The same of a row with a text, its word and how that is printed.
+fn check_spelling(rt: &impl Abort, row: &str) {
+    let (text, rest) = parts(row.as_bytes());
+    let (word, printed) = parts(rest);
+    check_row(rt, row, text, word, printed);
 }
 
 #[test]
 fn instructions_have_their_words_and_texts(rt: HostRuntime) {
     for row in INSTRUCTIONS.lines() {
-        let (word, text) = parts(row.as_bytes());
-        check_row(&rt, row, text, word, text);
+        check_instruction(&rt, row);
     }
     for row in SPELLINGS.lines() {
-        let (text, rest) = parts(row.as_bytes());
-        let (word, printed) = parts(rest);
-        check_row(&rt, row, text, word, printed);
+        check_spelling(&rt, row);
     }
+}
+
+/// The line is refused for this.
+fn check_refused(rt: &impl Abort, text: &str, fault: AsmFault) {
+    check(rt, assemble(text.as_bytes()) == Err(fault), text);
 }
 
 #[test]
 fn other_lines_are_refused(rt: HostRuntime) {
     for text in BAD_MNEMONICS.lines() {
-        let word = assemble(text.as_bytes());
-        assert_eq!(rt; word, Err(AsmFault::BadMnemonic), "{text}");
+        check_refused(&rt, text, AsmFault::BadMnemonic);
     }
     for text in BAD_OPERANDS.lines() {
-        let word = assemble(text.as_bytes());
-        assert_eq!(rt; word, Err(AsmFault::BadOperand), "{text}");
+        check_refused(&rt, text, AsmFault::BadOperand);
     }
 }
 
 #[test]
 fn other_words_are_illegal_and_each_of_fence_is_fence(rt: HostRuntime) {
     for row in ILLEGAL.lines() {
-        assert!(rt; decode(hex(&rt, row, 0)).is_err(), "{row}");
+        check(&rt, decode(hex(&rt, row, 0)).is_err(), row);
     }
     for row in FENCES.lines() {
-        assert!(rt;
-            matches!(decode(hex(&rt, row, 0)), Ok(Insn::Fence)),
-            "{row}"
-        );
+        check(&rt, decode(hex(&rt, row, 0)) == Ok(Insn::Fence), row);
     }
-    assert_eq!(rt; encode(Insn::Fence), 0x0ff0_000f);
+    check(&rt, encode(Insn::Fence) == 0x0ff0_000f, "fence");
 }
