@@ -70,64 +70,65 @@ fn words_ask_for_what_their_form_says(rt: HostRuntime) -> Result<(), Fail> {
     Ok(())
 }
 
+/// Lines whose words are of no form. The second one has no word.
+const OTHERS: &str = "\
+|
+
+|help
+|help|run
+|-h
+|--help|run
+|run|--help
+|--version
+|--
+|run|--
+|--|run
+|tr
+|Run
+|run\x20
+|run|run
+|packs
+|pack|0
+|unpack|
+|migrate|2
+|confine|--
+|walk
+|walk|0
+|walk|0|load
+|walk|0|load|0|0
+|walk|256|load|0
+|walk|x|load|0
+|walk|0|loads|0
+|walk|0|load|g
+|walk|0|load|100000000
+|walk|load|0|0
+|walk|--|0|load|0
+|make
+|make|4294967296
+|make|-7
+|make|+7
+|make|--|7
+|make|7|verbose
+|make|7|summaryx
+|make|summary
+|make|7|summary|7
+|make|7|
+|share|--
+|share|1
+|back
+|back|
+|back|x
+|back|-1
+|back|+1
+|back|--|1
+|back|4294967296
+|back|00000000001
+|back|1|1
+|backs|1";
+
 #[test]
 fn all_other_words_are_of_no_form(rt: HostRuntime) -> Result<(), Fail> {
-    let lines = [
-        "",
-        "|",
-        "|help",
-        "|help|run",
-        "|-h",
-        "|--help|run",
-        "|run|--help",
-        "|--version",
-        "|--",
-        "|run|--",
-        "|--|run",
-        "|tr",
-        "|Run",
-        "|run ",
-        "|run|run",
-        "|packs",
-        "|pack|0",
-        "|unpack|",
-        "|migrate|2",
-        "|confine|--",
-        "|walk",
-        "|walk|0",
-        "|walk|0|load",
-        "|walk|0|load|0|0",
-        "|walk|256|load|0",
-        "|walk|x|load|0",
-        "|walk|0|loads|0",
-        "|walk|0|load|g",
-        "|walk|0|load|100000000",
-        "|walk|load|0|0",
-        "|walk|--|0|load|0",
-        "|make",
-        "|make|4294967296",
-        "|make|-7",
-        "|make|+7",
-        "|make|--|7",
-        "|make|7|verbose",
-        "|make|7|summaryx",
-        "|make|summary",
-        "|make|7|summary|7",
-        "|make|7|",
-        "|share|--",
-        "|share|1",
-        "|back",
-        "|back|",
-        "|back|x",
-        "|back|-1",
-        "|back|+1",
-        "|back|--|1",
-        "|back|4294967296",
-        "|back|00000000001",
-        "|back|1|1",
-        "|backs|1",
-    ];
-    for line in lines {
+    for line in OTHERS.lines() {
         check_asked(&rt, rt.alloc(), line, "-")?;
     }
     Ok(())

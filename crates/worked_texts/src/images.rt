@@ -1,6 +1,7 @@
 //! Images byte by byte, worked out by hand from the tables of their fields, and where they are refused.
 use crate::rows::{barred, check, check_text};
 use coy_io::{INPUT_LIMIT, LineReader, MemSink, MemSource, Source, SureSource};
+use coy_text::read_hex;
 use image_binary::{ImageFault, ImageWord, pack, unpack};
 use listing_read::{Listing, read_listing};
 use std::alloc::Global;
@@ -10,19 +11,9 @@ use std::test::Fail;
 /// Digits of bytes, with spaces where they help to read.
 fn bytes_of(alloc: Global, text: &str) -> Result<Vec<u8>, Fail> {
     let mut bytes = Vec::new(alloc);
-    let mut high = None;
-    for digit in text.bytes() {
-        let value = match digit {
-            b'0'..=b'9' => digit - b'0',
-            b'a'..=b'f' => digit - b'a' + 10,
-            _ => continue,
-        };
-        match high {
-            None => high = Some(value),
-            Some(first) => {
-                bytes.push(value.wrapping_add(16u8.wrapping_mul(first)))?;
-                high = None;
-            }
+    for word in text.split(' ') {
+        for digits in word.as_bytes().chunks(2) {
+            bytes.push(read_hex(digits)? as u8)?;
         }
     }
     Ok(bytes)
@@ -363,16 +354,21 @@ fn a_sink_that_fails_has_the_front_of_the_image(rt: HostRuntime) -> Result<(), F
     Ok(())
 }
 
+/// Statements of a page with 64 bytes each, 239,674 of them.
+fn push_pages(image: &mut Vec<u8>) -> Result<(), Fail> {
+    for _ in 0..239_674u32 {
+        image.extend_from_slice(b"\x01\0\0\0\0\x40")?;
+        image.extend_from_slice(&[7; 64])?;
+    }
+    Ok(())
+}
+
 /// An image that goes up to the last byte that is read: pages of 64 bytes, and one of 6.
 fn full_image(alloc: Global, count: u32) -> Result<Vec<u8>, Fail> {
     let mut image = bytes_of(alloc, "434f59494d473032 0100 0100 0000 0000 0000 0000")?;
     image.extend_from_slice(&count.to_le_bytes())?;
-    let mut page = bytes_of(alloc, "01 0000 0000 40")?;
-    page.extend_from_slice(&[7; 64])?;
-    for _ in 0..239_674u32 {
-        image.extend_from_slice(page.as_slice())?;
-    }
-    image.extend_from_slice(bytes_of(alloc, "01 0000 0000 06 000102030405")?.as_slice())?;
+    push_pages(&mut image)?;
+    image.extend_from_slice(b"\x01\0\0\0\0\x06\x00\x01\x02\x03\x04\x05")?;
     Ok(image)
 }
 
