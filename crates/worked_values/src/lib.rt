@@ -1,25 +1,18 @@
-//! Values that were worked out by hand, or by another program, against the public calls of the crates below.
+//! Values that were worked out by hand against the public calls of the crates that change objects and queues: requests,
+//! messages, faults and strings.
 //!
 //! It has tests alone: those crates are proved once without them, and the tests are proved here. A row of a table
-//! is a line of text, whose numbers are hexadecimal.
+//! is a line of text, whose numbers are hexadecimal. Texts are tried in `worked_texts`, walks in `worked_walks`.
 #![tactic(auto)]
 
 #[cfg(test)]
-mod cached;
-#[cfg(test)]
-mod caches;
-#[cfg(test)]
 mod control_rows;
-#[cfg(test)]
-mod cuts;
 #[cfg(test)]
 mod deliveries;
 #[cfg(test)]
 mod faults;
 #[cfg(test)]
 mod invocations;
-#[cfg(test)]
-mod mappings;
 #[cfg(test)]
 mod meetings;
 #[cfg(test)]
@@ -33,16 +26,4 @@ mod rows;
 #[cfg(test)]
 mod running;
 #[cfg(test)]
-mod shared;
-#[cfg(test)]
-mod shared_tables;
-#[cfg(test)]
-mod sharings;
-#[cfg(test)]
-mod starts;
-#[cfg(test)]
 mod strings;
-#[cfg(test)]
-mod undoing;
-#[cfg(test)]
-mod walks;

@@ -29,20 +29,9 @@ pub fn number(rt: &impl Abort, row: &str, n: usize) -> Option<u32> {
     Some(hex(rt, row, n))
 }
 
-/// What stands in front of the row's bars, and the text in them.
-pub fn barred<'a>(rt: &impl Abort, row: &'a str) -> (&'a str, &'a str) {
-    let (front, rest) = row.split_once(" |").expect(rt, "a bar");
-    (front, rest.strip_suffix("|").expect(rt, "a bar at the end"))
-}
-
 /// Fails with the row, where what it says doesn't hold.
 pub fn check(rt: &impl Abort, holds: bool, row: &str) {
     assert!(rt; holds, "{row}");
-}
-
-/// Fails with the row, where another text was told than it wants.
-pub fn check_text(rt: &impl Abort, told: &str, wanted: &str, row: &str) {
-    assert_eq!(rt; told, wanted, "{row}");
 }
 
 /// Fails with the row, where another number was told than it wants, or one where it wants none.

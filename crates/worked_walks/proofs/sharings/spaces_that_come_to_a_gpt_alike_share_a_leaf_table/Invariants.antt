@@ -1,4 +1,4 @@
-use Rattle.worked_values.proofs.mappings.frames_go_to_spaces_and_regions_until_there_is_none.Given as goal
+use Rattle.worked_walks.proofs.sharings.spaces_that_come_to_a_gpt_alike_share_a_leaf_table.Given as goal
 
 abbrev pub ghosts-perform_all : goal.ghosts-perform_all
 ghosts-perform_all g a = record { name = a.permit.name; parts = a.permit.parts }
