@@ -13,7 +13,7 @@ fn bytes_of(alloc: Global, text: &str) -> Result<Vec<u8>, Fail> {
     let mut bytes = Vec::new(alloc);
     for word in text.split(' ') {
         for digits in word.as_bytes().chunks(2) {
-            bytes.push(read_hex(digits)? as u8)?;
+            bytes.push((read_hex(digits)? % 256) as u8)?;
         }
     }
     Ok(bytes)
