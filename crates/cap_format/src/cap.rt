@@ -13,11 +13,11 @@ use bitflags::Flags;
 use std::marker::Model;
 
 /// An offset that is no multiple of `2^l2g` of its guard.
-#[derive(Clone, Copy, Debug, PartialEq, Eq)]
+#[derive(Clone, Copy, Debug)]
 pub struct Misaligned;
 
 /// A capability. Fields that its kind does not use are 0, and an unused guard is 12/0.
-#[derive(Clone, Copy, Debug, PartialEq, Eq)]
+#[derive(Clone, Copy, PartialEq, Eq)]
 pub struct Cap {
     kind: CapKind,
     restr: Restr,

@@ -8,11 +8,11 @@ use crate::kind::CapKind;
 use std::marker::Model;
 
 /// A guard out of range: `l2g` is not from 12 to 32, or `matches` not below `2^(32 - l2g)`.
-#[derive(Clone, Copy, Debug, PartialEq, Eq)]
+#[derive(Clone, Copy, Debug)]
 pub struct BadGuard;
 
 /// An address passes where its bits from `l2g` on are `matches`. The lower bits go on.
-#[derive(Clone, Copy, Debug, PartialEq, Eq)]
+#[derive(Clone, Copy, PartialEq, Eq)]
 pub struct Guard {
     l2g: u8,
     matches: u32,

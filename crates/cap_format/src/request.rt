@@ -5,7 +5,7 @@ use crate::code::Code;
 use crate::item::Item;
 
 /// What is asked of a capability that the kernel answers.
-#[derive(Clone, Copy, Debug, PartialEq, Eq)]
+#[derive(Clone, Copy)]
 pub struct Request {
     /// The words w1 to w4. The first is the request's number.
     pub words: [u32; 4],
@@ -14,7 +14,7 @@ pub struct Request {
 }
 
 /// What the kernel answers.
-#[derive(Clone, Copy, Debug, PartialEq, Eq)]
+#[derive(Clone, Copy, PartialEq, Eq)]
 pub struct Reply {
     pub code: Code,
     /// The words w2 to w4.

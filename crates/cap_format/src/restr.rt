@@ -9,7 +9,7 @@ use bitflags::{Flag, Flags, bitflag_items};
 /// loaded through it, OP refuses requests that look into a GPT, NC keeps a walk from using fault handlers.
 ///
 /// A capability keeps that no other bit is set; the set alone does not.
-#[derive(Clone, Copy, PartialEq, Eq, Debug)]
+#[derive(Clone, Copy, PartialEq, Eq)]
 pub struct Restr(u8);
 
 bitflag_items! {

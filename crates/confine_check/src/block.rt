@@ -2,7 +2,7 @@
 use cap_format::CapKind;
 
 /// Objects `from` to `to` of a kind, both of them included.
-#[derive(Clone, Copy, Debug, PartialEq, Eq)]
+#[derive(Clone, Copy)]
 pub struct Block {
     pub kind: CapKind,
     pub from: u16,

@@ -1,7 +1,7 @@
 //! What can be wrong with a line of a cut.
 
 /// What is wrong with a line of a cut. Where several hold, the first of the line counts.
-#[derive(Clone, Copy, Debug, PartialEq, Eq)]
+#[derive(Clone, Copy, Debug)]
 pub enum CutFault {
     /// The line has more than 512 bytes.
     LineTooLong,

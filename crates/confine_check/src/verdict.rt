@@ -2,7 +2,7 @@
 use cap_format::{Cap, CapKind};
 
 /// Whether a cut holds, or the first that breaks it.
-#[derive(Clone, Copy, Debug, PartialEq, Eq)]
+#[derive(Clone, Copy)]
 pub enum Verdict {
     /// The cut holds.
     Yes,

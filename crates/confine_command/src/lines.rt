@@ -10,7 +10,7 @@ use confine_check::{Cut, CutFault, read_cut};
 use coy_io::{LineFault, LineReader, Source};
 
 /// Why there is no further line.
-#[derive(Clone, Copy, Debug, PartialEq, Eq)]
+#[derive(Clone, Copy)]
 pub enum CutStop {
     /// There is none.
     End,

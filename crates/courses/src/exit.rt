@@ -7,7 +7,7 @@ use image_binary::ImageWord;
 use listing_read::{Fault, ScheduleFault};
 
 /// How the program ends.
-#[derive(Clone, Copy, Debug, PartialEq, Eq)]
+#[derive(Clone, Copy)]
 pub enum Exit {
     /// All was done.
     Done,

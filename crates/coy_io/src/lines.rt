@@ -14,7 +14,7 @@ use std::marker::Model;
 use thiserror::Error;
 
 /// Why no further line is given.
-#[derive(Clone, Copy, Debug, PartialEq, Eq, Error)]
+#[derive(Clone, Copy, Debug, Error)]
 pub enum LineFault {
     /// The source failed.
     #[error("the input could not be read")]

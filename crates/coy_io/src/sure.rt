@@ -42,7 +42,7 @@ impl Source for SureSource {
 }
 
 /// A sink that takes every piece whole and drops it.
-#[derive(Clone, Copy, Debug, PartialEq, Eq)]
+#[derive(Clone, Copy)]
 pub struct SureSink;
 
 impl Sink for SureSink {

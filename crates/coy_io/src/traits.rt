@@ -7,7 +7,7 @@ ghost use Rattle.coy_io.specs.Pieces.{moved, CountsCall};
 use thiserror::Error;
 
 /// A source or a sink moved nothing, and counted a fault.
-#[derive(Clone, Copy, Debug, PartialEq, Eq, Error)]
+#[derive(Clone, Copy, Debug, Error)]
 #[error("input or output failed")]
 pub struct Failed;
 

@@ -8,7 +8,7 @@ use crate::{Failed, Sink};
 use thiserror::Error;
 
 /// The sink failed before it had taken all.
-#[derive(Clone, Copy, Debug, PartialEq, Eq, Error)]
+#[derive(Clone, Copy, Debug, Error)]
 #[error("the output could not be written")]
 pub struct WriteFault;
 

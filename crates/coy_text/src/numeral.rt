@@ -6,7 +6,7 @@ ghost use Rattle.coy_text.specs.Numeral.{dec_digit, hex_digit, dec_of, hex_of, h
 use thiserror::Error;
 
 /// The word is no number of the wanted form.
-#[derive(Clone, Copy, Debug, PartialEq, Eq, Error)]
+#[derive(Clone, Copy, Debug, Error)]
 #[error("no number")]
 pub struct BadNumber;
 

@@ -2,7 +2,7 @@
 use walk_meaning::Kind;
 
 /// What the program is asked to do.
-#[derive(Clone, Copy, Debug, PartialEq, Eq)]
+#[derive(Clone, Copy, Debug)]
 pub enum Command {
     /// Write how the program is used.
     Help,

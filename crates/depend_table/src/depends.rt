@@ -18,7 +18,7 @@ use std::marker::Model;
 pub const RECORDS: usize = 16_384;
 
 /// A record more was to be noted where all places are taken.
-#[derive(Clone, Copy, Debug, PartialEq, Eq)]
+#[derive(Clone, Copy, Debug)]
 pub struct Full;
 
 /// Records of an item, a root and a block of addresses: on the way to a page of the block under the

@@ -4,7 +4,7 @@ ghost use Rattle.std.specs.Prelude.{◌≡◌};
 use cap_format::Cap;
 
 /// Where the entries that name it lead.
-#[derive(Clone, Copy, Debug, PartialEq, Eq)]
+#[derive(Clone, Copy)]
 pub struct Endpoint {
     /// A capability to the process that answers, or Null.
     pub recipient: Cap,

@@ -1,7 +1,7 @@
 //! What a fault comes to.
 
 /// What became of a process that faulted.
-#[derive(Clone, Copy, Debug, PartialEq, Eq)]
+#[derive(Clone, Copy)]
 pub enum Outcome {
     /// It is faulted, and this process was told.
     Delivered(u16),

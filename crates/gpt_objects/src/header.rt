@@ -5,7 +5,7 @@ ghost use Rattle.gpt_objects.specs.Header.{header_of, empty_header, IsHeader};
 use std::marker::Model;
 
 /// What a GPT says of its slots. Slots 14 and 15 are ordinary ones where the flag for them is not set.
-#[derive(Clone, Copy, Debug, PartialEq, Eq)]
+#[derive(Clone, Copy)]
 pub struct GptHeader {
     l2v: u8,
     ha: bool,

@@ -7,7 +7,7 @@ use crate::size::size;
 use std::marker::Model;
 
 /// An aligned range of `2^l2` addresses, at least a page and at most the whole space.
-#[derive(Clone, Copy, Debug, PartialEq, Eq)]
+#[derive(Clone, Copy, PartialEq, Eq)]
 pub struct Block {
     base: u32,
     l2: u8,

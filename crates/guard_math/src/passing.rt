@@ -8,7 +8,7 @@ use crate::size::size;
 use cap_format::Guard;
 
 /// An address that does not pass a guard.
-#[derive(Clone, Copy, Debug, PartialEq, Eq)]
+#[derive(Clone, Copy, Debug)]
 pub struct Miss;
 
 /// What of an address goes on behind a guard.

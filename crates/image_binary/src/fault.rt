@@ -26,7 +26,7 @@ pub enum ImageWord {
 }
 
 /// Why there is no listing.
-#[derive(Clone, Copy, Debug, PartialEq, Eq)]
+#[derive(Clone, Copy, Debug)]
 pub enum ImageFault {
     /// The first fault from the left, and the offset of its field's first byte in the image.
     Refused { offset: u32, fault: ImageWord },

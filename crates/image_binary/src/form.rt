@@ -10,7 +10,7 @@ use crate::stop::Stop;
 use listing_read::Statement;
 
 /// A form of statements, named as in a listing.
-#[derive(Clone, Copy, Debug, PartialEq, Eq)]
+#[derive(Clone, Copy)]
 pub enum Form {
     Page,
     Code,

@@ -10,7 +10,7 @@ use crate::values::magic;
 use object_store::Sizes;
 
 /// The sizes of a machine, and how many statements follow.
-#[derive(Clone, Copy, Debug, PartialEq, Eq)]
+#[derive(Clone, Copy)]
 pub struct Head {
     pub sizes: Sizes,
     pub count: u32,

@@ -16,7 +16,7 @@ use std::marker::Model;
 pub const WINDOW: usize = 4096;
 
 /// What a source gave when it was asked for more.
-#[derive(Clone, Copy, Debug, PartialEq, Eq)]
+#[derive(Clone, Copy)]
 pub enum Supply {
     /// At least one byte.
     Bytes,

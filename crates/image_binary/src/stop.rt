@@ -2,7 +2,7 @@
 use crate::fault::ImageWord;
 
 /// Why the bytes that are there give no value, by how many of them stand from the field's first on.
-#[derive(Clone, Copy, Debug, PartialEq, Eq)]
+#[derive(Clone, Copy)]
 pub enum Stop {
     /// They end before the last byte of the field.
     Short { left: usize },

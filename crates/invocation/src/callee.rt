@@ -2,7 +2,7 @@
 use cap_format::Cap;
 
 /// Who answers an invocation.
-#[derive(Clone, Copy, Debug, PartialEq, Eq)]
+#[derive(Clone, Copy, PartialEq, Eq)]
 pub enum Callee {
     /// The kernel itself, asked through this capability, which is live or names no object.
     Kernel(Cap),

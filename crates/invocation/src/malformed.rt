@@ -1,5 +1,5 @@
 //! That a system call is malformed.
 
 /// The registers are no invocation.
-#[derive(Clone, Copy, Debug, PartialEq, Eq)]
+#[derive(Clone, Copy, Debug)]
 pub struct MalformedSyscall;

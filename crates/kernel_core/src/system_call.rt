@@ -3,7 +3,7 @@ ghost use Rattle.std.specs.Prelude.{◌≡◌};
 ghost use Rattle.kernel_core.specs.SystemCall.{call_with};
 
 /// What a process asks of the kernel with ECALL.
-#[derive(Clone, Copy, Debug, PartialEq, Eq)]
+#[derive(Clone, Copy)]
 pub enum SystemCall {
     /// 0: the phases of a message, or an operation of the kernel.
     Invoke,

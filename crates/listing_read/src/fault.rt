@@ -3,7 +3,7 @@
 use std::alloc::{AllocError, AllocFailed};
 
 /// What is wrong with a line of a listing. Where several hold, the first of the line counts.
-#[derive(Clone, Copy, Debug, PartialEq, Eq)]
+#[derive(Clone, Copy, Debug)]
 pub enum Fault {
     /// The line has more than 512 bytes.
     LineTooLong,
@@ -42,7 +42,7 @@ pub enum Fault {
 }
 
 /// What is wrong with a line of a schedule. Where several hold, the first of the line counts.
-#[derive(Clone, Copy, Debug, PartialEq, Eq)]
+#[derive(Clone, Copy, Debug)]
 pub enum ScheduleFault {
     /// The line has more than 512 bytes.
     LineTooLong,
@@ -63,7 +63,7 @@ pub enum ScheduleFault {
 }
 
 /// Why there is no listing.
-#[derive(Clone, Copy, Debug, PartialEq, Eq)]
+#[derive(Clone, Copy, Debug)]
 pub enum ListingFault {
     /// The first fault, and the number of its line. At the end of the input the line is the one behind the last.
     Refused { line: u32, fault: Fault },

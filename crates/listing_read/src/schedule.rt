@@ -11,7 +11,7 @@ use coy_io::LINE_LIMIT;
 use coy_text::{read_dec, word, word_count};
 
 /// What a line of a schedule asks for.
-#[derive(Clone, Copy, Debug, PartialEq, Eq)]
+#[derive(Clone, Copy)]
 pub enum Timed {
     /// So many steps of one hart.
     Step { hart: u8, times: u32 },

@@ -8,7 +8,7 @@ use cap_format::CapKind;
 use object_store::Sizes;
 
 /// The version of a listing, as its first line says it.
-#[derive(Clone, Copy, Debug, PartialEq, Eq)]
+#[derive(Clone, Copy)]
 pub enum Version {
     /// `coyotos 1`.
     One,

@@ -1,7 +1,7 @@
 //! What happens to a machine.
 
 /// One atomic step of a machine.
-#[derive(Clone, Copy, Debug, PartialEq, Eq)]
+#[derive(Clone, Copy)]
 pub enum Event {
     /// The hart performs one instruction, if it has or gets a process.
     Step(u8),

@@ -7,7 +7,7 @@ use cap_format::CapKind;
 use std::marker::Model;
 
 /// An object that has a copy.
-#[derive(Clone, Copy, Debug, PartialEq, Eq)]
+#[derive(Clone, Copy)]
 pub struct Place {
     /// Its kind.
     pub kind: CapKind,

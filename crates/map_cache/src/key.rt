@@ -6,7 +6,7 @@ ghost use Rattle.map_cache.specs.Key.{no_key, root_key, same_key, same_space};
 use cap_format::Cap;
 
 /// What takes a frame: a space, for its root, or a region of 1,024 pages of a space.
-#[derive(Clone, Copy, Debug, PartialEq, Eq)]
+#[derive(Clone, Copy)]
 pub struct Key {
     /// The space: a capability with its count.
     pub space: Cap,

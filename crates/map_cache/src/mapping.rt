@@ -8,7 +8,7 @@ use cap_format::Cap;
 use sv32_tables::{Leaf, TablePool};
 
 /// One entry of the tables: where a page of a space lies, and what may be done there. It may be read.
-#[derive(Clone, Copy, Debug, PartialEq, Eq)]
+#[derive(Clone, Copy)]
 pub struct Mapping {
     /// A capability with its count.
     pub space: Cap,
@@ -23,7 +23,7 @@ pub struct Mapping {
 }
 
 /// Where a listing of the entries goes on.
-#[derive(Clone, Copy, Debug, PartialEq, Eq)]
+#[derive(Clone, Copy)]
 pub struct MappingPlace {
     /// The number of a frame.
     pub frame: u16,

@@ -2,7 +2,7 @@
 use walk_meaning::WalkFault;
 
 /// The first access to a string that faults.
-#[derive(Clone, Copy, Debug, PartialEq, Eq)]
+#[derive(Clone, Copy)]
 pub struct StringFault {
     /// Of the first byte of the span that was accessed.
     pub address: u32,

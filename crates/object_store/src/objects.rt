@@ -24,7 +24,7 @@ use std::alloc::Global;
 use std::marker::Model;
 
 /// There is no such object.
-#[derive(Clone, Copy, Debug, PartialEq, Eq)]
+#[derive(Clone, Copy, Debug)]
 pub struct NoObject;
 
 /// All objects of a machine.

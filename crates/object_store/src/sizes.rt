@@ -1,7 +1,7 @@
 //! How large a machine is.
 
 /// How many harts there are, and how many objects of each kind.
-#[derive(Clone, Copy, Debug, PartialEq, Eq)]
+#[derive(Clone, Copy)]
 pub struct Sizes {
     /// 1 to 8.
     pub harts: u8,

@@ -6,7 +6,7 @@ use crate::wait::Wait;
 use std::marker::Model;
 
 /// What a receiver waits for, and where a message goes that reaches it.
-#[derive(Clone, Copy, Debug, PartialEq, Eq)]
+#[derive(Clone, Copy)]
 pub struct Accept {
     wait: Wait,
     caps: u8,

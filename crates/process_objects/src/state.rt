@@ -3,7 +3,7 @@ use crate::accept::Accept;
 use cap_format::FaultCode;
 
 /// Whether a process runs, and if not, for what it waits.
-#[derive(Clone, Copy, Debug, PartialEq, Eq)]
+#[derive(Clone, Copy)]
 pub enum State {
     Running,
     Receiving(Accept),

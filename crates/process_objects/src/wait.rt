@@ -1,7 +1,7 @@
 //! For whom a receiver waits.
 
 /// Which endpoints may reach a receiver.
-#[derive(Clone, Copy, Debug, PartialEq, Eq)]
+#[derive(Clone, Copy, PartialEq, Eq)]
 pub enum Wait {
     /// All of them.
     Open,

@@ -2,7 +2,7 @@ use cap_format::Restr;
 
 /// The GPT at which a walk joins those of other spaces, with all that decides how it goes on from there: the key of
 /// a leaf table that serves them.
-#[derive(Clone, Copy, Debug, PartialEq, Eq)]
+#[derive(Clone, Copy, PartialEq, Eq)]
 pub struct Producer {
     /// The GPT's number.
     pub gpt: u16,
@@ -19,7 +19,7 @@ pub struct Producer {
 }
 
 /// A background GPT.
-#[derive(Clone, Copy, Debug, PartialEq, Eq)]
+#[derive(Clone, Copy, PartialEq, Eq)]
 pub struct Background {
     /// Its number.
     pub gpt: u16,
@@ -28,7 +28,7 @@ pub struct Background {
 }
 
 /// Where a walk joined others.
-#[derive(Clone, Copy, Debug, PartialEq, Eq)]
+#[derive(Clone, Copy)]
 pub struct Produced {
     /// The last GPT at which it did.
     pub producer: Producer,

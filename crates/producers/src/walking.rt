@@ -22,7 +22,7 @@ use walk_engine::{Trail, note_header, note_slot, read_next, start_at, step, told
 use walk_meaning::{At, Kind, Place, Step, WalkFault};
 
 /// Where a walk ended, and where it joined others.
-#[derive(Clone, Copy, Debug, PartialEq, Eq)]
+#[derive(Clone, Copy)]
 pub struct Walked {
     /// Where it ended.
     pub place: Place,

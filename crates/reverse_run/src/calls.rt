@@ -2,7 +2,7 @@
 use machine_state::Event;
 
 /// A call.
-#[derive(Clone, Copy, Debug, PartialEq, Eq)]
+#[derive(Clone, Copy)]
 pub enum Call {
     /// An event is performed.
     Perform(Event),

@@ -7,7 +7,7 @@
 /// `sh` is a shift from 0 to 31. `off` is an even distance in bytes from the instruction itself,
 /// from -4096 to 4094 in a branch and from -1048576 to 1048574 in `Jal`. `InRange` of this crate's
 /// definitions says all of this.
-#[derive(Clone, Copy, PartialEq, Eq)]
+#[derive(Clone, Copy)]
 pub enum Insn {
     /// `rd = rs1 + rs2`.
     Add { rd: u8, rs1: u8, rs2: u8 },

@@ -1,7 +1,7 @@
 //! What an instruction asks of the machine around it.
 
 /// What is left to be done for an instruction once its registers are written.
-#[derive(Clone, Copy, Debug, PartialEq, Eq)]
+#[derive(Clone, Copy)]
 pub enum Effect {
     /// Nothing: the pc of the next instruction.
     Next(u32),

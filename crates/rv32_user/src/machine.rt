@@ -12,7 +12,7 @@ use crate::word::{extended, is_aligned, next, write};
 use rv32_decode::Insn;
 
 /// What an instruction comes to, with nothing written yet.
-#[derive(Clone, Copy, Debug, PartialEq, Eq)]
+#[derive(Clone, Copy)]
 pub struct Outcome {
     /// The register that is to be written, or 0 where none is.
     pub rd: u8,

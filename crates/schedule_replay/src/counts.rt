@@ -5,7 +5,7 @@ ghost use Rattle.schedule_replay.specs.Counts.{and_more, events_alone, AreAtMost
 use kernel_core::Record;
 
 /// How many events there were, and how many records of four kinds.
-#[derive(Clone, Copy, Debug, PartialEq, Eq)]
+#[derive(Clone, Copy)]
 pub struct Counts {
     pub events: u64,
     /// Messages that were delivered.

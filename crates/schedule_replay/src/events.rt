@@ -9,7 +9,7 @@ use kernel_core::Event;
 use listing_read::Timed;
 
 /// The events that are left of a line.
-#[derive(Clone, Copy, Debug, PartialEq, Eq)]
+#[derive(Clone, Copy)]
 pub enum Events {
     /// So many steps of a hart.
     StepsLeft { hart: u8, times: u32 },

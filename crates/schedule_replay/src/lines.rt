@@ -11,7 +11,7 @@ use coy_io::{LineFault, LineReader, Source};
 use listing_read::{ScheduleFault, Timed, read_event};
 
 /// Why there is no further line.
-#[derive(Clone, Copy, Debug, PartialEq, Eq)]
+#[derive(Clone, Copy)]
 pub enum Stop {
     /// There is none.
     End,

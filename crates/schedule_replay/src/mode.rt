@@ -1,7 +1,7 @@
 //! What is written of a run.
 
 /// Which records are written.
-#[derive(Clone, Copy, Debug, PartialEq, Eq)]
+#[derive(Clone, Copy)]
 pub enum Mode {
     /// None.
     Silent,

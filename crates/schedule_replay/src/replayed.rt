@@ -3,7 +3,7 @@ use crate::counts::Counts;
 use listing_read::ScheduleFault;
 
 /// How a replay ends.
-#[derive(Clone, Copy, Debug, PartialEq, Eq)]
+#[derive(Clone, Copy)]
 pub enum Replayed {
     /// All lines were read, and all their events run.
     Ended(Counts),

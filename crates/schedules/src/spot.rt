@@ -1,5 +1,5 @@
 /// Where a process stands.
-#[derive(Clone, Copy, Debug, PartialEq, Eq)]
+#[derive(Clone, Copy, PartialEq, Eq)]
 pub enum Spot {
     /// In no place: it waits for a message, or it has faulted.
     Nowhere,

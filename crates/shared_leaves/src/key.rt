@@ -7,7 +7,7 @@ use cap_format::Cap;
 use producers::Producer;
 
 /// What a frame is for.
-#[derive(Clone, Copy, Debug, PartialEq, Eq)]
+#[derive(Clone, Copy, PartialEq, Eq)]
 pub enum Table {
     /// It is the root of the key's space.
     Root,
@@ -18,7 +18,7 @@ pub enum Table {
 }
 
 /// What takes a frame.
-#[derive(Clone, Copy, Debug, PartialEq, Eq)]
+#[derive(Clone, Copy, PartialEq, Eq)]
 pub struct Key {
     /// The space: a capability with its count.
     pub space: Cap,

@@ -1,7 +1,7 @@
 //! A piece of a page.
 
 /// The bytes of a page in which a span of addresses lies.
-#[derive(Clone, Copy, Debug, PartialEq, Eq)]
+#[derive(Clone, Copy)]
 pub struct Piece {
     /// The page's number.
     pub page: u16,

@@ -1,7 +1,7 @@
 //! A span of addresses.
 
 /// A part of a string that lies in one page of addresses.
-#[derive(Clone, Copy, Debug, PartialEq, Eq)]
+#[derive(Clone, Copy)]
 pub struct Span {
     /// Of the first byte.
     pub address: u32,

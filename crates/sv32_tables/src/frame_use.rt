@@ -1,5 +1,5 @@
 /// What a frame in use is for. The default is no more than a blank.
-#[derive(Clone, Copy, Debug, Default, PartialEq, Eq)]
+#[derive(Clone, Copy, Default)]
 pub enum FrameUse {
     /// It is a root: its words lead to the frames of its regions.
     #[default]

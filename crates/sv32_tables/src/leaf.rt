@@ -1,5 +1,5 @@
 /// Where a page of an address space lies, and what may be done there. It may always be read.
-#[derive(Clone, Copy, Debug, PartialEq, Eq)]
+#[derive(Clone, Copy)]
 pub struct Leaf {
     /// The number of the physical page.
     pub page: u16,

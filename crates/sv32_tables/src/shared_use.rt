@@ -1,5 +1,5 @@
 /// What a frame in use of a shared pool is for. The default is no more than a blank.
-#[derive(Clone, Copy, Debug, Default, PartialEq, Eq)]
+#[derive(Clone, Copy, Default)]
 pub enum SharedUse {
     /// It is a root: its words lead to the leaf tables of its regions.
     #[default]

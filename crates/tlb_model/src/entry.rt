@@ -5,7 +5,7 @@ ghost use Rattle.std.specs.Prelude.{◌≡◌};
 use sv32_tables::Leaf;
 
 /// A leaf, with the root in whose tables it stands and the page of addresses that it is for.
-#[derive(Clone, Copy, Debug, PartialEq, Eq)]
+#[derive(Clone, Copy)]
 pub struct Entry {
     pub root: u16,
     /// The address divided by 4,096.

@@ -1,5 +1,5 @@
 /// Where a data access ends: a byte of a page.
-#[derive(Clone, Copy, Debug, PartialEq, Eq)]
+#[derive(Clone, Copy)]
 pub struct Hit {
     /// The page's number.
     pub page: u16,

@@ -2,7 +2,7 @@
 ///
 /// The first three are the data kinds, which end at a page; the other two end at a slot of a
 /// capability page.
-#[derive(Clone, Copy, Debug, PartialEq, Eq)]
+#[derive(Clone, Copy, Debug)]
 pub enum Kind {
     /// An instruction is read.
     Fetch,

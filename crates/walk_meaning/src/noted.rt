@@ -2,7 +2,7 @@ use cap_format::Item;
 use guard_math::Block;
 
 /// One read of a walk: the item, and the block of addresses round the accessed one that read it alike.
-#[derive(Clone, Copy, Debug, PartialEq, Eq)]
+#[derive(Clone, Copy)]
 pub struct Noted {
     /// What was read.
     pub item: Item,

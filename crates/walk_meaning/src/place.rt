@@ -1,7 +1,7 @@
 use cap_format::{Cap, CapKind, FaultCode, Restr};
 
 /// Where a walk ended.
-#[derive(Clone, Copy, Debug, PartialEq, Eq)]
+#[derive(Clone, Copy)]
 pub struct Place {
     /// `Page` or `CapPage`.
     pub kind: CapKind,
@@ -14,7 +14,7 @@ pub struct Place {
 }
 
 /// Why a walk reached nothing.
-#[derive(Clone, Copy, Debug, PartialEq, Eq)]
+#[derive(Clone, Copy)]
 pub struct WalkFault {
     /// What was wrong.
     pub code: FaultCode,

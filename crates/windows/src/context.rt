@@ -1,7 +1,7 @@
 use gpt_objects::GptHeader;
 
 /// The GPTs that a window may look into, on the walk that met it.
-#[derive(Clone, Copy, Debug, PartialEq, Eq)]
+#[derive(Clone, Copy)]
 pub struct Context {
     /// The GPT whose slot held the window, with its header.
     pub holding: Option<(u16, GptHeader)>,
@@ -10,7 +10,7 @@ pub struct Context {
 }
 
 /// Where a window leads.
-#[derive(Clone, Copy, Debug, PartialEq, Eq)]
+#[derive(Clone, Copy)]
 pub struct Next {
     /// The GPT that holds the next capability, and is the holding GPT from here on.
     pub gpt: u16,

@@ -9,7 +9,7 @@ use cap_format::{Cap, CapKind};
 use gpt_objects::GptHeader;
 
 /// The window looks into a GPT that is not there, or into a slot that is no way on.
-#[derive(Clone, Copy, Debug, PartialEq, Eq)]
+#[derive(Clone, Copy, Debug)]
 pub struct Malformed;
 
 /// Where a window leads that left `r` of an address behind its guard.

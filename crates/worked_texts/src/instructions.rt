@@ -1069,7 +1069,7 @@ fn other_words_are_illegal_and_each_of_fence_is_fence(rt: HostRuntime) {
         check(&rt, decode(hex(&rt, row, 0)).is_err(), row);
     }
     for row in FENCES.lines() {
-        check(&rt, decode(hex(&rt, row, 0)) == Ok(Insn::Fence), row);
+        check(&rt, matches!(decode(hex(&rt, row, 0)), Ok(Insn::Fence)), row);
     }
     check(&rt, encode(Insn::Fence) == 0x0ff0_000f, "fence");
 }

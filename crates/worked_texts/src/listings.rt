@@ -407,7 +407,7 @@ fn values_of(statement: &Statement) -> [u32; 7] {
             1,
             u32::from(*number),
             u32::from(*at),
-            u32::from(*insn == Insn::Lui { rd: 5, imm: 1 }),
+            u32::from(matches!(*insn, Insn::Lui { rd: 5, imm: 1 })),
             0,
             0,
             0,

@@ -475,7 +475,8 @@ fn check_step(rt: &impl Abort, row: &str) {
     let (pc, a, b) = (hex(rt, row, 0), hex(rt, row, 1), hex(rt, row, 2));
     let (regs, effect) = stepped(rt, row, 5, pc, a, b);
     check(rt, regs[3] == hex(rt, row, 3), row);
-    check(rt, effect == Effect::Next(hex(rt, row, 4)), row);
+    let next = hex(rt, row, 4);
+    check(rt, matches!(effect, Effect::Next(to) if to == next), row);
 }
 
 #[test]
@@ -518,8 +519,12 @@ fn a_load_extends_as_qemu_extends(rt: HostRuntime) {
 /// The row's store writes as the row says.
 fn check_store(rt: &impl Abort, row: &str) {
     let effect = stepped(rt, row, 4, 0x1000, 0, hex(rt, row, 0)).1;
-    let (at, size, value) = (hex(rt, row, 1), byte(rt, row, 2), hex(rt, row, 3));
-    check(rt, effect == Effect::Store { at, size, value }, row);
+    let wanted = (hex(rt, row, 1), byte(rt, row, 2), hex(rt, row, 3));
+    let stored = match effect {
+        Effect::Store { at, size, value } => Some((at, size, value)),
+        _ => None,
+    };
+    check(rt, stored == Some(wanted), row);
 }
 
 #[test]

@@ -217,7 +217,7 @@ fn sleep(rt: &impl Abort, objects: &Objects, queues: &mut Queues, row: &str) -> 
     let p = short(rt, row, 1);
     let on = short(rt, row, 2);
     let processes = objects.sizes().processes;
-    if p >= processes || on >= processes || objects.process(p).state() != State::Running {
+    if p >= processes || on >= processes || !matches!(objects.process(p).state(), State::Running) {
         return Err(Fail::new("no process that runs"));
     }
     fall_asleep(objects, queues, p, on);

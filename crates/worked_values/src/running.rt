@@ -83,7 +83,7 @@ impl Running {
     pub fn wait(&mut self, rt: &impl Abort, p: u16, on: u16) {
         let processes = self.objects.sizes().processes;
         assert!(rt; p < processes && on < processes);
-        assert!(rt; self.objects.process(p).state() == State::Running);
+        assert!(rt; matches!(self.objects.process(p).state(), State::Running));
         wait(&self.objects, &mut self.queues, p, on);
     }
 
@@ -125,7 +125,7 @@ impl Running {
         walked: Option<Cap>,
     ) -> Outcome {
         assert!(rt; p < self.objects.sizes().processes);
-        assert!(rt; self.objects.process(p).state() == State::Running);
+        assert!(rt; matches!(self.objects.process(p).state(), State::Running));
         deliver_fault(
             &mut self.objects,
             &mut self.queues,

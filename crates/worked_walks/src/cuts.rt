@@ -467,7 +467,7 @@ fn take_turn<T: Translator, L: Ledger>(
     fetches: &mut Steps<L>,
 ) -> Result<(), Fail> {
     let verdict = found_by(alloc, machine, EVEN, fetches)?;
-    check(rt, verdict == Verdict::Yes, row);
+    check(rt, matches!(verdict, Verdict::Yes), row);
     let before = objects_text(alloc, machine, fetches)?;
     perform(rt, machine, row, fetches);
     let after = objects_text(alloc, machine, fetches)?;

@@ -114,7 +114,7 @@ impl Shared {
     {
         let frame = short(rt, row, n);
         let found = self.uses.get(frame as usize).copied();
-        assert!(rt; found == Some(SharedUse::Root));
+        assert!(rt; matches!(found, Some(SharedUse::Root)));
         frame
     }
 
@@ -124,7 +124,7 @@ impl Shared {
     {
         let frame = short(rt, row, n);
         let found = self.uses.get(frame as usize).copied();
-        assert!(rt; found == Some(SharedUse::Leaf));
+        assert!(rt; matches!(found, Some(SharedUse::Leaf)));
         frame
     }
 

@@ -13,7 +13,7 @@ use gpt_objects::Gpt;
 use process_objects::Process;
 
 /// The object has the last count, and can't be destroyed again.
-#[derive(Clone, Copy, Debug, PartialEq, Eq)]
+#[derive(Clone, Copy, Debug)]
 pub struct CountSpent;
 
 impl Objects {
