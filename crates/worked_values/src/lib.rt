@@ -18,8 +18,6 @@ mod meetings;
 #[cfg(test)]
 mod memory_rows;
 #[cfg(test)]
-mod objects;
-#[cfg(test)]
 mod requests;
 #[cfg(test)]
 mod rows;

@@ -3,23 +3,21 @@
 ghost use Rattle.std.specs.Prelude.{◌≡◌};
 ghost use Rattle.steps.specs.Permit.{permit_for};
 
-use crate::requests::{cap_at, reply_at, request_at};
+use crate::requests::{cap_at, check_reply, request_at};
 use crate::rows::check;
-use cap_format::{Cap, Reply, Request};
+use cap_format::Request;
 use memory_caps::invoke;
 use object_store::{Objects, Sizes};
-use std::alloc::Global;
 use std::marker::Brand;
 use std::process::Abort;
 use std::sync::ledger::Ledger;
-use std::test::Fail;
 use steps::{Permit, Steps};
 
 const SIZES: Sizes = Sizes {
     harts: 1,
     pages: 2,
     cappages: 1,
-    gpts: 1,
+    gpts: 3,
     processes: 1,
     endpoints: 1,
 };
@@ -81,6 +79,8 @@ const ROWS: &str = "\
 3 0 0 c 0 0 | 8 3 0 0 | 0 0 | 0 0 0 0 | 1 1 0 c 0 0 | - - - | getslot
 3 0 1 c 0 0 | 8 3 0 0 | 0 0 | 0 0 0 0 | 1 1 0 c 0 0 | - - - | getslot through RO
 3 0 4 c 0 0 | 8 3 0 0 | 0 0 | 0 0 0 0 | 1 1 15 c 0 0 | - - - | getslot through WK
+3 2 0 c 0 0 | 9 f 0 0 | c 0 | 0 0 0 0 | - - - - - - | s 2 f | setslot: the last slot of the last GPT
+3 2 0 c 0 0 | 8 f 0 0 | 0 0 | 0 0 0 0 | c 0 0 c 0 0 | - - - | getslot: that slot
 3 0 8 c 0 0 | 8 3 0 0 | 0 0 | 3 0 0 0 | - - - - - - | - - - | getslot: OP
 3 0 8 c 0 0 | 8 10 0 0 | 0 0 | 3 0 0 0 | - - - - - - | - - - | getslot: OP comes before the slot
 3 0 0 c 0 0 | 8 10 0 0 | 0 0 | 4 0 0 0 | - - - - - - | - - - | getslot: over 15
@@ -121,79 +121,44 @@ const ROWS: &str = "\
 3 0 0 c 0 0 | 8 5 0 0 | 0 0 | 0 0 0 0 | 4 5000 1 c 2 0 | - - - | getslot: the refusals changed nothing
 ";
 
-/// The reply to a request.
-fn reply<L: Ledger>(
-    objects: &mut Objects,
-    cap: Cap,
-    request: Request,
-    fetches: &mut Steps<L>,
-) -> Result<Reply, Fail> {
-    let cap = objects.live(cap);
-    let sent = objects.live(request.sent);
-    if !cap.kind().is_memory() {
-        return Err(Fail::new("no memory capability"));
-    }
-    let words = request.words;
-    Ok(invoke(objects, cap, Request { words, sent }, fetches))
+/// Asks what the row asks, and compares.
+fn perform<L: Ledger>(rt: &impl Abort, objects: &mut Objects, row: &str, fetches: &mut Steps<L>) {
+    let asked = request_at(rt, row, 7);
+    let sent = objects.live(asked.sent);
+    let cap = objects.live(cap_at(rt, row, 0));
+    assert!(rt; cap.kind().is_memory());
+    let words = asked.words;
+    let reply = invoke(objects, cap, Request { words, sent }, fetches);
+    check_reply(rt, reply, row, 15);
 }
 
-/// Two pages with ab and cd as their first bytes, and one of each other object, empty.
-fn built(alloc: Global) -> Result<Objects, Fail> {
-    let mut objects = Objects::new(alloc, SIZES)?;
-    objects.page_mut(0).write(0, &[0xab]);
-    objects.page_mut(1).write(0, &[0xcd]);
-    Ok(objects)
+/// Does the rows, one after the other, under a counter, which has no bytes.
+fn perform_all<L: Ledger>(rt: &impl Abort, objects: &mut Objects, permit: Permit)
+    requires ledger { permit ≡ permit_for L.name L.parts }
+{
+    check(rt, size_of::<Steps<L>>() == 0, "a counter");
+    let mut fetches = Steps::<L>::new(permit);
+    for row in ROWS.lines() {
+        perform(rt, objects, row, &mut fetches);
+    }
 }
 
 /// The first byte of a page.
-fn first_byte(objects: &Objects, n: u16) -> Result<u8, Fail> {
-    if n >= objects.sizes().pages {
-        return Err(Fail::new("no such page"));
-    }
+fn first_byte(rt: &impl Abort, objects: &Objects, n: u16) -> u8 {
+    assert!(rt; n < objects.sizes().pages);
     let mut bytes = [0];
     objects.page(n).read(0, &mut bytes);
-    Ok(bytes[0])
+    bytes[0]
 }
 
-/// Asks what the row asks, and compares.
-fn perform<L: Ledger>(
-    rt: &impl Abort,
-    objects: &mut Objects,
-    row: &str,
-    fetches: &mut Steps<L>,
-) -> Result<(), Fail> {
-    let request = request_at(rt, row, 7)?;
-    let cap = cap_at(rt, row, 0)?;
-    let answer = reply(objects, cap, request, fetches)?;
-    check(rt, answer == reply_at(rt, row, 15)?, row);
-    Ok(())
-}
-
-/// Does the rows, one after the other.
-fn perform_all<L: Ledger>(
-    rt: &impl Abort,
-    objects: &mut Objects,
-    permit: Permit,
-) -> Result<(), Fail>
-    requires ledger { permit ≡ permit_for L.name L.parts }
-{
-    let mut fetches = Steps::<L>::new(permit);
-    for row in ROWS.lines() {
-        perform(rt, objects, row, &mut fetches)?;
-    }
-    Ok(())
-}
-
-/// Page 0 was copied to page 1 before it was cleared.
-fn check_bytes(rt: &impl Abort, objects: &Objects) -> Result<(), Fail> {
-    check(rt, first_byte(objects, 0)? == 0, "page 0");
-    check(rt, first_byte(objects, 1)? == 0xab, "page 1");
-    Ok(())
-}
-
+/// Two pages with ab and cd as their first bytes, and some of each other object, empty. Page 0 is copied to page 1 before
+/// it is cleared.
 #[test]
-fn requests_to_the_memory_kinds_are_replied_as_their_rows_say(rt: HostRuntime) -> Result<(), Fail> {
-    let mut objects = built(rt.alloc())?;
-    perform_all::<Brand>(&rt, &mut objects, Permit::new(&rt))?;
-    check_bytes(&rt, &objects)
+fn requests_to_the_memory_kinds_are_replied_as_their_rows_say(rt: HostRuntime) {
+    let mut objects = Objects::new(rt.alloc(), SIZES).expect(&rt, "memory");
+    objects.page_mut(0).write(0, &[0xab]);
+    objects.page_mut(1).write(0, &[0xcd]);
+    perform_all::<Brand>(&rt, &mut objects, Permit::new(&rt));
+    check(&rt, first_byte(&rt, &objects, 0) == 0, "page 0");
+    check(&rt, first_byte(&rt, &objects, 1) == 0xab, "page 1");
 }

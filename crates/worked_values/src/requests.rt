@@ -1,114 +1,79 @@
 //! Capabilities, requests and replies, as the words of a row.
 ghost use Rattle.std.specs.Prelude.{◌<◌};
 
-use crate::rows::{byte, hex};
+use crate::rows::{byte, check, check_numbers, hex, letter, short};
 use bitflags::Flags;
-use cap_format::{Cap, CapKind, Code, Guard, Item, Reply, Request, Restr};
-use coy_text::word;
+use cap_format::{Cap, CapKind, Guard, Item, Reply, Request, Restr};
 use std::process::Abort;
-use std::test::Fail;
-
-/// Whether the row's word `n` stands for nothing.
-fn is_none(row: &str, n: usize) -> bool {
-    word(row.as_bytes(), n) == b"-".as_slice()
-}
-
-/// The row's word `n`, from 0, which is a hexadecimal number below 65,536.
-pub fn short(rt: &impl Abort, row: &str, n: usize) -> u16 {
-    u16::try_from(hex(rt, row, n)).expect(rt, "a number below 65,536")
-}
 
 /// The capability whose type number, object, restrictions, l2g, match and slot begin at word `n`. An entry has its
 /// payload in place of the match.
-pub fn cap_at(rt: &impl Abort, row: &str, n: usize) -> Result<Cap, Fail>
+pub fn cap_at(rt: &impl Abort, row: &str, n: usize) -> Cap
     requires { n < 100 }
 {
-    let Some(kind) = CapKind::from_number(hex(rt, row, n)) else {
-        return Err(Fail::new("no such kind"));
-    };
+    let kind = CapKind::from_number(hex(rt, row, n)).expect(rt, "a kind");
     let restr = Restr::from_bits_retain(byte(rt, row, n + 2));
     let second = hex(rt, row, n + 4);
-    let is_entry = kind == CapKind::Entry;
-    let guard = Guard::new(byte(rt, row, n + 3), if is_entry { 0 } else { second })?;
-    let payload = if is_entry { second } else { 0 };
-    let slot = byte(rt, row, n + 5);
-    match Cap::try_new(kind, restr, 0, guard, hex(rt, row, n + 1), payload, slot) {
-        Some(cap) => Ok(cap),
-        None => Err(Fail::new("no such capability")),
-    }
+    let (matches, payload) = match kind {
+        CapKind::Entry => (0, second),
+        _ => (second, 0),
+    };
+    let guard = Guard::new(byte(rt, row, n + 3), matches).expect(rt, "a guard");
+    let (object, slot) = (hex(rt, row, n + 1), byte(rt, row, n + 5));
+    Cap::try_new(kind, restr, 0, guard, object, payload, slot).expect(rt, "a capability")
 }
 
-/// The request whose four words begin at word `n`. Behind them and a bar stand the type number and the object of the
-/// capability sent, which has no restriction and a page's guard.
-pub fn request_at(rt: &impl Abort, row: &str, n: usize) -> Result<Request, Fail>
+/// The capability of a type number, an object and a count, which has no restriction and a page's guard.
+pub fn plain(rt: &impl Abort, kind: u32, object: u32, count: u32) -> Cap {
+    let kind = CapKind::from_number(kind).expect(rt, "a kind");
+    let cap = Cap::try_new(kind, Restr::empty(), count, Guard::page(), object, 0, 0);
+    cap.expect(rt, "a capability")
+}
+
+/// The request whose four words begin at word `n`. Behind them and a bar stand the type number and the object of
+/// the capability sent.
+pub fn request_at(rt: &impl Abort, row: &str, n: usize) -> Request
     requires { n < 50 }
 {
-    let Some(kind) = CapKind::from_number(hex(rt, row, n + 5)) else {
-        return Err(Fail::new("no such kind"));
-    };
-    let object = hex(rt, row, n + 6);
-    let Some(sent) = Cap::try_new(kind, Restr::empty(), 0, Guard::page(), object, 0, 0) else {
-        return Err(Fail::new("no such capability"));
-    };
-    Ok(Request {
-        words: [
-            hex(rt, row, n),
-            hex(rt, row, n + 1),
-            hex(rt, row, n + 2),
-            hex(rt, row, n + 3),
-        ],
-        sent,
-    })
-}
-
-/// The reply code of a number.
-fn code_of(number: u32) -> Result<Code, Fail> {
-    match number {
-        0 => Ok(Code::Ok),
-        1 => Ok(Code::InvalidCap),
-        2 => Ok(Code::UnknownRequest),
-        3 => Ok(Code::NoAccess),
-        4 => Ok(Code::RequestError),
-        5 => Ok(Code::CountSpent),
-        6 => Ok(Code::WouldBlock),
-        _ => Err(Fail::new("no such code")),
+    let (first, second) = (hex(rt, row, n), hex(rt, row, n + 1));
+    let (third, fourth) = (hex(rt, row, n + 2), hex(rt, row, n + 3));
+    Request {
+        words: [first, second, third, fourth],
+        sent: plain(rt, hex(rt, row, n + 5), hex(rt, row, n + 6), 0),
     }
 }
 
 /// The item at word `n`: `h`, the type number and the number of an object; `s`, the number of a GPT and a slot; or none.
-fn item_at(rt: &impl Abort, row: &str, n: usize) -> Result<Option<Item>, Fail>
+fn item_at(rt: &impl Abort, row: &str, n: usize) -> Option<Item>
     requires { n < 100 }
 {
-    if is_none(row, n) {
-        return Ok(None);
-    }
-    if word(row.as_bytes(), n) == b"s".as_slice() {
-        return Ok(Some(Item::Slot(short(rt, row, n + 1), byte(rt, row, n + 2))));
-    }
-    match CapKind::from_number(hex(rt, row, n + 1)) {
-        Some(kind) => Ok(Some(Item::Header(kind, short(rt, row, n + 2)))),
-        None => Err(Fail::new("no such kind")),
+    match letter(row, n) {
+        b'-' => None,
+        b's' => Some(Item::Slot(short(rt, row, n + 1), byte(rt, row, n + 2))),
+        _ => {
+            let kind = CapKind::from_number(hex(rt, row, n + 1)).expect(rt, "a kind");
+            Some(Item::Header(kind, short(rt, row, n + 2)))
+        }
     }
 }
 
-/// The reply whose code and three words begin at word `n`. Behind bars stand the capability that it gives, or none, and
-/// the item that it changed, or none.
-pub fn reply_at(rt: &impl Abort, row: &str, n: usize) -> Result<Reply, Fail>
+/// The capability at word `n`, or none.
+pub fn given_at(rt: &impl Abort, row: &str, n: usize) -> Option<Cap>
+    requires { n < 100 }
+{
+    if letter(row, n) == b'-' {
+        return None;
+    }
+    Some(cap_at(rt, row, n))
+}
+
+/// Fails with the row, unless its reply is this one, whose code and three words begin at word `n`. Behind bars stand the
+/// capability that it gives, or none, and the item that it changed, or none.
+pub fn check_reply(rt: &impl Abort, reply: Reply, row: &str, n: usize)
     requires { n < 50 }
 {
-    let cap = if is_none(row, n + 5) {
-        None
-    } else {
-        Some(cap_at(rt, row, n + 5)?)
-    };
-    Ok(Reply {
-        code: code_of(hex(rt, row, n))?,
-        words: [
-            hex(rt, row, n + 1),
-            hex(rt, row, n + 2),
-            hex(rt, row, n + 3),
-        ],
-        cap,
-        changed: item_at(rt, row, n + 12)?,
-    })
+    check(rt, reply.code.number() == hex(rt, row, n), row);
+    check_numbers(rt, &reply.words, row, n + 1);
+    check(rt, reply.cap == given_at(rt, row, n + 5), row);
+    check(rt, reply.changed == item_at(rt, row, n + 12), row);
 }

@@ -1,4 +1,5 @@
-//! The words of a row.
+//! The words of a row, and what is compared with them.
+ghost use Rattle.std.specs.Prelude.{◌<◌};
 
 use coy_text::{read_hex, word};
 use std::process::Abort;
@@ -6,6 +7,11 @@ use std::process::Abort;
 /// The row's word `n`, from 0, which is a hexadecimal number.
 pub fn hex(rt: &impl Abort, row: &str, n: usize) -> u32 {
     read_hex(word(row.as_bytes(), n)).expect(rt, "a hexadecimal number")
+}
+
+/// The same, where it is below 65,536.
+pub fn short(rt: &impl Abort, row: &str, n: usize) -> u16 {
+    u16::try_from(hex(rt, row, n)).expect(rt, "a number below 65,536")
 }
 
 /// The same, where it is below 256.
@@ -34,7 +40,11 @@ pub fn check(rt: &impl Abort, holds: bool, row: &str) {
     assert!(rt; holds, "{row}");
 }
 
-/// Fails with the row, where another number was told than it wants, or one where it wants none.
-pub fn check_number(rt: &impl Abort, told: Option<u32>, wanted: Option<u32>, row: &str) {
-    assert_eq!(rt; told, wanted, "{row}");
+/// Fails with the row, unless its words from `n` on are these numbers.
+pub fn check_numbers(rt: &impl Abort, found: &[u32], row: &str, n: usize)
+    requires { n < 100 }
+{
+    for (i, number) in found.iter().enumerate() {
+        check(rt, *number == hex(rt, row, n + i), row);
+    }
 }

@@ -1,11 +1,11 @@
 //! Strings: how they are cut at pages, and how their bytes move, worked out by hand.
+ghost use Rattle.std.specs.Prelude.{◌<◌};
 ghost use Rattle.string_move.specs.Move.{ArePieces};
 
-use crate::rows::{byte, check, hex};
+use crate::rows::{byte, check, check_numbers, hex, short};
 use object_store::{Objects, Sizes};
 use std::alloc::Global;
 use std::process::Abort;
-use std::test::Fail;
 use string_move::{Piece, Pieces, Scratch, Spans, copy, cut};
 
 const SIZES: Sizes = Sizes {
@@ -44,23 +44,11 @@ fn ends(spans: &Spans) -> [u32; 5] {
     }
 }
 
-/// The same, as the row has them.
-fn ends_of(rt: &impl Abort, row: &str) -> [u32; 5] {
-    [
-        hex(rt, row, 2),
-        hex(rt, row, 3),
-        hex(rt, row, 4),
-        hex(rt, row, 5),
-        hex(rt, row, 6),
-    ]
-}
-
 /// The row's string is cut as the row says.
 fn check_cut(rt: &impl Abort, row: &str) {
     let (at, size) = (hex(rt, row, 0), hex(rt, row, 1));
     assert!(rt; size <= 65536 && u64::from(at) + u64::from(size) <= 1 << 32);
-    let spans = cut(at, size);
-    check(rt, ends(&spans) == ends_of(rt, row), row);
+    check_numbers(rt, &ends(&cut(at, size)), row, 2);
 }
 
 #[test]
@@ -81,77 +69,33 @@ fn add(rt: &impl Abort, objects: &Objects, pieces: &mut Pieces, piece: Piece)
     pieces.push(piece);
 }
 
-/// The pieces in which a string from page offset `at` on lies, where page `first` is the first.
-fn string(rt: &impl Abort, objects: &Objects, first: u16, at: u32, size: u32) -> Pieces
+/// The pieces of a text, page, offset and length of each, with a comma between any two. Page `first` is page 0.
+fn pieces(rt: &impl Abort, objects: &Objects, text: &str, first: u16) -> Pieces
     ensures { ArePieces objects.now.items result }
 {
-    assert!(rt; at < 4096 && size <= 65536 && first < 4096);
     let mut pieces = Pieces::new();
-    for span in cut(at, size).as_slice() {
-        let page = u16::try_from(span.address / 4096).expect(rt, "a page");
-        assert!(rt; page < 4096);
-        let piece = Piece {
-            page: first + page,
-            at: (span.address % 4096) as u16,
-            len: span.size,
-        };
-        add(rt, objects, &mut pieces, piece);
+    for piece in text.split(',') {
+        let page = short(rt, piece, 0).checked_add(first).expect(rt, "a page");
+        let (at, len) = (short(rt, piece, 1), short(rt, piece, 2));
+        add(rt, objects, &mut pieces, Piece { page, at, len });
     }
     pieces
 }
 
-/// Two pieces of pages that are there.
-fn two(rt: &impl Abort, objects: &Objects, both: [Piece; 2]) -> Pieces
-    ensures { ArePieces objects.now.items result }
-{
-    let mut pieces = Pieces::new();
-    add(rt, objects, &mut pieces, both[0]);
-    add(rt, objects, &mut pieces, both[1]);
-    pieces
-}
-
-/// Moves the bytes of some pieces to others.
+/// Moves the bytes of the pieces of a text, where its page 0 is, to others.
 fn carry(
     rt: &impl Abort,
     alloc: Global,
     objects: &mut Objects,
-    from: &Pieces,
-    to: &Pieces,
-) -> Result<(), Fail>
-    requires from_there { ArePieces objects.old.items from.now }
-    requires to_there { ArePieces objects.old.items to.now }
-{
+    (from, low): (&str, u16),
+    (to, high): (&str, u16),
+) {
+    let from = pieces(rt, objects, from, low);
+    let to = pieces(rt, objects, to, high);
     let size = to.size();
     assert!(rt; size <= 65536 && size <= from.size());
-    let mut room = Scratch::new(alloc)?;
-    copy(objects, from, to, &mut room);
-    Ok(())
-}
-
-/// Moves a string from a page and an offset to others.
-fn carry_string(
-    rt: &impl Abort,
-    alloc: Global,
-    objects: &mut Objects,
-    (from, to): ((u16, u32), (u16, u32)),
-    size: u32,
-) -> Result<(), Fail> {
-    let from = string(rt, objects, from.0, from.1, size);
-    let to = string(rt, objects, to.0, to.1, size);
-    carry(rt, alloc, objects, &from, &to)
-}
-
-/// Moves the bytes of two pieces to two others.
-fn carry_two(
-    rt: &impl Abort,
-    alloc: Global,
-    objects: &mut Objects,
-    from: [Piece; 2],
-    to: [Piece; 2],
-) -> Result<(), Fail> {
-    let from = two(rt, objects, from);
-    let to = two(rt, objects, to);
-    carry(rt, alloc, objects, &from, &to)
+    let mut room = Scratch::new(alloc).expect(rt, "memory");
+    copy(objects, &from, &to, &mut room);
 }
 
 /// Writes bytes to a page.
@@ -168,51 +112,36 @@ fn eight(rt: &impl Abort, objects: &Objects, page: u16, at: u16) -> [u8; 8] {
     bytes
 }
 
-fn piece(page: u16, at: u16, len: u16) -> Piece {
-    Piece { page, at, len }
+/// The pieces that move, page, offset and length of each, and those to which they move. Then the first eight bytes of
+/// page 3 afterwards, and eight of page 4 from its fifth byte on. Page 3 begins with 1 2 3 4 5 6 7 8, and a row moves
+/// what the one above it left.
+const MOVES: &str = "\
+3 0 6|3 2 6| 1 2 1 2 3 4 5 6 | 0 0 0 0 0 0 0 0 a move byte by byte would repeat the first two
+3 0 4,3 4 4|3 4 4,3 0 4| 3 4 5 6 1 2 1 2 | 0 0 0 0 0 0 0 0 a move piece by piece would lose one of them
+3 0 4,3 4 4|3 1 3,4 7 2| 3 3 4 5 1 2 1 2 | 0 0 0 6 1 0 0 0 fewer bytes than there are, two to another page";
+
+/// These eight bytes are those that begin at word `n`.
+fn check_eight(rt: &impl Abort, found: [u8; 8], row: &str, n: usize)
+    requires { n < 100 }
+{
+    for (i, byte) in found.iter().enumerate() {
+        check(rt, u32::from(*byte) == hex(rt, row, n + i), row);
+    }
 }
 
-/// Objects whose page 3 begins with these eight bytes.
-fn beginning(rt: &impl Abort, alloc: Global, bytes: [u8; 8]) -> Result<Objects, Fail> {
-    let mut objects = Objects::new(alloc, SIZES)?;
-    put(rt, &mut objects, 3, 0, &bytes);
-    Ok(objects)
+/// Moves the row's pieces, and looks at both pages.
+fn check_move(rt: &impl Abort, alloc: Global, objects: &mut Objects, row: &str) {
+    let (from, rest) = row.split_once('|').expect(rt, "a bar");
+    let (to, left) = rest.split_once('|').expect(rt, "a bar");
+    carry(rt, alloc, objects, (from, 0), (to, 0));
+    check_eight(rt, eight(rt, objects, 3, 0), left, 0);
+    check_eight(rt, eight(rt, objects, 4, 4), left, 9);
 }
 
-/// A move byte by byte would repeat the first two.
-#[test]
-fn six_bytes_move_up_by_two_places(rt: HostRuntime) -> Result<(), Fail> {
-    let mut objects = beginning(&rt, rt.alloc(), [1, 2, 3, 4, 5, 6, 7, 8])?;
-    carry_string(&rt, rt.alloc(), &mut objects, ((3, 0), (3, 2)), 6)?;
-    let page = eight(&rt, &objects, 3, 0);
-    check(&rt, page == [1, 2, 1, 2, 3, 4, 5, 6], "page 3");
-    Ok(())
-}
-
-/// A move byte by byte, or piece by piece, would lose one of them.
-#[test]
-fn two_pieces_change_places(rt: HostRuntime) -> Result<(), Fail> {
-    let mut objects = beginning(&rt, rt.alloc(), [1, 2, 1, 2, 3, 4, 5, 6])?;
-    let (low, high) = (piece(3, 0, 4), piece(3, 4, 4));
-    carry_two(&rt, rt.alloc(), &mut objects, [low, high], [high, low])?;
-    let page = eight(&rt, &objects, 3, 0);
-    check(&rt, page == [3, 4, 5, 6, 1, 2, 1, 2], "page 3");
-    Ok(())
-}
-
-/// Fewer bytes than there are, two of them to another page.
-#[test]
-fn pieces_that_overlap_are_read_before_any_is_written(rt: HostRuntime) -> Result<(), Fail> {
-    let mut objects = beginning(&rt, rt.alloc(), [3, 4, 5, 6, 1, 2, 1, 2])?;
-    let from = [piece(3, 0, 4), piece(3, 4, 4)];
-    let to = [piece(3, 1, 3), piece(4, 7, 2)];
-    carry_two(&rt, rt.alloc(), &mut objects, from, to)?;
-    let page = eight(&rt, &objects, 3, 0);
-    check(&rt, page == [3, 3, 4, 5, 1, 2, 1, 2], "page 3");
-    let other = eight(&rt, &objects, 4, 4);
-    check(&rt, other == [0, 0, 0, 6, 1, 0, 0, 0], "page 4");
-    Ok(())
-}
+/// The pieces of the longest string, which begins at the last byte of a page: as many as there can be.
+const LONGEST: &str =
+    "0 fff 1,1 0 1000,2 0 1000,3 0 1000,4 0 1000,5 0 1000,6 0 1000,7 0 1000,8 0 1000,9 0 1000,\
+a 0 1000,b 0 1000,c 0 1000,d 0 1000,e 0 1000,f 0 1000,10 0 fff";
 
 /// The longest string from the last byte of page 0 on moves up by one page: 17 pieces on each side. The numbers of a
 /// page, and the first and the last byte that it has afterwards; before, the first was its number and 1, the last its
@@ -226,46 +155,37 @@ f f 8e
 10 10 8f
 11 11 91 the string ends before its last byte";
 
-/// Objects each of whose pages has its number in its first byte and in its last.
-fn numbered(rt: &impl Abort, alloc: Global) -> Result<Objects, Fail> {
-    let mut objects = Objects::new(alloc, SIZES)?;
+/// Each page gets its number in its first byte and in its last.
+fn number_pages(rt: &impl Abort, objects: &mut Objects) {
     for page in 0..18_u8 {
-        put(rt, &mut objects, u16::from(page), 0, &[page + 1]);
-        put(rt, &mut objects, u16::from(page), 4095, &[page + 0x80]);
+        put(rt, objects, u16::from(page), 0, &[page + 1]);
+        put(rt, objects, u16::from(page), 4095, &[page + 0x80]);
     }
-    Ok(objects)
 }
 
 /// The row's page has the row's first and last byte.
 fn check_page(rt: &impl Abort, objects: &Objects, row: &str) {
-    let page = u16::from(byte(rt, row, 0));
+    let page = short(rt, row, 0);
     check(rt, eight(rt, objects, page, 0)[0] == byte(rt, row, 1), row);
     let last = eight(rt, objects, page, 4088)[7];
     check(rt, last == byte(rt, row, 2), row);
 }
 
-#[test]
-fn the_longest_string_within_a_page_is_cut_in_seventeen(rt: HostRuntime) -> Result<(), Fail> {
-    let objects = Objects::new(rt.alloc(), SIZES)?;
-    let low = string(&rt, &objects, 0, 0xfff, 65536).as_slice().len();
-    let high = string(&rt, &objects, 1, 0xfff, 65536).as_slice().len();
-    check(&rt, low == 17, "from page 0");
-    check(&rt, high == 17, "from page 1");
-    Ok(())
+/// Moves the longest string up by one page.
+fn check_longest(rt: &impl Abort, alloc: Global, objects: &mut Objects) {
+    number_pages(rt, objects);
+    carry(rt, alloc, objects, (LONGEST, 0), (LONGEST, 1));
+    for row in MOVED.lines() {
+        check_page(rt, objects, row);
+    }
 }
 
 #[test]
-fn seventeen_pieces_move_onto_seventeen_that_overlap_them(rt: HostRuntime) -> Result<(), Fail> {
-    let mut objects = numbered(&rt, rt.alloc())?;
-    carry_string(
-        &rt,
-        rt.alloc(),
-        &mut objects,
-        ((0, 0xfff), (1, 0xfff)),
-        65536,
-    )?;
-    for row in MOVED.lines() {
-        check_page(&rt, &objects, row);
+fn pieces_that_overlap_are_read_before_any_is_written(rt: HostRuntime) {
+    let mut objects = Objects::new(rt.alloc(), SIZES).expect(&rt, "memory");
+    check_longest(&rt, rt.alloc(), &mut objects);
+    put(&rt, &mut objects, 3, 0, &[1, 2, 3, 4, 5, 6, 7, 8]);
+    for row in MOVES.lines() {
+        check_move(&rt, rt.alloc(), &mut objects, row);
     }
-    Ok(())
 }

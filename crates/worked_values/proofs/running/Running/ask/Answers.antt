@@ -4,7 +4,7 @@ use Rattle.worked_values.proofs.running.Running.ask.Goals as goal
 
 pub invariant_of-self : goal.invariant_of-self
 invariant_of-self g c =
-    let kept = c.invoke-reply.ensures.kept in
+    let kept = c.invoke.ensures.kept in
     let machine = c.args.self.now in
     record {
       behind = kept.behind;
