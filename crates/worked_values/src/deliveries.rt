@@ -20,8 +20,8 @@ const SIZES: Sizes = Sizes {
     endpoints: 11,
 };
 
-/// An endpoint, the type number, the object and the count of its recipient, its id, its payload, and 1 where that has to
-/// match.
+/// An endpoint, the type number, the object and the count of its recipient, its id, its payload, and 1 where that has
+/// to match.
 const ENDPOINTS: &str = "\
 0 8 0 0 9 5 1
 1 8 1 0 7 5 0
@@ -49,9 +49,9 @@ a 0 5 | d 0 | a schedule answers nothing
 7 0 ffffffff | b 2 | its payload
 0 1 5 | k 0 | an entry that is not live is Null";
 
-/// The same, where how many capabilities are sent, of Range, Discrim, KernLog and SysCtl, 1 where the string was cut, and
-/// its length stand before who answers. The process is looked at afterwards: x10 to x16 and x22, the type numbers of
-/// what c0, c5, c6 and c7 hold, and the payload of the endpoint.
+/// The same, where how many capabilities are sent, of Range, Discrim, KernLog and SysCtl, 1 where the string was cut,
+/// and its length stand before who answers. The process is looked at afterwards: x10 to x16 and x22, the type numbers
+/// of what c0, c5, c6 and c7 hold, and the payload of the endpoint.
 const ROWS: &str = "\
 0 0 4 | 3 1 600 | d 0 | 10a 10b 10c 10d 10e 10f 110 116 | 0 0 0 d | 5 another payload, though its process receives
 0 0 5 | 3 1 600 | o 0 | 20101 11 22 33 44 5 600 9 | 0 b 0 d | 6 two are taken, and c5 keeps the later one; cut

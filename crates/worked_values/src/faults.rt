@@ -32,11 +32,11 @@ listen 1
 listen 3
 hart 0";
 
-/// The handler that the walk gave and the one of the process: an entry, with its payload as the fifth word, or none. Then
-/// the process that is looked at, and what comes of the fault: d and the process that was told, or e and the one that is
-/// waited for, or f0 where it is unheard; the state of the faulting process, 0 where it runs, 1 where it receives, or f0
-/// and its fault; 1 where it sleeps on the process that is looked at; and the state of that one. Last what this one has
-/// in x10 to x16 and x22, and the type number of what c9 holds. All numbers are hexadecimal.
+/// The handler that the walk gave and the one of the process: an entry, with its payload as the fifth word, or none.
+/// Then the process that is looked at, and what comes of the fault: d and the process that was told, or e and the one
+/// that is waited for, or f0 where it is unheard; the state of the faulting process, 0 where it runs, 1 where it
+/// receives, or f0 and its fault; 1 where it sleeps on the process that is looked at; and the state of that one. Last
+/// what this one has in x10 to x16 and x22, and the type number of what c9 holds. All numbers are hexadecimal.
 ///
 /// Endpoint 0 leads to process 1, which receives; endpoint 1 to process 2, which was stopped; endpoint 2 nowhere;
 /// endpoint 3 to process 3, which receives, where the payload is 7; and endpoint 4 to process 4, which runs.

@@ -4,8 +4,8 @@ use invocation::{Invocation, parse};
 use process_objects::Wait;
 use std::process::Abort;
 
-/// x10, x15, x16 and x18 to x21, and 1 for an invocation, 0 for a malformed call. Each point at its edge: the last value
-/// that passes and the first that fails.
+/// x10, x15, x16 and x18 to x21, and 1 for an invocation, 0 for a malformed call. Each point at its edge: the last
+/// value that passes and the first that fails.
 const EDGES: &str = "\
 21 0 0 0 0 0 0 1 a send phase
 121 0 0 0 0 0 0 1 point 1: bit 8 is the closed wait
@@ -81,9 +81,9 @@ fn parsed(rt: &impl Abort, x10: u32) -> Invocation {
     parse(&regs).expect(rt, "an invocation")
 }
 
-/// x10 of the call that uses every field. Then 1 for each flag (it sends, it receives, it doesn't wait), its register, how
-/// many capabilities it accepts, where the string that is sent begins and how long it is, where one may be received and
-/// how long that may be, and its words. Last the id that it waits for, or none.
+/// x10 of the call that uses every field. Then 1 for each flag (it sends, it receives, it doesn't wait), its register,
+/// how many capabilities it accepts, where the string that is sent begins and how long it is, where one may be received
+/// and how long that may be, and its words. Last the id that it waits for, or none.
 const CALLS: &str = "\
 1a01e3 1 1 1 3 3 1000 20 2000 30 11 22 33 44 99 it sends and receives
 1a00c3 0 1 1 3 3 0 0 2000 30 11 22 33 44 - a call that only receives sends no string

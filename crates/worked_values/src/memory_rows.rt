@@ -151,8 +151,8 @@ fn first_byte(rt: &impl Abort, objects: &Objects, n: u16) -> u8 {
     bytes[0]
 }
 
-/// Two pages with ab and cd as their first bytes, and some of each other object, empty. Page 0 is copied to page 1 before
-/// it is cleared.
+/// Two pages with ab and cd as their first bytes, and some of each other object, empty. Page 0 is copied to page 1
+/// before it is cleared.
 #[test]
 fn requests_to_the_memory_kinds_are_replied_as_their_rows_say(rt: HostRuntime) {
     let mut objects = Objects::new(rt.alloc(), SIZES).expect(&rt, "memory");

@@ -43,7 +43,8 @@ pub fn request_at(rt: &impl Abort, row: &str, n: usize) -> Request
     }
 }
 
-/// The item at word `n`: `h`, the type number and the number of an object; `s`, the number of a GPT and a slot; or none.
+/// The item at word `n`: `h`, the type number and the number of an object; `s`, the number of a GPT and a slot; or
+/// none.
 fn item_at(rt: &impl Abort, row: &str, n: usize) -> Option<Item>
     requires { n < 100 }
 {
@@ -67,8 +68,8 @@ pub fn given_at(rt: &impl Abort, row: &str, n: usize) -> Option<Cap>
     Some(cap_at(rt, row, n))
 }
 
-/// Fails with the row, unless its reply is this one, whose code and three words begin at word `n`. Behind bars stand the
-/// capability that it gives, or none, and the item that it changed, or none.
+/// Fails with the row, unless its reply is this one, whose code and three words begin at word `n`. Behind bars stand
+/// the capability that it gives, or none, and the item that it changed, or none.
 pub fn check_reply(rt: &impl Abort, reply: Reply, row: &str, n: usize)
     requires { n < 50 }
 {

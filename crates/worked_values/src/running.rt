@@ -72,10 +72,10 @@ impl Running {
         machine
     }
 
-    /// `ask`, then the capability that is asked, the request and the reply, as in the table of the memory kinds. `wait`,
-    /// with a process and the one that it sleeps on. `listen`, with a process. `tell`, with an endpoint and a word: the
-    /// process that was told, or b0 and the one that is busy, or d0. `hart`: which process hart 0 has, after it took one if it had none.
-    /// Anything else is a question.
+    /// `ask`, then the capability that is asked, the request and the reply, as in the table of the memory kinds.
+    /// `wait`, with a process and the one that it sleeps on. `listen`, with a process. `tell`, with an endpoint and a
+    /// word: the process that was told, or b0 and the one that is busy, or d0. `hart`: which process hart 0 has, after
+    /// it took one if it had none. Anything else is a question.
     fn perform(&mut self, rt: &impl Abort, row: &str) {
         match letter(row, 0) {
             b'a' => self.ask_row(rt, row),
@@ -90,8 +90,8 @@ impl Running {
         }
     }
 
-    /// Who is in the `queue` of a priority, and who sleeps `on` a process: f, and behind it the processes as digits, from
-    /// the front. Of a process, the `first` word that it was told, its `state` and its `place`.
+    /// Who is in the `queue` of a priority, and who sleeps `on` a process: f, and behind it the processes as digits,
+    /// from the front. Of a process, the `first` word that it was told, its `state` and its `place`.
     fn answer(&self, rt: &impl Abort, row: &str) -> u32 {
         match letter(row, 0) {
             b'q' | b'o' => self.digits(rt, row),
@@ -187,7 +187,8 @@ impl Running {
         self.queues.on_hart(0).is_none() && self.queues.on_hart(1).is_none()
     }
 
-    /// An f, and behind it the first four of the ready queue of a priority, or of those that sleep on a process, as digits.
+    /// An f, and behind it the first four of the ready queue of a priority, or of those that sleep on a process, as
+    /// digits.
     fn digits(&self, rt: &impl Abort, row: &str) -> u32 {
         let (is_queue, of) = (letter(row, 0) == b'q', byte(rt, row, 1));
         assert!(rt; of < 8 && u16::from(of) < self.objects.sizes().processes);
@@ -214,8 +215,8 @@ impl Running {
         }
     }
 
-    /// Where a process stands: a0 and the priority of a ready queue, b0 and the process that it sleeps on, c0 and a hart,
-    /// or f0 for nowhere.
+    /// Where a process stands: a0 and the priority of a ready queue, b0 and the process that it sleeps on, c0 and a
+    /// hart, or f0 for nowhere.
     pub fn place(&self, rt: &impl Abort, p: u16) -> u32 {
         assert!(rt; p < self.objects.sizes().processes);
         match self.queues.place(p) {

@@ -82,7 +82,7 @@ fn pieces(rt: &impl Abort, objects: &Objects, text: &str, first: u16) -> Pieces
     pieces
 }
 
-/// Moves the bytes of the pieces of a text, where its page 0 is, to others.
+/// Moves the bytes of the pieces of one text to those of another. Beside each stands which page its page 0 is.
 fn carry(
     rt: &impl Abort,
     alloc: Global,
