@@ -1,8 +1,7 @@
 //! Strings: how they are cut at pages, and how their bytes move, worked out by hand.
-ghost use Rattle.std.specs.Prelude.{◌<◌};
 ghost use Rattle.string_move.specs.Move.{ArePieces};
 
-use crate::rows::{byte, check, check_numbers, hex, short};
+use crate::rows::{byte, check, check_numbers, hex, letter, short};
 use object_store::{Objects, Sizes};
 use std::alloc::Global;
 use std::process::Abort;
@@ -69,123 +68,144 @@ fn add(rt: &impl Abort, objects: &Objects, pieces: &mut Pieces, piece: Piece)
     pieces.push(piece);
 }
 
-/// The pieces of a text, page, offset and length of each, with a comma between any two. Page `first` is page 0.
-fn pieces(rt: &impl Abort, objects: &Objects, text: &str, first: u16) -> Pieces
+/// What is done to pages and seen of them, a row after the other. `put`: a page, an offset, and the byte that is
+/// written there. `move`: between bars the pieces that are moved and those to which they are, page, offset and length
+/// of each. `see`: a page, an offset, and the eight bytes that are there.
+///
+/// Each page gets its number and 1 as its first byte, and its number and 80 (hexadecimal) as its last. The longest
+/// string from the last byte of page 0 on, 17 pieces, moves up by one page. Then page 3 begins with 1 2 3 4 5 6 7 8.
+const ROWS: &str = "\
+put 0 0 1
+put 0 fff 80
+put 1 0 2
+put 1 fff 81
+put 2 0 3
+put 2 fff 82
+put 3 0 4
+put 3 fff 83
+put 4 0 5
+put 4 fff 84
+put 5 0 6
+put 5 fff 85
+put 6 0 7
+put 6 fff 86
+put 7 0 8
+put 7 fff 87
+put 8 0 9
+put 8 fff 88
+put 9 0 a
+put 9 fff 89
+put a 0 b
+put a fff 8a
+put b 0 c
+put b fff 8b
+put c 0 d
+put c fff 8c
+put d 0 e
+put d fff 8d
+put e 0 f
+put e fff 8e
+put f 0 10
+put f fff 8f
+put 10 0 11
+put 10 fff 90
+put 11 0 12
+put 11 fff 91
+move|0 fff 1,1 0 1000,2 0 1000,3 0 1000,4 0 1000,5 0 1000,6 0 1000,7 0 1000,\
+8 0 1000,9 0 1000,a 0 1000,b 0 1000,c 0 1000,d 0 1000,e 0 1000,f 0 1000,10 0 fff|\
+1 fff 1,2 0 1000,3 0 1000,4 0 1000,5 0 1000,6 0 1000,7 0 1000,\
+8 0 1000,9 0 1000,a 0 1000,b 0 1000,c 0 1000,d 0 1000,e 0 1000,f 0 1000,10 0 1000,11 0 fff|
+see 0 0 1 0 0 0 0 0 0 0
+see 0 ff8 0 0 0 0 0 0 0 80 it isn't written
+see 1 0 2 0 0 0 0 0 0 0
+see 1 ff8 0 0 0 0 0 0 0 80 its last byte is the string's first
+see 2 0 2 0 0 0 0 0 0 0
+see 2 ff8 0 0 0 0 0 0 0 81
+see 3 0 3 0 0 0 0 0 0 0
+see 3 ff8 0 0 0 0 0 0 0 82
+see f 0 f 0 0 0 0 0 0 0
+see f ff8 0 0 0 0 0 0 0 8e
+see 10 0 10 0 0 0 0 0 0 0
+see 10 ff8 0 0 0 0 0 0 0 8f
+see 11 0 11 0 0 0 0 0 0 0
+see 11 ff8 0 0 0 0 0 0 0 91 the string ends before its last byte
+put 3 0 1
+put 3 1 2
+put 3 2 3
+put 3 3 4
+put 3 4 5
+put 3 5 6
+put 3 6 7
+put 3 7 8
+move|3 0 6|3 2 6| a move byte by byte would repeat the first two
+see 3 0 1 2 1 2 3 4 5 6
+see 4 4 0 0 0 0 0 0 0 0
+move|3 0 4,3 4 4|3 4 4,3 0 4| a move byte by byte, or piece by piece, would lose one of them
+see 3 0 3 4 5 6 1 2 1 2
+see 4 4 0 0 0 0 0 0 0 0
+move|3 0 4,3 4 4|3 1 3,4 7 2| fewer bytes than there are, two of them to another page
+see 3 0 3 3 4 5 1 2 1 2
+see 4 4 0 0 0 6 1 0 0 0";
+
+/// The pieces of a text, page, offset and length of each, with a comma between any two.
+fn pieces(rt: &impl Abort, objects: &Objects, text: &str) -> Pieces
     ensures { ArePieces objects.now.items result }
 {
     let mut pieces = Pieces::new();
     for piece in text.split(',') {
-        let page = short(rt, piece, 0).checked_add(first).expect(rt, "a page");
+        let page = short(rt, piece, 0);
         let (at, len) = (short(rt, piece, 1), short(rt, piece, 2));
         add(rt, objects, &mut pieces, Piece { page, at, len });
     }
     pieces
 }
 
-/// Moves the bytes of the pieces of one text to those of another. Beside each stands which page its page 0 is.
-fn carry(
-    rt: &impl Abort,
-    alloc: Global,
-    objects: &mut Objects,
-    (from, low): (&str, u16),
-    (to, high): (&str, u16),
-) {
-    let from = pieces(rt, objects, from, low);
-    let to = pieces(rt, objects, to, high);
+/// Moves the bytes of the pieces of one text to those of another.
+fn carry(rt: &impl Abort, alloc: Global, objects: &mut Objects, from: &str, to: &str) {
+    let from = pieces(rt, objects, from);
+    let to = pieces(rt, objects, to);
     let size = to.size();
     assert!(rt; size <= 65536 && size <= from.size());
     let mut room = Scratch::new(alloc).expect(rt, "memory");
     copy(objects, &from, &to, &mut room);
 }
 
-/// Writes bytes to a page.
-fn put(rt: &impl Abort, objects: &mut Objects, page: u16, at: u16, bytes: &[u8]) {
-    assert!(rt; page < objects.sizes().pages && at < 4096 && bytes.len() <= 4096 - at as usize);
-    objects.page_mut(page).write(at, bytes);
+/// Writes the row's byte.
+fn put(rt: &impl Abort, objects: &mut Objects, row: &str) {
+    let (page, at) = (short(rt, row, 1), short(rt, row, 2));
+    assert!(rt; page < objects.sizes().pages && at < 4096);
+    objects.page_mut(page).write(at, &[byte(rt, row, 3)]);
 }
 
-/// Eight bytes of a page.
-fn eight(rt: &impl Abort, objects: &Objects, page: u16, at: u16) -> [u8; 8] {
+/// Fails with the row, unless its eight bytes are there.
+fn see(rt: &impl Abort, objects: &Objects, row: &str) {
+    let (page, at) = (short(rt, row, 1), short(rt, row, 2));
     assert!(rt; page < objects.sizes().pages && at <= 4088);
     let mut bytes = [0; 8];
     objects.page(page).read(at, &mut bytes);
-    bytes
-}
-
-/// The pieces that move, page, offset and length of each, and those to which they move. Then the first eight bytes of
-/// page 3 afterwards, and eight of page 4 from its fifth byte on. Page 3 begins with 1 2 3 4 5 6 7 8, and a row moves
-/// what the one above it left.
-const MOVES: &str = "\
-3 0 6|3 2 6| 1 2 1 2 3 4 5 6 | 0 0 0 0 0 0 0 0 a move byte by byte would repeat the first two
-3 0 4,3 4 4|3 4 4,3 0 4| 3 4 5 6 1 2 1 2 | 0 0 0 0 0 0 0 0 a move piece by piece would lose one of them
-3 0 4,3 4 4|3 1 3,4 7 2| 3 3 4 5 1 2 1 2 | 0 0 0 6 1 0 0 0 fewer bytes than there are, two to another page";
-
-/// These eight bytes are those that begin at word `n`.
-fn check_eight(rt: &impl Abort, found: [u8; 8], row: &str, n: usize)
-    requires { n < 100 }
-{
-    for (i, byte) in found.iter().enumerate() {
-        check(rt, u32::from(*byte) == hex(rt, row, n + i), row);
+    for (i, found) in bytes.iter().enumerate() {
+        check(rt, *found == byte(rt, row, 3 + i), row);
     }
 }
 
-/// Moves the row's pieces, and looks at both pages.
-fn check_move(rt: &impl Abort, alloc: Global, objects: &mut Objects, row: &str) {
-    let (from, rest) = row.split_once('|').expect(rt, "a bar");
-    let (to, left) = rest.split_once('|').expect(rt, "a bar");
-    carry(rt, alloc, objects, (from, 0), (to, 0));
-    check_eight(rt, eight(rt, objects, 3, 0), left, 0);
-    check_eight(rt, eight(rt, objects, 4, 4), left, 9);
-}
-
-/// The pieces of the longest string, which begins at the last byte of a page: as many as there can be.
-const LONGEST: &str =
-    "0 fff 1,1 0 1000,2 0 1000,3 0 1000,4 0 1000,5 0 1000,6 0 1000,7 0 1000,8 0 1000,9 0 1000,\
-a 0 1000,b 0 1000,c 0 1000,d 0 1000,e 0 1000,f 0 1000,10 0 fff";
-
-/// The longest string from the last byte of page 0 on moves up by one page: 17 pieces on each side. The numbers of a
-/// page, and the first and the last byte that it has afterwards; before, the first was its number and 1, the last its
-/// number and 80 (hexadecimal).
-const MOVED: &str = "\
-0 1 80 it isn't written
-1 2 80 its last byte is the string's first
-2 2 81
-3 3 82
-f f 8e
-10 10 8f
-11 11 91 the string ends before its last byte";
-
-/// Each page gets its number in its first byte and in its last.
-fn number_pages(rt: &impl Abort, objects: &mut Objects) {
-    for page in 0..18_u8 {
-        put(rt, objects, u16::from(page), 0, &[page + 1]);
-        put(rt, objects, u16::from(page), 4095, &[page + 0x80]);
-    }
-}
-
-/// The row's page has the row's first and last byte.
-fn check_page(rt: &impl Abort, objects: &Objects, row: &str) {
-    let page = short(rt, row, 0);
-    check(rt, eight(rt, objects, page, 0)[0] == byte(rt, row, 1), row);
-    let last = eight(rt, objects, page, 4088)[7];
-    check(rt, last == byte(rt, row, 2), row);
-}
-
-/// Moves the longest string up by one page.
-fn check_longest(rt: &impl Abort, alloc: Global, objects: &mut Objects) {
-    number_pages(rt, objects);
-    carry(rt, alloc, objects, (LONGEST, 0), (LONGEST, 1));
-    for row in MOVED.lines() {
-        check_page(rt, objects, row);
+/// Does what the row says.
+fn perform(rt: &impl Abort, alloc: Global, objects: &mut Objects, row: &str) {
+    match letter(row, 0) {
+        b'p' => put(rt, objects, row),
+        b's' => see(rt, objects, row),
+        _ => {
+            let (_, pieces) = row.split_once('|').expect(rt, "a bar");
+            let (from, rest) = pieces.split_once('|').expect(rt, "a bar");
+            let (to, _) = rest.split_once('|').expect(rt, "a bar");
+            carry(rt, alloc, objects, from, to);
+        }
     }
 }
 
 #[test]
 fn pieces_that_overlap_are_read_before_any_is_written(rt: HostRuntime) {
     let mut objects = Objects::new(rt.alloc(), SIZES).expect(&rt, "memory");
-    check_longest(&rt, rt.alloc(), &mut objects);
-    put(&rt, &mut objects, 3, 0, &[1, 2, 3, 4, 5, 6, 7, 8]);
-    for row in MOVES.lines() {
-        check_move(&rt, rt.alloc(), &mut objects, row);
+    for row in ROWS.lines() {
+        perform(&rt, rt.alloc(), &mut objects, row);
     }
 }
