@@ -1,6 +1,6 @@
 //! The buffer in which a line is put together before it is written.
-ghost use Rattle.std.specs.Prelude.{ℕ, List, ◌≡◌, ◌+◌, ◌^◌, ◌<◌, ◌≤◌, [], ◌∷◌, ◌++◌, length, codes, decimal};
-ghost use Rattle.coy_text.specs.Numeral.{hex_text};
+ghost use Rattle.std.specs.Prelude.{ℕ, List, ◌≡◌, ◌+◌, ◌%◌, ◌^◌, ◌<◌, ◌≤◌, [], ◌∷◌, ◌++◌, length, codes, decimal};
+ghost use Rattle.coy_text.specs.Numeral.{hex_glyph, hex_text};
 
 use arrayvec::ArrayString;
 use std::marker::Model;
@@ -100,13 +100,44 @@ impl LineBuf {
     }
 
     /// Appends a space, and a word of 32 bits in eight hexadecimal digits.
+    #[tactic(auto, unfolding(crate::specs::Numeral::hex_text))]
     pub fn push_value(&mut self, value: u32)
         requires { length self.old + 9 ≤ 1024 }
         ensures text { self.new ≡ self.old ++ codes " " ++ hex_text 8 value }
         ensures len { length self.new ≡ length self.old + 9 }
     {
         self.push_word(" ");
-        self.push_hex(value, 8);
+        self.push_four(value / 16 / 16 / 16 / 16);
+        self.push_four(value);
+    }
+
+    /// Appends the last four hexadecimal digits of a number.
+    #[tactic(auto, unfolding(crate::specs::Numeral::hex_text))]
+    fn push_four(&mut self, value: u32)
+        requires { length self.old + 4 ≤ 1024 }
+        ensures text { self.new ≡ self.old ++ hex_text 4 value }
+        ensures len { length self.new ≡ length self.old + 4 }
+    {
+        let second = value / 16;
+        let third = second / 16;
+        self.push_digit(third / 16);
+        self.push_digit(third);
+        self.push_digit(second);
+        self.push_digit(value);
+    }
+
+    /// Appends the last hexadecimal digit of a number.
+    fn push_digit(&mut self, value: u32)
+        requires { length self.old + 1 ≤ 1024 }
+        ensures text { self.new ≡ self.old ++ hex_glyph (value % 16) ∷ [] }
+        ensures len { length self.new ≡ length self.old + 1 }
+    {
+        let digit = (value % 16) as u8;
+        self.push_byte(if digit < 10 {
+            b'0' + digit
+        } else {
+            b'a' + (digit - 10)
+        });
     }
 
     /// Appends a number in exactly `digits` hexadecimal digits, in lower case and with leading zeros.
@@ -122,11 +153,6 @@ impl LineBuf {
         if digits > 1 {
             self.push_hex(value / 16, digits - 1);
         }
-        let digit = (value % 16) as u8;
-        self.push_byte(if digit < 10 {
-            b'0' + digit
-        } else {
-            b'a' + (digit - 10)
-        });
+        self.push_digit(value);
     }
 }
