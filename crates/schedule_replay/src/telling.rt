@@ -24,14 +24,20 @@ pub(crate) fn put_records<K: Sink>(
     ensures silent { mode ≡ Mode.Silent → output.new ≡ output.old }
 {
     let all = records.as_slice();
+    let mut line = LineBuf::new();
     'each: for i in 0..all.len() {
-        put_record(mode, &all[i], output)?;
+        put_record(mode, &all[i], &mut line, output)?;
     }
     Ok(())
 }
 
-/// Writes the line of a record, where the mode names it.
-fn put_record<K: Sink>(mode: Mode, entry: &Record, output: &mut K) -> Result<(), WriteFault>
+/// Writes the line of a record, where the mode names it, by this buffer.
+fn put_record<K: Sink>(
+    mode: Mode,
+    entry: &Record,
+    line: &mut LineBuf,
+    output: &mut K,
+) -> Result<(), WriteFault>
     requires { IsRecord entry.now }
     ensures text { let text = line_of mode entry.now in
         Writes (K.taken output.old) (K.taken output.new) result text }
@@ -41,8 +47,7 @@ fn put_record<K: Sink>(mode: Mode, entry: &Record, output: &mut K) -> Result<(),
     if !is_told(mode, entry) {
         return Ok(());
     }
-    let mut line = LineBuf::new();
-    record_line(entry, &mut line);
+    record_line(entry, line);
     put_all(output, line.as_bytes())
 }
 
