@@ -1,9 +1,10 @@
 //! The bytes of capabilities, worked out by hand from the format. They are written as they stand, the
 //! first byte first.
 
-use crate::rows::{byte, check, hex};
+use crate::rows::{byte, cap_bytes, check, hex};
 use bitflags::Flags;
 use cap_format::{Cap, CapFault, CapKind, Guard, Restr, decode, encode};
+use coy_text::word;
 use std::process::Abort;
 
 /// The bytes, and the type number, restrictions, count, `l2g`, match, object, payload and slot.
@@ -41,8 +42,8 @@ c4070000 0cf0ffff 00f0ffff 00000000  4 1f 0 c fffff fffff000 0 0
 08000000 00000000 00000000 00000000  8 0 0 c 0 0 0 0
 08300000 00000000 ff000000 00000000  8 0 3 c 0 ff 0 0";
 
-/// Bytes whose type number is over 13.
-const BAD_TYPE: &str = "\
+/// Bytes that break a rule, and which one. Where that begins with `type`, the type number is over 13, else it is good.
+const BAD: &str = "\
 0e000000 00000000 00000000 00000000 type 14
 0f000000 00000000 00000000 00000000 type 15
 10000000 00000000 00000000 00000000 type 16
@@ -50,10 +51,7 @@ const BAD_TYPE: &str = "\
 20000000 00000000 00000000 00000000 type 32
 3f000000 00000000 00000000 00000000 type 63
 0e080000 00000000 00000000 00000000 type 14 and bit 11: the type is tested first
-ffffffff ffffffff ffffffff ffffffff all ones";
-
-/// Bytes with a good type number that break another rule.
-const BAD_FIELD: &str = "\
+ffffffff ffffffff ffffffff ffffffff type 63 and all other bits
 00080000 00000000 00000000 00000000 bit 11
 01000000 0b000000 00000000 00000000 l2g 11
 40000000 00000000 00000000 00000000 null: a restriction
@@ -212,13 +210,6 @@ const BAD_FIELD: &str = "\
 0d000000 00000000 00000000 01000000 sysctl: fourth number
 0d000000 00000000 01000000 00000000 sysctl: third number";
 
-/// The sixteen bytes that a row begins with.
-fn bytes(rt: &impl Abort, row: &str) -> [u8; 16] {
-    let first = u128::from(hex(rt, row, 0)) << 96 | u128::from(hex(rt, row, 1)) << 64;
-    let second = u128::from(hex(rt, row, 2)) << 32 | u128::from(hex(rt, row, 3));
-    (first | second).to_be_bytes()
-}
-
 /// The capability of the fields behind a row's bytes.
 fn capability(rt: &impl Abort, row: &str) -> Option<Cap> {
     let kind = CapKind::from_number(hex(rt, row, 4))?;
@@ -228,32 +219,23 @@ fn capability(rt: &impl Abort, row: &str) -> Option<Cap> {
     Cap::try_new(kind, restr, hex(rt, row, 6), guard, object, payload, slot)
 }
 
-/// The row's capability has the row's bytes, and is read from them.
-fn check_spelled(rt: &impl Abort, row: &str) {
-    let cap = capability(rt, row).expect(rt, "a capability");
-    let bytes = bytes(rt, row);
-    check(rt, encode(cap) == bytes, row);
-    check(rt, decode(&bytes) == Ok(cap), row);
-}
-
 #[test]
 fn each_capability_has_its_bytes_and_they_read_back(rt: HostRuntime) {
     for row in SPELLED.lines() {
-        check_spelled(&rt, row);
+        let cap = capability(&rt, row).expect(&rt, "a capability");
+        let bytes = cap_bytes(&rt, row);
+        check(&rt, encode(cap) == bytes, row);
+        check(&rt, decode(&bytes) == Ok(cap), row);
     }
-}
-
-/// The row's bytes are refused for this.
-fn check_fault(rt: &impl Abort, row: &str, fault: CapFault) {
-    check(rt, decode(&bytes(rt, row)) == Err(fault), row);
 }
 
 #[test]
 fn bytes_that_break_a_rule_spell_no_capability(rt: HostRuntime) {
-    for row in BAD_TYPE.lines() {
-        check_fault(&rt, row, CapFault::BadType);
-    }
-    for row in BAD_FIELD.lines() {
-        check_fault(&rt, row, CapFault::BadField);
+    for row in BAD.lines() {
+        let fault = match word(row.as_bytes(), 4) == b"type".as_slice() {
+            true => CapFault::BadType,
+            false => CapFault::BadField,
+        };
+        check(&rt, decode(&cap_bytes(&rt, row)) == Err(fault), row);
     }
 }

@@ -2,7 +2,7 @@
 //! here with spaces and plain registers.
 
 use crate::rows::{check, hex};
-use coy_text::{LineBuf, cut, read_hex};
+use coy_text::{LineBuf, read_hex};
 use rv32_asm::{AsmFault, assemble, disassemble};
 use rv32_decode::{Insn, decode, encode};
 use std::process::Abort;
@@ -1005,71 +1005,69 @@ ffffe057 auipc x0 1048574 with bit 6 changed
 7fe84fe7 blt x16 x30 4094 with bit 2 changed
 01ff5792 srli x15 x30 31 with bit 0 changed";
 
-/// The two parts of a row, of which the second is empty where no mark stands between them.
-fn parts(row: &[u8]) -> (&[u8], &[u8]) {
-    cut(row, b'|').unwrap_or((row, b"".as_slice()))
-}
-
-/// The word is an instruction with this text.
-fn check_printed(rt: &impl Abort, row: &str, word: u32, printed: &[u8]) {
-    let insn = decode(word).expect(rt, "an instruction");
-    let mut line = LineBuf::new();
-    disassemble(insn, &mut line);
-    check(rt, line.as_bytes() == printed, row);
-}
-
 /// The text assembles to the word, and the word is an instruction printed as `printed`.
-fn check_row(rt: &impl Abort, row: &str, text: &[u8], word: &[u8], printed: &[u8]) {
-    let word = read_hex(word).expect(rt, "a word");
-    check(rt, assemble(text) == Ok(word), row);
-    check_printed(rt, row, word, printed);
-}
-
-/// The same of a row with a word and its text.
-fn check_instruction(rt: &impl Abort, row: &str) {
-    let (word, text) = parts(row.as_bytes());
-    check_row(rt, row, text, word, text);
-}
-
-/// The same of a row with a text, its word and how that is printed.
-fn check_spelling(rt: &impl Abort, row: &str) {
-    let (text, rest) = parts(row.as_bytes());
-    let (word, printed) = parts(rest);
-    check_row(rt, row, text, word, printed);
+fn check_row(rt: &impl Abort, text: &str, word: &str, printed: &str) {
+    let word = read_hex(word.as_bytes()).expect(rt, "a word");
+    check(rt, assemble(text.as_bytes()) == Ok(word), text);
+    let mut line = LineBuf::new();
+    disassemble(decode(word).expect(rt, "an instruction"), &mut line);
+    check(rt, line.as_bytes() == printed.as_bytes(), text);
 }
 
 #[test]
 fn instructions_have_their_words_and_texts(rt: HostRuntime) {
     for row in INSTRUCTIONS.lines() {
-        check_instruction(&rt, row);
+        let (word, text) = row.split_once('|').expect(&rt, "a text");
+        check_row(&rt, text, word, text);
     }
+}
+
+#[test]
+fn other_spellings_have_their_words_too(rt: HostRuntime) {
     for row in SPELLINGS.lines() {
-        check_spelling(&rt, row);
+        let (text, rest) = row.split_once('|').expect(&rt, "a word");
+        let (word, printed) = rest.split_once('|').expect(&rt, "a text");
+        check_row(&rt, text, word, printed);
     }
 }
 
-/// The line is refused for this.
-fn check_refused(rt: &impl Abort, text: &str, fault: AsmFault) {
-    check(rt, assemble(text.as_bytes()) == Err(fault), text);
-}
-
 #[test]
-fn other_lines_are_refused(rt: HostRuntime) {
+fn other_first_words_are_refused(rt: HostRuntime) {
     for text in BAD_MNEMONICS.lines() {
-        check_refused(&rt, text, AsmFault::BadMnemonic);
-    }
-    for text in BAD_OPERANDS.lines() {
-        check_refused(&rt, text, AsmFault::BadOperand);
+        check(
+            &rt,
+            assemble(text.as_bytes()) == Err(AsmFault::BadMnemonic),
+            text,
+        );
     }
 }
 
 #[test]
-fn other_words_are_illegal_and_each_of_fence_is_fence(rt: HostRuntime) {
+fn other_operands_are_refused(rt: HostRuntime) {
+    for text in BAD_OPERANDS.lines() {
+        check(
+            &rt,
+            assemble(text.as_bytes()) == Err(AsmFault::BadOperand),
+            text,
+        );
+    }
+}
+
+#[test]
+fn other_words_are_illegal(rt: HostRuntime) {
     for row in ILLEGAL.lines() {
         check(&rt, decode(hex(&rt, row, 0)).is_err(), row);
     }
+}
+
+#[test]
+fn each_word_of_fence_is_fence(rt: HostRuntime) {
     for row in FENCES.lines() {
-        check(&rt, matches!(decode(hex(&rt, row, 0)), Ok(Insn::Fence)), row);
+        check(
+            &rt,
+            matches!(decode(hex(&rt, row, 0)), Ok(Insn::Fence)),
+            row,
+        );
     }
     check(&rt, encode(Insn::Fence) == 0x0ff0_000f, "fence");
 }

@@ -1,39 +1,36 @@
 //! Lines of listings and schedules with what they say, worked out by hand from their grammar.
-use crate::rows::{barred, check, check_text, hex};
+use crate::rows::{barred, check, check_text, hex, joined, source_of};
 use bitflags::Flags;
 use cap_format::Cap;
-use coy_io::{Failed, INPUT_LIMIT, LineReader, MemSource, Source};
-use listing_read::{Fault, Listing, ListingFault, Statement, Timed, read_event, read_listing};
+use coy_io::{INPUT_LIMIT, LineReader, Source, SureSource};
+use listing_read::{ListingFault, Statement, Timed, read_event, read_listing};
 use rv32_decode::Insn;
 use std::alloc::Global;
 use std::process::Abort;
-use std::test::Fail;
 
-/// Reads a listing. Where it is refused, the answer is the line and the fault.
-fn refusal<S: Source>(alloc: Global, source: &mut S) -> Result<Option<(u32, Fault)>, Fail> {
-    let mut lines = LineReader::new();
-    match read_listing(alloc, &mut lines, source) {
-        Ok(_) => Ok(None),
-        Err(ListingFault::Refused { line, fault }) => Ok(Some((line, fault))),
-        Err(ListingFault::TooLong) => Err(Fail::from("too long")),
-        Err(_) => Err(Fail::from("could not be read")),
-    }
+/// The line and the fault for which a listing is refused, or why it is not read, or `-` where it is read.
+fn judged<S: Source>(rt: &impl Abort, alloc: Global, source: &mut S) -> String {
+    let told = match read_listing(alloc, &mut LineReader::new(), source) {
+        Ok(_) => "-".to_string(alloc),
+        Err(ListingFault::Refused { line, fault }) => format!(in alloc; "{line} {fault:?}"),
+        Err(fault) => format!(in alloc; "{fault:?}"),
+    };
+    told.expect(rt, "memory")
 }
 
-fn source_of(alloc: Global, parts: [&str; 3]) -> Result<MemSource, Fail> {
-    let mut bytes = Vec::new(alloc);
-    for part in parts {
-        bytes.extend_from_slice(part.as_bytes())?;
+/// Judges a listing of three parts, in pieces of 7 bytes.
+fn judge(rt: &impl Abort, alloc: Global, front: &str, line: &str, back: &str, wanted: &str) {
+    let mut source = source_of(alloc, joined(rt, alloc, front, line, back), 7);
+    let told = judged(rt, alloc, &mut source);
+    check_text(rt, told.as_bytes(), wanted, line);
+}
+
+/// Judges the line of each row between these texts as the row says.
+fn judge_all(rt: &impl Abort, alloc: Global, front: &str, rows: &str, back: &str) {
+    for row in rows.lines() {
+        let (wanted, line) = barred(rt, row);
+        judge(rt, alloc, front, line, back, wanted);
     }
-    Ok(MemSource {
-        bytes,
-        at: 0,
-        calls: 0,
-        failing: Vec::new(alloc),
-        piece: 7,
-        by_line: false,
-        faults: 0,
-    })
 }
 
 /// A machine with two of everything.
@@ -114,42 +111,6 @@ const LINES: &str = "\
 3 NoObject |count endpoint 2 0|
 3 BadValue |count entry 0 0|";
 
-/// The names of the line and the fault for which a listing is refused, or `-` where it isn't.
-fn judged<S: Source>(alloc: Global, source: &mut S) -> Result<String, Fail> {
-    match refusal(alloc, source)? {
-        None => Ok("-".to_string(alloc)?),
-        Some((line, fault)) => Ok(format!(in alloc; "{line} {fault:?}")?),
-    }
-}
-
-/// Judges the row's line between these texts as the row says.
-fn judge(rt: &impl Abort, alloc: Global, front: &str, row: &str, back: &str) -> Result<(), Fail> {
-    let (wanted, line) = barred(rt, row);
-    let mut source = source_of(alloc, [front, line, back])?;
-    let told = judged(alloc, &mut source)?;
-    check_text(rt, told.as_str(), wanted, row);
-    Ok(())
-}
-
-/// The same of each row.
-fn judge_all(
-    rt: &impl Abort,
-    alloc: Global,
-    front: &str,
-    rows: &str,
-    back: &str,
-) -> Result<(), Fail> {
-    for row in rows.lines() {
-        judge(rt, alloc, front, row, back)?;
-    }
-    Ok(())
-}
-
-#[test]
-fn a_line_is_refused_for_its_first_fault(rt: HostRuntime) -> Result<(), Fail> {
-    judge_all(&rt, rt.alloc(), TWO, LINES, "\nend\nany\n")
-}
-
 /// The same machine in version 2, of whose pages the second has a name.
 const NAMED: &str = "coyotos 2\nmachine 2 2 2 2 2 2\nname code page 1\n";
 
@@ -195,12 +156,6 @@ const EARLIER_LINES: &str = "\
 3 BadNumber |page $code 000 00|
 3 BadCap |cap 0 0 page:$code@12/0|";
 
-#[test]
-fn names_and_regions_are_judged_from_left_to_right(rt: HostRuntime) -> Result<(), Fail> {
-    judge_all(&rt, rt.alloc(), NAMED, NAMED_LINES, "\nend\nany\n")?;
-    judge_all(&rt, rt.alloc(), TWO, EARLIER_LINES, "\nend\n")
-}
-
 /// The front of a line that ends in a capability word, on a machine with two of everything.
 const SLOT: &str = "coyotos 1\nmachine 2 2 2 2 2 2\ncap 0 0 ";
 
@@ -244,8 +199,11 @@ const WORDS: &str = "\
 3 BadGuard |local:1:800@12/0|";
 
 #[test]
-fn a_capability_word_has_three_faults_in_order(rt: HostRuntime) -> Result<(), Fail> {
-    judge_all(&rt, rt.alloc(), SLOT, WORDS, "")
+fn a_line_is_refused_for_its_first_fault(rt: HostRuntime) {
+    judge_all(&rt, rt.alloc(), TWO, LINES, "\nend\nany\n");
+    judge_all(&rt, rt.alloc(), NAMED, NAMED_LINES, "\nend\nany\n");
+    judge_all(&rt, rt.alloc(), TWO, EARLIER_LINES, "\nend\n");
+    judge_all(&rt, rt.alloc(), SLOT, WORDS, "");
 }
 
 /// Listings, each behind the line and the fault for which it is refused. A line of three signs stands between two of
@@ -330,55 +288,30 @@ reg 0 1
 end
 ";
 
-/// Judges a listing as the line in front of it says.
-fn judge_listing(rt: &impl Abort, alloc: Global, block: &str) -> Result<(), Fail> {
-    let (wanted, listing) = block.split_once('\n').expect(rt, "a line");
-    let mut source = source_of(alloc, [listing, "", ""])?;
-    let told = judged(alloc, &mut source)?;
-    check_text(rt, told.as_str(), wanted, block);
-    Ok(())
-}
-
 #[test]
-fn a_listing_is_refused_at_its_first_line_with_a_fault(rt: HostRuntime) -> Result<(), Fail> {
+fn a_listing_is_refused_at_its_first_line_with_a_fault(rt: HostRuntime) {
     for block in LISTINGS.split("\n===\n") {
-        judge_listing(&rt, rt.alloc(), block)?;
+        let (wanted, listing) = block.split_once('\n').expect(&rt, "a line");
+        judge(&rt, rt.alloc(), "", listing, "", wanted);
     }
-    Ok(())
 }
 
 /// Judges a listing whose third line ends in so many zeros.
-fn judge_zeros(
-    rt: &impl Abort,
-    alloc: Global,
-    front: &str,
-    count: usize,
-    wanted: &str,
-) -> Result<(), Fail> {
-    let mut source = source_of(alloc, [TWO, front, ""])?;
-    let zeros = vec![in alloc; b'0'; count]?;
-    source.bytes.extend_from_slice(zeros.as_slice())?;
-    source.bytes.extend_from_slice(b"\nend")?;
-    let told = judged(alloc, &mut source)?;
-    check_text(rt, told.as_str(), wanted, front);
-    Ok(())
+fn judge_zeros(rt: &impl Abort, alloc: Global, front: &str, count: usize, wanted: &str) {
+    let mut line = front.to_string(alloc).expect(rt, "memory");
+    let zeros = "0".repeat(alloc, count).expect(rt, "memory");
+    line.push_str(zeros.as_str()).expect(rt, "memory");
+    judge(rt, alloc, TWO, line.as_str(), "\nend", wanted);
 }
 
 #[test]
-fn a_long_line_or_a_long_page_row_is_refused(rt: HostRuntime) -> Result<(), Fail> {
-    // (front of the third line, how many zeros behind it, where and why it is refused)
-    let cases = [
-        ("page 0 f80 ", 128, "-"),
-        ("page 0 f80 ", 127, "3 BadHex"),
-        ("page 0 f80 ", 130, "3 BadHex"),
-        ("#", 511, "-"),
-        ("#", 512, "3 LineTooLong"),
-        ("\t", 512, "3 LineTooLong"),
-    ];
-    for (front, count, wanted) in cases {
-        judge_zeros(&rt, rt.alloc(), front, count, wanted)?;
-    }
-    Ok(())
+fn a_long_line_or_a_long_page_row_is_refused(rt: HostRuntime) {
+    judge_zeros(&rt, rt.alloc(), "page 0 f80 ", 128, "-");
+    judge_zeros(&rt, rt.alloc(), "page 0 f80 ", 127, "3 BadHex");
+    judge_zeros(&rt, rt.alloc(), "page 0 f80 ", 130, "3 BadHex");
+    judge_zeros(&rt, rt.alloc(), "#", 511, "-");
+    judge_zeros(&rt, rt.alloc(), "#", 512, "3 LineTooLong");
+    judge_zeros(&rt, rt.alloc(), "\t", 512, "3 LineTooLong");
 }
 
 /// The kind and the restrictions of a capability, as they stand in its first number.
@@ -391,22 +324,22 @@ fn values_of(statement: &Statement) -> [u32; 7] {
     match statement {
         Statement::Page { number, at, bytes } => {
             let [first, second, ..] = bytes.as_slice() else {
-                return [0, u32::from(*number), u32::from(*at), 0, 0, 0, 0];
+                return [0, *number as u32, *at as u32, 0, 0, 0, 0];
             };
             [
                 0,
-                u32::from(*number),
-                u32::from(*at),
+                *number as u32,
+                *at as u32,
                 bytes.as_slice().len() as u32,
-                u32::from(*first),
-                u32::from(*second),
+                *first as u32,
+                *second as u32,
                 0,
             ]
         }
         Statement::Code { number, at, insn } => [
             1,
-            u32::from(*number),
-            u32::from(*at),
+            *number as u32,
+            *at as u32,
             u32::from(matches!(*insn, Insn::Lui { rd: 5, imm: 1 })),
             0,
             0,
@@ -415,8 +348,8 @@ fn values_of(statement: &Statement) -> [u32; 7] {
         Statement::CapSlot { number, slot, cap } => {
             [
                 2,
-                u32::from(*number),
-                u32::from(*slot),
+                *number as u32,
+                *slot as u32,
                 cap_word(*cap),
                 cap.object(),
                 cap.payload(),
@@ -426,10 +359,10 @@ fn values_of(statement: &Statement) -> [u32; 7] {
         Statement::Gpt { number, header } => {
             [
                 3,
-                u32::from(*number),
-                u32::from(header.l2v()),
-                u32::from(header.ha()),
-                u32::from(header.bg()),
+                *number as u32,
+                header.l2v() as u32,
+                header.ha() as u32,
+                header.bg() as u32,
                 0,
                 0,
             ]
@@ -437,11 +370,11 @@ fn values_of(statement: &Statement) -> [u32; 7] {
         Statement::GptSlot { number, slot, cap } => {
             [
                 4,
-                u32::from(*number),
-                u32::from(*slot),
+                *number as u32,
+                *slot as u32,
                 cap_word(*cap),
                 cap.object(),
-                u32::from(cap.slot()),
+                cap.slot() as u32,
                 0,
             ]
         }
@@ -454,11 +387,11 @@ fn values_of(statement: &Statement) -> [u32; 7] {
         } => {
             [
                 5,
-                u32::from(*number),
+                *number as u32,
                 cap_word(*recipient),
                 *id,
                 *payload,
-                u32::from(*matching),
+                *matching as u32,
                 recipient.object(),
             ]
         }
@@ -472,11 +405,11 @@ fn values_of(statement: &Statement) -> [u32; 7] {
         } => {
             [
                 6,
-                u32::from(*number),
+                *number as u32,
                 *pc,
                 cap_word(*space),
                 schedule.object(),
-                u32::from(*runs),
+                *runs as u32,
                 cap_word(*handler),
             ]
         }
@@ -484,14 +417,14 @@ fn values_of(statement: &Statement) -> [u32; 7] {
             number,
             index,
             value,
-        } => [7, u32::from(*number), u32::from(*index), *value, 0, 0, 0],
+        } => [7, *number as u32, *index as u32, *value, 0, 0, 0],
         Statement::CapReg { number, index, cap } => {
             [
                 8,
-                u32::from(*number),
-                u32::from(*index),
+                *number as u32,
+                *index as u32,
                 cap_word(*cap),
-                u32::from(cap.guard().l2g()),
+                cap.guard().l2g() as u32,
                 cap.guard().matches(),
                 0,
             ]
@@ -500,15 +433,7 @@ fn values_of(statement: &Statement) -> [u32; 7] {
             kind,
             number,
             count,
-        } => [
-            9,
-            u32::from(kind.number()),
-            u32::from(*number),
-            *count,
-            0,
-            0,
-            0,
-        ],
+        } => [9, kind.number() as u32, *number as u32, *count, 0, 0, 0],
         Statement::Region {
             gpt,
             slot,
@@ -517,11 +442,11 @@ fn values_of(statement: &Statement) -> [u32; 7] {
             restr,
         } => [
             10,
-            u32::from(*gpt),
-            u32::from(*slot),
-            u32::from(*count),
-            u32::from(*page),
-            u32::from(restr.bits()),
+            *gpt as u32,
+            *slot as u32,
+            *count as u32,
+            *page as u32,
+            restr.bits() as u32,
             0,
         ],
     }
@@ -549,36 +474,25 @@ fn check_values(rt: &impl Abort, statement: &Statement, row: &str) {
     }
 }
 
-/// The listing with this third line, which has to be accepted.
-fn listing_with(rt: &impl Abort, alloc: Global, line: &str) -> Result<Listing, Fail> {
-    let mut source = source_of(alloc, [TWO, line, "\nend\n"])?;
-    let mut lines = LineReader::new();
-    let read = read_listing(alloc, &mut lines, &mut source);
-    check(rt, lines.number() == 4, line);
-    match read {
-        Ok(listing) => Ok(listing),
-        Err(_) => Err(Fail::from("a good listing is refused")),
-    }
-}
-
-/// The row's line is one statement, which has the row's values.
-fn check_statement(rt: &impl Abort, alloc: Global, row: &str) -> Result<(), Fail> {
+/// The listing with the row's line is read, and has one statement, with the row's values.
+fn check_statement(rt: &impl Abort, alloc: Global, row: &str) {
     let (_, line) = barred(rt, row);
-    let listing = listing_with(rt, alloc, line)?;
+    let mut source = source_of(alloc, joined(rt, alloc, TWO, line, "\nend\n"), 7);
+    let mut lines = LineReader::new();
+    let listing = read_listing(alloc, &mut lines, &mut source).expect(rt, row);
+    check(rt, lines.number() == 4, row);
     check(rt, listing.sizes().harts == 2, row);
     let [statement] = listing.statements() else {
-        return Err(Fail::from("one line is one statement"));
+        panic!(rt; "{row}")
     };
     check_values(rt, statement, row);
-    Ok(())
 }
 
 #[test]
-fn a_statement_has_the_values_of_its_line(rt: HostRuntime) -> Result<(), Fail> {
+fn a_statement_has_the_values_of_its_line(rt: HostRuntime) {
     for row in VALUES.lines() {
-        check_statement(&rt, rt.alloc(), row)?;
+        check_statement(&rt, rt.alloc(), row);
     }
-    Ok(())
 }
 
 /// What a line asks for on a machine with two harts, its fault, or `-` where it is skipped, and the line in bars.
@@ -602,103 +516,53 @@ UnknownEvent |end|
 BadByte |tick\t0|";
 
 /// What a line asks for, or its fault, in words.
-fn asked(alloc: Global, line: &[u8]) -> Result<String, Fail> {
-    let text = match read_event(line, 2) {
-        Ok(None) => "-".to_string(alloc)?,
-        Ok(Some(Timed::Step { hart, times })) => format!(in alloc; "step {hart} {times}")?,
-        Ok(Some(Timed::Tick { hart })) => format!(in alloc; "tick {hart}")?,
-        Ok(Some(Timed::Round { times })) => format!(in alloc; "round {times}")?,
-        Err(fault) => format!(in alloc; "{fault:?}")?,
+fn check_asked(rt: &impl Abort, alloc: Global, line: &str, wanted: &str) {
+    let told = match read_event(line.as_bytes(), 2) {
+        Ok(None) => "-".to_string(alloc),
+        Ok(Some(Timed::Step { hart, times })) => format!(in alloc; "step {hart} {times}"),
+        Ok(Some(Timed::Tick { hart })) => format!(in alloc; "tick {hart}"),
+        Ok(Some(Timed::Round { times })) => format!(in alloc; "round {times}"),
+        Err(fault) => format!(in alloc; "{fault:?}"),
     };
-    Ok(text)
-}
-
-/// Reads the row's line of a schedule.
-fn check_asked(rt: &impl Abort, alloc: Global, row: &str) -> Result<(), Fail> {
-    let (wanted, line) = barred(rt, row);
-    let told = asked(alloc, line.as_bytes())?;
-    check_text(rt, told.as_str(), wanted, row);
-    Ok(())
+    check_text(rt, told.expect(rt, "memory").as_bytes(), wanted, line);
 }
 
 #[test]
-fn a_line_of_a_schedule_asks_for_events(rt: HostRuntime) -> Result<(), Fail> {
+fn a_line_of_a_schedule_asks_for_events(rt: HostRuntime) {
     for row in EVENTS.lines() {
-        check_asked(&rt, rt.alloc(), row)?;
+        let (wanted, line) = barred(&rt, row);
+        check_asked(&rt, rt.alloc(), line, wanted);
     }
-    Ok(())
-}
-
-/// Reads a line of a schedule that has so many spaces.
-fn ask_spaces(rt: &impl Abort, alloc: Global, size: usize, wanted: &str) -> Result<(), Fail> {
-    let line = vec![in alloc; b' '; size]?;
-    let told = asked(alloc, line.as_slice())?;
-    check_text(rt, told.as_str(), wanted, wanted);
-    Ok(())
 }
 
 #[test]
-fn a_line_of_a_schedule_has_512_bytes_at_most(rt: HostRuntime) -> Result<(), Fail> {
-    ask_spaces(&rt, rt.alloc(), 512, "-")?;
-    ask_spaces(&rt, rt.alloc(), 513, "LineTooLong")
+fn a_line_of_a_schedule_has_512_bytes_at_most(rt: HostRuntime) {
+    let spaces = " ".repeat(rt.alloc(), 512).expect(&rt, "memory");
+    check_asked(&rt, rt.alloc(), spaces.as_str(), "-");
+    let more = " ".repeat(rt.alloc(), 513).expect(&rt, "memory");
+    check_asked(&rt, rt.alloc(), more.as_str(), "LineTooLong");
 }
 
-/// A listing of so many bytes: its two first lines, comments, and its last line.
-#[derive(Drop)]
-struct Made {
-    size: usize,
-    at: usize,
-}
+/// A comment with 64 bytes.
+const COMMENT: &str = "\
+###############################################################\n";
 
-impl Made {
-    fn byte(&self, place: usize) -> u8 {
-        let opening = b"coyotos 1\nmachine 1 0 0 0 0 0\n".as_slice();
-        let behind = self.size.saturating_sub(place);
-        if place < opening.len() {
-            return opening[place];
-        }
-        match behind {
-            4 => b'e',
-            3 => b'n',
-            2 => b'd',
-            1 | 5 => b'\n',
-            _ => if place % 64 == 0 { b'\n' } else { b'#' },
-        }
-    }
-}
-
-impl Source for Made {
-    ghost use Rattle.std.specs.Prelude.{None};
-
-    ghost held = { λ _. None };
-
-    ghost faults = { λ _. 0 };
-
-    fn take(&mut self, buf: &mut [u8]) -> Result<usize, Failed> {
-        let count = buf.len().min(self.size.saturating_sub(self.at));
-        for place in 0..count {
-            buf[place] = self.byte(self.at.saturating_add(place));
-        }
-        self.at = self.at.saturating_add(count);
-        Ok(count)
-    }
-}
-
-/// Reads a listing of so many bytes: `-`, or the word for its fault.
-fn read_made(alloc: Global, size: usize) -> &'static str {
-    let mut lines = LineReader::new();
-    let mut source = Made { size, at: 0 };
-    match read_listing(alloc, &mut lines, &mut source) {
-        Ok(_) => "-",
-        Err(ListingFault::TooLong) => "TooLong",
-        Err(_) => "another fault",
-    }
+/// Judges a listing with this end, which has as many bytes as there may be, where its last line alone is the end.
+fn judge_long(rt: &impl Abort, alloc: Global, back: &str, wanted: &str) {
+    let front = "coyotos 1\nmachine 1 0 0 0 0 0\n#############################\n";
+    let comments = COMMENT.repeat(alloc, 262_143).expect(rt, "memory");
+    let bytes = joined(rt, alloc, front, comments.as_str(), back);
+    check(
+        rt,
+        bytes.len() == (INPUT_LIMIT - 4).saturating_add(back.len()),
+        "its size",
+    );
+    let told = judged(rt, alloc, &mut SureSource { bytes, at: 0 });
+    check_text(rt, told.as_bytes(), wanted, wanted);
 }
 
 #[test]
 fn a_listing_has_16_777_216_bytes_at_most(rt: HostRuntime) {
-    let most = read_made(rt.alloc(), INPUT_LIMIT);
-    check_text(&rt, most, "-", "as many bytes as there may be");
-    let more = read_made(rt.alloc(), INPUT_LIMIT + 1);
-    check_text(&rt, more, "TooLong", "one more");
+    judge_long(&rt, rt.alloc(), "end\n", "-");
+    judge_long(&rt, rt.alloc(), "\nend\n", "TooLong");
 }

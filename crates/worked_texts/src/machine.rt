@@ -470,19 +470,14 @@ fn stepped(rt: &impl Abort, row: &str, n: usize, pc: u32, a: u32, b: u32) -> ([u
     (regs, effect)
 }
 
-/// The row's step leaves and goes on as the row says.
-fn check_step(rt: &impl Abort, row: &str) {
-    let (pc, a, b) = (hex(rt, row, 0), hex(rt, row, 1), hex(rt, row, 2));
-    let (regs, effect) = stepped(rt, row, 5, pc, a, b);
-    check(rt, regs[3] == hex(rt, row, 3), row);
-    let next = hex(rt, row, 4);
-    check(rt, matches!(effect, Effect::Next(to) if to == next), row);
-}
-
 #[test]
 fn a_step_leaves_and_goes_on_as_on_qemu(rt: HostRuntime) {
     for row in STEPS.lines() {
-        check_step(&rt, row);
+        let (pc, a, b) = (hex(&rt, row, 0), hex(&rt, row, 1), hex(&rt, row, 2));
+        let (regs, effect) = stepped(&rt, row, 5, pc, a, b);
+        check(&rt, regs[3] == hex(&rt, row, 3), row);
+        let next = hex(&rt, row, 4);
+        check(&rt, matches!(effect, Effect::Next(to) if to == next), row);
     }
 }
 
@@ -497,7 +492,7 @@ fn loaded(rt: &impl Abort, row: &str, word: u32) -> u32 {
         ..
     } = step(&mut regs, 0x1000, insn)
     else {
-        panic!(rt; "{row} is no load")
+        panic!(rt; "{row}")
     };
     let value = match size {
         1 => word % 0x100,
@@ -516,20 +511,15 @@ fn a_load_extends_as_qemu_extends(rt: HostRuntime) {
     }
 }
 
-/// The row's store writes as the row says.
-fn check_store(rt: &impl Abort, row: &str) {
-    let effect = stepped(rt, row, 4, 0x1000, 0, hex(rt, row, 0)).1;
-    let wanted = (hex(rt, row, 1), byte(rt, row, 2), hex(rt, row, 3));
-    let stored = match effect {
-        Effect::Store { at, size, value } => Some((at, size, value)),
-        _ => None,
-    };
-    check(rt, stored == Some(wanted), row);
-}
-
 #[test]
 fn a_store_gives_the_bytes_that_qemu_writes(rt: HostRuntime) {
     for row in STORES.lines() {
-        check_store(&rt, row);
+        let (_, effect) = stepped(&rt, row, 4, 0x1000, 0, hex(&rt, row, 0));
+        let wanted = (hex(&rt, row, 1), byte(&rt, row, 2), hex(&rt, row, 3));
+        let stored = match effect {
+            Effect::Store { at, size, value } => Some((at, size, value)),
+            _ => None,
+        };
+        check(&rt, stored == Some(wanted), row);
     }
 }

@@ -32,17 +32,12 @@ fn wanted(row: &str, column: usize) -> Option<u32> {
     row.split(' ').nth(column)?.parse().ok()
 }
 
-/// Reads the row's word as both numbers.
-fn check_number(rt: &impl Abort, row: &str) {
-    let (_, text) = barred(rt, row);
-    check(rt, read_dec(text.as_bytes()).ok() == wanted(row, 0), row);
-    check(rt, read_hex(text.as_bytes()).ok() == wanted(row, 1), row);
-}
-
 #[test]
 fn numbers_are_read_by_their_grammar(rt: HostRuntime) {
     for row in NUMBERS.lines() {
-        check_number(&rt, row);
+        let (_, text) = barred(&rt, row);
+        check(&rt, read_dec(text.as_bytes()).ok() == wanted(row, 0), row);
+        check(&rt, read_hex(text.as_bytes()).ok() == wanted(row, 1), row);
     }
 }
 
@@ -55,16 +50,10 @@ fn check_words(rt: &impl Abort, line: &str, count: usize, second: &str, rest: &s
 
 #[test]
 fn words_stand_between_spaces(rt: HostRuntime) {
-    // (line, how many words, the second word, what follows the second word)
-    let cases = [
-        ("", 0, "", ""),
-        ("   ", 0, "", ""),
-        ("end", 1, "", ""),
-        ("slot 0 15 null", 4, "0", " 15 null"),
-        ("  reg   0  5 1  ", 4, "0", "  5 1  "),
-        ("a\tb c", 2, "c", ""),
-    ];
-    for (line, count, second, rest) in cases {
-        check_words(&rt, line, count, second, rest);
-    }
+    check_words(&rt, "", 0, "", "");
+    check_words(&rt, "   ", 0, "", "");
+    check_words(&rt, "end", 1, "", "");
+    check_words(&rt, "slot 0 15 null", 4, "0", " 15 null");
+    check_words(&rt, "  reg   0  5 1  ", 4, "0", "  5 1  ");
+    check_words(&rt, "a\tb c", 2, "c", "");
 }

@@ -1,10 +1,10 @@
 //! Every kind of line that is printed, written out by hand from the format.
-ghost use Rattle.std.specs.Prelude.{◌≡◌, ◌<◌, length, IfOk};
+ghost use Rattle.std.specs.Prelude.{◌≡◌, ◌<◌, length};
 ghost use Rattle.object_store.specs.Store.{size_of};
 ghost use Rattle.kernel_core.specs.Machine.{IsRecord};
 ghost use Rattle.steps.specs.Permit.{permit_for};
 
-use crate::rows::check_bytes;
+use crate::rows::{byte, cap_bytes, check_text};
 use cap_format::{Cap, CapKind, FaultCode, decode};
 use coy_io::{MemSink, put_all};
 use coy_text::LineBuf;
@@ -19,23 +19,22 @@ use rv32_decode::Insn;
 use schedules::Queues;
 use std::alloc::Global;
 use std::marker::Brand;
+use std::process::Abort;
 use std::sync::ledger::Ledger;
-use std::test::Fail;
 use steps::{Permit, Steps};
 use walk_meaning::Kind;
 
 /// A sink that takes all bytes of a call.
-fn sink(alloc: Global) -> Result<MemSink, Fail> {
-    Ok(MemSink::new(alloc, 4096, Vec::new(alloc), 4096)?)
+fn sink(rt: &impl Abort, alloc: Global) -> MemSink {
+    MemSink::new(alloc, 4096, Vec::new(alloc), 4096).expect(rt, "memory")
 }
 
-fn put_record(entry: Record, output: &mut MemSink) -> Result<(), Fail>
+fn put_record(rt: &impl Abort, entry: Record, output: &mut MemSink)
     requires { IsRecord entry }
 {
     let mut line = LineBuf::new();
     record_line(&entry, &mut line);
-    put_all(output, line.as_bytes())?;
-    Ok(())
+    put_all(output, line.as_bytes()).expect(rt, "memory");
 }
 
 /// The process, the kind of the access, its address, and the number of what it reached.
@@ -53,7 +52,7 @@ const FAULTS: [(u16, FaultCode, u32, Option<u16>); 2] = [
     (2, FaultCode::InvalidDataReference, 0x1004, None),
 ];
 
-fn put_accesses(output: &mut MemSink) -> Result<(), Fail> {
+fn put_accesses(rt: &impl Abort, output: &mut MemSink) {
     for (process, kind, address, number) in ACCESSES {
         let entry = Record::Access {
             process,
@@ -61,12 +60,11 @@ fn put_accesses(output: &mut MemSink) -> Result<(), Fail> {
             address,
             number,
         };
-        put_record(entry, output)?;
+        put_record(rt, entry, output);
     }
-    Ok(())
 }
 
-fn put_faults(output: &mut MemSink) -> Result<(), Fail> {
+fn put_faults(rt: &impl Abort, output: &mut MemSink) {
     for (process, code, address, to) in FAULTS {
         let entry = Record::Fault {
             process,
@@ -74,12 +72,11 @@ fn put_faults(output: &mut MemSink) -> Result<(), Fail> {
             address,
             to,
         };
-        put_record(entry, output)?;
+        put_record(rt, entry, output);
     }
-    Ok(())
 }
 
-fn put_message(output: &mut MemSink) -> Result<(), Fail> {
+fn put_message(rt: &impl Abort, output: &mut MemSink) {
     let entry = Record::Message {
         from: 0,
         to: 1,
@@ -89,18 +86,10 @@ fn put_message(output: &mut MemSink) -> Result<(), Fail> {
         length: 65536,
         caps: 4,
     };
-    put_record(entry, output)
+    put_record(rt, entry, output);
 }
 
-fn put_log(output: &mut MemSink) -> Result<(), Fail> {
-    let mut bytes = LogBytes::new();
-    bytes.push(0x68);
-    bytes.push(0);
-    bytes.push(0xff);
-    put_record(Record::Log { process: 3, bytes }, output)
-}
-
-fn put_insn(output: &mut MemSink) -> Result<(), Fail> {
+fn put_others(rt: &impl Abort, output: &mut MemSink) {
     let insn = Insn::Add {
         rd: 6,
         rs1: 6,
@@ -111,33 +100,28 @@ fn put_insn(output: &mut MemSink) -> Result<(), Fail> {
         at: 16,
         insn,
     };
-    put_record(entry, output)
-}
-
-fn put_destroy(output: &mut MemSink) -> Result<(), Fail> {
+    put_record(rt, entry, output);
     let entry = Record::Destroy {
         kind: CapKind::CapPage,
         number: 17,
     };
-    put_record(entry, output)
-}
-
-fn put_records(output: &mut MemSink) -> Result<(), Fail> {
-    put_accesses(output)?;
-    put_faults(output)?;
-    put_insn(output)?;
-    put_message(output)?;
-    put_log(output)?;
-    put_destroy(output)?;
-    put_record(Record::Halt { process: 9 }, output)
+    put_record(rt, entry, output);
+    put_record(rt, Record::Halt { process: 9 }, output);
+    let mut bytes = LogBytes::new();
+    bytes.push(0x68);
+    bytes.push(0);
+    bytes.push(0xff);
+    put_record(rt, Record::Log { process: 3, bytes }, output);
 }
 
 #[test]
-fn each_kind_of_record_has_its_line(rt: HostRuntime) -> Result<(), Fail> {
-    let mut output = sink(rt.alloc())?;
-    put_records(&mut output)?;
-    check_bytes(&rt, output.bytes.as_slice(), RECORDS);
-    Ok(())
+fn each_kind_of_record_has_its_line(rt: HostRuntime) {
+    let mut output = sink(&rt, rt.alloc());
+    put_accesses(&rt, &mut output);
+    put_faults(&rt, &mut output);
+    put_message(&rt, &mut output);
+    put_others(&rt, &mut output);
+    check_text(&rt, output.bytes.as_slice(), RECORDS, "records");
 }
 
 const RECORDS: &str = "\
@@ -148,11 +132,11 @@ capload 12 00002010 cappage 255
 capstore 3 00002ff0 cappage 10
 fault 1 NoSchedule 00000010 to 0
 fault 2 InvalidDataReference 00001004 unheard
-insn 2 00000010 add x6 x6 x11
 msg 0 1 endpoint=2 payload=0000002a words=00000061,00000007,00000000,ffffffff len=65536 caps=4
-log 3 6800ff
+insn 2 00000010 add x6 x6 x11
 destroy cappage 17
 halt 9
+log 3 6800ff
 ";
 
 /// Two harts, two of each kind of object, and eight processes.
@@ -180,16 +164,6 @@ fn start(queues: &mut Queues, objects: &mut Objects, p: u16, priority: u8)
     queues.make_ready(objects, p);
 }
 
-fn sleep(queues: &mut Queues, p: u16, on: u16)
-    requires there { p < length queues.old.sleepers }
-    requires on { on < length queues.old.sleepers }
-    ensures sleepers { length queues.new.sleepers ≡ length queues.old.sleepers }
-    ensures harts { length queues.new.harts ≡ length queues.old.harts }
-{
-    queues.leave(p);
-    queues.sleep(p, on);
-}
-
 /// Process 2 is on hart 0, 4 and 6 are ready behind each other, 7 alone, and 5 and 3 sleep on 1.
 fn start_all(queues: &mut Queues, objects: &mut Objects)
     requires there { 7 < length queues.old.sleepers }
@@ -203,28 +177,20 @@ fn start_all(queues: &mut Queues, objects: &mut Objects)
     start(queues, objects, 6, 3);
     start(queues, objects, 7, 5);
     queues.dispatch(0);
-    sleep(queues, 5, 1);
-    sleep(queues, 3, 1);
-}
-
-/// These queues, of two harts and eight processes.
-fn standing(alloc: Global) -> Result<Queues, Fail>
-    ensures harts { IfOk result (λ queues. length queues.harts ≡ 2) }
-    ensures sleepers { IfOk result (λ queues. length queues.sleepers ≡ 8) }
-{
-    let mut objects = Objects::new(alloc, SIZES)?;
-    let mut queues = Queues::new(alloc, SIZES)?;
-    start_all(&mut queues, &mut objects);
-    Ok(queues)
+    queues.leave(5);
+    queues.sleep(5, 1);
+    queues.leave(3);
+    queues.sleep(3, 1);
 }
 
 #[test]
-fn harts_queues_and_sleepers_have_their_lines(rt: HostRuntime) -> Result<(), Fail> {
-    let queues = standing(rt.alloc())?;
-    let mut output = sink(rt.alloc())?;
-    put_front(&queues, SIZES, true, &mut LineBuf::new(), &mut output)?;
-    check_bytes(&rt, output.bytes.as_slice(), FRONT);
-    Ok(())
+fn harts_queues_and_sleepers_have_their_lines(rt: HostRuntime) {
+    let mut objects = Objects::new(rt.alloc(), SIZES).expect(&rt, "memory");
+    let mut queues = Queues::new(rt.alloc(), SIZES).expect(&rt, "memory");
+    start_all(&mut queues, &mut objects);
+    let mut output = sink(&rt, rt.alloc());
+    put_front(&queues, SIZES, true, &mut LineBuf::new(), &mut output).expect(&rt, "memory");
+    check_text(&rt, output.bytes.as_slice(), FRONT, "front");
 }
 
 const FRONT: &str = "\
@@ -237,72 +203,54 @@ sleepers 1 5 3
 halted
 ";
 
-/// Slots of a capability page and their bytes, a capability of each kind among them. Slot 2 has page 1 with count 4.
-const SLOTS: [(u8, [u8; 16]); 15] = [
-    (
-        1,
-        [0xc1, 0x57, 0, 0, 12, 0x10, 0, 0, 1, 0, 0, 0, 0, 0, 0, 0],
-    ),
-    (2, [1, 0x40, 0, 0, 12, 0, 0, 0, 1, 0, 0, 0, 0, 0, 0, 0]),
-    (3, [0x42, 0, 0, 0, 12, 0, 0, 0, 0, 0, 0, 0, 0, 0, 0, 0]),
-    (4, [3, 0, 0, 0, 32, 0, 0, 0, 1, 0, 0, 0, 0, 0, 0, 0]),
-    (5, [4, 0, 0, 0, 12, 0, 0, 0, 0, 0x50, 0, 0, 0, 0, 0, 0]),
-    (6, [5, 0, 0, 0, 12, 0, 0, 0, 0, 0x50, 0, 0, 3, 0, 0, 0]),
-    (7, [6, 0, 0, 0, 0, 0, 0, 0, 1, 0, 0, 0, 0, 0, 0, 0]),
-    (
-        8,
-        [7, 0, 0, 0, 0xef, 0xbe, 0xad, 0xde, 0, 0, 0, 0, 0, 0, 0, 0],
-    ),
-    (9, [8, 0, 0, 0, 0, 0, 0, 0, 5, 0, 0, 0, 0, 0, 0, 0]),
-    (10, [9, 0, 0, 0, 0, 0, 0, 0, 7, 0, 0, 0, 0, 0, 0, 0]),
-    (11, [10, 0, 0, 0, 0, 0, 0, 0, 0, 0, 0, 0, 0, 0, 0, 0]),
-    (12, [11, 0, 0, 0, 0, 0, 0, 0, 0, 0, 0, 0, 0, 0, 0, 0]),
-    (13, [12, 0, 0, 0, 0, 0, 0, 0, 0, 0, 0, 0, 0, 0, 0, 0]),
-    (14, [13, 0, 0, 0, 0, 0, 0, 0, 0, 0, 0, 0, 0, 0, 0, 0]),
-    (255, [1, 0, 0, 0, 13, 0xc0, 0xab, 0, 0, 0, 0, 0, 0, 0, 0, 0]),
-];
+/// Slots of a capability page in hexadecimal behind their bytes, a capability of each kind among them. Slot 2 has page
+/// 1 with count 4.
+const SLOTS: &str = "\
+c1570000 0c100000 01000000 00000000 1
+01400000 0c000000 01000000 00000000 2
+42000000 0c000000 00000000 00000000 3
+03000000 20000000 01000000 00000000 4
+04000000 0c000000 00500000 00000000 5
+05000000 0c000000 00500000 03000000 6
+06000000 00000000 01000000 00000000 7
+07000000 efbeadde 00000000 00000000 8
+08000000 00000000 05000000 00000000 9
+09000000 00000000 07000000 00000000 a
+0a000000 00000000 00000000 00000000 b
+0b000000 00000000 00000000 00000000 c
+0c000000 00000000 00000000 00000000 d
+0d000000 00000000 00000000 00000000 e
+01000000 0dc0ab00 00000000 00000000 ff";
 
-fn fill_cappage(page: &mut CapPage) -> Result<(), Fail> {
-    for (slot, bytes) in SLOTS {
-        page.set(slot, decode(&bytes)?);
+fn fill_cappage(rt: &impl Abort, page: &mut CapPage) {
+    for row in SLOTS.lines() {
+        let cap = decode(&cap_bytes(rt, row)).expect(rt, row);
+        page.set(byte(rt, row, 4), cap);
     }
-    Ok(())
 }
 
-/// The first page is written at both ends, the second is empty but for its count, which is 5.
-fn fill_pages(objects: &mut Objects) -> Result<(), Fail> {
+/// The first page is written at both ends, the second is empty but for its count, which is 5. The second GPT holds a
+/// capability to page 1 whose count is 4.
+fn fill_memory(rt: &impl Abort, objects: &mut Objects) {
     let sizes = objects.sizes();
-    if sizes.pages < 2 || sizes.cappages < 1 {
-        return Err(Fail::from("too few pages"));
-    }
+    assert!(rt; sizes.pages >= 2 && sizes.cappages >= 1 && sizes.gpts >= 2);
     objects.set_count(CapKind::Page, 1, 5);
     objects.page_mut(0).write(16, &[1, 2]);
     objects.page_mut(0).write(4095, &[0xab]);
-    fill_cappage(objects.cappage_mut(0))
-}
-
-/// The second GPT holds a capability to page 1 whose count is 4.
-fn fill_gpts(objects: &mut Objects) -> Result<(), Fail> {
-    if objects.sizes().gpts < 2 {
-        return Err(Fail::from("too few GPTs"));
-    }
+    fill_cappage(rt, objects.cappage_mut(0));
     objects.set_gpt_header(0, GptHeader::new(16, true, true));
     objects.set_gpt_header(1, GptHeader::new(31, false, true));
     objects.set_gpt_slot(0, 15, Cap::entry(0, 0, 0x2a));
     objects.set_gpt_slot(1, 14, Cap::to_object(CapKind::Page, 1, 4));
-    Ok(())
 }
 
 /// The recipient of the second endpoint has another count than the process.
-fn fill_endpoints(objects: &mut Objects) -> Result<(), Fail> {
-    if objects.sizes().endpoints < 2 {
-        return Err(Fail::from("too few endpoints"));
-    }
+fn fill_endpoints(rt: &impl Abort, objects: &mut Objects) {
+    assert!(rt; objects.sizes().endpoints >= 2);
     let server = Cap::to_object(CapKind::Process, 1, 0);
     fill_endpoint(objects.endpoint_mut(0), server, 0x77, 5, true);
     let gone = Cap::to_object(CapKind::Process, 1, 9);
     fill_endpoint(objects.endpoint_mut(1), gone, 1, 0, false);
-    Ok(())
 }
 
 fn fill_endpoint(endpoint: &mut Endpoint, recipient: Cap, id: u32, payload: u32, matching: bool) {
@@ -312,39 +260,25 @@ fn fill_endpoint(endpoint: &mut Endpoint, recipient: Cap, id: u32, payload: u32,
     endpoint.matching = matching;
 }
 
-/// Processes that wait, for anyone or for one endpoint, and one at a fault.
-fn fill_states(objects: &mut Objects) -> Result<(), Fail> {
+/// Processes that wait, for anyone or for one endpoint, and one at a fault. A process with a register alone is not
+/// empty, so it has its statement, and so has one with a capability alone.
+fn fill_processes(rt: &impl Abort, objects: &mut Objects) {
+    assert!(rt; objects.sizes().processes >= 8);
+    fill_process(objects.process_mut(0), State::Running);
     let open = Accept::new(Wait::Open, 0, [0; 4], 0, 0);
     let closed = Accept::new(Wait::Closed(0x77), 2, [5, 31, 0, 0], 0x1a00, 4096);
     let fault = State::Faulted {
         code: FaultCode::BadAlign,
         address: 0x1002,
     };
-    put_state(objects, 1, State::Receiving(open))?;
-    put_state(objects, 2, State::Receiving(closed))?;
-    put_state(objects, 3, fault)
-}
-
-fn put_state(objects: &mut Objects, p: u16, state: State) -> Result<(), Fail> {
-    if p >= objects.sizes().processes {
-        return Err(Fail::from("no such process"));
-    }
-    objects.process_mut(p).set_state(state);
-    Ok(())
-}
-
-/// A process with a register alone is not empty, so it has its statement, and so has one with a capability alone.
-fn fill_processes(objects: &mut Objects) -> Result<(), Fail> {
-    if objects.sizes().processes < 8 {
-        return Err(Fail::from("too few processes"));
-    }
-    fill_process(objects.process_mut(0), State::Running);
+    objects.process_mut(1).set_state(State::Receiving(open));
+    objects.process_mut(2).set_state(State::Receiving(closed));
+    objects.process_mut(3).set_state(fault);
     objects.process_mut(4).set_reg(5, 1);
     objects
         .process_mut(5)
         .set_capreg(31, Cap::plain(CapKind::KernLog));
     objects.set_count(CapKind::Process, 7, 1_048_575);
-    Ok(())
 }
 
 fn fill_process(process: &mut Process, state: State) {
@@ -361,39 +295,26 @@ fn fill_process(process: &mut Process, state: State) {
 
 /// Writes all objects under a counter that nobody reads.
 fn put_all_objects<L: Ledger>(
+    rt: &impl Abort,
     objects: &Objects,
     output: &mut MemSink,
     permit: Permit,
-) -> Result<(), Fail>
+)
     requires ledger { permit ≡ permit_for L.name L.parts }
 {
     let mut fetches = Steps::<L>::new(permit);
-    put_objects(objects, &mut LineBuf::new(), output, &mut fetches)?;
-    Ok(())
-}
-
-fn fill_all(objects: &mut Objects) -> Result<(), Fail> {
-    fill_pages(objects)?;
-    fill_gpts(objects)?;
-    fill_endpoints(objects)?;
-    fill_states(objects)?;
-    fill_processes(objects)
-}
-
-/// Objects of each kind, some of them filled.
-fn filled(alloc: Global) -> Result<Objects, Fail> {
-    let mut objects = Objects::new(alloc, SIZES)?;
-    fill_all(&mut objects)?;
-    Ok(objects)
+    put_objects(objects, &mut LineBuf::new(), output, &mut fetches).expect(rt, "memory");
 }
 
 #[test]
-fn each_object_that_is_not_empty_has_its_lines(rt: HostRuntime) -> Result<(), Fail> {
-    let objects = filled(rt.alloc())?;
-    let mut output = sink(rt.alloc())?;
-    put_all_objects::<Brand>(&objects, &mut output, Permit::new(&rt))?;
-    check_bytes(&rt, output.bytes.as_slice(), OBJECTS);
-    Ok(())
+fn each_object_that_is_not_empty_has_its_lines(rt: HostRuntime) {
+    let mut objects = Objects::new(rt.alloc(), SIZES).expect(&rt, "memory");
+    fill_memory(&rt, &mut objects);
+    fill_endpoints(&rt, &mut objects);
+    fill_processes(&rt, &mut objects);
+    let mut output = sink(&rt, rt.alloc());
+    put_all_objects::<Brand>(&rt, &objects, &mut output, Permit::new(&rt));
+    check_text(&rt, output.bytes.as_slice(), OBJECTS, "objects");
 }
 
 const OBJECTS: &str = "\
