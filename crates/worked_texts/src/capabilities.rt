@@ -222,7 +222,7 @@ fn capability(rt: &impl Abort, row: &str) -> Option<Cap> {
 #[test]
 fn each_capability_has_its_bytes_and_they_read_back(rt: HostRuntime) {
     for row in SPELLED.lines() {
-        let cap = capability(&rt, row).expect(&rt, "a capability");
+        let cap = capability(&rt, row).expect(&rt, row);
         let bytes = cap_bytes(&rt, row);
         check(&rt, encode(cap) == bytes, row);
         check(&rt, decode(&bytes) == Ok(cap), row);

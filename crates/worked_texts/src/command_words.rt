@@ -8,8 +8,8 @@ use std::process::Abort;
 fn words_of(rt: &impl Abort, alloc: Global, line: &str) -> Vec<String> {
     let mut words = Vec::new(alloc);
     for part in line.split('|').skip(1) {
-        let word = part.to_string(alloc).expect(rt, "memory");
-        words.push(word).expect(rt, "memory");
+        let word = part.to_string(alloc).expect(rt, line);
+        words.push(word).expect(rt, line);
     }
     words
 }
@@ -97,8 +97,8 @@ const FORMS: &str = "\
 fn check_asked(rt: &impl Abort, alloc: Global, row: &str) {
     let (line, wanted) = row.split_once(": ").unwrap_or((row, "None"));
     let words = words_of(rt, alloc, line);
-    let asked = read_command(alloc, words.as_slice()).expect(rt, "memory");
-    let told = format!(in alloc; "{asked:?}").expect(rt, "memory");
+    let asked = read_command(alloc, words.as_slice()).expect(rt, row);
+    let told = format!(in alloc; "{asked:?}").expect(rt, row);
     check_text(rt, told.as_bytes(), wanted, row);
 }
 

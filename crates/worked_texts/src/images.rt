@@ -18,35 +18,35 @@ fn push_digits(rt: &impl Abort, bytes: &mut Vec<u8>, text: &str) {
         high = match high {
             None => Some(digit << 4),
             Some(first) => {
-                bytes.push(first | digit).expect(rt, "memory");
+                bytes.push(first | digit).expect(rt, text);
                 None
             }
         };
     }
 }
 
-/// The bytes of two texts of digits.
-fn bytes_of(rt: &impl Abort, alloc: Global, front: &str, back: &str) -> Vec<u8> {
+/// The bytes of a text of digits.
+fn bytes_of(rt: &impl Abort, alloc: Global, text: &str) -> Vec<u8> {
     let mut bytes = Vec::new(alloc);
-    push_digits(rt, &mut bytes, front);
-    push_digits(rt, &mut bytes, back);
+    push_digits(rt, &mut bytes, text);
     bytes
 }
 
 /// How many statements an image has, or where and why it is refused, or why it is not read.
-fn judged<S: Source>(rt: &impl Abort, alloc: Global, source: &mut S) -> String {
+fn judged<S: Source>(rt: &impl Abort, alloc: Global, source: &mut S, row: &str) -> String {
     let told = match unpack(alloc, source) {
         Ok(listing) => format!(in alloc; "{}", listing.statements().len()),
         Err(ImageFault::Refused { offset, fault }) => format!(in alloc; "{offset} {fault:?}"),
         Err(fault) => format!(in alloc; "{fault:?}"),
     };
-    told.expect(rt, "memory")
+    told.expect(rt, row)
 }
 
 /// Judges the image of these bytes, in pieces of this size.
 fn judge(rt: &impl Abort, alloc: Global, front: &str, back: &str, piece: usize, wanted: &str) {
-    let mut source = source_of(alloc, bytes_of(rt, alloc, front, back), piece);
-    let told = judged(rt, alloc, &mut source);
+    let mut bytes = bytes_of(rt, alloc, front);
+    push_digits(rt, &mut bytes, back);
+    let told = judged(rt, alloc, &mut source_of(alloc, bytes, piece), back);
     check_text(rt, told.as_bytes(), wanted, back);
 }
 
@@ -70,15 +70,18 @@ count endpoint 0 1048575 |0a 06 0000 ffff0f00|
 region 0 2 1 1 rx |0b 0000 02 01 0100 03|";
 
 /// What is written of a listing, up to the call that fails, are these bytes. With 0 no call fails.
-fn check_packed(rt: &impl Abort, alloc: Global, listing: &Listing, failing: u64, image: &[u8]) {
-    let mut sink = MemSink::new(alloc, 512, Vec::new(alloc), 8).expect(rt, "memory");
-    sink.failing.push(failing).expect(rt, "memory");
-    check(
-        rt,
-        pack(listing, &mut sink).is_ok() == (failing == 0),
-        "whether it is written",
-    );
-    check(rt, sink.bytes.as_slice() == image, "what is written");
+fn check_packed(
+    rt: &impl Abort,
+    alloc: Global,
+    listing: &Listing,
+    failing: u64,
+    image: &[u8],
+    row: &str,
+) {
+    let mut sink = MemSink::new(alloc, 512, Vec::new(alloc), 8).expect(rt, row);
+    sink.failing.push(failing).expect(rt, row);
+    check(rt, pack(listing, &mut sink).is_ok() == (failing == 0), row);
+    check(rt, sink.bytes.as_slice() == image, row);
 }
 
 /// A listing with this line is written as this image.
@@ -87,7 +90,7 @@ fn check_written(rt: &impl Abort, alloc: Global, line: &str, image: &[u8]) {
     let bytes = joined(rt, alloc, front, line, "\nend\n");
     let mut source = SureSource { bytes, at: 0 };
     let read = read_listing(alloc, &mut LineReader::new(), &mut source);
-    check_packed(rt, alloc, &read.expect(rt, line), 0, image);
+    check_packed(rt, alloc, &read.expect(rt, line), 0, image, line);
 }
 
 /// What is read from an image, up to its end, is written as it was.
@@ -95,7 +98,7 @@ fn check_read(rt: &impl Abort, alloc: Global, image: Vec<u8>, line: &str) {
     let mut source = source_of(alloc, image, 3);
     let listing = unpack(alloc, &mut source).expect(rt, line);
     check(rt, source.at == source.bytes.len(), line);
-    check_packed(rt, alloc, &listing, 0, source.bytes.as_slice());
+    check_packed(rt, alloc, &listing, 0, source.bytes.as_slice(), line);
 }
 
 #[test]
@@ -103,7 +106,8 @@ fn each_form_has_its_bytes_and_is_read_again(rt: HostRuntime) {
     let head = "434f59494d473032 0100 0200 0100 0200 0200 0100 01000000";
     for row in EACH.lines() {
         let (line, bytes) = barred(&rt, row);
-        let image = bytes_of(&rt, rt.alloc(), head, bytes);
+        let mut image = bytes_of(&rt, rt.alloc(), head);
+        push_digits(&rt, &mut image, bytes);
         check_written(&rt, rt.alloc(), line, image.as_slice());
         check_read(&rt, rt.alloc(), image, line);
     }
@@ -115,9 +119,9 @@ const CUTS: &str =
 
 /// So many bytes of the region's image are refused at the field that begins there.
 fn check_cut(rt: &impl Abort, alloc: Global, len: usize, start: &str) {
-    let mut bytes = bytes_of(rt, alloc, REGION, "");
+    let mut bytes = bytes_of(rt, alloc, REGION);
     bytes.truncate(len);
-    let told = judged(rt, alloc, &mut source_of(alloc, bytes, 5));
+    let told = judged(rt, alloc, &mut source_of(alloc, bytes, 5), start);
     check(rt, told.as_str().strip_suffix(" Cut") == Some(start), start);
 }
 
@@ -245,22 +249,23 @@ fn check_failing(
     wanted: &str,
     faults: u64,
 ) {
-    let mut source = source_of(alloc, bytes_of(rt, alloc, image, ""), 8);
-    source.failing.push(call).expect(rt, "memory");
-    let told = judged(rt, alloc, &mut source);
+    let mut source = source_of(alloc, bytes_of(rt, alloc, image), 8);
+    source.failing.push(call).expect(rt, image);
+    let told = judged(rt, alloc, &mut source, image);
     check_text(rt, told.as_bytes(), wanted, image);
     check(rt, source.faults == faults, image);
 }
 
 #[test]
 fn a_source_that_fails_ends_the_reading_and_hides_no_fault(rt: HostRuntime) {
+    let (rt, alloc) = (&rt, rt.alloc());
     // The region's image has four pieces, and the fifth call tells the end.
     for call in 1..6u64 {
-        check_failing(&rt, rt.alloc(), REGION, call, "ReadFault", 1);
+        check_failing(rt, alloc, REGION, call, "ReadFault", 1);
     }
-    check_failing(&rt, rt.alloc(), REGION, 6, "1", 0);
+    check_failing(rt, alloc, REGION, 6, "1", 0);
     // The letters are wrong in the first piece, and the second would fail.
-    check_failing(&rt, rt.alloc(), "434f59494d473031 0100", 2, "0 BadMagic", 0);
+    check_failing(rt, alloc, "434f59494d473031 0100", 2, "0 BadMagic", 0);
 }
 
 /// A call of the sink, of which each takes 8 bytes, and the front of the region's image that stands before it.
@@ -272,17 +277,12 @@ const FRONTS: &str = "\
 
 /// Where the row's call of the sink fails, the calls before it have put the row's bytes.
 fn check_front(rt: &impl Abort, alloc: Global, row: &str) {
-    let mut source = source_of(alloc, bytes_of(rt, alloc, REGION, ""), 8);
+    let mut source = source_of(alloc, bytes_of(rt, alloc, REGION), 8);
     let listing = unpack(alloc, &mut source).expect(rt, row);
     let (_, front) = barred(rt, row);
-    let image = bytes_of(rt, alloc, front, "");
-    check_packed(
-        rt,
-        alloc,
-        &listing,
-        u64::from(hex(rt, row, 0)),
-        image.as_slice(),
-    );
+    let image = bytes_of(rt, alloc, front);
+    let call = u64::from(hex(rt, row, 0));
+    check_packed(rt, alloc, &listing, call, image.as_slice(), row);
 }
 
 #[test]
@@ -308,20 +308,18 @@ TooLong |3ca80300:a|
 /// Reads the row's image.
 fn check_full(rt: &impl Abort, alloc: Global, row: &str) {
     let (wanted, text) = barred(rt, row);
-    let (count, more) = text.split_once(':').expect(rt, "a colon");
-    let head = "434f59494d473032 0100 0100 0000 0000 0000 0000";
-    let mut bytes = bytes_of(rt, alloc, head, count);
-    let pages = PAGE.repeat(alloc, 239_674).expect(rt, "memory");
+    let (count, more) = text.split_once(':').expect(rt, row);
+    let mut bytes = bytes_of(rt, alloc, "434f59494d473032 0100 0100 0000 0000 0000 0000");
+    push_digits(rt, &mut bytes, count);
+    let pages = PAGE.repeat(alloc, 239_674).expect(rt, row);
     let rest = joined(rt, alloc, pages.as_str(), "\x01\0\0\0\0\x06abcdef", more);
-    bytes
-        .extend_from_slice(rest.as_slice())
-        .expect(rt, "memory");
+    bytes.extend_from_slice(rest.as_slice()).expect(rt, row);
     check(
         rt,
         bytes.len() == INPUT_LIMIT.saturating_add(more.len()),
-        "its length",
+        row,
     );
-    let told = judged(rt, alloc, &mut SureSource { bytes, at: 0 });
+    let told = judged(rt, alloc, &mut SureSource { bytes, at: 0 }, row);
     check_text(rt, told.as_bytes(), wanted, row);
 }
 

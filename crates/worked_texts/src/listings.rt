@@ -9,19 +9,19 @@ use std::alloc::Global;
 use std::process::Abort;
 
 /// The line and the fault for which a listing is refused, or why it is not read, or `-` where it is read.
-fn judged<S: Source>(rt: &impl Abort, alloc: Global, source: &mut S) -> String {
+fn judged<S: Source>(rt: &impl Abort, alloc: Global, source: &mut S, row: &str) -> String {
     let told = match read_listing(alloc, &mut LineReader::new(), source) {
         Ok(_) => "-".to_string(alloc),
         Err(ListingFault::Refused { line, fault }) => format!(in alloc; "{line} {fault:?}"),
         Err(fault) => format!(in alloc; "{fault:?}"),
     };
-    told.expect(rt, "memory")
+    told.expect(rt, row)
 }
 
 /// Judges a listing of three parts, in pieces of 7 bytes.
 fn judge(rt: &impl Abort, alloc: Global, front: &str, line: &str, back: &str, wanted: &str) {
     let mut source = source_of(alloc, joined(rt, alloc, front, line, back), 7);
-    let told = judged(rt, alloc, &mut source);
+    let told = judged(rt, alloc, &mut source, line);
     check_text(rt, told.as_bytes(), wanted, line);
 }
 
@@ -200,10 +200,11 @@ const WORDS: &str = "\
 
 #[test]
 fn a_line_is_refused_for_its_first_fault(rt: HostRuntime) {
-    judge_all(&rt, rt.alloc(), TWO, LINES, "\nend\nany\n");
-    judge_all(&rt, rt.alloc(), NAMED, NAMED_LINES, "\nend\nany\n");
-    judge_all(&rt, rt.alloc(), TWO, EARLIER_LINES, "\nend\n");
-    judge_all(&rt, rt.alloc(), SLOT, WORDS, "");
+    let (rt, alloc) = (&rt, rt.alloc());
+    judge_all(rt, alloc, TWO, LINES, "\nend\nany\n");
+    judge_all(rt, alloc, NAMED, NAMED_LINES, "\nend\nany\n");
+    judge_all(rt, alloc, TWO, EARLIER_LINES, "\nend\n");
+    judge_all(rt, alloc, SLOT, WORDS, "");
 }
 
 /// Listings, each behind the line and the fault for which it is refused. A line of three signs stands between two of
@@ -291,27 +292,28 @@ end
 #[test]
 fn a_listing_is_refused_at_its_first_line_with_a_fault(rt: HostRuntime) {
     for block in LISTINGS.split("\n===\n") {
-        let (wanted, listing) = block.split_once('\n').expect(&rt, "a line");
+        let (wanted, listing) = block.split_once('\n').expect(&rt, block);
         judge(&rt, rt.alloc(), "", listing, "", wanted);
     }
 }
 
 /// Judges a listing whose third line ends in so many zeros.
 fn judge_zeros(rt: &impl Abort, alloc: Global, front: &str, count: usize, wanted: &str) {
-    let mut line = front.to_string(alloc).expect(rt, "memory");
-    let zeros = "0".repeat(alloc, count).expect(rt, "memory");
-    line.push_str(zeros.as_str()).expect(rt, "memory");
+    let mut line = front.to_string(alloc).expect(rt, front);
+    let zeros = "0".repeat(alloc, count).expect(rt, front);
+    line.push_str(zeros.as_str()).expect(rt, front);
     judge(rt, alloc, TWO, line.as_str(), "\nend", wanted);
 }
 
 #[test]
 fn a_long_line_or_a_long_page_row_is_refused(rt: HostRuntime) {
-    judge_zeros(&rt, rt.alloc(), "page 0 f80 ", 128, "-");
-    judge_zeros(&rt, rt.alloc(), "page 0 f80 ", 127, "3 BadHex");
-    judge_zeros(&rt, rt.alloc(), "page 0 f80 ", 130, "3 BadHex");
-    judge_zeros(&rt, rt.alloc(), "#", 511, "-");
-    judge_zeros(&rt, rt.alloc(), "#", 512, "3 LineTooLong");
-    judge_zeros(&rt, rt.alloc(), "\t", 512, "3 LineTooLong");
+    let (rt, alloc) = (&rt, rt.alloc());
+    judge_zeros(rt, alloc, "page 0 f80 ", 128, "-");
+    judge_zeros(rt, alloc, "page 0 f80 ", 127, "3 BadHex");
+    judge_zeros(rt, alloc, "page 0 f80 ", 130, "3 BadHex");
+    judge_zeros(rt, alloc, "#", 511, "-");
+    judge_zeros(rt, alloc, "#", 512, "3 LineTooLong");
+    judge_zeros(rt, alloc, "\t", 512, "3 LineTooLong");
 }
 
 /// The kind and the restrictions of a capability, as they stand in its first number.
@@ -524,7 +526,7 @@ fn check_asked(rt: &impl Abort, alloc: Global, line: &str, wanted: &str) {
         Ok(Some(Timed::Round { times })) => format!(in alloc; "round {times}"),
         Err(fault) => format!(in alloc; "{fault:?}"),
     };
-    check_text(rt, told.expect(rt, "memory").as_bytes(), wanted, line);
+    check_text(rt, told.expect(rt, line).as_bytes(), wanted, line);
 }
 
 #[test]
@@ -537,10 +539,12 @@ fn a_line_of_a_schedule_asks_for_events(rt: HostRuntime) {
 
 #[test]
 fn a_line_of_a_schedule_has_512_bytes_at_most(rt: HostRuntime) {
-    let spaces = " ".repeat(rt.alloc(), 512).expect(&rt, "memory");
-    check_asked(&rt, rt.alloc(), spaces.as_str(), "-");
-    let more = " ".repeat(rt.alloc(), 513).expect(&rt, "memory");
-    check_asked(&rt, rt.alloc(), more.as_str(), "LineTooLong");
+    let (rt, alloc) = (&rt, rt.alloc());
+    let most = "-";
+    let mut spaces = " ".repeat(alloc, 512).expect(rt, most);
+    check_asked(rt, alloc, spaces.as_str(), most);
+    spaces.push(' ').expect(rt, most);
+    check_asked(rt, alloc, spaces.as_str(), "LineTooLong");
 }
 
 /// A comment with 64 bytes.
@@ -550,14 +554,14 @@ const COMMENT: &str = "\
 /// Judges a listing with this end, which has as many bytes as there may be, where its last line alone is the end.
 fn judge_long(rt: &impl Abort, alloc: Global, back: &str, wanted: &str) {
     let front = "coyotos 1\nmachine 1 0 0 0 0 0\n#############################\n";
-    let comments = COMMENT.repeat(alloc, 262_143).expect(rt, "memory");
+    let comments = COMMENT.repeat(alloc, 262_143).expect(rt, wanted);
     let bytes = joined(rt, alloc, front, comments.as_str(), back);
     check(
         rt,
         bytes.len() == (INPUT_LIMIT - 4).saturating_add(back.len()),
-        "its size",
+        wanted,
     );
-    let told = judged(rt, alloc, &mut SureSource { bytes, at: 0 });
+    let told = judged(rt, alloc, &mut SureSource { bytes, at: 0 }, wanted);
     check_text(rt, told.as_bytes(), wanted, wanted);
 }
 

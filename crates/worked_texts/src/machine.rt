@@ -461,7 +461,7 @@ ffffffff fffffffc 4 ffffffff sw x2 -4(x1)
 
 /// The registers, where x1 and x3 hold `a` and x2 holds `b`, after the instruction behind a row's `n` numbers.
 fn stepped(rt: &impl Abort, row: &str, n: usize, pc: u32, a: u32, b: u32) -> ([u32; 32], Effect) {
-    let insn = assemble_insn(words_from(row.as_bytes(), n)).expect(rt, "an instruction");
+    let insn = assemble_insn(words_from(row.as_bytes(), n)).expect(rt, row);
     let mut regs = [0; 32];
     regs[1] = a;
     regs[2] = b;
@@ -483,7 +483,7 @@ fn a_step_leaves_and_goes_on_as_on_qemu(rt: HostRuntime) {
 
 /// What a load leaves in x3, where this word stands in memory.
 fn loaded(rt: &impl Abort, row: &str, word: u32) -> u32 {
-    let insn = assemble_insn(words_from(row.as_bytes(), 2)).expect(rt, "a load");
+    let insn = assemble_insn(words_from(row.as_bytes(), 2)).expect(rt, row);
     let mut regs = [0; 32];
     let Effect::Load {
         size,

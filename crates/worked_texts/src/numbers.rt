@@ -50,10 +50,11 @@ fn check_words(rt: &impl Abort, line: &str, count: usize, second: &str, rest: &s
 
 #[test]
 fn words_stand_between_spaces(rt: HostRuntime) {
-    check_words(&rt, "", 0, "", "");
-    check_words(&rt, "   ", 0, "", "");
-    check_words(&rt, "end", 1, "", "");
-    check_words(&rt, "slot 0 15 null", 4, "0", " 15 null");
-    check_words(&rt, "  reg   0  5 1  ", 4, "0", "  5 1  ");
-    check_words(&rt, "a\tb c", 2, "c", "");
+    let rt = &rt;
+    check_words(rt, "", 0, "", "");
+    check_words(rt, "   ", 0, "", "");
+    check_words(rt, "end", 1, "", "");
+    check_words(rt, "slot 0 15 null", 4, "0", " 15 null");
+    check_words(rt, "  reg   0  5 1  ", 4, "0", "  5 1  ");
+    check_words(rt, "a\tb c", 2, "c", "");
 }

@@ -7,28 +7,27 @@ use std::process::Abort;
 
 /// The row's word `n`, from 0, which is a hexadecimal number.
 pub fn hex(rt: &impl Abort, row: &str, n: usize) -> u32 {
-    read_hex(word(row.as_bytes(), n)).expect(rt, "a hexadecimal number")
+    read_hex(word(row.as_bytes(), n)).expect(rt, row)
 }
 
 /// The same, where it is below 256.
 pub fn byte(rt: &impl Abort, row: &str, n: usize) -> u8 {
-    u8::try_from(hex(rt, row, n)).expect(rt, "a number below 256")
+    u8::try_from(hex(rt, row, n)).expect(rt, row)
 }
 
 /// The sixteen bytes of a capability that a row begins with, in four words.
 pub fn cap_bytes(rt: &impl Abort, row: &str) -> [u8; 16] {
-    let mut bytes = [0; 16];
-    bytes[..4].copy_from_slice(&hex(rt, row, 0).to_be_bytes());
-    bytes[4..8].copy_from_slice(&hex(rt, row, 1).to_be_bytes());
-    bytes[8..12].copy_from_slice(&hex(rt, row, 2).to_be_bytes());
-    bytes[12..].copy_from_slice(&hex(rt, row, 3).to_be_bytes());
-    bytes
+    let [a, b, c, d] = hex(rt, row, 0).to_be_bytes();
+    let [e, f, g, h] = hex(rt, row, 1).to_be_bytes();
+    let [i, j, k, l] = hex(rt, row, 2).to_be_bytes();
+    let [m, n, o, p] = hex(rt, row, 3).to_be_bytes();
+    [a, b, c, d, e, f, g, h, i, j, k, l, m, n, o, p]
 }
 
 /// What stands in front of the row's bars, and the text in them.
 pub fn barred<'a>(rt: &impl Abort, row: &'a str) -> (&'a str, &'a str) {
-    let (front, rest) = row.split_once(" |").expect(rt, "a bar");
-    (front, rest.strip_suffix("|").expect(rt, "a bar at the end"))
+    let (front, rest) = row.split_once(" |").expect(rt, row);
+    (front, rest.strip_suffix("|").expect(rt, row))
 }
 
 /// Fails with the row, where what it says doesn't hold.
@@ -38,15 +37,15 @@ pub fn check(rt: &impl Abort, holds: bool, row: &str) {
 
 /// Fails with the row, where another text was told than it wants.
 pub fn check_text(rt: &impl Abort, told: &[u8], wanted: &str, row: &str) {
-    let told = str::from_utf8(told).unwrap_or("no text");
+    let told = str::from_utf8(told).expect(rt, row);
     assert!(rt; told == wanted, "{row}: {told}");
 }
 
 /// Three texts behind each other.
 pub fn joined(rt: &impl Abort, alloc: Global, front: &str, middle: &str, back: &str) -> Vec<u8> {
-    let mut text = front.to_string(alloc).expect(rt, "memory");
-    text.push_str(middle).expect(rt, "memory");
-    text.push_str(back).expect(rt, "memory");
+    let mut text = front.to_string(alloc).expect(rt, front);
+    text.push_str(middle).expect(rt, middle);
+    text.push_str(back).expect(rt, back);
     text.into_bytes()
 }
 

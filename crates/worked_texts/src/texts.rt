@@ -185,12 +185,13 @@ fn start_all(queues: &mut Queues, objects: &mut Objects)
 
 #[test]
 fn harts_queues_and_sleepers_have_their_lines(rt: HostRuntime) {
-    let mut objects = Objects::new(rt.alloc(), SIZES).expect(&rt, "memory");
-    let mut queues = Queues::new(rt.alloc(), SIZES).expect(&rt, "memory");
+    let what = "the front";
+    let mut objects = Objects::new(rt.alloc(), SIZES).expect(&rt, what);
+    let mut queues = Queues::new(rt.alloc(), SIZES).expect(&rt, what);
     start_all(&mut queues, &mut objects);
     let mut output = sink(&rt, rt.alloc());
-    put_front(&queues, SIZES, true, &mut LineBuf::new(), &mut output).expect(&rt, "memory");
-    check_text(&rt, output.bytes.as_slice(), FRONT, "front");
+    put_front(&queues, SIZES, true, &mut LineBuf::new(), &mut output).expect(&rt, what);
+    check_text(&rt, output.bytes.as_slice(), FRONT, what);
 }
 
 const FRONT: &str = "\
@@ -308,13 +309,14 @@ fn put_all_objects<L: Ledger>(
 
 #[test]
 fn each_object_that_is_not_empty_has_its_lines(rt: HostRuntime) {
-    let mut objects = Objects::new(rt.alloc(), SIZES).expect(&rt, "memory");
+    let what = "the objects";
+    let mut objects = Objects::new(rt.alloc(), SIZES).expect(&rt, what);
     fill_memory(&rt, &mut objects);
     fill_endpoints(&rt, &mut objects);
     fill_processes(&rt, &mut objects);
     let mut output = sink(&rt, rt.alloc());
     put_all_objects::<Brand>(&rt, &objects, &mut output, Permit::new(&rt));
-    check_text(&rt, output.bytes.as_slice(), OBJECTS, "objects");
+    check_text(&rt, output.bytes.as_slice(), OBJECTS, what);
 }
 
 const OBJECTS: &str = "\
