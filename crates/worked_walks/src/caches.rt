@@ -1,6 +1,6 @@
 //! Words of the hardware's tables, worked out by hand from the formats of Sv32, and a record in the table of records.
 
-use crate::rows::{check, hex};
+use crate::rows::{check, hex, short};
 use cap_format::{CapKind, Item};
 use depend_table::Depends;
 use guard_math::Block;
@@ -37,24 +37,32 @@ fff 0 1 003ffcdb
 fff 1 0 003ffcd7
 fff 1 1 003ffcdf";
 
-/// The word that leads to a new root's first table, and the word of the leaf that is installed at address 0.
-fn words_of(alloc: Global, leaf: Leaf) -> Result<(u32, u32), Fail> {
-    let mut pool = TablePool::new(alloc)?;
+/// The word that leads to a new root's first table, the word of the leaf that is installed at address 0, and the one of
+/// page 1 in front of it, which was installed at the second address and may be written and executed.
+fn words_of(pool: &mut TablePool, leaf: Leaf) -> Result<(u32, u32, u32), Fail> {
     let root = pool.make_root()?;
+    let first = Leaf {
+        page: 1,
+        write: true,
+        execute: true,
+    };
+    pool.install(root, 0x1000, first)?;
     pool.install(root, 0, leaf)?;
-    Ok((pool.word(0, 0), pool.word(1, 0)))
+    Ok((pool.word(0, 0), pool.word(1, 0), pool.word(1, 1)))
 }
 
-/// The row's leaf has the row's word.
+/// The row's leaf has the row's word, beside that of page 1.
 fn check_leaf(rt: &impl Abort, alloc: Global, row: &str) -> Result<(), Fail> {
     let leaf = Leaf {
-        page: u16::try_from(hex(rt, row, 0))?,
+        page: short(rt, row, 0),
         write: hex(rt, row, 1) == 1,
         execute: hex(rt, row, 2) == 1,
     };
-    let (pointer, word) = words_of(alloc, leaf)?;
-    check(rt, pointer == 0x0040_0401, row);
-    check(rt, word == hex(rt, row, 3), row);
+    let wanted = hex(rt, row, 3);
+    let mut pool = TablePool::new(alloc)?;
+    let words = words_of(&mut pool, leaf)?;
+    let as_written = words.0 == 0x0040_0401 && words.1 == wanted && words.2 == 0x0000_04df;
+    check(rt, as_written, row);
     Ok(())
 }
 
@@ -63,46 +71,6 @@ fn leaves_have_the_words_that_are_written_down(rt: HostRuntime) -> Result<(), Fa
     for row in LEAVES.lines() {
         check_leaf(&rt, rt.alloc(), row)?;
     }
-    Ok(())
-}
-
-/// A pool with page 1 at the second address of its first root, and with page 0 at the first one behind it, where that
-/// is wanted.
-fn installed(alloc: Global, both: bool) -> Result<TablePool, Fail> {
-    let mut pool = TablePool::new(alloc)?;
-    let root = pool.make_root()?;
-    let first = Leaf {
-        page: 1,
-        write: true,
-        execute: true,
-    };
-    pool.install(root, 0x1000, first)?;
-    if both {
-        let second = Leaf {
-            page: 0,
-            write: false,
-            execute: true,
-        };
-        pool.install(root, 0, second)?;
-    }
-    Ok(pool)
-}
-
-/// The word that leads to the first table, and the first leaf.
-#[test]
-fn an_install_leaves_the_words_that_are_written_down(rt: HostRuntime) -> Result<(), Fail> {
-    let pool = installed(rt.alloc(), false)?;
-    check(&rt, pool.word(0, 0) == 0x0040_0401, "pointer");
-    check(&rt, pool.word(1, 1) == 0x0000_04df, "leaf");
-    Ok(())
-}
-
-/// The second leaf beside the first.
-#[test]
-fn two_installs_leave_the_words_that_are_written_down(rt: HostRuntime) -> Result<(), Fail> {
-    let pool = installed(rt.alloc(), true)?;
-    check(&rt, pool.word(1, 0) == 0x0000_00db, "second leaf");
-    check(&rt, pool.word(1, 1) == 0x0000_04df, "first leaf");
     Ok(())
 }
 
@@ -124,30 +92,37 @@ fn the_oldest_leaf_goes_first(rt: HostRuntime) {
     }
 }
 
-/// There is room for a record of each slot of 1,024 GPTs, which is 16,384, and for no other; one that is there is noted
-/// again.
-#[test]
-fn a_record_more_than_16384_is_refused(rt: HostRuntime) -> Result<(), Fail> {
-    let mut records = Depends::new(rt.alloc())?;
-    let page = Block::around(0x1234_5678, 12);
-    for gpt in 0..1024 {
-        for slot in 0..16 {
-            records.note(Item::Slot(gpt, slot), 7, page)?;
-        }
+/// Notes a record of each slot of 1,024 GPTs, which is 16,384.
+fn note_all(records: &mut Depends, page: Block) -> Result<(), Fail> {
+    for n in 0..16384_u16 {
+        records.note(Item::Slot(n / 16, (n % 16) as u8), 7, page)?;
     }
-    let header = Item::Header(CapKind::Process, 255);
-    check(&rt, records.note(header, 7, page).is_err(), "another");
-    let again = records.note(Item::Slot(1023, 15), 7, page).is_ok();
-    check(&rt, again, "the last again");
     Ok(())
 }
 
-#[test]
-fn a_record_is_noted_and_taken(rt: HostRuntime) -> Result<(), Fail> {
-    let mut records = Depends::new(rt.alloc())?;
-    let header = Item::Header(CapKind::Process, 255);
+/// There is room for those records, and for no other; one that is there is noted again. Where one is taken, another has
+/// its room.
+fn fill_records(rt: &impl Abort, records: &mut Depends) -> Result<(), Fail> {
     let page = Block::around(0x1234_5678, 12);
+    note_all(records, page)?;
+    let (header, last) = (Item::Header(CapKind::Process, 255), Item::Slot(1023, 15));
+    check(rt, records.note(header, 7, page).is_err(), "another");
+    check(rt, records.note(last, 7, page).is_ok(), "the last again");
+    take(rt, records, last, page);
     records.note(header, 7, page)?;
-    check(&rt, records.take_one(header) == Some((7, page)), "taken");
+    take(rt, records, header, page);
     Ok(())
+}
+
+/// Takes the record of an item.
+fn take(rt: &impl Abort, records: &mut Depends, item: Item, page: Block) {
+    let Some((root, block)) = records.take_one(item) else {
+        panic!(rt; "there is none");
+    };
+    check(rt, root == 7 && block == page, "what was noted");
+}
+
+#[test]
+fn a_record_more_than_16384_is_refused(rt: HostRuntime) -> Result<(), Fail> {
+    fill_records(&rt, &mut Depends::new(rt.alloc())?)
 }

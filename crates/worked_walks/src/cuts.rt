@@ -3,14 +3,13 @@
 ghost use Rattle.std.specs.Prelude.{◌≡◌};
 ghost use Rattle.steps.specs.Permit.{permit_for};
 
-use crate::rows::{barred, check, check_text};
-use crate::starts::{event_at, hart_of, listing_of};
-use cap_format::{Cap, CapKind};
+use crate::rows::{barred, check, has_line};
+use crate::starts::{event_at, hart_of, machine_of};
+use cap_format::CapKind;
 use cap_words::push_capability;
 use confine_check::{Cut, Verdict, confined, read_cut};
 use coy_io::MemSink;
 use coy_text::{LineBuf, read_dec, word};
-use image_builder::boot;
 use kernel_core::{Machine, event};
 use object_store::Sizes;
 use run_text::put_objects;
@@ -21,7 +20,7 @@ use std::process::Abort;
 use std::sync::ledger::Ledger;
 use std::test::Fail;
 use steps::{Permit, Steps};
-use walk_engine::{Plain, Translator};
+use walk_engine::Translator;
 
 /// Three of each kind of object.
 const SIZES: Sizes = Sizes {
@@ -33,18 +32,9 @@ const SIZES: Sizes = Sizes {
     endpoints: 3,
 };
 
-/// The kinds of objects, in the order in which objects are printed.
-const KINDS: [CapKind; 5] = [
-    CapKind::Page,
-    CapKind::CapPage,
-    CapKind::Gpt,
-    CapKind::Endpoint,
-    CapKind::Process,
-];
-
 /// The fault of a line or `-`, the sides of all objects behind it, and the line in bars. The sides are those of pages,
 /// of capability pages, of GPTs, of endpoints and of processes, by their numbers. Each line is read over the cut that
-/// the lines before it left.
+/// the lines before it left. The last two have 512 bytes and one more.
 const LINES: &str = "\
 - lrr.rrr.rrr.rrr.rrr. |left page 0|
 - lrr.rrr.rrr.rrr.lrr. |  left   process 0 0 |
@@ -69,51 +59,143 @@ BadNumber lrr.rll.rrl.lll.lrr. |left page 2 0x2|
 NoObject lrr.rll.rrl.lll.lrr. |left page 3 x|
 NoObject lrr.rll.rrl.lll.lrr. |left page 2 3|
 BadOrder lrr.rll.rrl.lll.lrr. |left page 2 1|
-- lll.rll.rrl.lll.lrr. |left page 0 2|";
+- lll.rll.rrl.lll.lrr. |left page 0 2|
+- lll.rll.rrl.lll.lrr. |#xxxxxxxxxxxxxxxxxxxxxxxxxxxxxxxxxxxxxxxxxxxxxxxxxxxxxxxxxxxxxxxxxxxxxxxxxxxxxxxxxxxxxxxxxxxxxxxxxxx\
+    xxxxxxxxxxxxxxxxxxxxxxxxxxxxxxxxxxxxxxxxxxxxxxxxxxxxxxxxxxxxxxxxxxxxxxxxxxxxxxxxxxxxxxxxxxxxxxxxxxxx\
+    xxxxxxxxxxxxxxxxxxxxxxxxxxxxxxxxxxxxxxxxxxxxxxxxxxxxxxxxxxxxxxxxxxxxxxxxxxxxxxxxxxxxxxxxxxxxxxxxxxxx\
+    xxxxxxxxxxxxxxxxxxxxxxxxxxxxxxxxxxxxxxxxxxxxxxxxxxxxxxxxxxxxxxxxxxxxxxxxxxxxxxxxxxxxxxxxxxxxxxxxxxxx\
+    xxxxxxxxxxxxxxxxxxxxxxxxxxxxxxxxxxxxxxxxxxxxxxxxxxxxxxxxxxxxxxxxxxxxxxxxxxxxxxxxxxxxxxxxxxxxxxxxxxxx\
+    xxxxxxxxxxxx|
+LineTooLong lll.rll.rrl.lll.lrr. |#xxxxxxxxxxxxxxxxxxxxxxxxxxxxxxxxxxxxxxxxxxxxxxxxxxxxxxxxxxxxxxxxxxxxxxxxxxxxxxxxxxxxxxxxxxxxxxxxxxx\
+    xxxxxxxxxxxxxxxxxxxxxxxxxxxxxxxxxxxxxxxxxxxxxxxxxxxxxxxxxxxxxxxxxxxxxxxxxxxxxxxxxxxxxxxxxxxxxxxxxxxx\
+    xxxxxxxxxxxxxxxxxxxxxxxxxxxxxxxxxxxxxxxxxxxxxxxxxxxxxxxxxxxxxxxxxxxxxxxxxxxxxxxxxxxxxxxxxxxxxxxxxxxx\
+    xxxxxxxxxxxxxxxxxxxxxxxxxxxxxxxxxxxxxxxxxxxxxxxxxxxxxxxxxxxxxxxxxxxxxxxxxxxxxxxxxxxxxxxxxxxxxxxxxxxx\
+    xxxxxxxxxxxxxxxxxxxxxxxxxxxxxxxxxxxxxxxxxxxxxxxxxxxxxxxxxxxxxxxxxxxxxxxxxxxxxxxxxxxxxxxxxxxxxxxxxxxx\
+    xxxxxxxxxxxxx|";
 
 /// A machine with two of each kind of object, of which the first are on the left.
 const TWO: &str = "coyotos 1\nmachine 1 2 2 2 2 2\n";
 
 const FIRST: &str = "left page 0\nleft cappage 0\nleft gpt 0\nleft endpoint 0\nleft process 0";
 
-/// What is found, and in bars the statements of the machine, one or more. `yes`, or the object, the place and the
+/// A block for each machine: what is found, and the statements of the machine. `yes`, or the object, the place and the
 /// capability there.
 const BREACHES: &str = "\
-yes |slot 0 15 page:0@12/0|
-gpt 0 15 page:1@12/00000 |slot 0 15 page:1@12/0|
-gpt 1 3 gpt:0@16/00005 |slot 1 3 gpt:0@16/5|
-cappage 0 255 cappage:1@12/00000 |cap 0 255 cappage:1@12/0|
-yes |cap 1 255 cappage:1@12/0|
-endpoint 0 0 process:1 |endpoint 0 process:1 0 0 plain|
-endpoint 1 0 process:0 |endpoint 1 process:0 0 0 match|
-yes |endpoint 1 process:1 0 0 plain|
-process 0 0 gpt:1@16/00000 |process 0 0 gpt:1@16/0 schedule:3 null run|
-process 1 1 endpoint:0 |process 1 0 gpt:1@16/0 endpoint:0 null stop|
-process 0 2 entry:1:00000007 |process 0 0 gpt:0@16/0 schedule:3 entry:1:7 run|
-yes |process 0 0 gpt:0@16/0 schedule:3 entry:0:7 run|
-process 0 4 process:1 |capreg 0 1 process:1|
-process 1 34 page:0@32/00000+xwon |capreg 1 31 page:0@32/0+xwon|
-yes |capreg 1 31 process:1|
-gpt 1 0 range |slot 1 0 range|
-cappage 0 7 range |cap 0 7 range|
-process 1 2 range |process 1 0 null null range stop|
-process 0 33 range |capreg 0 30 range|
-yes |capreg 0 1 schedule:7; capreg 0 2 discrim; capreg 1 1 kernlog; capreg 1 2 sysctl|
-yes |capreg 0 1 window:0@12/0; slot 1 0 local:3:0@12/0|
-yes |slot 0 0 page:1@12/0+r|
-yes |slot 1 0 page:0@12/0+r|
-gpt 1 0 page:0@12/00000+x |slot 1 0 page:0@12/0+x|
-yes |cap 0 0 cappage:1@12/0+rw|
-gpt 1 0 cappage:0@12/00000+r |slot 1 0 cappage:0@12/0+r|
-gpt 0 0 cappage:1@12/00000+w |slot 0 0 cappage:1@12/0+w|
-yes |capreg 0 1 gpt:1@16/0+rwn|
-process 0 4 gpt:1@16/00000+wn |capreg 0 1 gpt:1@16/0+wn|
-process 1 4 gpt:0@16/00000+rn |capreg 1 1 gpt:0@16/0+rn|
-process 0 4 gpt:1@16/00000+rxwo |capreg 0 1 gpt:1@16/0+rxwo|
-cappage 1 9 page:0@12/00000 |slot 0 0 range; cap 1 9 page:0@12/0; cap 1 10 range|
-gpt 1 2 page:0@12/00000 |capreg 0 1 range; endpoint 0 process:1 0 0 plain; slot 1 2 page:0@12/0|
-endpoint 0 0 process:1 |process 0 0 gpt:1@16/0 null null stop; endpoint 0 process:1 0 0 plain|
-process 0 5 page:1@12/00000 |capreg 1 1 page:0@12/0; capreg 0 3 page:0@12/0; capreg 0 2 page:1@12/0|";
+yes
+slot 0 15 page:0@12/0
+
+gpt 0 15 page:1@12/00000
+slot 0 15 page:1@12/0
+
+gpt 1 3 gpt:0@16/00005
+slot 1 3 gpt:0@16/5
+
+cappage 0 255 cappage:1@12/00000
+cap 0 255 cappage:1@12/0
+
+yes
+cap 1 255 cappage:1@12/0
+
+endpoint 0 0 process:1
+endpoint 0 process:1 0 0 plain
+
+endpoint 1 0 process:0
+endpoint 1 process:0 0 0 match
+
+yes
+endpoint 1 process:1 0 0 plain
+
+process 0 0 gpt:1@16/00000
+process 0 0 gpt:1@16/0 schedule:3 null run
+
+process 1 1 endpoint:0
+process 1 0 gpt:1@16/0 endpoint:0 null stop
+
+process 0 2 entry:1:00000007
+process 0 0 gpt:0@16/0 schedule:3 entry:1:7 run
+
+yes
+process 0 0 gpt:0@16/0 schedule:3 entry:0:7 run
+
+process 0 4 process:1
+capreg 0 1 process:1
+
+process 1 34 page:0@32/00000+xwon
+capreg 1 31 page:0@32/0+xwon
+
+yes
+capreg 1 31 process:1
+
+gpt 1 0 range
+slot 1 0 range
+
+cappage 0 7 range
+cap 0 7 range
+
+process 1 2 range
+process 1 0 null null range stop
+
+process 0 33 range
+capreg 0 30 range
+
+yes
+capreg 0 1 schedule:7
+capreg 0 2 discrim
+capreg 1 1 kernlog
+capreg 1 2 sysctl
+
+yes
+capreg 0 1 window:0@12/0
+slot 1 0 local:3:0@12/0
+
+yes
+slot 0 0 page:1@12/0+r
+
+yes
+slot 1 0 page:0@12/0+r
+
+gpt 1 0 page:0@12/00000+x
+slot 1 0 page:0@12/0+x
+
+yes
+cap 0 0 cappage:1@12/0+rw
+
+gpt 1 0 cappage:0@12/00000+r
+slot 1 0 cappage:0@12/0+r
+
+gpt 0 0 cappage:1@12/00000+w
+slot 0 0 cappage:1@12/0+w
+
+yes
+capreg 0 1 gpt:1@16/0+rwn
+
+process 0 4 gpt:1@16/00000+wn
+capreg 0 1 gpt:1@16/0+wn
+
+process 1 4 gpt:0@16/00000+rn
+capreg 1 1 gpt:0@16/0+rn
+
+process 0 4 gpt:1@16/00000+rxwo
+capreg 0 1 gpt:1@16/0+rxwo
+
+cappage 1 9 page:0@12/00000
+slot 0 0 range
+cap 1 9 page:0@12/0
+cap 1 10 range
+
+gpt 1 2 page:0@12/00000
+capreg 0 1 range
+endpoint 0 process:1 0 0 plain
+slot 1 2 page:0@12/0
+
+endpoint 0 0 process:1
+process 0 0 gpt:1@16/0 null null stop
+endpoint 0 process:1 0 0 plain
+
+process 0 5 page:1@12/00000
+capreg 1 1 page:0@12/0
+capreg 0 3 page:0@12/0
+capreg 0 2 page:1@12/0";
 
 /// Processes 1 and 3 send to process 0, which is stopped, through an endpoint whose recipient process 2 then takes
 /// away.
@@ -199,176 +281,139 @@ process 0 00000008 gpt:0@16/00000 schedule:3 null run
 process 1 0000000c gpt:1@16/00000 schedule:3 null faulted AccessViolation 00001000
 reg 1 5 00000015";
 
-/// The side of each object of a kind, and a point behind them.
-fn push_sides(text: &mut String, cut: &Cut, kind: CapKind) -> Result<(), Fail> {
-    for number in 0..3u32 {
-        text.push(if cut.is_left(kind, number) { 'l' } else { 'r' })?;
+/// The kind whose sides are the `n`th, from 0.
+fn kind_at(n: usize) -> CapKind {
+    match n {
+        0 => CapKind::Page,
+        1 => CapKind::CapPage,
+        2 => CapKind::Gpt,
+        3 => CapKind::Endpoint,
+        _ => CapKind::Process,
     }
-    text.push('.')?;
-    Ok(())
 }
 
-/// The side of each object.
-fn sides(alloc: Global, cut: &Cut) -> Result<String, Fail> {
-    let mut text = String::new(alloc);
-    for kind in KINDS {
-        push_sides(&mut text, cut, kind)?;
+/// Each object is on the row's side.
+fn check_sides(rt: &impl Abort, cut: &Cut, row: &str) {
+    let sides = word(row.as_bytes(), 1);
+    check(rt, sides.len() == 20, row);
+    for (n, side) in sides.iter().enumerate() {
+        let letter = if n % 4 == 3 {
+            b'.'
+        } else if cut.is_left(kind_at(n / 4), (n % 4) as u32) {
+            b'l'
+        } else {
+            b'r'
+        };
+        check(rt, *side == letter, row);
     }
-    Ok(text)
 }
 
 /// The fault of a line, or `-` where it has none.
-fn fault_of(alloc: Global, cut: &mut Cut, line: &[u8]) -> Result<String, Fail> {
-    match read_cut(line, cut) {
+fn fault_of(alloc: Global, cut: &mut Cut, line: &str) -> Result<String, Fail> {
+    match read_cut(line.as_bytes(), cut) {
         Ok(()) => Ok("-".to_string(alloc)?),
         Err(fault) => Ok(format!(in alloc; "{fault:?}")?),
     }
 }
 
-/// The fault of a line, and the sides behind it.
-fn told_of(alloc: Global, cut: &mut Cut, line: &[u8]) -> Result<String, Fail> {
-    let fault = fault_of(alloc, cut, line)?;
-    let sides = sides(alloc, cut)?;
-    Ok(format!(in alloc; "{fault} {sides}")?)
-}
-
 /// Reads the row's line over a cut.
 fn read_row(rt: &impl Abort, alloc: Global, cut: &mut Cut, row: &str) -> Result<(), Fail> {
     let (wanted, line) = barred(rt, row);
-    let told = told_of(alloc, cut, line.as_bytes())?;
-    check_text(rt, told.as_str(), wanted, row);
+    let fault = fault_of(alloc, cut, line)?;
+    check(rt, fault.as_bytes() == word(wanted.as_bytes(), 0), row);
+    check_sides(rt, cut, wanted);
+    Ok(())
+}
+
+/// Reads the rows' lines, one after the other.
+fn read_rows(rt: &impl Abort, alloc: Global, cut: &mut Cut) -> Result<(), Fail> {
+    for row in LINES.lines() {
+        read_row(rt, alloc, cut, row)?;
+    }
     Ok(())
 }
 
 #[test]
 fn a_line_puts_objects_on_the_left_or_has_its_first_fault(rt: HostRuntime) -> Result<(), Fail> {
-    let mut cut = Cut::new(rt.alloc(), SIZES)?;
-    for row in LINES.lines() {
-        read_row(&rt, rt.alloc(), &mut cut, row)?;
-    }
-    Ok(())
+    read_rows(&rt, rt.alloc(), &mut Cut::new(rt.alloc(), SIZES)?)
 }
 
-/// Reads a line of so many spaces.
-fn read_spaces(rt: &impl Abort, alloc: Global, size: usize, wanted: &str) -> Result<(), Fail> {
-    let mut cut = Cut::new(alloc, SIZES)?;
-    let line = vec![in alloc; b' '; size]?;
-    let told = told_of(alloc, &mut cut, line.as_slice())?;
-    check_text(rt, told.as_str(), wanted, wanted);
-    Ok(())
-}
-
-#[test]
-fn a_line_of_a_cut_has_512_bytes_at_most(rt: HostRuntime) -> Result<(), Fail> {
-    read_spaces(&rt, rt.alloc(), 512, "- rrr.rrr.rrr.rrr.rrr.")?;
-    read_spaces(&rt, rt.alloc(), 513, "LineTooLong rrr.rrr.rrr.rrr.rrr.")
-}
-
-/// Whether a capability has this word.
-fn is_spelled(cap: Cap, wanted: &[u8]) -> bool {
-    let mut line = LineBuf::new();
-    push_capability(&mut line, cap);
-    line.as_bytes() == wanted
-}
-
-/// The row's word `n` as a decimal number.
-fn decimal(rt: &impl Abort, row: &str, n: usize) -> u32 {
-    read_dec(word(row.as_bytes(), n)).expect(rt, "a decimal number")
-}
-
-/// Whether this was to be found.
-fn is_wanted(rt: &impl Abort, verdict: Verdict, wanted: &str) -> bool {
-    let head = word(wanted.as_bytes(), 0);
+/// What was found, in words.
+fn push_verdict(line: &mut LineBuf, verdict: Verdict) {
+    line.clear();
     match verdict {
-        Verdict::Yes => wanted == "yes",
-        Verdict::Sleeper { process } => {
-            head == b"sleeper".as_slice() && u32::from(process) == decimal(rt, wanted, 1)
-        }
+        Verdict::Yes => line.push_word("yes"),
+        Verdict::Sleeper { process } => line.push_numbered("sleeper ", u32::from(process)),
         Verdict::Capability {
             kind,
             number,
             place,
             cap,
         } => {
-            head == kind_word(kind).as_bytes()
-                && u32::from(number) == decimal(rt, wanted, 1)
-                && u32::from(place) == decimal(rt, wanted, 2)
-                && is_spelled(cap, word(wanted.as_bytes(), 3))
+            line.push_word(kind_word(kind));
+            line.push_numbered(" ", u32::from(number));
+            line.push_numbered(" ", u32::from(place));
+            line.push_word(" ");
+            push_capability(line, cap);
         }
     }
 }
 
-/// The cut of these lines.
-fn cut_by(alloc: Global, sizes: Sizes, lines: &str) -> Result<Cut, Fail> {
-    let mut cut = Cut::new(alloc, sizes)?;
+/// Reads lines of a cut.
+fn read_lines(cut: &mut Cut, lines: &str) -> Result<(), Fail> {
     for line in lines.lines() {
-        read_cut(line.as_bytes(), &mut cut)?;
+        read_cut(line.as_bytes(), cut)?;
     }
-    Ok(cut)
-}
-
-/// The machine of a listing, at its start.
-fn machine_of(alloc: Global, bytes: &[u8]) -> Result<Machine<Plain>, Fail> {
-    let listing = listing_of(alloc, bytes.to_vec(alloc)?)?;
-    match boot(alloc, &listing, Plain::new()) {
-        Ok(machine) => Ok(machine),
-        Err(_) => Err(Fail::from("the machine did not start")),
-    }
-}
-
-/// The listing of the machine of two with these statements.
-fn with_statements(alloc: Global, statements: &str) -> Result<Vec<u8>, Fail> {
-    let mut bytes = TWO.as_bytes().to_vec(alloc)?;
-    for statement in statements.split(';') {
-        bytes.extend_from_slice(statement.as_bytes())?;
-        bytes.push(b'\n')?;
-    }
-    bytes.extend_from_slice(b"end\n")?;
-    Ok(bytes)
-}
-
-/// What is found in a machine, over the cut of these lines.
-fn found_by<T: Translator, L: Ledger>(
-    alloc: Global,
-    machine: &Machine<T>,
-    lines: &str,
-    fetches: &mut Steps<L>,
-) -> Result<Verdict, Fail> {
-    let cut = cut_by(alloc, machine.objects().sizes(), lines)?;
-    Ok(confined(machine, &cut, fetches))
-}
-
-/// What is found in the machine of two with these statements.
-fn found_with<L: Ledger>(
-    alloc: Global,
-    statements: &str,
-    fetches: &mut Steps<L>,
-) -> Result<Verdict, Fail> {
-    let text = with_statements(alloc, statements)?;
-    let machine = machine_of(alloc, text.as_slice())?;
-    found_by(alloc, &machine, FIRST, fetches)
-}
-
-/// Finds what the row says.
-fn find_breach<L: Ledger>(
-    rt: &impl Abort,
-    alloc: Global,
-    row: &str,
-    fetches: &mut Steps<L>,
-) -> Result<(), Fail> {
-    let (wanted, statements) = barred(rt, row);
-    let verdict = found_with(alloc, statements, fetches)?;
-    check(rt, is_wanted(rt, verdict, wanted), row);
     Ok(())
 }
 
-/// Finds what each row says.
+/// Finds in a machine, over the cut of these lines, what is wanted.
+fn find<T: Translator, L: Ledger>(
+    rt: &impl Abort,
+    alloc: Global,
+    machine: &Machine<T>,
+    (lines, wanted): (&str, &str),
+    fetches: &mut Steps<L>,
+) -> Result<(), Fail> {
+    let mut cut = Cut::new(alloc, machine.objects().sizes())?;
+    read_lines(&mut cut, lines)?;
+    let mut line = LineBuf::new();
+    push_verdict(&mut line, confined(machine, &cut, fetches));
+    check(rt, line.as_bytes() == wanted.as_bytes(), wanted);
+    Ok(())
+}
+
+/// Finds in the machine of a listing what is wanted.
+fn find_in<L: Ledger>(
+    rt: &impl Abort,
+    alloc: Global,
+    listing: &str,
+    wanted: &str,
+    fetches: &mut Steps<L>,
+) -> Result<(), Fail> {
+    let machine = machine_of(alloc, listing)?;
+    find(rt, alloc, &machine, (FIRST, wanted), fetches)
+}
+
+/// Finds what the block says.
+fn find_breach<L: Ledger>(
+    rt: &impl Abort,
+    alloc: Global,
+    block: &str,
+    fetches: &mut Steps<L>,
+) -> Result<(), Fail> {
+    let (wanted, statements) = block.split_once("\n").expect(rt, "two lines");
+    let listing = format!(in alloc; "{TWO}{statements}\nend\n")?;
+    find_in(rt, alloc, listing.as_str(), wanted, fetches)
+}
+
+/// Finds what each block says.
 fn find_breaches<L: Ledger>(rt: &impl Abort, alloc: Global, permit: Permit) -> Result<(), Fail>
     requires ledger { permit ≡ permit_for L.name L.parts }
 {
     let mut fetches = Steps::<L>::new(permit);
-    for row in BREACHES.lines() {
-        find_breach(rt, alloc, row, &mut fetches)?;
+    for block in BREACHES.split("\n\n") {
+        find_breach(rt, alloc, block, &mut fetches)?;
     }
     Ok(())
 }
@@ -399,8 +444,7 @@ fn find_and_step<T: Translator, L: Ledger>(
     fetches: &mut Steps<L>,
 ) -> Result<(), Fail> {
     for wanted in FOUND_ASLEEP.lines() {
-        let verdict = found_by(alloc, machine, "left process 0", fetches)?;
-        check(rt, is_wanted(rt, verdict, wanted), wanted);
+        find(rt, alloc, machine, ("left process 0", wanted), fetches)?;
         perform(rt, machine, "step 0", fetches);
     }
     Ok(())
@@ -411,7 +455,7 @@ fn find_sleepers<L: Ledger>(rt: &impl Abort, alloc: Global, permit: Permit) -> R
     requires ledger { permit ≡ permit_for L.name L.parts }
 {
     let mut fetches = Steps::<L>::new(permit);
-    let mut machine = machine_of(alloc, SLEEPERS.as_bytes())?;
+    let mut machine = machine_of(alloc, SLEEPERS)?;
     find_and_step(rt, alloc, &mut machine, &mut fetches)
 }
 
@@ -439,23 +483,42 @@ fn is_even(line: &str) -> bool {
     }
 }
 
-/// Whether two texts have the same lines about the objects of one side.
+/// Whether a text has the lines of another that are about the objects of one side.
+fn has_side(text: &[u8], other: &[u8], even: bool) -> bool {
+    for line in str::from_utf8(other).unwrap_or("").lines() {
+        if is_even(line) == even && !has_line(text, line) {
+            return false;
+        }
+    }
+    true
+}
+
+/// Whether two texts have the same lines about the objects of one side. No line stands in a text twice.
 fn agree(one: &[u8], other: &[u8], even: bool) -> bool {
-    let first = str::from_utf8(one).unwrap_or("").lines();
-    let second = str::from_utf8(other).unwrap_or("").lines();
-    let left = first.filter(|line| is_even(line) == even);
-    left.eq(second.filter(|line| is_even(line) == even))
+    has_side(one, other, even) && has_side(other, one, even)
 }
 
 /// An event leaves the objects of the other side, and a tick those of both. A step changes those of its own.
 fn check_turn(rt: &impl Abort, before: &[u8], after: &[u8], row: &str) {
     let even = row.ends_with('0');
     check(rt, agree(before, after, !even), row);
-    check(
-        rt,
-        agree(before, after, even) == row.starts_with("tick"),
-        row,
-    );
+    let same = agree(before, after, even);
+    check(rt, same == row.starts_with("tick"), row);
+}
+
+/// Performs a row's event on a machine of which this is the text.
+fn turn<T: Translator, L: Ledger>(
+    rt: &impl Abort,
+    alloc: Global,
+    machine: &mut Machine<T>,
+    before: &[u8],
+    row: &str,
+    fetches: &mut Steps<L>,
+) -> Result<(), Fail> {
+    perform(rt, machine, row, fetches);
+    let after = objects_text(alloc, machine, fetches)?;
+    check_turn(rt, before, after.as_slice(), row);
+    Ok(())
 }
 
 /// Performs a row's event on a machine in which the cut holds.
@@ -466,13 +529,9 @@ fn take_turn<T: Translator, L: Ledger>(
     row: &str,
     fetches: &mut Steps<L>,
 ) -> Result<(), Fail> {
-    let verdict = found_by(alloc, machine, EVEN, fetches)?;
-    check(rt, matches!(verdict, Verdict::Yes), row);
+    find(rt, alloc, machine, (EVEN, "yes"), fetches)?;
     let before = objects_text(alloc, machine, fetches)?;
-    perform(rt, machine, row, fetches);
-    let after = objects_text(alloc, machine, fetches)?;
-    check_turn(rt, before.as_slice(), after.as_slice(), row);
-    Ok(())
+    turn(rt, alloc, machine, before.as_slice(), row, fetches)
 }
 
 /// Performs the rows, one after the other.
@@ -495,15 +554,14 @@ fn take_turns<L: Ledger>(rt: &impl Abort, alloc: Global, permit: Permit) -> Resu
     requires ledger { permit ≡ permit_for L.name L.parts }
 {
     let mut fetches = Steps::<L>::new(permit);
-    let mut machine = machine_of(alloc, PAIR.as_bytes())?;
+    let mut machine = machine_of(alloc, PAIR)?;
     take_all(rt, alloc, &mut machine, &mut fetches)
 }
 
 /// The objects have the lines that they are to have at the end.
 fn check_ended(rt: &impl Abort, text: &[u8]) {
-    let text = str::from_utf8(text).unwrap_or("");
     for wanted in ENDED.lines() {
-        check(rt, text.lines().any(|line| line == wanted), wanted);
+        check(rt, has_line(text, wanted), wanted);
     }
 }
 

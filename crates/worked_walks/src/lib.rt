@@ -6,19 +6,15 @@
 #![tactic(auto)]
 
 #[cfg(test)]
-mod cached;
-#[cfg(test)]
 mod caches;
 #[cfg(test)]
 mod cuts;
 #[cfg(test)]
+mod kept;
+#[cfg(test)]
 mod mappings;
 #[cfg(test)]
-mod requests;
-#[cfg(test)]
 mod rows;
-#[cfg(test)]
-mod shared;
 #[cfg(test)]
 mod shared_tables;
 #[cfg(test)]

@@ -1,33 +1,33 @@
-//! What a mapping cache answers after each step, over three spaces, two harts, and the two pools at their edges, worked
+//! What a mapping cache answers after each step, over four spaces, two harts, and the two pools at their edges, worked
 //! out by hand from the rules. The rows of a table are done one after the other.
-ghost use Rattle.std.specs.Prelude.{◌≡◌, true};
+ghost use Rattle.std.specs.Prelude.{◌≡◌, length};
 ghost use Rattle.steps.specs.Permit.{permit_for};
-ghost use Rattle.walk_meaning.specs.Walk.{is_data};
 
-use crate::cached::Cached;
-use crate::requests::short;
-use crate::rows::{byte, check, check_number, hex, letter, number};
-use bitflags::Flags;
-use cap_format::{Cap, CapKind, Guard, Restr};
+use crate::kept::{Kept, SIZES, perform, space};
+use crate::rows::{byte, check, hex, letter, number, short};
+use map_cache::MapCache;
+use object_store::Objects;
+use std::alloc::Global;
 use std::marker::Brand;
 use std::process::Abort;
 use std::sync::ledger::Ledger;
 use std::test::Fail;
 use steps::{Permit, Steps};
-use walk_meaning::Kind;
 
-/// What is answered, and what was done or asked, which its first letter tells. `load` and `store` with a hart, a space
-/// and an address: the page that is reached, or f0 (hexadecimal) and the fault. `fill` with a hart and a space: loads at
-/// the numbers from the first to the last, times two to the power behind them, all of which have to reach. `tie` and
-/// `cut`: a slot of a GPT holds an object of this type number, or nothing. `destroy` with a page. How many frames are
+/// What is answered, and what was done or asked. The verbs that do something are those of `perform`. How many frames are
 /// `used`. The `root` of a space. The `word` of a frame at an index. The page that a hart has `held` under a root at an
 /// address. The `entry` of this number, which has to have this space and this address: its page in the first digit, and
 /// whether it may be written and executed in the others. None is answered where there is no such root, page or entry,
 /// and where something was only done.
 ///
-/// Spaces: `a` is GPT 0, `b` the same through RO, `c` page 1, and `d` the same page after it was destroyed. Through
-/// GPTs 0 to 2 each region of 4 MB has its first page, which is page 0.
+/// Through GPTs 0 to 2 each region of 4 MB has its first page, which is page 0.
 const FRAMES: &str = "\
+- zone 0 1c
+- zone 1 18
+- zone 2 16
+- tie 0 0 f 3 1 0 20 0 0
+- tie 1 0 f 3 2 0 20 0 0
+- tie 2 0 3 1 0 0 c 0 0
 0 used
 - root a
 - entry 0 a 0
@@ -68,7 +68,7 @@ f1 load 0 a 1000 behind the page
 - entry 2 a 0
 6 used
 f1 load 1 b 400000
-- tie 2 1 1 2
+- tie 2 1 1 1 2 0 c 0 0
 2 load 1 b 400000
 8db word 3 0
 201 entry 1 b 400000
@@ -129,6 +129,38 @@ ff used one frame is free
 /// alone, two for the 16 pages round it, and one for the space. So `a` has 15,393 records with all its pages, and `b`
 /// 991 with one page in 14 of the sixteens and two in another.
 const RECORDS: &str = "\
+- zone 0 10
+- tie 0 0 f 3 1 0 20 0 0
+- tie 1 0 f 3 2 0 20 0 0
+- tie 2 0 0 3 3 0 20 0 0
+- tie 3 0 0 3 4 0 20 0 0
+- tie 4 0 0 3 5 0 20 0 0
+- tie 5 0 0 3 6 0 20 0 0
+- tie 6 0 0 3 7 0 20 0 0
+- tie 7 0 0 3 8 0 20 0 0
+- tie 8 0 0 3 9 0 20 0 0
+- tie 9 0 0 3 a 0 20 0 0
+- tie a 0 0 3 b 0 20 0 0
+- tie b 0 0 3 c 0 20 0 0
+- tie c 0 0 3 d 0 20 0 0
+- tie d 0 0 3 e 0 20 0 0
+- tie e 0 0 3 f 0 20 0 0
+- tie f 0 0 3 10 0 20 0 0
+- tie 10 0 0 3 11 0 20 0 0
+- tie 11 0 0 3 12 0 20 0 0
+- tie 12 0 0 3 13 0 20 0 0
+- tie 13 0 0 3 14 0 20 0 0
+- tie 14 0 0 3 15 0 20 0 0
+- tie 15 0 0 3 16 0 20 0 0
+- tie 16 0 0 3 17 0 20 0 0
+- tie 17 0 0 3 18 0 20 0 0
+- tie 18 0 0 3 19 0 20 0 0
+- tie 19 0 0 3 1a 0 20 0 0
+- tie 1a 0 0 3 1b 0 20 0 0
+- tie 1b 0 0 3 1c 0 20 0 0
+- tie 1c 0 0 3 1d 0 20 0 0
+- tie 1d 0 0 3 1e 0 20 0 0
+- tie 1e 0 0 1 0 0 c 0 0
 - fill 0 a 0 ff c 1 + 32 + 15360
 - fill 1 b 0 e 10 1 + 30 + 900
 11 entry ff a ff000
@@ -147,7 +179,7 @@ const RECORDS: &str = "\
 11 entry ef a ff000
 01 entry fe b d0000
 - entry ff a 0
-- tie 0 e 3 1
+- tie 0 e e 3 1 0 20 0 0
 - fill 0 a e0 ef c one record: the others are there
 0 load 1 b e0000 one record
 4 used
@@ -164,198 +196,83 @@ const RECORDS: &str = "\
 - held 0 0 ef000
 1 held 0 0 0";
 
-/// One of the two tables.
-#[derive(Clone, Copy)]
-enum Table {
-    Frames,
-    Records,
-}
-
-/// The space that is named at word `n`.
-fn space(row: &str, n: usize) -> Result<Cap, Fail> {
-    let whole = Guard::new(32, 0)?;
-    let made = match letter(row, n) {
-        b'a' => Cap::try_new(CapKind::Gpt, Restr::empty(), 0, whole, 0, 0, 0),
-        b'b' => Cap::try_new(CapKind::Gpt, Restr::RO, 0, whole, 0, 0, 0),
-        b'c' => Cap::try_new(CapKind::Page, Restr::empty(), 0, Guard::page(), 1, 0, 0),
-        b'd' => Cap::try_new(CapKind::Page, Restr::empty(), 1, Guard::page(), 1, 0, 0),
-        _ => None,
-    };
-    match made {
-        Some(cap) => Ok(cap),
-        None => Err(Fail::new("no such space")),
-    }
-}
-
-/// Where the row's access ends.
-fn access<L: Ledger>(
-    rt: &impl Abort,
-    cached: &mut Cached,
-    row: &str,
-    kind: Kind,
-    fetches: &mut Steps<L>,
-) -> Result<u32, Fail>
-    requires { is_data kind ≡ true }
-{
-    let hart = byte(rt, row, 2);
-    let address = hex(rt, row, 4);
-    assert!(rt; hart < 2);
-    let space = space(row, 3)?;
-    match cached.access(hart, space, address, kind, fetches) {
-        Ok(hit) => Ok(u32::from(hit.page)),
-        Err(fault) => Ok(0xf0 + fault.code.number()),
-    }
-}
-
-/// The row's loads, each of which has to reach.
-fn fill<L: Ledger>(
-    rt: &impl Abort,
-    cached: &mut Cached,
-    row: &str,
-    fetches: &mut Steps<L>,
-) -> Result<(), Fail> {
-    let hart = byte(rt, row, 2);
-    let space = space(row, 3)?;
-    let shift = hex(rt, row, 6);
-    assert!(rt; hart < 2 && shift < 32);
-    for n in hex(rt, row, 4)..=hex(rt, row, 5) {
-        let hit = cached.access(hart, space, n << shift, Kind::Load, fetches);
-        check(rt, hit.is_ok(), row);
-    }
-    Ok(())
-}
-
-/// The slot that the row names holds an object of a kind.
-fn tie(rt: &impl Abort, cached: &mut Cached, row: &str) {
-    let number = short(rt, row, 5);
-    assert!(rt; number < 1024);
-    let cap = match byte(rt, row, 4) {
-        1 => Cap::to_object(CapKind::Page, number, 0),
-        _ => Cap::to_object(CapKind::Gpt, number, 0),
-    };
-    cached.set_slot(rt, short(rt, row, 2), byte(rt, row, 3), cap);
-}
-
 /// The row's entry.
-fn entry(rt: &impl Abort, cached: &Cached, row: &str) -> Result<Option<u32>, Fail> {
-    let Some(mapping) = cached.mapping(hex(rt, row, 2)) else {
-        return Ok(None);
-    };
-    if mapping.space != space(row, 3)? || mapping.va != hex(rt, row, 4) {
-        return Err(Fail::new("another entry"));
-    }
+fn entry(rt: &impl Abort, cache: &MapCache, row: &str) -> Option<u32> {
+    let (space, address) = (space(rt, row, 3), hex(rt, row, 4));
+    let mapping = cache.mapping(hex(rt, row, 2))?;
+    check(rt, mapping.space == space && mapping.va == address, row);
     let write = u32::from(mapping.write) << 4;
     let execute = u32::from(mapping.execute);
-    Ok(Some((u32::from(mapping.page) << 8) | write | execute))
+    Some((u32::from(mapping.page) << 8) | write | execute)
 }
 
 /// The page that a hart holds.
-fn held(rt: &impl Abort, cached: &Cached, row: &str) -> Option<u32> {
-    let leaf = cached.held(rt, byte(rt, row, 2), short(rt, row, 3), hex(rt, row, 4))?;
+fn held(rt: &impl Abort, cache: &MapCache, row: &str) -> Option<u32>
+    requires { length cache.now.tlbs ≡ 2 }
+{
+    let hart = byte(rt, row, 2);
+    assert!(rt; hart < 2);
+    let leaf = cache.tlb(hart).look(short(rt, row, 3), hex(rt, row, 4))?;
     Some(u32::from(leaf.page))
 }
 
+/// The word of a frame.
+fn word_of(rt: &impl Abort, cache: &MapCache, row: &str) -> u32 {
+    let (frame, index) = (short(rt, row, 2), short(rt, row, 3));
+    assert!(rt; frame < 256 && index < 1024);
+    cache.pool().word(frame, index)
+}
+
 /// What is answered to the row's question.
-fn answer(rt: &impl Abort, cached: &Cached, row: &str) -> Result<Option<u32>, Fail> {
+fn answer(rt: &impl Abort, cache: &MapCache, row: &str) -> Option<u32>
+    requires { length cache.now.tlbs ≡ 2 }
+{
     match letter(row, 1) {
-        b'u' => Ok(Some(u32::from(cached.frames()))),
-        b'r' => Ok(cached.root_of(space(row, 2)?).map(u32::from)),
-        b'w' => Ok(Some(cached.word(rt, short(rt, row, 2), short(rt, row, 3)))),
-        b'h' => Ok(held(rt, cached, row)),
-        b'e' => entry(rt, cached, row),
-        _ => Err(Fail::new("no such verb")),
-    }
-}
-
-/// Changes what the row says.
-fn change(rt: &impl Abort, cached: &mut Cached, row: &str) {
-    match letter(row, 1) {
-        b't' => tie(rt, cached, row),
-        b'c' => cached.set_slot(rt, short(rt, row, 2), byte(rt, row, 3), Cap::null()),
-        _ => cached.destroy(rt, short(rt, row, 2)),
-    }
-}
-
-/// Does what the row says, or asks it.
-fn perform<L: Ledger>(
-    rt: &impl Abort,
-    cached: &mut Cached,
-    row: &str,
-    fetches: &mut Steps<L>,
-) -> Result<Option<u32>, Fail> {
-    match letter(row, 1) {
-        b'l' => Ok(Some(access(rt, cached, row, Kind::Load, fetches)?)),
-        b's' => Ok(Some(access(rt, cached, row, Kind::Store, fetches)?)),
-        b'f' => {
-            fill(rt, cached, row, fetches)?;
-            Ok(None)
-        }
-        b't' | b'c' | b'd' => {
-            change(rt, cached, row);
-            Ok(None)
-        }
-        _ => answer(rt, cached, row),
+        b'u' => Some(u32::from(cache.pool().used())),
+        b'r' => cache.root_of(space(rt, row, 2)).map(u32::from),
+        b'w' => Some(word_of(rt, cache, row)),
+        b'h' => held(rt, cache, row),
+        b'e' => entry(rt, cache, row),
+        _ => None,
     }
 }
 
 /// Does the rows of a table, one after the other.
+fn perform_rows<L: Ledger>(
+    rt: &impl Abort,
+    kept: &mut Kept<MapCache>,
+    rows: &str,
+    fetches: &mut Steps<L>,
+) {
+    for row in rows.lines() {
+        let came = perform(rt, kept, row, fetches);
+        let answer = came.or(answer(rt, kept.translator(), row));
+        check(rt, answer == number(rt, row, 0), row);
+    }
+}
+
+/// The same of one of the two tables, where at first all objects are empty and nothing is kept.
 fn perform_all<L: Ledger>(
     rt: &impl Abort,
-    cached: &mut Cached,
-    table: Table,
+    alloc: Global,
+    of_records: bool,
     permit: Permit,
 ) -> Result<(), Fail>
     requires ledger { permit ≡ permit_for L.name L.parts }
 {
-    let rows = match table {
-        Table::Frames => FRAMES,
-        Table::Records => RECORDS,
-    };
-    let mut fetches = Steps::<L>::new(permit);
-    for row in rows.lines() {
-        let answer = perform(rt, cached, row, &mut fetches)?;
-        check_number(rt, answer, number(rt, row, 0), row);
-    }
+    let rows = if of_records { RECORDS } else { FRAMES };
+    let objects = Objects::new(alloc, SIZES)?;
+    let mut kept = Kept::new(objects, MapCache::new(alloc, 2)?);
+    perform_rows(rt, &mut kept, rows, &mut Steps::<L>::new(permit));
     Ok(())
-}
-
-/// A slot of a GPT holds another.
-fn chain(rt: &impl Abort, cached: &mut Cached, gpt: u16, i: u8, next: u16) {
-    assert!(rt; next < 1024);
-    cached.set_slot(rt, gpt, i, Cap::to_object(CapKind::Gpt, next, 0));
-}
-
-/// All slots of GPT 0 hold GPT 1, and all of that hold GPT 2.
-fn chain_all(rt: &impl Abort, cached: &mut Cached) {
-    for i in 0..16_u8 {
-        chain(rt, cached, 0, i, 1);
-        chain(rt, cached, 1, i, 2);
-    }
 }
 
 #[test]
 fn frames_go_to_spaces_and_regions_until_there_is_none(rt: HostRuntime) -> Result<(), Fail> {
-    let mut cached = Cached::new(rt.alloc())?;
-    cached.set_size(&rt, 0, 28);
-    cached.set_size(&rt, 1, 24);
-    cached.set_size(&rt, 2, 22);
-    chain_all(&rt, &mut cached);
-    let page = Cap::to_object(CapKind::Page, 0, 0);
-    for i in 0..4_u8 {
-        cached.set_slot(&rt, 2, i, page);
-    }
-    perform_all::<Brand>(&rt, &mut cached, Table::Frames, Permit::new(&rt))
+    perform_all::<Brand>(&rt, rt.alloc(), false, Permit::new(&rt))
 }
 
 #[test]
 fn records_go_to_items_and_blocks_until_there_is_none(rt: HostRuntime) -> Result<(), Fail> {
-    let mut cached = Cached::new(rt.alloc())?;
-    cached.set_size(&rt, 0, 16);
-    chain_all(&rt, &mut cached);
-    for gpt in 2..30_u16 {
-        chain(&rt, &mut cached, gpt, 0, gpt + 1);
-    }
-    let page = Cap::to_object(CapKind::Page, 0, 0);
-    cached.set_slot(&rt, 30, 0, page);
-    perform_all::<Brand>(&rt, &mut cached, Table::Records, Permit::new(&rt))
+    perform_all::<Brand>(&rt, rt.alloc(), true, Permit::new(&rt))
 }

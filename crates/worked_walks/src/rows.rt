@@ -13,6 +13,11 @@ pub fn byte(rt: &impl Abort, row: &str, n: usize) -> u8 {
     u8::try_from(hex(rt, row, n)).expect(rt, "a number below 256")
 }
 
+/// The same, where it is below 65,536.
+pub fn short(rt: &impl Abort, row: &str, n: usize) -> u16 {
+    u16::try_from(hex(rt, row, n)).expect(rt, "a number below 65,536")
+}
+
 /// The first byte of the row's word `n`, and 0 where there is none.
 pub fn letter(row: &str, n: usize) -> u8 {
     match word(row.as_bytes(), n).first() {
@@ -40,12 +45,12 @@ pub fn check(rt: &impl Abort, holds: bool, row: &str) {
     assert!(rt; holds, "{row}");
 }
 
-/// Fails with the row, where another text was told than it wants.
-pub fn check_text(rt: &impl Abort, told: &str, wanted: &str, row: &str) {
-    assert_eq!(rt; told, wanted, "{row}");
-}
-
-/// Fails with the row, where another number was told than it wants, or one where it wants none.
-pub fn check_number(rt: &impl Abort, told: Option<u32>, wanted: Option<u32>, row: &str) {
-    assert_eq!(rt; told, wanted, "{row}");
+/// Whether a text has a line.
+pub fn has_line(text: &[u8], wanted: &str) -> bool {
+    for line in str::from_utf8(text).unwrap_or("").lines() {
+        if line == wanted {
+            return true;
+        }
+    }
+    false
 }

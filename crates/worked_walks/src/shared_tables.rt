@@ -3,8 +3,7 @@
 ghost use Rattle.std.specs.Prelude.{◌≡◌, ◌<◌};
 ghost use Rattle.sv32_tables.specs.Shared.{IsLeafTable, IsSharedRoot};
 
-use crate::requests::short;
-use crate::rows::{byte, check, check_number, hex, letter, number};
+use crate::rows::{byte, check, hex, letter, number, short};
 use arrayvec::ArrayVec;
 use guard_math::Block;
 use std::alloc::Global;
@@ -254,30 +253,38 @@ impl Shared {
 fn find_all(rt: &impl Abort, shared: &Shared, row: &str) {
     for (n, place) in PLACES.lines().enumerate() {
         let found = shared.found(rt, place, 0);
-        check_number(rt, found, number(rt, row, n), row);
+        check(rt, found == number(rt, row, n), row);
+    }
+}
+
+/// Does each row of `LINKS`, and finds behind each what it says.
+fn link_all(rt: &impl Abort, shared: &mut Shared) {
+    shared.make_root();
+    shared.make_root();
+    shared.make_root();
+    shared.fill(rt, 2);
+    for row in LINKS.lines() {
+        shared.change(rt, row, 6);
+        find_all(rt, shared, row);
     }
 }
 
 #[test]
 fn roots_that_are_linked_to_a_table_find_its_entries(rt: HostRuntime) -> Result<(), Fail> {
-    let mut shared = Shared::new(rt.alloc())?;
-    for _ in 0..3u8 {
-        shared.make_root();
-    }
-    shared.fill(&rt, 2);
-    for row in LINKS.lines() {
-        shared.change(&rt, row, 6);
-        find_all(&rt, &shared, row);
-    }
+    link_all(&rt, &mut Shared::new(rt.alloc())?);
     Ok(())
+}
+
+/// Does each row of `EDGE`, and compares the answers.
+fn perform_all(rt: &impl Abort, shared: &mut Shared) {
+    for row in EDGE.lines() {
+        let answer = shared.perform(rt, row);
+        check(rt, answer == number(rt, row, 0), row);
+    }
 }
 
 #[test]
 fn a_pool_of_shared_tables_has_256_frames(rt: HostRuntime) -> Result<(), Fail> {
-    let mut shared = Shared::new(rt.alloc())?;
-    for row in EDGE.lines() {
-        let answer = shared.perform(&rt, row);
-        check_number(&rt, answer, number(&rt, row, 0), row);
-    }
+    perform_all(&rt, &mut Shared::new(rt.alloc())?);
     Ok(())
 }

@@ -4,6 +4,7 @@ ghost use Rattle.kernel_core.specs.Machine.{hart_in};
 
 use crate::rows::{byte, letter};
 use coy_io::{LineReader, MemSink, MemSource};
+use image_builder::boot;
 use kernel_core::{Event, Machine};
 use listing_read::{Listing, read_listing};
 use run_text::dump;
@@ -12,7 +13,7 @@ use std::process::Abort;
 use std::sync::ledger::Ledger;
 use std::test::Fail;
 use steps::Steps;
-use walk_engine::Translator;
+use walk_engine::{Plain, Translator};
 
 /// The listing of a text, which has to be accepted.
 pub fn listing_of(alloc: Global, bytes: Vec<u8>) -> Result<Listing, Fail> {
@@ -29,6 +30,15 @@ pub fn listing_of(alloc: Global, bytes: Vec<u8>) -> Result<Listing, Fail> {
     match read_listing(alloc, &mut lines, &mut source) {
         Ok(listing) => Ok(listing),
         Err(_) => Err(Fail::from("the listing was not read")),
+    }
+}
+
+/// The machine of a listing, at its start.
+pub fn machine_of(alloc: Global, listing: &str) -> Result<Machine<Plain>, Fail> {
+    let listing = listing_of(alloc, listing.as_bytes().to_vec(alloc)?)?;
+    match boot(alloc, &listing, Plain::new()) {
+        Ok(machine) => Ok(machine),
+        Err(_) => Err(Fail::from("the machine did not start")),
     }
 }
 

@@ -2,10 +2,9 @@
 ghost use Rattle.std.specs.Prelude.{◌≡◌, ◌≤◌};
 ghost use Rattle.steps.specs.Permit.{permit_for};
 
-use crate::rows::{check, hex};
+use crate::rows::{check, has_line, letter, short};
 use crate::starts::{event_at, hart_of, listing_of, state_text};
 use image_builder::boot;
-use kernel_core::Event;
 use map_cache::MapCache;
 use reverse_run::Reversible;
 use std::alloc::Global;
@@ -16,18 +15,17 @@ use std::test::Fail;
 use steps::{Permit, Steps};
 use walk_engine::Translator;
 
-/// What a run is about.
+/// A listing, its events a line each, and a line that the last state has and the first has not.
 #[derive(Clone, Copy)]
-enum Run {
-    /// A page is destroyed, which two processes hold, and got again.
-    Destroyed,
-    /// A string is delivered that begins and ends within a page on both sides.
-    Delivered,
-    /// A process sleeps on one that does not wait, and is woken where that one waits.
-    Woken,
+struct Run {
+    listing: &'static str,
+    schedule: &'static str,
+    shown: &'static str,
 }
 
-const DESTROYED: &str = "\
+/// A page is destroyed, which two processes hold, and got again.
+const DESTROYED: Run = Run {
+    listing: "\
 coyotos 1
 machine 2 3 0 2 2 0
 code 0 000 ecall
@@ -62,9 +60,33 @@ capreg 0 4 gpt:0@16/0
 process 1 0 gpt:1@16/0 schedule:5 null run
 reg 1 5 00001000
 end
-";
+",
+    schedule: "\
+step 1
+step 0
+tick 0
+step 0
+step 0
+step 0
+step 0
+step 0
+step 0
+step 0
+step 0
+step 0
+step 0
+step 0
+step 0
+step 0
+step 0
+step 1
+tick 1",
+    shown: "page 2 000 00200000000000000000000000000000",
+};
 
-const DELIVERED: &str = "\
+/// A string is delivered that begins and ends within a page on both sides.
+const DELIVERED: Run = Run {
+    listing: "\
 coyotos 1
 machine 1 6 0 2 2 1
 code 0 000 ecall
@@ -89,9 +111,14 @@ reg 1 10 00000040
 reg 1 20 00001a00
 reg 1 21 00001000
 end
-";
+",
+    schedule: "step 0\ntick 0\nstep 0",
+    shown: "page 5 800 33000000000000000000000000000000",
+};
 
-const WOKEN: &str = "\
+/// A process sleeps on one that does not wait, and is woken where that one waits.
+const WOKEN: Run = Run {
+    listing: "\
 coyotos 1
 machine 1 2 0 2 2 1
 code 0 000 ecall
@@ -106,91 +133,58 @@ reg 1 10 00000021
 reg 1 11 00000011
 capreg 1 1 entry:0:00000005
 end
-";
+",
+    schedule: "step 0\nstep 0\nstep 0",
+    shown: "endpoint 0 process:0 00000000 00000006 match",
+};
 
-/// The listing of a run.
-fn listing(run: Run) -> &'static str {
-    match run {
-        Run::Destroyed => DESTROYED,
-        Run::Delivered => DELIVERED,
-        Run::Woken => WOKEN,
+/// A run by its first letter, for how many events there is room, and how many are then remembered.
+const ROOMS: &str = "\
+string 100 3
+woken 100 3
+destroyed 100 13
+destroyed 1 1
+destroyed 7 7
+destroyed 13 13
+destroyed 14 13";
+
+/// The row's run.
+fn run_of(row: &str) -> Run {
+    match letter(row, 0) {
+        b'd' => DESTROYED,
+        b's' => DELIVERED,
+        _ => WOKEN,
     }
 }
 
-/// Its events: a hart steps so many times, or ticks once.
-fn schedule(run: Run) -> &'static str {
-    match run {
-        Run::Destroyed => "step 1 1\nstep 0 1\ntick 0\nstep 0 e\nstep 1 1\ntick 1",
-        Run::Delivered => "step 0 1\ntick 0\nstep 0 1",
-        Run::Woken => "step 0 3",
-    }
-}
-
-/// A line that its last state has and its first has not.
-fn shown(run: Run) -> &'static str {
-    match run {
-        Run::Destroyed => "page 2 000 00200000000000000000000000000000",
-        Run::Delivered => "page 5 800 33000000000000000000000000000000",
-        Run::Woken => "endpoint 0 process:0 00000000 00000006 match",
-    }
-}
-
-/// Whether a text has a line.
-fn has_line(text: &[u8], wanted: &str) -> bool {
-    let text = str::from_utf8(text).unwrap_or("");
-    text.lines().any(|line| line == wanted)
-}
-
-/// How many times the event of a row is performed.
-fn times(rt: &impl Abort, row: &str, e: Event) -> u32 {
-    match e {
-        Event::Step(_) => hex(rt, row, 2),
-        Event::Tick(_) => 1,
-    }
-}
-
-/// Performs an event so many times, and puts the text of each state before it behind the others.
+/// Performs the event of a row.
 fn perform<T: Translator, L: Ledger>(
     rt: &impl Abort,
-    alloc: Global,
     reversible: &mut Reversible<T>,
-    e: Event,
-    times: u32,
-    texts: &mut Vec<Vec<u8>>,
+    row: &str,
     fetches: &mut Steps<L>,
-) -> Result<(), Fail> {
-    for _ in 0..times {
-        let harts = reversible.machine().objects().sizes().harts;
-        assert!(rt; hart_of(e) < harts);
-        texts.push(state_text(alloc, reversible.machine(), fetches)?)?;
-        reversible.event(e, fetches);
-    }
-    Ok(())
+) {
+    let e = event_at(rt, row, 0);
+    let harts = reversible.machine().objects().sizes().harts;
+    assert!(rt; hart_of(e) < harts);
+    reversible.event(e, fetches);
 }
 
-/// Performs the events of a run, and gives the texts of all states, the first one first.
+/// Performs the events of a run, and puts the texts of all states behind the others, the first one first.
 fn perform_all<T: Translator, L: Ledger>(
     rt: &impl Abort,
     alloc: Global,
     reversible: &mut Reversible<T>,
-    run: Run,
+    row: &str,
+    texts: &mut Vec<Vec<u8>>,
     fetches: &mut Steps<L>,
-) -> Result<Vec<Vec<u8>>, Fail> {
-    let mut texts = Vec::new(alloc);
-    for row in schedule(run).lines() {
-        let e = event_at(rt, row, 0);
-        perform(
-            rt,
-            alloc,
-            reversible,
-            e,
-            times(rt, row, e),
-            &mut texts,
-            fetches,
-        )?;
-    }
+) -> Result<(), Fail> {
     texts.push(state_text(alloc, reversible.machine(), fetches)?)?;
-    Ok(texts)
+    for line in run_of(row).schedule.lines() {
+        perform(rt, reversible, line, fetches);
+        texts.push(state_text(alloc, reversible.machine(), fetches)?)?;
+    }
+    Ok(())
 }
 
 /// The state has this text.
@@ -206,42 +200,105 @@ fn check_state<T: Translator, L: Ledger>(
     Ok(())
 }
 
-/// Undoes so many events, and then none is left to be undone. The texts are those of all states, and each that comes
-/// back has its own.
+/// Undoes an event for each text, which has to come back.
 fn undo_all<T: Translator, L: Ledger>(
     rt: &impl Abort,
     alloc: Global,
     reversible: &mut Reversible<T>,
-    count: u16,
     texts: &[Vec<u8>],
     fetches: &mut Steps<L>,
 ) -> Result<(), Fail> {
-    for text in texts.iter().rev().skip(1).take(count as usize) {
+    for text in texts.iter().rev() {
         check(rt, reversible.undo(fetches), "undone");
         check_state(rt, alloc, reversible, text.as_slice(), fetches)?;
     }
-    undo_nothing(rt, alloc, reversible, fetches)
+    Ok(())
 }
 
-/// Nothing is left to be undone, and asking for it changes nothing.
-fn undo_nothing<T: Translator, L: Ledger>(
+/// Performs the events once more, and the states have these texts.
+fn perform_again<T: Translator, L: Ledger>(
     rt: &impl Abort,
     alloc: Global,
     reversible: &mut Reversible<T>,
+    row: &str,
+    texts: &[Vec<u8>],
     fetches: &mut Steps<L>,
 ) -> Result<(), Fail> {
-    let before = state_text(alloc, reversible.machine(), fetches)?;
-    check(rt, reversible.remembered() == 0, "nothing is left");
-    check(rt, !reversible.undo(fetches), "nothing is undone");
-    check_state(rt, alloc, reversible, before.as_slice(), fetches)
+    let mut wanted = texts.iter().skip(1);
+    for line in run_of(row).schedule.lines() {
+        perform(rt, reversible, line, fetches);
+        let text = wanted.next().expect(rt, "a text");
+        check_state(rt, alloc, reversible, text.as_slice(), fetches)?;
+    }
+    Ok(())
 }
 
-/// A machine that remembers so many events, at the start of a run.
-fn start(alloc: Global, run: Run, depth: u16) -> Result<Reversible<MapCache>, Fail>
+/// Undoes so many events, and then none is left to be undone, which changes nothing. The texts are those of all states,
+/// and each that comes back has its own.
+fn undo<T: Translator, L: Ledger>(
+    rt: &impl Abort,
+    alloc: Global,
+    reversible: &mut Reversible<T>,
+    count: usize,
+    texts: &[Vec<u8>],
+    fetches: &mut Steps<L>,
+) -> Result<(), Fail> {
+    assert!(rt; count < texts.len());
+    let back = texts.split_at(texts.len() - 1 - count).1;
+    undo_all(rt, alloc, reversible, back.split_at(count).0, fetches)?;
+    check(rt, reversible.remembered() == 0, "nothing is left");
+    check(rt, !reversible.undo(fetches), "nothing is undone");
+    let first = back.first().expect(rt, "a text");
+    check_state(rt, alloc, reversible, first.as_slice(), fetches)
+}
+
+/// The last state has the run's line, and the first has not.
+fn check_shown(rt: &impl Abort, texts: &[Vec<u8>], wanted: &str) {
+    if let [first, .., last] = texts {
+        check(rt, !has_line(first.as_slice(), wanted), wanted);
+        check(rt, has_line(last.as_slice(), wanted), wanted);
+    }
+}
+
+/// Undoes what is remembered of a run whose states have these texts. Where that is all of it, it goes from its start as
+/// it went before.
+fn undo_and_run<T: Translator, L: Ledger>(
+    rt: &impl Abort,
+    alloc: Global,
+    reversible: &mut Reversible<T>,
+    row: &str,
+    texts: &[Vec<u8>],
+    fetches: &mut Steps<L>,
+) -> Result<(), Fail> {
+    check_shown(rt, texts, run_of(row).shown);
+    check(rt, reversible.remembered() == short(rt, row, 2), row);
+    let count = usize::from(reversible.remembered());
+    undo(rt, alloc, reversible, count, texts, fetches)?;
+    if count + 1 == texts.len() {
+        perform_again(rt, alloc, reversible, row, texts, fetches)?;
+    }
+    Ok(())
+}
+
+/// Performs the row's run, undoes what is remembered of it, and runs it again.
+fn there_and_back<T: Translator, L: Ledger>(
+    rt: &impl Abort,
+    alloc: Global,
+    reversible: &mut Reversible<T>,
+    row: &str,
+    fetches: &mut Steps<L>,
+) -> Result<(), Fail> {
+    let mut texts = Vec::new(alloc);
+    perform_all(rt, alloc, reversible, row, &mut texts, fetches)?;
+    undo_and_run(rt, alloc, reversible, row, texts.as_slice(), fetches)
+}
+
+/// A machine that remembers so many events, at the start of a listing.
+fn start(alloc: Global, listing: &str, depth: u16) -> Result<Reversible<MapCache>, Fail>
     requires least { 1 ≤ depth }
     requires most { depth ≤ 256 }
 {
-    let listing = listing_of(alloc, listing(run).as_bytes().to_vec(alloc)?)?;
+    let listing = listing_of(alloc, listing.as_bytes().to_vec(alloc)?)?;
     let Ok(cache) = MapCache::new(alloc, listing.sizes().harts) else {
         return Err(Fail::from("no memory for the cache"));
     };
@@ -254,101 +311,31 @@ fn start(alloc: Global, run: Run, depth: u16) -> Result<Reversible<MapCache>, Fa
     }
 }
 
-/// The last state has the run's line, and the first has not.
-fn check_shown(rt: &impl Abort, texts: &[Vec<u8>], run: Run) {
-    if let [first, .., last] = texts {
-        check(rt, !has_line(first.as_slice(), shown(run)), shown(run));
-        check(rt, has_line(last.as_slice(), shown(run)), shown(run));
-    }
-}
-
-/// Performs the events of a run and undoes those that are remembered. It gives the texts of all states.
-fn perform_and_undo<T: Translator, L: Ledger>(
+/// The row's run on its machine.
+fn run_row<L: Ledger>(
     rt: &impl Abort,
     alloc: Global,
-    reversible: &mut Reversible<T>,
-    run: Run,
-    fetches: &mut Steps<L>,
-) -> Result<Vec<Vec<u8>>, Fail> {
-    let texts = perform_all(rt, alloc, reversible, run, fetches)?;
-    check_shown(rt, texts.as_slice(), run);
-    let count = reversible.remembered();
-    undo_all(rt, alloc, reversible, count, texts.as_slice(), fetches)?;
-    Ok(texts)
-}
-
-/// A run is undone to its start, from where it goes as it went before.
-fn run_twice<T: Translator, L: Ledger>(
-    rt: &impl Abort,
-    alloc: Global,
-    reversible: &mut Reversible<T>,
-    run: Run,
+    row: &str,
     fetches: &mut Steps<L>,
 ) -> Result<(), Fail> {
-    let texts = perform_and_undo(rt, alloc, reversible, run, fetches)?;
-    let again = perform_all(rt, alloc, reversible, run, fetches)?;
-    check(rt, again.as_slice() == texts.as_slice(), "the same texts");
-    Ok(())
+    let depth = short(rt, row, 1);
+    assert!(rt; 1 <= depth && depth <= 256);
+    let mut reversible = start(alloc, run_of(row).listing, depth)?;
+    there_and_back(rt, alloc, &mut reversible, row, fetches)
 }
 
-/// The same on its machine.
-fn there_and_back<L: Ledger>(
-    rt: &impl Abort,
-    alloc: Global,
-    run: Run,
-    permit: Permit,
-) -> Result<(), Fail>
+/// The runs of all rows.
+fn run_rows<L: Ledger>(rt: &impl Abort, alloc: Global, permit: Permit) -> Result<(), Fail>
     requires ledger { permit ≡ permit_for L.name L.parts }
 {
     let mut fetches = Steps::<L>::new(permit);
-    let mut reversible = start(alloc, run, 256)?;
-    run_twice(rt, alloc, &mut reversible, run, &mut fetches)
+    for row in ROOMS.lines() {
+        run_row(rt, alloc, row, &mut fetches)?;
+    }
+    Ok(())
 }
 
 #[test]
 fn a_run_is_undone_event_by_event_and_runs_again(rt: HostRuntime) -> Result<(), Fail> {
-    for run in [Run::Destroyed, Run::Delivered, Run::Woken] {
-        there_and_back::<Brand>(&rt, rt.alloc(), run, Permit::new(&rt))?;
-    }
-    Ok(())
-}
-
-/// Performs the nineteen events of the destruction, of which so many are remembered and undone.
-fn undo_last<T: Translator, L: Ledger>(
-    rt: &impl Abort,
-    alloc: Global,
-    reversible: &mut Reversible<T>,
-    count: u16,
-    fetches: &mut Steps<L>,
-) -> Result<(), Fail> {
-    let texts = perform_all(rt, alloc, reversible, Run::Destroyed, fetches)?;
-    check(rt, texts.len() == 20, "twenty states");
-    check(rt, reversible.remembered() == count, "remembered");
-    undo_all(rt, alloc, reversible, count, texts.as_slice(), fetches)
-}
-
-/// The same on its machine, where there is this room.
-fn undo_within<L: Ledger>(
-    rt: &impl Abort,
-    alloc: Global,
-    depth: u16,
-    count: u16,
-    permit: Permit,
-) -> Result<(), Fail>
-    requires ledger { permit ≡ permit_for L.name L.parts }
-    requires least { 1 ≤ depth }
-    requires most { depth ≤ 256 }
-{
-    let mut fetches = Steps::<L>::new(permit);
-    let mut reversible = start(alloc, Run::Destroyed, depth)?;
-    undo_last(rt, alloc, &mut reversible, count, &mut fetches)
-}
-
-#[test]
-fn no_more_events_are_undone_than_there_is_room_for(rt: HostRuntime) -> Result<(), Fail> {
-    // (room, how many of nineteen events are remembered)
-    for (depth, count) in [(1, 1), (7, 7), (19, 19), (20, 19)] {
-        undo_within::<Brand>(&rt, rt.alloc(), depth, count, Permit::new(&rt))?;
-    }
-    Ok(())
+    run_rows::<Brand>(&rt, rt.alloc(), Permit::new(&rt))
 }
