@@ -4,7 +4,8 @@ ghost use Rattle.std.specs.Prelude.{◌≡◌};
 ghost use Rattle.steps.specs.Permit.{permit_for};
 
 use crate::rows::{barred, check, has_line};
-use crate::starts::{event_at, hart_of, machine_of};
+use crate::starts::{event_at, hart_of};
+use crate::tasks::{Task, perform_task};
 use cap_format::CapKind;
 use cap_words::push_capability;
 use confine_check::{Cut, Verdict, confined, read_cut};
@@ -73,129 +74,232 @@ LineTooLong lll.rll.rrl.lll.lrr. |#xxxxxxxxxxxxxxxxxxxxxxxxxxxxxxxxxxxxxxxxxxxxx
     xxxxxxxxxxxxxxxxxxxxxxxxxxxxxxxxxxxxxxxxxxxxxxxxxxxxxxxxxxxxxxxxxxxxxxxxxxxxxxxxxxxxxxxxxxxxxxxxxxxx\
     xxxxxxxxxxxxx|";
 
-/// A machine with two of each kind of object, of which the first are on the left.
-const TWO: &str = "coyotos 1\nmachine 1 2 2 2 2 2\n";
-
+/// The first object of each kind is on the left.
 const FIRST: &str = "left page 0\nleft cappage 0\nleft gpt 0\nleft endpoint 0\nleft process 0";
 
-/// A block for each machine: what is found, and the statements of the machine. `yes`, or the object, the place and the
-/// capability there.
+/// What is found in a machine with two of each kind of object, and its listing behind that, in blocks. `yes`, or the
+/// object, the place and the capability there.
 const BREACHES: &str = "\
 yes
+coyotos 1
+machine 1 2 2 2 2 2
 slot 0 15 page:0@12/0
+end
 
 gpt 0 15 page:1@12/00000
+coyotos 1
+machine 1 2 2 2 2 2
 slot 0 15 page:1@12/0
+end
 
 gpt 1 3 gpt:0@16/00005
+coyotos 1
+machine 1 2 2 2 2 2
 slot 1 3 gpt:0@16/5
+end
 
 cappage 0 255 cappage:1@12/00000
+coyotos 1
+machine 1 2 2 2 2 2
 cap 0 255 cappage:1@12/0
+end
 
 yes
+coyotos 1
+machine 1 2 2 2 2 2
 cap 1 255 cappage:1@12/0
+end
 
 endpoint 0 0 process:1
+coyotos 1
+machine 1 2 2 2 2 2
 endpoint 0 process:1 0 0 plain
+end
 
 endpoint 1 0 process:0
+coyotos 1
+machine 1 2 2 2 2 2
 endpoint 1 process:0 0 0 match
+end
 
 yes
+coyotos 1
+machine 1 2 2 2 2 2
 endpoint 1 process:1 0 0 plain
+end
 
 process 0 0 gpt:1@16/00000
+coyotos 1
+machine 1 2 2 2 2 2
 process 0 0 gpt:1@16/0 schedule:3 null run
+end
 
 process 1 1 endpoint:0
+coyotos 1
+machine 1 2 2 2 2 2
 process 1 0 gpt:1@16/0 endpoint:0 null stop
+end
 
 process 0 2 entry:1:00000007
+coyotos 1
+machine 1 2 2 2 2 2
 process 0 0 gpt:0@16/0 schedule:3 entry:1:7 run
+end
 
 yes
+coyotos 1
+machine 1 2 2 2 2 2
 process 0 0 gpt:0@16/0 schedule:3 entry:0:7 run
+end
 
 process 0 4 process:1
+coyotos 1
+machine 1 2 2 2 2 2
 capreg 0 1 process:1
+end
 
 process 1 34 page:0@32/00000+xwon
+coyotos 1
+machine 1 2 2 2 2 2
 capreg 1 31 page:0@32/0+xwon
+end
 
 yes
+coyotos 1
+machine 1 2 2 2 2 2
 capreg 1 31 process:1
+end
 
 gpt 1 0 range
+coyotos 1
+machine 1 2 2 2 2 2
 slot 1 0 range
+end
 
 cappage 0 7 range
+coyotos 1
+machine 1 2 2 2 2 2
 cap 0 7 range
+end
 
 process 1 2 range
+coyotos 1
+machine 1 2 2 2 2 2
 process 1 0 null null range stop
+end
 
 process 0 33 range
+coyotos 1
+machine 1 2 2 2 2 2
 capreg 0 30 range
+end
 
 yes
+coyotos 1
+machine 1 2 2 2 2 2
 capreg 0 1 schedule:7
 capreg 0 2 discrim
 capreg 1 1 kernlog
 capreg 1 2 sysctl
+end
 
 yes
+coyotos 1
+machine 1 2 2 2 2 2
 capreg 0 1 window:0@12/0
 slot 1 0 local:3:0@12/0
+end
 
 yes
+coyotos 1
+machine 1 2 2 2 2 2
 slot 0 0 page:1@12/0+r
+end
 
 yes
+coyotos 1
+machine 1 2 2 2 2 2
 slot 1 0 page:0@12/0+r
+end
 
 gpt 1 0 page:0@12/00000+x
+coyotos 1
+machine 1 2 2 2 2 2
 slot 1 0 page:0@12/0+x
+end
 
 yes
+coyotos 1
+machine 1 2 2 2 2 2
 cap 0 0 cappage:1@12/0+rw
+end
 
 gpt 1 0 cappage:0@12/00000+r
+coyotos 1
+machine 1 2 2 2 2 2
 slot 1 0 cappage:0@12/0+r
+end
 
 gpt 0 0 cappage:1@12/00000+w
+coyotos 1
+machine 1 2 2 2 2 2
 slot 0 0 cappage:1@12/0+w
+end
 
 yes
+coyotos 1
+machine 1 2 2 2 2 2
 capreg 0 1 gpt:1@16/0+rwn
+end
 
 process 0 4 gpt:1@16/00000+wn
+coyotos 1
+machine 1 2 2 2 2 2
 capreg 0 1 gpt:1@16/0+wn
+end
 
 process 1 4 gpt:0@16/00000+rn
+coyotos 1
+machine 1 2 2 2 2 2
 capreg 1 1 gpt:0@16/0+rn
+end
 
 process 0 4 gpt:1@16/00000+rxwo
+coyotos 1
+machine 1 2 2 2 2 2
 capreg 0 1 gpt:1@16/0+rxwo
+end
 
 cappage 1 9 page:0@12/00000
+coyotos 1
+machine 1 2 2 2 2 2
 slot 0 0 range
 cap 1 9 page:0@12/0
 cap 1 10 range
+end
 
 gpt 1 2 page:0@12/00000
+coyotos 1
+machine 1 2 2 2 2 2
 capreg 0 1 range
 endpoint 0 process:1 0 0 plain
 slot 1 2 page:0@12/0
+end
 
 endpoint 0 0 process:1
+coyotos 1
+machine 1 2 2 2 2 2
 process 0 0 gpt:1@16/0 null null stop
 endpoint 0 process:1 0 0 plain
+end
 
 process 0 5 page:1@12/00000
+coyotos 1
+machine 1 2 2 2 2 2
 capreg 1 1 page:0@12/0
 capreg 0 3 page:0@12/0
-capreg 0 2 page:1@12/0";
+capreg 0 2 page:1@12/0
+end";
 
 /// Processes 1 and 3 send to process 0, which is stopped, through an endpoint whose recipient process 2 then takes
 /// away.
@@ -368,7 +472,7 @@ fn read_lines(cut: &mut Cut, lines: &str) -> Result<(), Fail> {
 }
 
 /// Finds in a machine, over the cut of these lines, what is wanted.
-fn find<T: Translator, L: Ledger>(
+pub fn find<T: Translator, L: Ledger>(
     rt: &impl Abort,
     alloc: Global,
     machine: &Machine<T>,
@@ -383,37 +487,15 @@ fn find<T: Translator, L: Ledger>(
     Ok(())
 }
 
-/// Finds in the machine of a listing what is wanted.
-fn find_in<L: Ledger>(
-    rt: &impl Abort,
-    alloc: Global,
-    listing: &str,
-    wanted: &str,
-    fetches: &mut Steps<L>,
-) -> Result<(), Fail> {
-    let machine = machine_of(alloc, listing)?;
-    find(rt, alloc, &machine, (FIRST, wanted), fetches)
-}
-
-/// Finds what the block says.
-fn find_breach<L: Ledger>(
-    rt: &impl Abort,
-    alloc: Global,
-    block: &str,
-    fetches: &mut Steps<L>,
-) -> Result<(), Fail> {
-    let (wanted, statements) = block.split_once("\n").expect(rt, "two lines");
-    let listing = format!(in alloc; "{TWO}{statements}\nend\n")?;
-    find_in(rt, alloc, listing.as_str(), wanted, fetches)
-}
-
 /// Finds what each block says.
 fn find_breaches<L: Ledger>(rt: &impl Abort, alloc: Global, permit: Permit) -> Result<(), Fail>
     requires ledger { permit ≡ permit_for L.name L.parts }
 {
     let mut fetches = Steps::<L>::new(permit);
     for block in BREACHES.split("\n\n") {
-        find_breach(rt, alloc, block, &mut fetches)?;
+        let (wanted, listing) = block.split_once("\n").expect(rt, "two lines");
+        let task = Task::Find((FIRST, wanted));
+        perform_task(rt, alloc, listing, task, &mut fetches)?;
     }
     Ok(())
 }
@@ -437,7 +519,7 @@ fn perform<T: Translator, L: Ledger>(
 }
 
 /// Finds what each row says, a step after the other.
-fn find_and_step<T: Translator, L: Ledger>(
+pub fn find_and_step<T: Translator, L: Ledger>(
     rt: &impl Abort,
     alloc: Global,
     machine: &mut Machine<T>,
@@ -455,8 +537,7 @@ fn find_sleepers<L: Ledger>(rt: &impl Abort, alloc: Global, permit: Permit) -> R
     requires ledger { permit ≡ permit_for L.name L.parts }
 {
     let mut fetches = Steps::<L>::new(permit);
-    let mut machine = machine_of(alloc, SLEEPERS)?;
-    find_and_step(rt, alloc, &mut machine, &mut fetches)
+    perform_task(rt, alloc, SLEEPERS, Task::Sleep, &mut fetches)
 }
 
 #[test]
@@ -535,7 +616,7 @@ fn take_turn<T: Translator, L: Ledger>(
 }
 
 /// Performs the rows, one after the other.
-fn take_all<T: Translator, L: Ledger>(
+pub fn take_all<T: Translator, L: Ledger>(
     rt: &impl Abort,
     alloc: Global,
     machine: &mut Machine<T>,
@@ -554,8 +635,7 @@ fn take_turns<L: Ledger>(rt: &impl Abort, alloc: Global, permit: Permit) -> Resu
     requires ledger { permit ≡ permit_for L.name L.parts }
 {
     let mut fetches = Steps::<L>::new(permit);
-    let mut machine = machine_of(alloc, PAIR)?;
-    take_all(rt, alloc, &mut machine, &mut fetches)
+    perform_task(rt, alloc, PAIR, Task::Turn, &mut fetches)
 }
 
 /// The objects have the lines that they are to have at the end.

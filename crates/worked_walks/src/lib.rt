@@ -22,6 +22,8 @@ mod sharings;
 #[cfg(test)]
 mod starts;
 #[cfg(test)]
+mod tasks;
+#[cfg(test)]
 mod undoing;
 #[cfg(test)]
 mod walks;

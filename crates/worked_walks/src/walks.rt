@@ -3,7 +3,7 @@ ghost use Rattle.std.specs.Prelude.{◌≡◌};
 ghost use Rattle.steps.specs.Permit.{permit_for};
 
 use crate::rows::{barred, check, hex, letter, short};
-use crate::starts::machine_of;
+use crate::tasks::{Task, perform_task};
 use coy_text::LineBuf;
 use kernel_core::Machine;
 use run_text::walk_line;
@@ -157,17 +157,16 @@ fn check_walk<T: Translator, L: Ledger>(
     check_told(rt, alloc, line.as_bytes(), trail.as_slice(), wanted)
 }
 
-/// Walks as each row of a block says.
-fn check_block<L: Ledger>(
+/// Walks as each row says.
+pub fn check_rows<T: Translator, L: Ledger>(
     rt: &impl Abort,
     alloc: Global,
-    block: &str,
+    machine: &Machine<T>,
+    rows: &str,
     fetches: &mut Steps<L>,
 ) -> Result<(), Fail> {
-    let (listing, rows) = block.split_once(".\n").expect(rt, "a point");
-    let machine = machine_of(alloc, listing)?;
     for row in rows.lines() {
-        check_walk(rt, alloc, &machine, row, fetches)?;
+        check_walk(rt, alloc, machine, row, fetches)?;
     }
     Ok(())
 }
@@ -178,7 +177,8 @@ fn check_walks<L: Ledger>(rt: &impl Abort, alloc: Global, permit: Permit) -> Res
 {
     let mut fetches = Steps::<L>::new(permit);
     for block in WALKS.split("\n\n") {
-        check_block(rt, alloc, block, &mut fetches)?;
+        let (listing, rows) = block.split_once(".\n").expect(rt, "a point");
+        perform_task(rt, alloc, listing, Task::Walk(rows), &mut fetches)?;
     }
     Ok(())
 }
