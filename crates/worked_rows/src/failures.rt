@@ -1,95 +1,394 @@
-//! Failing calls of the source and of the sink in a long run: a pager, a server, a client and a logger.
+//! What stands where a call of the source or of the sink fails, in a short run and in a long one, and what is told of
+//! an input that is too long.
 ghost use Rattle.std.specs.Prelude.{◌≡◌};
 ghost use Rattle.steps.specs.Permit.{permit_for};
 
-use crate::machines::WHOLE;
-use crate::rows::{Answer, Calls, ask, words_of};
+use crate::kernel_table::KERNEL_ROWS;
+use crate::rows::{Answer, Calls, WHOLE, ask, check, listing_of, row_holds, row_of};
 use std::alloc::Global;
 use std::marker::Brand;
+use std::process::Abort;
 use std::sync::ledger::Ledger;
 use std::test::Fail;
-use steps::Permit;
+use steps::{Permit, Steps};
 
-/// A client asks a server a hundred times and then faults, a pager gives it the page that it misses, and a logger logs once.
-/// It has 65 lines.
-pub(crate) const PAGER: &str =
-    "coyotos 1\nmachine 2 8 0 4 4 3\ncode 0 000 lui x10 0x80\ncode 0 004 addi x10 x10 0x40\ncode 0 008 ecall\ncode 0 00c lui x10 0x10\ncode 0 010 addi x10 x10 0x21\ncode 0 014 addi x11 x0 9\ncode 0 018 addi x12 x0 2\ncode 0 01c ecall\ncode 0 020 addi x10 x0 0x25\ncode 0 024 addi x11 x0 15\ncode 0 028 ecall\ncode 0 02c jal x0 -44\ncode 1 000 lui x10 0x80\ncode 1 004 addi x10 x10 0x40\ncode 1 008 ecall\ncode 1 00c add x11 x11 x11\ncode 1 010 addi x9 x9 1\ncode 1 014 lui x10 0x80\ncode 1 018 addi x10 x10 0x65\ncode 1 01c jal x0 -20\ncode 2 000 lui x10 0x10\ncode 2 004 addi x10 x10 0x61\ncode 2 008 addi x11 x5 0\ncode 2 00c ecall\ncode 2 010 add x6 x6 x11\ncode 2 014 addi x5 x5 -1\ncode 2 018 bne x5 x0 -24\ncode 2 01c lui x7 2\ncode 2 020 sw x6 0(x7)\ncode 2 024 addi x10 x0 64\ncode 2 028 ecall\ncode 3 000 ecall\ncode 3 004 jal x0 0\npage 3 100 6869\ngpt 2 12 ha\nslot 0 0 page:0@12/0\nslot 1 0 page:1@12/0\nslot 2 0 page:2@12/0\nslot 2 15 entry:2:0000000c\nslot 3 0 page:3@12/0\nendpoint 0 process:1 00000000 00000000 plain\nendpoint 1 process:2 00000001 00000000 plain\nendpoint 2 process:0 00000002 00000000 plain\nprocess 0 0 gpt:0@16/0 schedule:3 null run\nreg 0 18 00000002\nreg 0 19 00000005\ncapreg 0 1 gpt:2@16/0\ncapreg 0 2 page:7@12/0\nprocess 1 0 gpt:1@16/0 schedule:3 null run\nreg 1 19 00000005\nprocess 2 0 gpt:2@16/0 schedule:3 null run\nreg 2 5 00000064\nreg 2 18 00000002\ncapreg 2 1 entry:0:00000000\ncapreg 2 2 entry:1:00000000\nprocess 3 0 gpt:3@16/0 schedule:1 null run\nreg 3 10 00000021\nreg 3 11 00000008\nreg 3 15 00000100\nreg 3 16 00000002\ncapreg 3 1 kernlog\nend\nround 25000\n";
+/// Rows of calls that fail, one by one. Behind the colon stand the number of the call of the source that fails and of
+/// that of the sink, 0 where none does. The output is exactly what stands then, worked out by hand. By line, the
+/// source gives line n in its call n, and a line is told to the sink by one call. A call behind the line that is
+/// refused is not made, so its failing shows nowhere.
+const FAILING_ROWS: &str = "\
+5 trace: 0 2
+coyotos 1
+machine 1 2 0 1 1 0
+page 0 000 93005000371100002320110083210100
+gpt 0 12
+slot 0 0 page:0@12/0+r
+slot 0 1 page:1@12/0
+process 0 00000000 gpt:0@16/0 schedule:3 null run
+end
+step 0 1
+step 0 1
+tick 9
+=>
+fetch 0 00000000 page 0
+==
+5 trace: 0 5
+coyotos 1
+machine 1 2 0 1 1 0
+page 0 000 93005000371100002320110083210100
+gpt 0 12
+slot 0 0 page:0@12/0+r
+slot 0 1 page:1@12/0
+process 0 00000000 gpt:0@16/0 schedule:3 null run
+end
+step 0 1
+step 0 1
+tick 9
+=>
+fetch 0 00000000 page 0
+insn 0 00000000 addi x1 x0 5
+fetch 0 00000004 page 0
+insn 0 00000004 lui x2 1
+==
+4 trace: 10 0
+coyotos 1
+machine 1 2 0 1 1 0
+page 0 000 93005000371100002320110083210100
+gpt 0 12
+slot 0 0 page:0@12/0+r
+slot 0 1 page:1@12/0
+process 0 00000000 gpt:0@16/0 schedule:3 null run
+end
+step 0 1
+step 0 1
+tick 9
+=>
+fetch 0 00000000 page 0
+insn 0 00000000 addi x1 x0 5
+==
+4 trace: 11 0
+coyotos 1
+machine 1 2 0 1 1 0
+page 0 000 93005000371100002320110083210100
+gpt 0 12
+slot 0 0 page:0@12/0+r
+slot 0 1 page:1@12/0
+process 0 00000000 gpt:0@16/0 schedule:3 null run
+end
+step 0 1
+step 0 1
+tick 9
+=>
+fetch 0 00000000 page 0
+insn 0 00000000 addi x1 x0 5
+fetch 0 00000004 page 0
+insn 0 00000004 lui x2 1
+==
+3 trace: 12 0
+coyotos 1
+machine 1 2 0 1 1 0
+page 0 000 93005000371100002320110083210100
+gpt 0 12
+slot 0 0 page:0@12/0+r
+slot 0 1 page:1@12/0
+process 0 00000000 gpt:0@16/0 schedule:3 null run
+end
+step 0 1
+step 0 1
+tick 9
+=>
+fetch 0 00000000 page 0
+insn 0 00000000 addi x1 x0 5
+fetch 0 00000004 page 0
+insn 0 00000004 lui x2 1
+refused 11 NoHart
+==
+4 trace: 1 0
+coyotos 1
+machine 1 2 0 1 1 0
+page 0 000 93005000371100002320110083210100
+gpt 0 12
+slot 0 0 page:0@12/0+r
+slot 0 1 page:1@12/0
+process 0 00000000 gpt:0@16/0 schedule:3 null run
+end
+step 0 1
+step 0 1
+tick 9
+=>
+==
+4 migrate: 8 0
+coyotos 1
+machine 1 2 0 1 1 0
+page 0 000 93005000371100002320110083210100
+gpt 0 12
+slot 0 0 page:0@12/0+r
+slot 0 1 page:1@12/0
+process 0 00000000 gpt:0@16/0 schedule:3 null run
+end
+step 0 4
+=>
+==
+4 migrate: 9 0
+coyotos 1
+machine 1 2 0 1 1 0
+page 0 000 93005000371100002320110083210100
+gpt 0 12
+slot 0 0 page:0@12/0+r
+slot 0 1 page:1@12/0
+process 0 00000000 gpt:0@16/0 schedule:3 null run
+end
+step 0 4
+=>
+coyotos 2
+machine 1 2 0 1 1 0
+page 0 000 93005000371100002320110083210100
+gpt 0 12
+slot 0 0 page:0@12/00000+r
+slot 0 1 page:1@12/00000
+process 0 00000000 gpt:0@16/00000 schedule:3 null run
+end
+==
+5 migrate: 0 3
+coyotos 1
+machine 1 2 0 1 1 0
+page 0 000 93005000371100002320110083210100
+gpt 0 12
+slot 0 0 page:0@12/0+r
+slot 0 1 page:1@12/0
+process 0 00000000 gpt:0@16/0 schedule:3 null run
+end
+step 0 4
+=>
+coyotos 2
+machine 1 2 0 1 1 0
+==
+5 migrate: 0 9
+coyotos 1
+machine 1 2 0 1 1 0
+page 0 000 93005000371100002320110083210100
+gpt 0 12
+slot 0 0 page:0@12/0+r
+slot 0 1 page:1@12/0
+process 0 00000000 gpt:0@16/0 schedule:3 null run
+end
+step 0 4
+=>
+coyotos 2
+machine 1 2 0 1 1 0
+page 0 000 93005000371100002320110083210100
+gpt 0 12
+slot 0 0 page:0@12/00000+r
+slot 0 1 page:1@12/00000
+process 0 00000000 gpt:0@16/00000 schedule:3 null run
+end
+==
+4 confine: 9 0
+coyotos 1
+machine 1 2 0 1 1 0
+page 0 000 93005000371100002320110083210100
+gpt 0 12
+slot 0 0 page:0@12/0+r
+slot 0 1 page:1@12/0
+process 0 00000000 gpt:0@16/0 schedule:3 null run
+end
+step 0 4
+=>
+==
+4 back 2: 9 0
+coyotos 1
+machine 1 2 0 1 1 0
+page 0 000 93005000371100002320110083210100
+gpt 0 12
+slot 0 0 page:0@12/0+r
+slot 0 1 page:1@12/0
+process 0 00000000 gpt:0@16/0 schedule:3 null run
+end
+step 0 4
+=>
+==
+5 back 2: 0 2
+coyotos 1
+machine 1 2 0 1 1 0
+page 0 000 93005000371100002320110083210100
+gpt 0 12
+slot 0 0 page:0@12/0+r
+slot 0 1 page:1@12/0
+process 0 00000000 gpt:0@16/0 schedule:3 null run
+end
+step 0 4
+=>
+back 2
+";
 
-/// What `run` answers for that machine.
-fn run_pager<L: Ledger>(alloc: Global, calls: Calls, permit: Permit) -> Result<Answer, Fail>
+/// Whether exactly what a row of calls that fail says stands.
+fn failing_row_holds<L: Ledger>(
+    alloc: Global,
+    block: &str,
+    fetches: &mut Steps<L>,
+) -> Result<bool, Fail> {
+    let shows = row_of(block).map_or("", |row| row.shows);
+    let (take, put) = shows.split_once(' ').unwrap_or(("", ""));
+    let (Ok(failing_take), Ok(failing_put)) = (take.parse(), put.parse()) else {
+        return Ok(false);
+    };
+    let calls = Calls {
+        by_line: true,
+        failing_take,
+        failing_put,
+        ..WHOLE
+    };
+    row_holds(alloc, block, calls, fetches)
+}
+
+/// Tries the rows of calls that fail.
+fn try_failing_rows<L: Ledger>(rt: &impl Abort, alloc: Global, permit: Permit) -> Result<(), Fail>
     requires ledger { permit ≡ permit_for L.name L.parts }
 {
-    let words = words_of(alloc, "run")?;
-    let bytes = PAGER.as_bytes().to_vec(alloc)?;
-    ask::<L>(alloc, words, bytes, calls, permit)
+    let mut fetches = Steps::<L>::new(permit);
+    for block in FAILING_ROWS.split("==\n") {
+        let holds = failing_row_holds(alloc, block, &mut fetches)?;
+        check(rt, holds, block);
+    }
+    Ok(())
+}
+
+#[test]
+fn a_failing_call_leaves_a_front_of_the_text(rt: HostRuntime) -> Result<(), Fail> {
+    try_failing_rows::<Brand>(&rt, rt.alloc(), Permit::new(&rt))
+}
+
+/// What the program answers to the first row of the kernel: a pager, a server, a client and a logger.
+fn run_pager<L: Ledger>(
+    alloc: Global,
+    calls: Calls,
+    fetches: &mut Steps<L>,
+) -> Result<Answer, Fail> {
+    match row_of(KERNEL_ROWS) {
+        Some(row) => ask(alloc, row.words, row.input.as_bytes(), calls, fetches),
+        None => Err(Fail::from("no row")),
+    }
+}
+
+/// Whether an answer with this status has so many lines of a text, whole ones, and nothing behind them.
+fn has_front(answer: &Answer, status: u8, whole: &str, lines: usize) -> bool {
+    let told = str::from_utf8(answer.text.as_slice()).unwrap_or("none");
+    answer.status == status
+        && whole.starts_with(told)
+        && told.lines().count() == lines
+        && (lines == 0 || told.ends_with('\n'))
 }
 
 /// Where a call of the sink fails, the lines before it stand, a line for each call.
-#[test]
-fn a_failing_put_leaves_the_lines_before_it(rt: HostRuntime) -> Result<(), Fail> {
-    let whole = run_pager::<Brand>(rt.alloc(), WHOLE, Permit::new(&rt))?;
-    let text = str::from_utf8(whole.text.as_slice()).unwrap_or("");
-    assert!(rt; whole.status == 0);
-    for failing_put in 1..41 {
+fn try_failing_puts<L: Ledger>(
+    rt: &impl Abort,
+    alloc: Global,
+    whole: &str,
+    fetches: &mut Steps<L>,
+) -> Result<(), Fail> {
+    for lines in 0..40 {
         let calls = Calls {
-            failing_put,
+            failing_put: lines + 1,
             ..WHOLE
         };
-        let answer = run_pager::<Brand>(rt.alloc(), calls, Permit::new(&rt))?;
-        let told = str::from_utf8(answer.text.as_slice()).unwrap_or("");
-        assert!(rt;
-            answer.status == 5 && text.starts_with(told),
-            "call {failing_put}"
-        );
-        assert!(rt;
-            told.lines().count() as u64 + 1 == failing_put,
-            "call {failing_put}"
+        let answer = run_pager(alloc, calls, fetches)?;
+        check(
+            rt,
+            has_front(&answer, 5, whole, lines as usize),
+            "a call of the sink",
         );
     }
     Ok(())
 }
 
 /// Where a call of the source fails, nothing is run of the line that it would have given: of 65 lines the last is the
-/// only one that runs anything, and the 66th call would tell the end.
-#[test]
-fn a_failing_take_leaves_what_was_run(rt: HostRuntime) -> Result<(), Fail> {
-    let whole = run_pager::<Brand>(rt.alloc(), WHOLE, Permit::new(&rt))?;
-    let text = str::from_utf8(whole.text.as_slice()).unwrap_or("");
-    let records = match text.split_once("state\n") {
-        Some((records, _)) => records,
-        None => "",
-    };
+/// only one that runs anything, and the 66th call would tell the end. The run has 202 records.
+fn try_failing_takes<L: Ledger>(
+    rt: &impl Abort,
+    alloc: Global,
+    whole: &str,
+    fetches: &mut Steps<L>,
+) -> Result<(), Fail> {
     for failing_take in [1, 2, 40, 65, 66] {
         let calls = Calls {
             by_line: true,
             failing_take,
             ..WHOLE
         };
-        let answer = run_pager::<Brand>(rt.alloc(), calls, Permit::new(&rt))?;
-        let wanted = if failing_take == 66 { records } else { "" };
-        assert!(rt;
-            answer.status == 4 && answer.text.as_slice() == wanted.as_bytes(),
-            "call {failing_take}"
+        let answer = run_pager(alloc, calls, fetches)?;
+        let lines = if failing_take == 66 { 202 } else { 0 };
+        check(
+            rt,
+            has_front(&answer, 4, whole, lines),
+            "a call of the source",
         );
     }
     Ok(())
 }
 
 /// However many bytes a call moves, the text is the same.
-#[test]
-fn small_pieces_make_the_same_text(rt: HostRuntime) -> Result<(), Fail> {
-    let whole = run_pager::<Brand>(rt.alloc(), WHOLE, Permit::new(&rt))?;
+fn try_small_pieces<L: Ledger>(
+    rt: &impl Abort,
+    alloc: Global,
+    whole: &str,
+    fetches: &mut Steps<L>,
+) -> Result<(), Fail> {
     for piece in [1, 7, 513] {
         let calls = Calls {
             piece,
             put_piece: 1,
             ..WHOLE
         };
-        let answer = run_pager::<Brand>(rt.alloc(), calls, Permit::new(&rt))?;
-        assert!(rt;
-            answer.status == 0 && answer.text == whole.text,
-            "pieces of {piece}"
+        let answer = run_pager(alloc, calls, fetches)?;
+        check(
+            rt,
+            answer.status == 0 && answer.text.as_slice() == whole.as_bytes(),
+            "small pieces",
         );
     }
+    Ok(())
+}
+
+/// Tries the long run.
+fn try_pager<L: Ledger>(rt: &impl Abort, alloc: Global, permit: Permit) -> Result<(), Fail>
+    requires ledger { permit ≡ permit_for L.name L.parts }
+{
+    let mut fetches = Steps::<L>::new(permit);
+    let answer = run_pager(alloc, WHOLE, &mut fetches)?;
+    check(rt, answer.status == 0, "the whole run");
+    let whole = str::from_utf8(answer.text.as_slice()).unwrap_or("");
+    try_failing_puts(rt, alloc, whole, &mut fetches)?;
+    try_failing_takes(rt, alloc, whole, &mut fetches)?;
+    try_small_pieces(rt, alloc, whole, &mut fetches)
+}
+
+#[test]
+fn a_long_run_tells_its_lines_up_to_the_call_that_fails(rt: HostRuntime) -> Result<(), Fail> {
+    try_pager::<Brand>(&rt, rt.alloc(), Permit::new(&rt))
+}
+
+/// Lines of notes, 32 of two bytes.
+const NOTES: &str =
+    "#\n#\n#\n#\n#\n#\n#\n#\n#\n#\n#\n#\n#\n#\n#\n#\n#\n#\n#\n#\n#\n#\n#\n#\n#\n#\n#\n#\n#\n#\n#\n#\n";
+
+/// What the program answers to a listing with a line more behind it than an input may have bytes for.
+fn run_too_long<L: Ledger>(alloc: Global, permit: Permit) -> Result<Answer, Fail>
+    requires ledger { permit ≡ permit_for L.name L.parts }
+{
+    let mut fetches = Steps::<L>::new(permit);
+    let listing = row_of(FAILING_ROWS).map_or("", |row| listing_of(row.input));
+    let mut bytes = listing.as_bytes().to_vec(alloc)?;
+    for _ in 0..262_144 {
+        bytes.extend_from_slice(NOTES.as_bytes())?;
+    }
+    ask(alloc, "run", bytes.as_slice(), WHOLE, &mut fetches)
+}
+
+/// The program says so behind all that came before, which is nothing.
+#[test]
+fn an_input_that_is_too_long_is_told(rt: HostRuntime) -> Result<(), Fail> {
+    let answer = run_too_long::<Brand>(rt.alloc(), Permit::new(&rt))?;
+    let told = answer.text.as_slice() == b"too long\n".as_slice();
+    check(&rt, told && answer.status == 7, "too long");
     Ok(())
 }

@@ -5,19 +5,15 @@
 #![tactic(auto)]
 
 #[cfg(test)]
-mod commands;
+mod command_rows;
 #[cfg(test)]
 mod failures;
 #[cfg(test)]
-mod images;
-#[cfg(test)]
 mod kernel_rows;
 #[cfg(test)]
-mod machines;
+mod kernel_table;
 #[cfg(test)]
 mod rows;
-#[cfg(test)]
-mod shared_rows;
 #[cfg(test)]
 mod starts;
 #[cfg(test)]
@@ -26,3 +22,5 @@ mod translators;
 mod turns;
 #[cfg(test)]
 mod undone;
+#[cfg(test)]
+mod word_rows;

@@ -1,13 +1,16 @@
 //! The generated text, by lengths and digests of the same text made by another program, and a
 //! start worked out by hand.
-ghost use Rattle.std.specs.Prelude.{◌≡◌};
 
-use coy_io::{LineReader, MemSource, Source};
+use crate::rows::{Calls, WHOLE, check, source_of};
+use coy_io::{LineReader, Source};
 use generated_text::MakeSource;
 use image_builder::boot;
+use kernel_core::Machine;
 use listing_read::{Listing, Statement, read_listing};
 use object_store::Sizes;
 use process_objects::State;
+use std::alloc::Global;
+use std::process::Abort;
 use std::test::Fail;
 use walk_engine::Plain;
 
@@ -40,7 +43,7 @@ fn the_generated_text_has_its_length_and_digest(rt: HostRuntime) {
         (4_294_967_295, 2990, 0x2f03_bc76),
     ];
     for (n, length, digest) in cases {
-        assert_eq!(rt; measured(n), (length, digest), "text of {n}");
+        assert!(rt; measured(n) == (length, digest), "text of {n}");
     }
 }
 
@@ -58,37 +61,43 @@ count page 1 5
 end
 ";
 
+/// The listing of that text, in pieces of seven bytes.
+fn read_pieces(alloc: Global) -> Result<Listing, Fail> {
+    let calls = Calls { piece: 7, ..WHOLE };
+    let mut source = source_of(alloc, LISTING.as_bytes(), calls)?;
+    match read_listing(alloc, &mut LineReader::new(), &mut source) {
+        Ok(listing) => Ok(listing),
+        Err(_) => Err(Fail::from("the listing was not read")),
+    }
+}
+
+/// The machine of a listing.
+fn started(rt: &impl Abort, alloc: Global, listing: &Listing) -> Result<Machine<Plain>, Fail> {
+    assert!(rt; listing.sizes().harts <= 8);
+    match boot(alloc, listing, Plain::new()) {
+        Ok(machine) => Ok(machine),
+        Err(_) => Err(Fail::from("the machine did not start")),
+    }
+}
+
+/// Whether a machine stands as that text says.
+fn stands_as_said(machine: &Machine<Plain>) -> bool {
+    let objects = machine.objects();
+    let queues = machine.queues();
+    objects.sizes().processes == 3
+        && objects.process(0).capreg(1).count() == 5
+        && objects.process(1).pc() == 12
+        && matches!(objects.process(1).state(), State::Faulted { .. })
+        && queues.ready_at(3, 0) == Some(0)
+        && queues.ready_at(3, 1) == Some(2)
+        && queues.ready_at(3, 2).is_none()
+}
+
 #[test]
 fn a_machine_starts_as_its_listing_says(rt: HostRuntime) -> Result<(), Fail> {
-    let alloc = rt.alloc();
-    let mut bytes = Vec::new(alloc);
-    bytes.extend_from_slice(LISTING.as_bytes())?;
-    let mut source = MemSource {
-        bytes,
-        at: 0,
-        calls: 0,
-        failing: Vec::new(alloc),
-        piece: 7,
-        by_line: false,
-        faults: 0,
-    };
-    let mut lines = LineReader::new();
-    let Ok(listing) = read_listing(alloc, &mut lines, &mut source) else {
-        return Err(Fail::from("the listing was not read"));
-    };
-    assert!(rt; listing.sizes().harts <= 8);
-    let Ok(machine) = boot(alloc, &listing, Plain::new()) else {
-        return Err(Fail::from("the machine did not start"));
-    };
-    let objects = machine.objects();
-    assert!(rt; objects.sizes().processes == 3);
-    assert_eq!(rt; objects.process(0).capreg(1).count(), 5);
-    assert_eq!(rt; objects.process(1).pc(), 12);
-    assert!(rt; matches!(objects.process(1).state(), State::Faulted { .. }));
-    let queues = machine.queues();
-    assert_eq!(rt; queues.ready_at(3, 0), Some(0));
-    assert_eq!(rt; queues.ready_at(3, 1), Some(2));
-    assert_eq!(rt; queues.ready_at(3, 2), None);
+    let listing = read_pieces(rt.alloc())?;
+    let machine = started(&rt, rt.alloc(), &listing)?;
+    check(&rt, stands_as_said(&machine), LISTING);
     Ok(())
 }
 
@@ -102,20 +111,20 @@ fn a_listing_is_made_statement_by_statement(rt: HostRuntime) -> Result<(), Fail>
         processes: 1,
         endpoints: 0,
     };
-    let mut listing = Listing::new(rt.alloc(), sizes);
     let register = Statement::Reg {
         number: 0,
         index: 5,
         value: 7,
     };
-    let Ok(()) = listing.push(register) else {
-        return Err(Fail::from("no memory for a statement"));
-    };
-    let Ok(machine) = boot(rt.alloc(), &listing, Plain::new()) else {
-        return Err(Fail::from("the machine did not start"));
-    };
+    let mut listing = Listing::new(rt.alloc(), sizes);
+    check(
+        &rt,
+        listing.push(register).is_ok(),
+        "memory for a statement",
+    );
+    let machine = started(&rt, rt.alloc(), &listing)?;
     let objects = machine.objects();
-    assert!(rt; objects.sizes().processes == 1);
-    assert_eq!(rt; objects.process(0).reg(5), 7);
+    let stands = objects.sizes().processes == 1 && objects.process(0).reg(5) == 7;
+    check(&rt, stands, "a register that is set");
     Ok(())
 }

@@ -1,9 +1,9 @@
-//! Records are written before the next line is read: a source and a sink that share a count, so that the source sees how
-//! many lines were told when it is asked for the next.
+//! Records are written before the next line is read: a source and a sink that share a count, so that the source sees
+//! how many lines were told when it is asked for the next.
 ghost use Rattle.std.specs.Prelude.{◌≡◌, ◌≤◌, None};
 ghost use Rattle.steps.specs.Permit.{permit_for};
 
-use crate::rows::words_of;
+use crate::rows::{check, words_of};
 use coy_io::{Failed, MemSource, Sink, Source};
 use coyotos_cli::{Exit, coyotos};
 use std::alloc::Global;
@@ -31,8 +31,8 @@ impl Sink for TurnSink {
     }
 }
 
-/// A source that gives a line a call and tells no bytes. At each call it notes whether fewer lines were told than two for
-/// each line of the schedule that it has given.
+/// A source that gives a line a call and tells no bytes. At each call it notes whether fewer lines were told than two
+/// for each line of the schedule that it has given.
 #[derive(Drop)]
 struct TurnSource {
     lines: MemSource,
@@ -60,15 +60,33 @@ impl Source for TurnSource {
     }
 }
 
-/// The same over a trace of three lines, of which the last is refused: a step tells a fetch and an instruction.
+/// A machine of four instructions, and a schedule of three lines, of which the last is refused.
+const TRACED: &str = "\
+coyotos 1
+machine 1 2 0 1 1 0
+page 0 000 93005000371100002320110083210100
+gpt 0 12
+slot 0 0 page:0@12/0+r
+slot 0 1 page:1@12/0
+process 0 00000000 gpt:0@16/0 schedule:3 null run
+end
+step 0 1
+step 0 1
+tick 9
+";
+
+/// The same over a trace of that: a step tells a fetch and an instruction.
 #[test]
 fn a_line_is_run_before_the_next_is_read(rt: HostRuntime) -> Result<(), Fail> {
-    let input =
-        "coyotos 1\nmachine 1 2 0 1 1 0\npage 0 000 93005000371100002320110083210100\ngpt 0 12\nslot 0 0 page:0@12/0+r\nslot 0 1 page:1@12/0\nprocess 0 00000000 gpt:0@16/0 schedule:3 null run\nend\nstep 0 1\nstep 0 1\ntick 9\n";
+    let words = words_of(rt.alloc(), "trace")?;
+    let bytes = TRACED.as_bytes().to_vec(rt.alloc())?;
     let told = Rc::new(rt.alloc(), Cell::new(0u64))?;
+    let mut sink = TurnSink {
+        told: told.clone()?,
+    };
     let mut source = TurnSource {
         lines: MemSource {
-            bytes: input.as_bytes().to_vec(rt.alloc())?,
+            bytes,
             at: 0,
             calls: 0,
             failing: Vec::new(rt.alloc()),
@@ -76,21 +94,18 @@ fn a_line_is_run_before_the_next_is_read(rt: HostRuntime) -> Result<(), Fail> {
             by_line: true,
             faults: 0,
         },
-        told: told.clone()?,
+        told,
         first: 9,
         late: false,
     };
-    let mut sink = TurnSink {
-        told: told.clone()?,
-    };
-    let words = words_of(rt.alloc(), "trace")?;
     let exit = run::<Brand>(rt.alloc(), words, &mut source, &mut sink, Permit::new(&rt));
-    assert!(rt; exit.status() == 3, "the last line is refused");
-    assert!(rt; source.lines.calls == 11, "each line is asked for once");
-    assert!(rt; told.get() == 5, "four records, and the refusal");
-    assert!(rt;
+    check(&rt, exit.status() == 3, "the last line is refused");
+    check(&rt, source.lines.calls == 11, "each line is asked for once");
+    check(&rt, sink.told.get() == 5, "four records, and the refusal");
+    check(
+        &rt,
         !source.late,
-        "a line was asked for before the records of the line before it were told"
+        "no line is asked for before the records of the line before it",
     );
     Ok(())
 }

@@ -1,48 +1,53 @@
-//! The rows of machines that run, undone event by event to their start.
-use crate::kernel_rows::kernel_table;
-use crate::machines::{WHOLE, machine_table};
-use crate::rows::{ask, listing_of, words_of};
-use std::marker::Brand;
+//! The inputs of whole machines, undone event by event to their start, and their listings by way of an image.
+use crate::rows::{Answer, WHOLE, ask, listing_of};
+use std::alloc::Global;
+use std::sync::ledger::Ledger;
 use std::test::Fail;
-use steps::Permit;
+use steps::Steps;
 
-/// Whether behind its first line a text is this state. Where the most events were undone that are remembered, the state may be
-/// a later one.
-fn is_undone(text: &str, state: &str) -> bool {
+/// Whether behind its first line a text is this state. Where the most events were undone that are remembered, the
+/// state may be a later one.
+fn tells_state(text: &str, state: &str) -> bool {
     match text.split_once('\n') {
         Some((told, rest)) => told == "back 256" || rest == state,
         None => false,
     }
 }
 
-#[test]
-fn kernel_rows_are_undone_to_their_start(rt: HostRuntime) -> Result<(), Fail> {
-    for (name, _, input, _) in kernel_table() {
-        let back = words_of(rt.alloc(), "back 256")?;
-        let whole = input.as_bytes().to_vec(rt.alloc())?;
-        let undone = ask::<Brand>(rt.alloc(), back, whole, WHOLE, Permit::new(&rt))?;
-        let run = words_of(rt.alloc(), "run")?;
-        let listing = listing_of(rt.alloc(), input)?;
-        let start = ask::<Brand>(rt.alloc(), run, listing, WHOLE, Permit::new(&rt))?;
-        let text = str::from_utf8(undone.text.as_slice()).unwrap_or("");
-        let state = str::from_utf8(start.text.as_slice()).unwrap_or("none");
-        assert!(rt; is_undone(text, state), "row {name}");
-    }
-    Ok(())
+/// Whether the run of an input is undone to the start of its listing.
+pub(crate) fn is_undone<L: Ledger>(
+    alloc: Global,
+    input: &str,
+    fetches: &mut Steps<L>,
+) -> Result<bool, Fail> {
+    let undone = ask(alloc, "back 256", input.as_bytes(), WHOLE, fetches)?;
+    let start = ask(alloc, "run", listing_of(input).as_bytes(), WHOLE, fetches)?;
+    let text = str::from_utf8(undone.text.as_slice()).unwrap_or("");
+    let state = str::from_utf8(start.text.as_slice()).unwrap_or("none");
+    Ok(tells_state(text, state))
 }
 
-#[test]
-fn machines_are_undone_to_their_start(rt: HostRuntime) -> Result<(), Fail> {
-    for (shows, _, input, _) in machine_table() {
-        let back = words_of(rt.alloc(), "back 256")?;
-        let whole = input.as_bytes().to_vec(rt.alloc())?;
-        let undone = ask::<Brand>(rt.alloc(), back, whole, WHOLE, Permit::new(&rt))?;
-        let run = words_of(rt.alloc(), "run")?;
-        let listing = listing_of(rt.alloc(), input)?;
-        let start = ask::<Brand>(rt.alloc(), run, listing, WHOLE, Permit::new(&rt))?;
-        let text = str::from_utf8(undone.text.as_slice()).unwrap_or("");
-        let state = str::from_utf8(start.text.as_slice()).unwrap_or("none");
-        assert!(rt; is_undone(text, state), "{shows}");
+/// What `unpack` answers to the image that `pack` makes of a listing.
+fn unpacked<L: Ledger>(
+    alloc: Global,
+    listing: &[u8],
+    fetches: &mut Steps<L>,
+) -> Result<Answer, Fail> {
+    let image = ask(alloc, "pack", listing, WHOLE, fetches)?;
+    if image.status != 0 {
+        return Ok(image);
     }
-    Ok(())
+    ask(alloc, "unpack", image.text.as_slice(), WHOLE, fetches)
+}
+
+/// Whether an image is written of an input's listing, whose listing is the migrated text of the input's.
+pub(crate) fn is_packed<L: Ledger>(
+    alloc: Global,
+    input: &str,
+    fetches: &mut Steps<L>,
+) -> Result<bool, Fail> {
+    let listing = listing_of(input).as_bytes();
+    let text = unpacked(alloc, listing, fetches)?;
+    let wanted = ask(alloc, "migrate", listing, WHOLE, fetches)?;
+    Ok(text.status == 0 && text.text.as_slice() == wanted.text.as_slice())
 }

@@ -1,4 +1,0 @@
-use Rattle.worked_rows.proofs.machines.machines_come_to_what_is_written_down_for_them.Given as goal
-
-abbrev pub ghosts-ask : goal.ghosts-ask
-ghosts-ask g a = record { name = a.permit.name; parts = a.permit.parts }
