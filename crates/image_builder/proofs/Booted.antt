@@ -3,8 +3,8 @@ use Rattle.std.proofs.Common.{◌≡◌, ℕ, List, Bool, false, length, get_or,
 use Rattle.cap_format.specs.declared.kind.CapKind.TheVariants.{Process}
 use Rattle.object_store.specs.Store.{Store, size_of}
 use Rattle.schedules.specs.Standing.{empty_queues}
-use Rattle.kernel_core.specs.Machine.{MachineValue}
-use Rattle.kernel_core.specs.State.{state_of}
+use Rattle.machine_state.specs.Machine.{MachineValue}
+use Rattle.machine_state.specs.State.{state_of}
 use Rattle.listing_read.specs.Statement.{ListingValue}
 use Rattle.image_builder.specs.Given.{listed}
 use Rattle.image_builder.specs.Boot.{objects_of, is_running, at_rest, made_ready, booted}

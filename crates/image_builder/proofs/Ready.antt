@@ -10,9 +10,9 @@ use Rattle.object_store.specs.Store.{Store, process_at}
 use Rattle.object_store.specs.Meaning.{state_map}
 use Rattle.object_store.proofs.Means.{process_at-state_map}
 use Rattle.schedules.specs.Ready.{places_due}
-use Rattle.kernel_core.specs.Machine.{MachineValue}
-use Rattle.kernel_core.specs.State.{State, state_of, process}
-use Rattle.kernel_core.specs.Setters.{ready}
+use Rattle.machine_state.specs.Machine.{MachineValue}
+use Rattle.machine_state.specs.State.{State, state_of, process}
+use Rattle.machine_state.specs.Setters.{ready}
 use Rattle.image_builder.specs.Boot.{made_ready, StoppedFrom}
 
 range_more : (n : ℕ) → range_with_len 0 (n + 1) ≡ range_with_len 0 n ++ n ∷ []

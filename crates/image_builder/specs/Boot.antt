@@ -6,8 +6,8 @@ use Rattle.object_store.specs.Store.{Store, size_of, process_at}
 use Rattle.object_store.specs.Meaning.{state_map}
 use Rattle.schedules.specs.Standing.{empty_queues}
 use Rattle.schedules.specs.Ready.{places_due}
-use Rattle.kernel_core.specs.State.{State}
-use Rattle.kernel_core.specs.Setters.{ready}
+use Rattle.machine_state.specs.State.{State}
+use Rattle.machine_state.specs.Setters.{ready}
 use Rattle.listing_read.specs.Statement.{ListingValue}
 use Rattle.image_builder.specs.Given.{last_given, run_given, final_counts, final_objects}
 

@@ -2,15 +2,15 @@
 ghost use Rattle.std.specs.Prelude.{◌≡◌, ℕ, ◌<◌, ◌+◌, ◌≤◌, false, IfOk, if◌then◌else◌, length, slice_index_or};
 ghost use Rattle.cap_format.specs.declared.kind.CapKind.TheVariants.{Process};
 ghost use Rattle.object_store.specs.Store.{sizes_of, size_of, empty_store};
-ghost use Rattle.kernel_core.specs.State.{state_of};
-ghost use Rattle.kernel_core.specs.Setters.{ready};
+ghost use Rattle.machine_state.specs.State.{state_of};
+ghost use Rattle.machine_state.specs.Setters.{ready};
 ghost use Rattle.image_builder.specs.Given.{listed, final_counts};
 ghost use Rattle.image_builder.specs.Assigned.{empty_with};
 ghost use Rattle.image_builder.specs.Boot.{objects_of, is_running, made_ready, booted, StoppedFrom};
 
 use crate::statements::{assign, assign_count, note_running};
 use cap_format::OutOfMemory;
-use kernel_core::Machine;
+use machine_state::Machine;
 use listing_read::Listing;
 use object_store::Objects;
 use std::alloc::{AllocError, Global};

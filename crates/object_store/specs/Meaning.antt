@@ -66,10 +66,6 @@ store_map f s = record { harts = s.harts; items = items_map f s.items; contents 
 abbrev pub map_of : Items → Items
 map_of o = items_map (meaning o) o
 
--- the contents, slot by slot as they mean
-abbrev pub contents_of : Items → Contents → Contents
-contents_of o c = contents_map (meaning o) c
-
 -- All objects as they mean: the map of the model's state. Its capabilities have no counts, so `meaning` and `live` are not
 -- asked of it (see above).
 abbrev pub state_map : Store → Store

@@ -4,7 +4,7 @@ use Rattle.cap_format.specs.declared.kind.CapKind.{CapKind}
 use Rattle.cap_format.specs.declared.kind.CapKind.TheVariants.{Page, CapPage, Gpt, Endpoint, Process}
 use Rattle.object_store.specs.Store.{Store, size_of}
 use Rattle.schedules.specs.Queues.{QueuesValue, hart_of}
-use Rattle.kernel_core.specs.State.{State}
+use Rattle.machine_state.specs.State.{State}
 use Rattle.run_text.specs.declared.standing.Queue.{Queue}
 use Rattle.run_text.specs.declared.standing.Queue.TheVariants.{Ready, Sleepers}
 use Rattle.run_text.specs.Each.{line_feed, each_below}

@@ -1,6 +1,6 @@
 //! Records as lines.
 ghost use Rattle.std.specs.Prelude.{◌≡◌, ◌≤◌, ◌+◌, ◌*◌, ◌++◌, codes, length};
-ghost use Rattle.kernel_core.specs.Machine.{IsRecord};
+ghost use Rattle.machine_state.specs.Machine.{IsRecord};
 ghost use Rattle.rv32_decode.specs.InRange.{InRange};
 ghost use Rattle.run_text.specs.Record.{place_text, words_text, bytes_text, hearer_text};
 ghost use Rattle.run_text.specs.Record.{access_said, insn_said, envelope_said, fault_said, said, record_text};
@@ -8,7 +8,7 @@ ghost use Rattle.run_text.specs.Record.{access_said, insn_said, envelope_said, f
 use crate::names::{access_name, fault_name, object_name, target_name};
 use cap_format::FaultCode;
 use coy_text::LineBuf;
-use kernel_core::Record;
+use machine_state::Record;
 use rv32_asm::disassemble;
 use rv32_decode::Insn;
 use walk_meaning::Kind;

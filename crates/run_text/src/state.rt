@@ -3,7 +3,7 @@ ghost use Rattle.std.specs.Prelude.{◌≡◌, ◌≤◌, ◌+◌, ◌*◌, leng
 ghost use Rattle.cap_format.specs.declared.kind.CapKind.TheVariants.{Gpt, Process};
 ghost use Rattle.coy_io.specs.Causes.{HasCause};
 ghost use Rattle.object_store.specs.Store.{size_of};
-ghost use Rattle.kernel_core.specs.State.{state_of};
+ghost use Rattle.machine_state.specs.State.{state_of};
 ghost use Rattle.run_text.specs.State.{standing_text, halted_text, front_text, state_text};
 ghost use Rattle.run_text.specs.Written.{Writes, WroteTo};
 
@@ -12,7 +12,7 @@ use crate::standing::{put_harts, put_ready, put_sleepers};
 use crate::writing::put_text;
 use coy_io::{Sink, WriteFault};
 use coy_text::LineBuf;
-use kernel_core::Machine;
+use machine_state::Machine;
 use object_store::Sizes;
 use schedules::Queues;
 use std::sync::ledger::Ledger;

@@ -1,7 +1,7 @@
 use Rattle.std.proofs.Common.{◌≡◌, false}
 use Rattle.std.specs.Prelude.{slice_index_or}
 use Rattle.object_store.specs.Store.{sizes_of}
-use Rattle.kernel_core.specs.State.{state_of}
+use Rattle.machine_state.specs.State.{state_of}
 use Rattle.image_builder.specs.Boot.{made_ready, StoppedFrom}
 use Rattle.image_builder.proofs.start.start_all.Given as goal
 
