@@ -16,7 +16,7 @@ met_text restr = if restr == 0 then codes "-" else letters restr
 abbrev pub reach_text : Place → List ℕ
 reach_text place = codes "reach " ++ object_name place.kind ++ codes " " ++ decimal place.number ++ codes " " ++ hex_text 3 place.offset ++ codes " " ++ met_text place.restr.0
 
--- the capability that is asked first to handle a fault, if there is one
+-- the handler that a walk gave its fault, if it gave one; the process's own is not looked at
 abbrev pub handler_text : Option Capability → List ℕ
 handler_text None = codes "none"
 handler_text (Some c) = cap_text c

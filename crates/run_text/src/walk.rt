@@ -64,7 +64,7 @@ fn push_unreached(line: &mut LineBuf, fault: WalkFault)
     push_handler(line, fault.handler);
 }
 
-/// Appends the capability that is asked first to handle a fault.
+/// Appends the handler that a walk gave its fault.
 fn push_handler(line: &mut LineBuf, handler: Option<Cap>)
     requires { length line.old ≤ 200 }
     ensures text { line.new ≡ line.old ++ handler_text (bare_handler handler) }
