@@ -16,7 +16,7 @@ all_uncovered course = uncovered at_start course.touches + course.last_accesses
 abbrev pub run_bound : Course → ℕ
 run_bound course = 33 * all_accesses course + gpt_calls course.touches + 16 * course.printed
 
--- where the need fits: 33 for each access that has to be walked alone
+-- where the need fits: the same with 33 for each access that has to be walked, in the place of 33 for each access
 abbrev pub economy_bound : Course → ℕ
 economy_bound course = 33 * all_uncovered course + gpt_calls course.touches + 16 * course.printed
 
@@ -24,7 +24,7 @@ economy_bound course = 33 * all_uncovered course + gpt_calls course.touches + 16
 abbrev pub sharp_run_bound : Course → ℕ
 sharp_run_bound course = 32 * all_accesses course + slot_reads course.touches + 16 * course.printed
 
--- the same where the need fits: 32 slots for each access that has to be walked
+-- the same where the need fits, with 32 slots for each access that has to be walked
 abbrev pub sharp_economy_bound : Course → ℕ
 sharp_economy_bound course = 32 * all_uncovered course + slot_reads course.touches + 16 * course.printed
 

@@ -14,7 +14,7 @@ pub fn touches_of_runs()
 
 /// A run fetches at most 33 slots for each access, and one for each invocation of a GPT's capability, whatever is kept
 /// before it. Where its need of frames and records fits, and nothing is kept before it, it is at most 33 for each access
-/// that has to be walked.
+/// that has to be walked, and one for each such invocation.
 pub fn fetches_of_runs()
     ensures bound { RunsAreBound }
     ensures economy { RunsAreEconomic }
