@@ -6,7 +6,10 @@ ghost use Rattle.std.specs.Int.RustNames.{bit_or};
 use bitflags::{Flag, Flags, bitflag_items};
 
 /// A set of restrictions: RO forbids stores, NX forbids fetches, WK weakens each capability that is
-/// loaded through it, OP refuses requests that look into a GPT, NC keeps a walk from using fault handlers.
+/// loaded through it, OP refuses `setguard`, and of a GPT each request that reads or writes its slots
+/// or its header, NC keeps a walk from using fault handlers.
+///
+/// OP refuses nothing else: `getguard` stays open, and so do the slots of a capability page.
 ///
 /// A capability keeps that no other bit is set; the set alone does not.
 #[derive(Clone, Copy, PartialEq, Eq)]
