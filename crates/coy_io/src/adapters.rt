@@ -1,6 +1,6 @@
 //! Readers and writers of the standard library as a source and a sink, which tell the bytes that the
 //! reader has left and that the writer got, where these do.
-ghost use Rattle.std.specs.Prelude.{◌≡◌, ◌+◌, ◌≤◌, ◌⊎◌, length, IfOk, OnOk};
+ghost use Rattle.std.specs.Prelude.{◌≡◌, ◌+◌, ◌≤◌, ◌⊎◌, [], Ok, length, IfOk, OnOk};
 ghost use Rattle.std.specs.Io.KnownBytes.{Keeps, ReadConsumes, WriteAppends};
 ghost use Rattle.coy_io.specs.Buffered.{taken_in, gone_out};
 ghost use Rattle.coy_io.specs.Causes.{HasCause, faults_after};
@@ -48,7 +48,7 @@ impl<R: Read> Source for ReadSource<R> {
 }
 
 /// A sink over a writer. Each error of the writer is a fault, and so is a write that takes nothing
-/// of a piece that is not empty.
+/// of a piece that is not empty. An empty piece isn't handed on.
 #[derive(Drop)]
 pub struct WriteSink<W> {
     writer: W,
@@ -96,9 +96,13 @@ impl<W: Write> Sink for WriteSink<W> {
             result bytes.now }
         ensures cause { HasCause self.old.faults self.new.faults result }
         ensures faults { self.new.faults ≡ faults_after self.old.faults result }
+        ensures empty { bytes.now ≡ [] → (result ≡ Ok 0) × (self.new ≡ self.old) }
     {
+        if bytes.is_empty() {
+            return Ok(0);
+        }
         match self.writer.write(bytes) {
-            Ok(count) if count > 0 || bytes.is_empty() => Ok(count),
+            Ok(count) if count > 0 => Ok(count),
             _ => {
                 self.faults = self.faults.saturating_add(1);
                 Err(Failed)
