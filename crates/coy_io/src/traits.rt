@@ -4,11 +4,8 @@ ghost use Rattle.std.specs.Io.KnownBytes.{ReadConsumes, WriteAppends};
 ghost use Rattle.coy_io.specs.Causes.{HasCause};
 ghost use Rattle.coy_io.specs.Pieces.{moved, CountsCall};
 
-use thiserror::Error;
-
 /// A source or a sink moved nothing, and counted a fault.
-#[derive(Clone, Copy, Debug, Error)]
-#[error("input or output failed")]
+#[derive(Clone, Copy)]
 pub struct Failed;
 
 /// Bytes that come in pieces.

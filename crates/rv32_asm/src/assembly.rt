@@ -8,16 +8,13 @@ use crate::lines::insn_of_line;
 use crate::mnemonic::Mnemonic;
 use coy_text::word;
 use rv32_decode::{Insn, encode};
-use thiserror::Error;
 
 /// Why a text is no instruction.
-#[derive(Clone, Copy, Debug, PartialEq, Eq, Error)]
+#[derive(Clone, Copy, Debug, PartialEq, Eq)]
 pub enum AsmFault {
     /// The first word is no mnemonic, or there is no word.
-    #[error("no such mnemonic")]
     BadMnemonic,
     /// The operands are not those of the mnemonic's form, or one is out of its range.
-    #[error("bad operand")]
     BadOperand,
 }
 
