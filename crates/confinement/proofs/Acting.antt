@@ -17,7 +17,8 @@ use Rattle.schedules.specs.Ready.{readied, readied_process, readied_queues, read
 use Rattle.schedules.proofs.Waking.{sleepers-readied}
 use Rattle.operations.specs.System.{System, system, with_store, with_runs}
 use Rattle.confinement.specs.Cut.{Cut, side_of, MayHold, AllOn, SleepApart, Holds}
-use Rattle.confinement.specs.Acts.{Spares, SparesSleepers, SameSizes, Acts, ProcessHeld}
+use Rattle.confinement.specs.Acts.{Spares, SparesSleepers, SparesPlaces, SameSizes, Acts, ProcessHeld}
+use Rattle.confinement.proofs.Placing.{places-same, places-then, places-left, places-readied}
 use Rattle.confinement.proofs.Sleeping.{each_set, length-map_lists, apart-left, apart-unslept, apart-readied, spares-left, spares-slept}
 
 -- ---- sizes
@@ -61,7 +62,7 @@ module _ (cut : Cut) (side : Bool) where
 
   -- nothing happens
   pub acts-same : (w : System) → Holds cut w → Acts cut side w w
-  acts-same w holds = record { holds = holds; spares = λ kind n other. refl; sleepers = λ n other. refl; sizes = sizes-same w }
+  acts-same w holds = record { holds = holds; spares = λ kind n other. refl; sleepers = λ n other. refl; places = places-same cut side w.queues; sizes = sizes-same w }
 
   -- one thing after another
   pub acts-then : (w v u : System) → Acts cut side w v → (Holds cut v → Acts cut side v u) → Acts cut side w u
@@ -71,6 +72,7 @@ module _ (cut : Cut) (side : Bool) where
         holds = last.holds;
         spares = λ kind n other. first.spares kind n other ∙ last.spares kind n other;
         sleepers = λ n other. first.sleepers n other ∙ last.sleepers n other;
+        places = places-then cut side w.queues v.queues u.queues first.places last.places;
         sizes = sizes-then w v u first.sizes last.sizes;
       }
 
@@ -94,6 +96,7 @@ module _ (cut : Cut) (side : Bool) where
     };
     spares = spares-stays (object_name Process p ∷ []) w.store (with_process w.store p v) (own, tt) (stays_process [] w.store p v);
     sleepers = λ n other. refl;
+    places = places-same cut side w.queues;
     sizes = sizes-by w (with_store w (with_process w.store p v)) refl refl refl (sym (length-set w.store.contents.processes p v)) refl refl;
   }
 
@@ -112,6 +115,7 @@ module _ (cut : Cut) (side : Bool) where
     };
     spares = spares-stays (object_name Page n ∷ []) w.store (with_page w.store n page) (own, tt) (stays_page [] w.store n page);
     sleepers = λ n other. refl;
+    places = places-same cut side w.queues;
     sizes = sizes-by w (with_store w (with_page w.store n page)) (sym (length-set w.store.contents.pages n page)) refl refl refl refl refl;
   }
 
@@ -132,6 +136,7 @@ module _ (cut : Cut) (side : Bool) where
     };
     spares = spares-stays (object_name CapPage n ∷ []) w.store (with_cappage w.store n page) (own, tt) (stays_cappage [] w.store n page);
     sleepers = λ n other. refl;
+    places = places-same cut side w.queues;
     sizes = sizes-by w (with_store w (with_cappage w.store n page)) refl (sym (length-set w.store.contents.cappages n page)) refl refl refl refl;
   }
 
@@ -152,6 +157,7 @@ module _ (cut : Cut) (side : Bool) where
     };
     spares = spares-stays (object_name Gpt g ∷ []) w.store (with_items w.store (set_gpt w.store.items g gpt)) (own, tt) (stays_gpt [] w.store g gpt);
     sleepers = λ n other. refl;
+    places = places-same cut side w.queues;
     sizes = sizes-by w (with_store w (with_items w.store (set_gpt w.store.items g gpt))) refl refl (sym (length-set w.store.items.gpts g gpt)) refl refl refl;
   }
 
@@ -172,6 +178,7 @@ module _ (cut : Cut) (side : Bool) where
     };
     spares = spares-stays (object_name Endpoint e ∷ []) w.store (with_endpoint w.store e v) (own, tt) (stays_endpoint [] w.store e v);
     sleepers = λ n other. refl;
+    places = places-same cut side w.queues;
     sizes = sizes-by w (with_store w (with_endpoint w.store e v)) refl refl refl refl (sym (length-set w.store.contents.endpoints e v)) refl;
   }
 
@@ -196,12 +203,13 @@ module _ (cut : Cut) (side : Bool) where
   -- ---- queues
 
   -- other queues in which the sleepers are on their sides
-  pub acts-queues : (w : System) (q : QueuesValue) → SleepApart cut q → SparesSleepers cut side w.queues q → length w.queues.sleepers ≡ length q.sleepers → Holds cut w
+  pub acts-queues : (w : System) (q : QueuesValue) → SleepApart cut q → SparesSleepers cut side w.queues q → SparesPlaces cut side w.queues q → length w.queues.sleepers ≡ length q.sleepers → Holds cut w
       → Acts cut side w (system w.store q)
-  acts-queues w q apart others size holds = record {
+  acts-queues w q apart others places size holds = record {
     holds = record { each = holds.each; sleepers = apart };
     spares = λ kind n other. refl;
     sleepers = others;
+    places = places;
     sizes = sizes-by w (system w.store q) refl refl refl refl refl size;
   }
 
@@ -220,7 +228,7 @@ module _ (cut : Cut) (side : Bool) where
       acts-then cut side w v (with_runs w (readied schedule p (runs_of w.store w.queues)))
       (acts-process cut side w p (readied_process schedule.kind (process_at w.store p)) own (held-readied schedule.kind (process_at w.store p) (held-process cut side w p own holds)) holds)
       (λ h. acts-queues cut side v (readied_queues schedule.kind schedule.object w.queues p) (apart-readied cut schedule.kind schedule.object w.queues p holds.sleepers)
-      (λ n other. ap (λ (xs : List (List ℕ)). get_or xs n []) (sym same)) (ap (λ (xs : List (List ℕ)). length xs) (sym same)) h)
+      (λ n other. ap (λ (xs : List (List ℕ)). get_or xs n []) (sym same)) (places-readied cut side schedule.kind schedule.object w.queues p own) (ap (λ (xs : List (List ℕ)). length xs) (sym same)) h)
 
   -- several are, one after the other
   pub acts-readied_all : (w : System) (f : ℕ → Capability) (ps : List ℕ) → AllOn cut side ps → Holds cut w
@@ -239,10 +247,10 @@ module _ (cut : Cut) (side : Bool) where
   acts-woken w f on own holds =
       let v = system w.store (unslept w.queues on) in
       acts-then cut side w v (with_runs v (readied_all f (sleepers_of w.queues on) (runs_of v.store v.queues)))
-      (acts-queues cut side w (unslept w.queues on) (apart-unslept cut w.queues on holds.sleepers) (spares-slept cut side w.queues on [] own) (sym (length-set w.queues.sleepers on [])) holds)
+      (acts-queues cut side w (unslept w.queues on) (apart-unslept cut w.queues on holds.sleepers) (spares-slept cut side w.queues on [] own) (record { ready = λ k. refl; harts = λ h. refl; size = refl }) (sym (length-set w.queues.sleepers on [])) holds)
       (λ h. acts-readied_all v f (sleepers_of w.queues on) (subst (λ b. AllOn cut b (sleepers_of w.queues on)) own (holds.sleepers on)) h)
 
   -- a process leaves its place
   pub acts-left : (w : System) (p : ℕ) → side_of cut Process p ≡ side → Holds cut w → Acts cut side w (system w.store (left w.queues p))
   acts-left w p own holds =
-      acts-queues cut side w (left w.queues p) (apart-left cut w.queues p holds.sleepers) (spares-left cut side w.queues p own holds.sleepers) (sym (length-map_lists (without p) w.queues.sleepers)) holds
+      acts-queues cut side w (left w.queues p) (apart-left cut w.queues p holds.sleepers) (spares-left cut side w.queues p own holds.sleepers) (places-left cut side w.queues p own) (sym (length-map_lists (without p) w.queues.sleepers)) holds

@@ -110,7 +110,7 @@ module _ (cut : Cut) (side : Bool) where
       acts-then cut side w v (system v.store (asleep v.queues p q))
       (acts-left cut side w p own holds)
       (λ h. acts-queues cut side v (asleep v.queues p q) (apart-asleep cut v.queues p q (own ∙ sym on) h.sleepers)
-      (spares-slept cut side v.queues q (sleepers_of v.queues q ++ p ∷ []) on) (sym (length-set v.queues.sleepers q (sleepers_of v.queues q ++ p ∷ []))) h)
+      (spares-slept cut side v.queues q (sleepers_of v.queues q ++ p ∷ []) on) (record { ready = λ k. refl; harts = λ h. refl; size = refl }) (sym (length-set v.queues.sleepers q (sleepers_of v.queues q ++ p ∷ []))) h)
 
   -- a process gets another state and leaves its place
   acts-state_left : (w : System) (p : ℕ) (state : State) → side_of cut Process p ≡ side → Holds cut w

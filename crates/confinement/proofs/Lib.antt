@@ -1,5 +1,7 @@
+pub mod Sides
 pub mod Held
 pub mod Sleeping
+pub mod Placing
 pub mod Acting
 pub mod Walks
 pub mod Answering

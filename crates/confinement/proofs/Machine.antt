@@ -22,7 +22,7 @@ use Rattle.string_move.specs.declared.piece.Piece.{Piece}
 use Rattle.string_move.specs.Move.{with_piece, gathered, scattered, copied, size_of_pieces}
 use Rattle.operations.specs.System.{System, Meant, with_store}
 use Rattle.operations.specs.Change.{Change}
-use Rattle.schedules.specs.Queues.{dispatched}
+use Rattle.schedules.specs.Queues.{dispatched, hart_of}
 use Rattle.rv32_user.specs.Word.{next_of}
 use Rattle.machine_state.specs.State.{State, process, pc_of, space_of, schedule_slot}
 use Rattle.machine_state.specs.Setters.{set_store, set_pc, set_registers, set_capreg, advance, leave, ready, yielded, dispatch, ticked}
@@ -35,6 +35,7 @@ use Rattle.confinement.specs.Cut.{Cut, side_of, MayHold, Holds}
 use Rattle.confinement.specs.Acts.{Acts, ProcessHeld, AllPermitted, MayHoldIf, AllMayHold, system_of}
 use Rattle.confinement.specs.Reach.{ReadsWeakly, Reaches, Ends}
 use Rattle.confinement.proofs.Held.{may-read}
+use Rattle.confinement.proofs.Placing.{places-dispatched}
 use Rattle.confinement.proofs.Sleeping.{each_set, apart-dispatched, sleepers-dispatched}
 use Rattle.confinement.proofs.Acting.{acts-same, acts-then, acts-process, acts-page, acts-cappage, acts-left, acts-readied, acts-queues, held-process}
 use Rattle.confinement.proofs.Walks.{access_ends}
@@ -186,9 +187,10 @@ module _ (cut : Cut) (side : Bool) where
 pub holds-dispatch : (cut : Cut) (s : State) (hart : ℕ) → Holds cut (system_of s) → Holds cut (system_of (dispatch s hart))
 holds-dispatch cut s hart holds = record { each = holds.each; sleepers = apart-dispatched cut s.queues hart holds.sleepers }
 
--- and nobody sleeps elsewhere
-pub acts-dispatch : (cut : Cut) (side : Bool) (s : State) (hart : ℕ) → Holds cut (system_of s) → Acts cut side (system_of s) (system_of (dispatch s hart))
-acts-dispatch cut side s hart holds =
+-- which is of this side: nobody sleeps elsewhere, and the others stand where they stood
+pub acts-dispatch : (cut : Cut) (side : Bool) (s : State) (hart p : ℕ) → side_of cut Process p ≡ side → hart_of (dispatch s hart).queues hart ≡ Some p → Holds cut (system_of s)
+    → Acts cut side (system_of s) (system_of (dispatch s hart))
+acts-dispatch cut side s hart p own performs holds =
     let same = sleepers-dispatched s.queues hart in
     acts-queues cut side (system_of s) (dispatched s.queues hart) (apart-dispatched cut s.queues hart holds.sleepers)
-    (λ n other. ap (λ (xs : List (List ℕ)). get_or xs n []) (sym same)) (ap (λ (xs : List (List ℕ)). length xs) (sym same)) holds
+    (λ n other. ap (λ (xs : List (List ℕ)). get_or xs n []) (sym same)) (places-dispatched cut side s.queues hart p own performs) (ap (λ (xs : List (List ℕ)). length xs) (sym same)) holds

@@ -1,5 +1,5 @@
 -- What a process of one side may do: the other side's objects stay as they are, and the cut holds afterwards. (Own.)
-use Rattle.std.specs.Prelude.{◌≡◌, ◌≢◌, ℕ, Bool, List, [], ◌∷◌, length, Option, Some, None}
+use Rattle.std.specs.Prelude.{◌≡◌, ◌≢◌, ℕ, Bool, not, if◌then◌else◌, List, [], ◌∷◌, length, filter, Option, Some, None}
 use Rattle.cap_format.specs.declared.kind.CapKind.{CapKind}
 use Rattle.cap_format.specs.declared.kind.CapKind.TheVariants.{Page, CapPage, Gpt, Endpoint, Process}
 use Rattle.cap_format.specs.Capability.{Capability}
@@ -7,7 +7,7 @@ use Rattle.page_store.specs.CapPage.{cap_at}
 use Rattle.process_objects.specs.Process.{ProcessValue, capreg_of, slot_of}
 use Rattle.object_store.specs.Store.{Store}
 use Rattle.object_store.specs.Object.{SameObject}
-use Rattle.schedules.specs.Queues.{QueuesValue, sleepers_of}
+use Rattle.schedules.specs.Queues.{QueuesValue, ready_queue, sleepers_of, hart_of}
 use Rattle.invocation.specs.Answerer.{Answer}
 use Rattle.invocation.specs.Answerer.Answer.{Dead, Open, Busy}
 use Rattle.invocation.specs.declared.callee.Callee.{Callee}
@@ -16,7 +16,7 @@ use Rattle.operations.specs.System.{System, system}
 use Rattle.operations.specs.Change.{Change, PageIs, CapPageIs, SlotIs, HeaderIs, EndpointIs, ProcessIs, Left, Readied, Woken, Destroyed}
 use Rattle.operations.specs.Row.{Answer as RowAnswer}
 use Rattle.machine_state.specs.State.{State}
-use Rattle.confinement.specs.Cut.{Cut, side_of, MayHold, Holds}
+use Rattle.confinement.specs.Cut.{Cut, side_of, same_side, MayHold, Holds}
 
 -- each object that is not of this side is the same, its age and state included
 abbrev pub Spares : Cut → Bool → Store → Store → Type 0
@@ -25,6 +25,22 @@ Spares cut side s t = (kind : CapKind) (n : ℕ) → side_of cut kind n ≢ side
 -- who sleeps on a process that is not of this side is the same
 abbrev pub SparesSleepers : Cut → Bool → QueuesValue → QueuesValue → Type 0
 SparesSleepers cut side q r = (p : ℕ) → side_of cut Process p ≢ side → sleepers_of q p ≡ sleepers_of r p
+
+-- the processes of a list that are not of this side, in their order
+abbrev pub others_in : Cut → Bool → List ℕ → List ℕ
+others_in cut side ps = filter (λ p. not (same_side (side_of cut Process p) side)) ps
+
+-- the process on a hart, where it is not of this side
+abbrev pub other_on : Cut → Bool → Option ℕ → Option ℕ
+other_on cut side None = None
+other_on cut side (Some p) = if same_side (side_of cut Process p) side then None else Some p
+
+-- the processes that are not of this side stand in the same order in each ready queue, and on the same harts, of which
+-- there are as many
+pub record SparesPlaces (cut : Cut) (side : Bool) (q r : QueuesValue) : Type 0 where
+  pub ready : (priority : ℕ) → others_in cut side (ready_queue q priority) ≡ others_in cut side (ready_queue r priority)
+  pub harts : (hart : ℕ) → other_on cut side (hart_of q hart) ≡ other_on cut side (hart_of r hart)
+  pub size : length q.harts ≡ length r.harts
 
 -- there are as many objects of each kind, and as many processes on which others may sleep
 pub record SameSizes (w v : System) : Type 0 where
@@ -40,6 +56,7 @@ pub record Acts (cut : Cut) (side : Bool) (w v : System) : Type 0 where
   pub holds : Holds cut v
   pub spares : Spares cut side w.store v.store
   pub sleepers : SparesSleepers cut side w.queues v.queues
+  pub places : SparesPlaces cut side w.queues v.queues
   pub sizes : SameSizes w v
 
 -- a process that this side may have: it may hold all of its capabilities

@@ -1,6 +1,6 @@
 -- Cuts: a side for each object, and when a cut holds. They speak of the model's map, where no capability has a count and
 -- one that is not live is Null, so each is read as it stands. (Own.)
-use Rattle.std.specs.Prelude.{◌≡◌, ◌≢◌, ℕ, ◌⊎◌, Bool, true, false, List, [], ◌∷◌, slice_index_or}
+use Rattle.std.specs.Prelude.{◌≡◌, ◌≢◌, ℕ, ◌⊎◌, Bool, true, false, not, List, [], ◌∷◌, slice_index_or}
 use Rattle.cap_format.specs.declared.kind.CapKind.{CapKind}
 use Rattle.cap_format.specs.declared.kind.CapKind.TheVariants.{Page, CapPage, Gpt, Endpoint, Process, Range}
 use Rattle.cap_format.specs.Kind.{is_counted, object_kind}
@@ -37,6 +37,11 @@ pub record Cut : Type 0 where
 -- the side of object `n` of a kind: what stands in no list is on the right
 abbrev pub side_of : Cut → CapKind → ℕ → Bool
 side_of cut kind n = slice_index_or (sides_of cut.sides kind) n false
+
+-- whether two sides are one
+abbrev pub same_side : Bool → Bool → Bool
+same_side true side = side
+same_side false side = not side
 
 -- what the capability names, if anything, is of this side; an entry names its endpoint, and windows name nothing
 abbrev pub NamesOwn : Cut → Bool → Capability → Type 0

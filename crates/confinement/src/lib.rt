@@ -3,8 +3,8 @@
 //! A cut gives each object a side, and says of each side whether it may hold capabilities that are harmless across. It
 //! holds where no object has a Range, where each capability that names an object of the other side is one that its holder's
 //! side may so hold, and where each sleeper is of the side of the process on which it sleeps. Then an event that a process
-//! of one side performs leaves every object of the other side as it is, and who sleeps on its processes, and the cut holds
-//! again.
+//! of one side performs leaves every object of the other side as it is, who sleeps on its processes, in which order they
+//! stand in each ready queue, and on which harts they are; and the cut holds again.
 //!
 //! There is no code here. Each function has a law as its contract; the definitions are in `specs/`.
 #![tactic(auto)]
@@ -34,8 +34,9 @@ pub fn operation_law()
 {}
 
 /// Where a cut holds, then behind any events each event leaves the objects as they are that are not of the side of the
-/// process which performs it, and who sleeps on the processes that are not, and the cut holds afterwards. Where nobody
-/// performs it no object changes, and no sleeper.
+/// process which performs it, who sleeps on the processes that are not, their order in each ready queue and the harts that
+/// they are on; and the cut holds afterwards. Where nobody performs it no object changes, and no sleeper; and nobody moves,
+/// where its hart is one of the machine's.
 pub fn separation()
     ensures { Separation }
 {}

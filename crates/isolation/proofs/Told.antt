@@ -9,8 +9,8 @@ use Rattle.machine_state.specs.Setters.{dispatch}
 use Rattle.machine_state.specs.Outcome.{done}
 use Rattle.kernel_core.specs.Event.{stepped, tick_of, performer_by, performer, event_by, event_of}
 use Rattle.kernel_core.specs.Run.{run_records}
-use Rattle.confinement.specs.Cut.{Cut, side_of}
-use Rattle.isolation.specs.Turns.{same_side, of_side, told}
+use Rattle.confinement.specs.Cut.{Cut, side_of, same_side}
+use Rattle.isolation.specs.Turns.{of_side, told}
 use Rattle.isolation.specs.Laws.{IsMerged, AllTold}
 
 -- ---- an event that nobody performs

@@ -10,11 +10,12 @@ use Rattle.machine_state.specs.State.{State}
 use Rattle.machine_state.specs.Setters.{dispatch}
 use Rattle.machine_state.specs.Outcome.{Outcome, done}
 use Rattle.kernel_core.specs.Event.{instruction, stepped, tick_of, performer_by, performer, event_by, event_of}
-use Rattle.confinement.specs.Cut.{Cut, side_of, Holds}
+use Rattle.confinement.specs.Cut.{Cut, side_of, same_side, Holds}
 use Rattle.confinement.specs.Acts.{system_of}
 use Rattle.confinement.proofs.Runs.{Does, event_does}
+use Rattle.confinement.proofs.Sides.{same_side-tells, same_side-not}
 use Rattle.isolation.specs.Agree.{Agree}
-use Rattle.isolation.specs.Turns.{turn_of, same_side, of_side}
+use Rattle.isolation.specs.Turns.{turn_of, of_side}
 use Rattle.isolation.proofs.States.{Matches, match-dispatch, match-ticked}
 use Rattle.isolation.proofs.Messaging.{Alike}
 use Rattle.isolation.proofs.Events.{alike-instruction}
@@ -108,18 +109,6 @@ module _ (cut : Cut) (side : Bool) (alone : cut.weakly side ≡ false) (p : ℕ)
 
 -- ---- whose event it is
 
-same_side-says : (a b : Bool) → same_side a b ≡ true → a ≡ b
-same_side-says true true e = refl
-same_side-says true false e = sym e
-same_side-says false true e = e
-same_side-says false false e = refl
-
-same_side-not : (a b : Bool) → same_side a b ≡ false → a ≢ b
-same_side-not true true e h = cc (e)
-same_side-not true false e h = cc (h)
-same_side-not false true e h = cc (h)
-same_side-not false false e h = cc (e)
-
 module _ (cut : Cut) (side : Bool) where
   -- a process of this side performs it
   pub record Mine (by : Option ℕ) : Type 0 where
@@ -134,7 +123,7 @@ module _ (cut : Cut) (side : Bool) where
   whose (Some p) = on (same_side (side_of cut Process p) side) refl
     where
       on : (b : Bool) → same_side (side_of cut Process p) side ≡ b → Mine (Some p) ⊎ NotMine cut side (Some p)
-      on true e = inl (record { process = p; is = refl; own = same_side-says _ _ e; here = e })
+      on true e = inl (record { process = p; is = refl; own = same_side-tells _ _ e; here = e })
       on false e = inr (λ q is. let same : p ≡ q = cc (is) in subst (λ (n : ℕ). side_of cut Process n ≢ side) same (same_side-not _ _ e))
 
   -- what this side has of an event of its own
@@ -147,5 +136,5 @@ module _ (cut : Cut) (side : Bool) where
   of_side-none (Some p) has other = on (same_side (side_of cut Process p) side) refl
     where
       on : (b : Bool) → same_side (side_of cut Process p) side ≡ b → (if b then has p else []) ≡ []
-      on true e = absurd (other p refl (same_side-says _ _ e))
+      on true e = absurd (other p refl (same_side-tells _ _ e))
       on false e = refl

@@ -1,12 +1,12 @@
 -- What one side of a cut has of a run: the turns of its processes, and what is told of them. (Own.)
-use Rattle.std.specs.Prelude.{ℕ, Bool, true, false, not, if◌then◌else◌, List, [], ◌∷◌, ◌++◌, Option, Some, None}
+use Rattle.std.specs.Prelude.{ℕ, Bool, if◌then◌else◌, List, [], ◌∷◌, ◌++◌, Option, Some, None}
 use Rattle.cap_format.specs.declared.kind.CapKind.TheVariants.{Process}
 use Rattle.machine_state.specs.declared.event.Event.{Event}
 use Rattle.machine_state.specs.declared.event.Event.TheVariants.{Step, Tick}
 use Rattle.machine_state.specs.declared.record.Record.{Record}
 use Rattle.machine_state.specs.State.{State}
 use Rattle.kernel_core.specs.Event.{performer, event_of}
-use Rattle.confinement.specs.Cut.{Cut, side_of}
+use Rattle.confinement.specs.Cut.{Cut, side_of, same_side}
 
 -- a turn of a process: it performs an instruction, or its hart's timer ticks and it goes to the end of its queue
 pub data Turn : Type 0 where
@@ -17,11 +17,6 @@ pub data Turn : Type 0 where
 abbrev pub turn_of : Event → ℕ → Turn
 turn_of (Step hart) p = Stepped p
 turn_of (Tick hart) p = Ticked p
-
--- whether two sides are one
-abbrev pub same_side : Bool → Bool → Bool
-same_side true side = side
-same_side false side = not side
 
 -- what this side has of an event by who performs it: nothing, unless a process of this side does
 abbrev pub of_side : {A : Type 0} → Cut → Bool → Option ℕ → (ℕ → List A) → List A
