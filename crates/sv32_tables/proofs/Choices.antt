@@ -1,6 +1,6 @@
 -- Choices by tests on numbers.
-use Rattle.std.proofs.Common.{◌≡◌, ◌≢◌, ℕ, ◌+◌, ◌-◌, ◌*◌, ◌/◌, ◌%◌, ◌<◌, ◌==◌, ◌&&◌, min, nat_le, nat_lt, if◌then◌else◌, refl, ap, ◌∙◌, arith, Bool, true, false}
-use Rattle.std.proofs.lemmas.Bool.Decides.{nat_tests}
+use Rattle.std.proofs.Common.{◌≡◌, ◌≢◌, ◌⊎◌, inl, inr, ℕ, ◌-◌, ◌*◌, ◌/◌, ◌%◌, ◌==◌, ◌&&◌, nat_le, nat_lt, eqb, if◌then◌else◌, refl, ap, sym, arith, Bool, true, false}
+use Rattle.std.proofs.lemmas.Bool.Decides.{eqb_tells, nat_tests}
 
 -- a choice, by what each outcome of its test gives
 pub by_test : {X : Type 0} (b : Bool) (t e x : X) → (b ≡ true → x ≡ t) → (b ≡ false → x ≡ e) → x ≡ (if b then t else e)
@@ -21,41 +21,40 @@ both_equal a b c d e = (grind (arith, nat_tests), grind (arith, nat_tests))
 pub other_unequal : (a b c d : ℕ) → ((a == b) && (c == d)) ≡ false → a ≡ b → c ≢ d
 other_unequal a b c d e same = grind (arith, nat_tests)
 
--- a page of a region that is one of some pages
-pub region_tells : (r root page region : ℕ) (b : Bool) → ((r == root) && ((page / 1024 == region) && b)) ≡ true
-    → (r ≡ root) × (page / 1024 ≡ region) × (b ≡ true)
-region_tells r root page region b e = on (r == root) (page / 1024 == region) refl refl e
+-- a page by its region and its place there
+pub page_test : (p page : ℕ) → ((p / 1024 == page / 1024) && (p % 1024 == page % 1024)) ≡ (p == page)
+page_test p page = on (eqb_tells p page)
   where
-    on : (x y : Bool) → (r == root) ≡ x → (page / 1024 == region) ≡ y → (x && (y && b)) ≡ true → (r ≡ root) × (page / 1024 ≡ region) × (b ≡ true)
-    on true true p q e = (grind (arith, nat_tests), grind (arith, nat_tests), e)
-    on true false p q e = cc
-    on false y p q e = cc
+    on : ((eqb p page ≡ true) × (p ≡ page)) ⊎ ((eqb p page ≡ false) × (p ≢ page)) → ((p / 1024 == page / 1024) && (p % 1024 == page % 1024)) ≡ (p == page)
+    on (inl same) =
+        let is = same.1 in
+        let one : (p / 1024 == page / 1024) ≡ true = grind (arith, nat_tests) in
+        let two : (p % 1024 == page % 1024) ≡ true = grind (arith, nat_tests) in
+        let all : (p == page) ≡ true = same.0 in
+        rw (one, two, all) refl
+    on (inr other) = not_both (p / 1024 == page / 1024) (p % 1024 == page % 1024) refl refl
+      where
+        all : (p == page) ≡ false
+        all = other.0
 
-pub region_misses : (r root page region : ℕ) (b : Bool) → ((r == root) && ((page / 1024 == region) && b)) ≡ false
-    → r ≡ root → page / 1024 ≡ region → b ≡ false
-region_misses r root page region b e same_root same_region =
-    let one : (r == root) ≡ true = grind (arith, nat_tests) in
-    let two : (page / 1024 == region) ≡ true = grind (arith, nat_tests) in
-    on (r == root) (page / 1024 == region) one two e
-  where
-    on : (x y : Bool) → x ≡ true → y ≡ true → (x && (y && b)) ≡ false → b ≡ false
-    on true true p q e = e
-    on true false p q e = cc
-    on false y p q e = cc
+        not_both : (a b : Bool) → (p / 1024 == page / 1024) ≡ a → (p % 1024 == page % 1024) ≡ b → (a && b) ≡ (p == page)
+        not_both true true e g =
+            let one : p / 1024 ≡ page / 1024 = grind (arith, nat_tests) in
+            let two : p % 1024 ≡ page % 1024 = grind (arith, nat_tests) in
+            absurd (other.1 (omega (arith, one, two)))
+        not_both true false e g = sym all
+        not_both false b e g = sym all
 
--- the words of a frame that stand for pages from first up to end, in a region
-pub in_frame : (frame region page first end from to : ℕ) → page / 1024 ≡ region
-    → from ≡ min (first - region * 1024) 1024 → to ≡ min (end - region * 1024) 1024
-    → (nat_le (frame * 1024 + from) (frame * 1024 + page % 1024) && nat_lt (frame * 1024 + page % 1024) (frame * 1024 + to))
-    ≡ (nat_le first page && nat_lt page end)
-in_frame frame region page first end from to same starts ends =
-    let low : page ≡ region * 1024 + page % 1024 = omega arith in
-    let rest : page % 1024 < 1024 = omega arith in
-    on (page % 1024) low rest
+-- the pages of a region from first up to end, by their places there
+pub region_test : (p region first end from to : ℕ) → from ≡ first - region * 1024 → to ≡ end - region * 1024
+    → ((p / 1024 == region) && (nat_le from (p % 1024) && nat_lt (p % 1024) to)) ≡ ((p / 1024 == region) && (nat_le first p && nat_lt p end))
+region_test p region first end from to starts ends = on (eqb_tells (p / 1024) region)
   where
-    on : (i : ℕ) → page ≡ region * 1024 + i → i < 1024
-        → (nat_le (frame * 1024 + from) (frame * 1024 + i) && nat_lt (frame * 1024 + i) (frame * 1024 + to)) ≡ (nat_le first page && nat_lt page end)
-    on i there inside =
-        let one : nat_le (frame * 1024 + from) (frame * 1024 + i) ≡ nat_le first page = grind (arith, nat_tests) in
-        let two : nat_lt (frame * 1024 + i) (frame * 1024 + to) ≡ nat_lt page end = grind (arith, nat_tests) in
-        ap (λ (b : Bool). b && nat_lt (frame * 1024 + i) (frame * 1024 + to)) one ∙ ap (λ (b : Bool). nat_le first page && b) two
+    on : ((eqb (p / 1024) region ≡ true) × (p / 1024 ≡ region)) ⊎ ((eqb (p / 1024) region ≡ false) × (p / 1024 ≢ region))
+        → ((p / 1024 == region) && (nat_le from (p % 1024) && nat_lt (p % 1024) to)) ≡ ((p / 1024 == region) && (nat_le first p && nat_lt p end))
+    on (inl same) =
+        let here = same.1 in
+        let one : nat_le from (p % 1024) ≡ nat_le first p = grind (arith, nat_tests) in
+        let two : nat_lt (p % 1024) to ≡ nat_lt p end = grind (arith, nat_tests) in
+        rw (one, two) refl
+    on (inr other) = let no : (p / 1024 == region) ≡ false = other.0 in rw no refl

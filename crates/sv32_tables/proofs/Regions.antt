@@ -1,14 +1,15 @@
 -- Whether a region has a frame, by what the frames are for.
-use Rattle.std.proofs.Common.{◌≡◌, ◌⊎◌, ◌↔◌, inl, inr, if◌then◌else◌, ℕ, suc, ◌||◌, List, [], ◌∷◌, ◌++◌, length, get_or, Some, refl, ap, sym, ◌∙◌, arith, Bool, true, false}
+use Rattle.std.proofs.Common.{◌≡◌, ◌⊎◌, ◌↔◌, inl, inr, if◌then◌else◌, ℕ, suc, ◌||◌, List, [], ◌∷◌, ◌++◌, length, get_or, Some, None, refl, ap, sym, ◌∙◌, arith, Bool, true, false}
 use Rattle.std.specs.List.{slice_get, list_any}
-use Rattle.std.proofs.lemmas.Option.{slice_get_within, get_or_from_slice_get}
+use Rattle.std.proofs.lemmas.Option.{none-some, slice_get_within, get_or_from_slice_get}
 use Rattle.std.proofs.lemmas.List.Folds.{list_any_at}
 use Rattle.std.proofs.lemmas.Bool.Decides.{nat_tests}
 use Rattle.sv32_tables.specs.declared.frame_use.FrameUse.{FrameUse}
 use Rattle.sv32_tables.specs.declared.frame_use.FrameUse.TheVariants.{Root, Region}
-use Rattle.sv32_tables.specs.Pool.{IsPool, IsRoot, PoolValue, has_region, is_for, pool_of, with_region, word_at}
+use Rattle.sv32_tables.specs.Pool.{IsRoot, PoolValue, has_region, is_for, pool_of, with_region, word_at}
+use Rattle.sv32_tables.specs.Word.{table_of}
+use Rattle.sv32_tables.specs.Owned.{IsOwned}
 use Rattle.sv32_tables.proofs.Uses.{slice_get-more, slice_get-push}
-use Rattle.sv32_tables.proofs.WordLaws.{pointer-positive}
 
 -- a test that cannot be true is false
 pub not_true : (b : Bool) → (b ≡ true → ⊥) → b ≡ false
@@ -46,13 +47,12 @@ has_region-frame words uses root region frame there =
     list_any_at (is_for root region) uses frame Root (slice_get_within uses frame (Region root region) there)
     (ap (λ (u : FrameUse). is_for root region u) read ∙ is_for-same root region)
 
--- a region whose word is 0 has no frame
-pub has_region-zero : (words : List ℕ) (uses : List FrameUse) (root region : ℕ) → IsPool words uses → word_at words root region ≡ 0
+-- a region that leads nowhere has no frame
+pub has_region-none : (words : List ℕ) (uses : List FrameUse) (root region : ℕ) → IsOwned words uses → table_of (word_at words root region) ≡ None
     → has_region (pool_of words uses) root region ≡ false
-has_region-zero words uses root region pool zeroed =
+has_region-none words uses root region owned nowhere =
     not_true (has_region (pool_of words uses) root region)
-    (λ e. let f = region-frame root region uses e in
-    pointer-positive f.0 (sym (pool.under f.0 root region f.1).led_to ∙ zeroed))
+    (λ e. let f = region-frame root region uses e in none-some f.0 (sym nowhere ∙ (owned.under f.0 root region f.1).led_to))
 
 -- a frame for a region is no root, so the roots are as they were
 pub roots-with_region : (pool : PoolValue) (root region r : ℕ) → (slice_get (with_region pool root region) r ≡ Some Root) ↔ IsRoot pool r

@@ -1,21 +1,19 @@
 -- One word of a shared pool is written, or the words of a block of a leaf table are wiped.
-use Rattle.std.proofs.Common.{◌≡◌, ◌≢◌, ◌⊎◌, inl, inr, ℕ, ◌+◌, ◌*◌, ◌<◌, ◌≤◌, ◌==◌, ◌&&◌, min, nat_le, nat_lt, if◌then◌else◌, eqb, List, Option, Some, Bool, true, false, refl, ap, sym, subst, ◌∙◌, arith}
+use Rattle.std.proofs.Common.{◌≡◌, ◌≢◌, ◌⊎◌, inl, inr, ℕ, ◌+◌, ◌*◌, ◌<◌, ◌≤◌, ◌==◌, ◌&&◌, min, nat_le, nat_lt, if◌then◌else◌, eqb, List, length, Option, Some, Bool, true, false, refl, ap, sym, subst, ◌∙◌, arith}
 use Rattle.std.specs.List.{slice_get}
 use Rattle.std.specs.Prelude.{slice_index, slice_set}
 use Rattle.std.proofs.lemmas.Bool.Decides.{eqb_tells, nat_tests}
 use Rattle.std.proofs.lemmas.List.{length-set, get_or-set_other}
 use Rattle.std.proofs.lemmas.Grind.{get_or-set_at}
 use Rattle.std.proofs.lemmas.Option.{slice_get_within}
-use Rattle.guard_math.specs.Block.{BlockValue, first_page, holds, page_count}
 use Rattle.sv32_tables.specs.declared.leaf.Leaf.{Leaf as Entry}
 use Rattle.sv32_tables.specs.declared.shared_use.SharedUse.{SharedUse}
 use Rattle.sv32_tables.specs.declared.shared_use.SharedUse.TheVariants.{Root, Leaf}
 use Rattle.sv32_tables.specs.Word.{leaf_of, leaf_word, table_of}
 use Rattle.sv32_tables.specs.Pool.{word_at}
 use Rattle.sv32_tables.specs.Shared.{IsShared, IsWordOf, shared_of}
-use Rattle.sv32_tables.specs.SharedHistory.{ClearsBlock, SetsEntry, SetsLink}
+use Rattle.sv32_tables.specs.SharedHistory.{ClearsPlaces, SetsEntry, SetsLink}
 use Rattle.sv32_tables.proofs.Choices.{both_equal, by_test, other_unequal}
-use Rattle.sv32_tables.proofs.Cleared.{Wiped}
 use Rattle.sv32_tables.proofs.SharedWords.{shared-changed, shared_inside}
 use Rattle.sv32_tables.proofs.WordLaws.{leaf_of-leaf_word}
 
@@ -122,30 +120,30 @@ entered words uses leaf index entry pool made inside = record {
 misses : (k a b : ℕ) → (a ≤ k → k < b → ⊥) → (nat_le a k && nat_lt k b) ≡ false
 misses k a b never = grind (arith, nat_tests, never)
 
-module _ (old new : List ℕ) (uses : List SharedUse) (leaf : ℕ) (block : BlockValue) (from to : ℕ) (pool : IsShared old uses)
-    (made : slice_get uses leaf ≡ Some Leaf)
-    (starts : from ≡ min (first_page block) 1024) (ends : to ≡ min (first_page block + page_count block) 1024)
+-- the words from start up to end are 0, and the others as they were
+pub record Wiped (old new : List ℕ) (start end : ℕ) : Type 0 where
+  pub size : length new ≡ length old
+  pub words : (k : ℕ) → slice_index new k ≡ (if nat_le start k && nat_lt k end then 0 else slice_index old k)
+
+module _ (old new : List ℕ) (uses : List SharedUse) (leaf first end from to : ℕ) (pool : IsShared old uses)
+    (made : slice_get uses leaf ≡ Some Leaf) (starts : from ≡ min first 1024) (ends : to ≡ min end 1024)
     (wiped : Wiped old new (leaf * 1024 + from) (leaf * 1024 + to)) where
   -- the places that are wiped
-  tests : (f i : ℕ) → i < 1024 → (nat_le (leaf * 1024 + from) (f * 1024 + i) && nat_lt (f * 1024 + i) (leaf * 1024 + to)) ≡ ((f == leaf) && holds block i)
-  tests f i within = on (first_page block) (page_count block) starts ends
+  tests : (f i : ℕ) → i < 1024 → (nat_le (leaf * 1024 + from) (f * 1024 + i) && nat_lt (f * 1024 + i) (leaf * 1024 + to)) ≡ ((f == leaf) && (nat_le first i && nat_lt i end))
+  tests f i within = on (eqb_tells f leaf)
     where
-      on : (first count : ℕ) → from ≡ min first 1024 → to ≡ min (first + count) 1024
-          → (nat_le (leaf * 1024 + from) (f * 1024 + i) && nat_lt (f * 1024 + i) (leaf * 1024 + to)) ≡ ((f == leaf) && (nat_le first i && nat_lt i (first + count)))
-      on first count s e = case (eqb_tells f leaf)
-        where
-          case : ((eqb f leaf ≡ true) × (f ≡ leaf)) ⊎ ((eqb f leaf ≡ false) × (f ≢ leaf))
-              → (nat_le (leaf * 1024 + from) (f * 1024 + i) && nat_lt (f * 1024 + i) (leaf * 1024 + to)) ≡ ((f == leaf) && (nat_le first i && nat_lt i (first + count)))
-          case (inl same) =
-              let one : nat_le (leaf * 1024 + from) (f * 1024 + i) ≡ nat_le first i = let same' = same.1 in grind (arith, nat_tests) in
-              let two : nat_lt (f * 1024 + i) (leaf * 1024 + to) ≡ nat_lt i (first + count) = let same' = same.1 in grind (arith, nat_tests) in
-              let here : (f == leaf) ≡ true = same.0 in
-              rw (one, two, here) refl
-          case (inr other) =
-              let here : (f == leaf) ≡ false = other.0 in
-              rw here (misses (f * 1024 + i) (leaf * 1024 + from) (leaf * 1024 + to) (λ low high. other.1 (omega (arith, low, high, e, within))))
+      on : ((eqb f leaf ≡ true) × (f ≡ leaf)) ⊎ ((eqb f leaf ≡ false) × (f ≢ leaf))
+          → (nat_le (leaf * 1024 + from) (f * 1024 + i) && nat_lt (f * 1024 + i) (leaf * 1024 + to)) ≡ ((f == leaf) && (nat_le first i && nat_lt i end))
+      on (inl same) =
+          let one : nat_le (leaf * 1024 + from) (f * 1024 + i) ≡ nat_le first i = let same' = same.1 in grind (arith, nat_tests) in
+          let two : nat_lt (f * 1024 + i) (leaf * 1024 + to) ≡ nat_lt i end = let same' = same.1 in grind (arith, nat_tests) in
+          let here : (f == leaf) ≡ true = same.0 in
+          rw (one, two, here) refl
+      on (inr other) =
+          let here : (f == leaf) ≡ false = other.0 in
+          rw here (misses (f * 1024 + i) (leaf * 1024 + from) (leaf * 1024 + to) (λ low high. other.1 (omega (arith, low, high, ends, within))))
 
-  word_at-wiped : (f i : ℕ) → i < 1024 → word_at new f i ≡ (if (f == leaf) && holds block i then 0 else word_at old f i)
+  word_at-wiped : (f i : ℕ) → i < 1024 → word_at new f i ≡ (if (f == leaf) && (nat_le first i && nat_lt i end) then 0 else word_at old f i)
   word_at-wiped f i within = wiped.words (f * 1024 + i) ∙ ap (λ (b : Bool). if b then 0 else word_at old f i) (tests f i within)
 
   -- the pool stays one
@@ -154,7 +152,7 @@ module _ (old new : List ℕ) (uses : List SharedUse) (leaf : ℕ) (block : Bloc
       shared-changed old new uses pool wiped.size
       (λ k past. let used = slice_get_within uses leaf Leaf made in
       wiped.words k ∙ ap (λ (b : Bool). if b then 0 else slice_index old k) (past_all k (leaf * 1024 + from) (leaf * 1024 + to) (omega (arith, past, used, ends))))
-      (λ f i v there within. subst (λ (w : ℕ). IsWordOf uses v w) (sym (word_at-wiped f i within)) (on v (word_at old f i) ((f == leaf) && holds block i) (pool.word f i v there within)))
+      (λ f i v there within. subst (λ (w : ℕ). IsWordOf uses v w) (sym (word_at-wiped f i within)) (on v (word_at old f i) ((f == leaf) && (nat_le first i && nat_lt i end)) (pool.word f i v there within)))
     where
       past_all : (k a b : ℕ) → b ≤ k → (nat_le a k && nat_lt k b) ≡ false
       past_all k a b past = grind (arith, nat_tests)
@@ -164,12 +162,12 @@ module _ (old new : List ℕ) (uses : List SharedUse) (leaf : ℕ) (block : Bloc
       on Leaf word true is = inl refl
       on v word false is = is
 
-  pub cleared : ClearsBlock (shared_of old uses) (shared_of new uses) leaf block
+  pub cleared : ClearsPlaces (shared_of old uses) (shared_of new uses) leaf first end
   cleared = record {
     entries = λ f i table within.
-        ap (λ (w : ℕ). leaf_of w) (word_at-wiped f i within) ∙ read_choice (λ (w : ℕ). leaf_of w) ((f == leaf) && holds block i) 0 (word_at old f i);
+        ap (λ (w : ℕ). leaf_of w) (word_at-wiped f i within) ∙ read_choice (λ (w : ℕ). leaf_of w) ((f == leaf) && (nat_le first i && nat_lt i end)) 0 (word_at old f i);
     links = λ r i root within.
         ap (λ (w : ℕ). table_of w)
-        (word_at-wiped r i within ∙ fails (r == leaf) (holds block i) 0 (word_at old r i) (apart uses r leaf root made));
+        (word_at-wiped r i within ∙ fails (r == leaf) (nat_le first i && nat_lt i end) 0 (word_at old r i) (apart uses r leaf root made));
     uses = refl;
   }

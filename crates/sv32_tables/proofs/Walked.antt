@@ -1,12 +1,9 @@
 -- The walk of the Privileged ISA over a pool's words reaches the page of the leaf found.
-use Rattle.std.proofs.Common.{◌≡◌, inl, inr, ℕ, ◌+◌, ◌-◌, ◌/◌, ◌%◌, ◌<◌, ◌^◌, ◌&&◌, ◌||◌, not, if◌then◌else◌, ◌⊎◌, List, [], Option, Some, None, refl, ap, sym, ◌∙◌, arith, Bool, true, false}
-use Rattle.std.specs.List.{slice_get}
+use Rattle.std.proofs.Common.{◌≡◌, inl, inr, ℕ, ◌+◌, ◌-◌, ◌/◌, ◌%◌, ◌&&◌, ◌||◌, not, if◌then◌else◌, ◌⊎◌, List, [], Option, Some, None, refl, ap, sym, ◌∙◌, arith, Bool, true, false}
 use Rattle.std.proofs.lemmas.Bool.Decides.{nat_tests}
 use Rattle.sv32_tables.specs.declared.leaf.Leaf.{Leaf}
-use Rattle.sv32_tables.specs.declared.frame_use.FrameUse.{FrameUse}
-use Rattle.sv32_tables.specs.declared.frame_use.FrameUse.TheVariants.{Root}
 use Rattle.sv32_tables.specs.Word.{has, leaf_of, leaf_word, number_of, pointer, table_of}
-use Rattle.sv32_tables.specs.Pool.{IsFirstWord, IsLeafWord, IsPool, leaf_at, leaf_below, pool_of, word_at}
+use Rattle.sv32_tables.specs.Pool.{IsLeafWord, leaf_below, word_at}
 use Rattle.sv32_tables.specs.Sv32.{Access, Fetch, Load, Store, first_level, last_level, memory_word, reached, superpage, through}
 use Rattle.sv32_tables.proofs.Leaves.{leaf_at-led, leaf_at-zero}
 use Rattle.sv32_tables.proofs.WordLaws.{SaysLeaf-leaf_word, leaf_of-leaf_word}
@@ -83,11 +80,3 @@ reached-way words root page way access =
         ∙ (first_level-pointer words access page led.0
         ∙ (last_level-word access (word_at words led.0 (page % 1024)) led.2
         ∙ sym (ap (λ (l : Option Leaf). through access l) (leaf_at-led words [] root page led.0 led.1))))
-
-pub reached-leaf_at : (words : List ℕ) (uses : List FrameUse) (root page : ℕ) → IsPool words uses → slice_get uses root ≡ Some Root → page < 2 ^ 20
-    → (access : Access) → reached words root page access ≡ through access (leaf_at (pool_of words uses) root page)
-reached-leaf_at words uses root page pool made inside = reached-way words root page (way (pool.first root (page / 1024) made (omega (arith, inside))))
-  where
-    way : IsFirstWord uses root (page / 1024) (word_at words root (page / 1024)) → IsWay words root page
-    way (inl zeroed) = inl zeroed
-    way (inr led) = inr (led.0, led.2, pool.second led.0 root (page / 1024) (page % 1024) led.1 (omega arith))

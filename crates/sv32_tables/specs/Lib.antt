@@ -4,3 +4,4 @@ pub mod Sv32
 pub mod History
 pub mod Shared
 pub mod SharedHistory
+pub mod Owned

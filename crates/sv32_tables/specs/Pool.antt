@@ -1,10 +1,10 @@
 -- A pool of frames of 1,024 words, and the tables in it (this project's own).
-use Rattle.std.specs.Prelude.{ℕ, Bool, false, if◌then◌else◌, ◌&&◌, ◌==◌, ◌≡◌, ◌⊎◌, ◌<◌, ◌≤◌, ◌+◌, ◌*◌, ◌/◌, ◌%◌, ◌^◌, List, [], ◌∷◌, ◌++◌, length, slice_index, slice_get, Option, Some, None}
+use Rattle.std.specs.Prelude.{ℕ, Bool, false, if◌then◌else◌, ◌&&◌, ◌==◌, ◌≡◌, ◌⊎◌, ◌<◌, ◌+◌, ◌*◌, ◌/◌, ◌%◌, ◌^◌, List, [], ◌∷◌, ◌++◌, length, slice_index, slice_get, Option, Some, None}
 use Rattle.std.specs.List.{list_any}
 use Rattle.sv32_tables.specs.declared.leaf.Leaf.{Leaf}
 use Rattle.sv32_tables.specs.declared.frame_use.FrameUse.{FrameUse}
 use Rattle.sv32_tables.specs.declared.frame_use.FrameUse.TheVariants.{Root, Region}
-use Rattle.sv32_tables.specs.Word.{pointer, table_of, leaf_word, leaf_of}
+use Rattle.sv32_tables.specs.Word.{table_of, leaf_word, leaf_of}
 
 -- the words of all frames, one frame after the other, and what the frames in use are for, by their numbers
 pub record PoolValue : Type 0 where
@@ -60,25 +60,6 @@ pub record IsEmpty (pool : PoolValue) : Type 0 where
   pub unused : pool.uses ≡ []
   pub zeros : (frame index : ℕ) → word_at pool.words frame index ≡ 0
 
--- a word of a root is 0, or leads to the frame of its region
-abbrev pub IsFirstWord : List FrameUse → ℕ → ℕ → ℕ → Type 0
-IsFirstWord uses root region word = (word ≡ 0) ⊎ ((frame : ℕ) × (slice_get uses frame ≡ Some (Region root region)) × (word ≡ pointer frame))
-
 -- a word of a region's frame is 0, or a leaf's
 abbrev pub IsLeafWord : ℕ → Type 0
 IsLeafWord word = (word ≡ 0) ⊎ ((leaf : Leaf) × (leaf.page < 2 ^ 16) × (word ≡ leaf_word leaf))
-
--- a region's frame hangs under its root alone
-pub record IsUnder (words : List ℕ) (uses : List FrameUse) (frame root region : ℕ) : Type 0 where
-  pub made : slice_get uses root ≡ Some Root
-  pub inside : region < 1024
-  pub led_to : word_at words root region ≡ pointer frame
-
--- what is always true of a pool's words and of what its frames are for
-pub record IsPool (words : List ℕ) (uses : List FrameUse) : Type 0 where
-  pub size : length words ≡ 262144
-  pub room : length uses ≤ 256
-  pub spare : (k : ℕ) → length uses * 1024 ≤ k → slice_index words k ≡ 0
-  pub first : (root region : ℕ) → slice_get uses root ≡ Some Root → region < 1024 → IsFirstWord uses root region (word_at words root region)
-  pub second : (frame root region index : ℕ) → slice_get uses frame ≡ Some (Region root region) → index < 1024 → IsLeafWord (word_at words frame index)
-  pub under : (frame root region : ℕ) → slice_get uses frame ≡ Some (Region root region) → IsUnder words uses frame root region

@@ -1,6 +1,6 @@
 -- What calls do to a shared pool, and what a history of them leaves.
-use Rattle.std.specs.Prelude.{ℕ, suc, if◌then◌else◌, ◌&&◌, ◌==◌, ◌≡◌, ◌<◌, ◌/◌, ◌%◌, ◌^◌, List, [], ◌∷◌, ◌++◌, length, Option, Some, None}
-use Rattle.guard_math.specs.Block.{BlockValue, holds}
+use Rattle.std.specs.Prelude.{ℕ, suc, nat_le, nat_lt, if◌then◌else◌, ◌&&◌, ◌==◌, ◌≡◌, ◌<◌, ◌+◌, ◌/◌, ◌%◌, ◌^◌, List, [], ◌∷◌, ◌++◌, length, Option, Some, None}
+use Rattle.guard_math.specs.Block.{BlockValue, first_page, holds, page_count}
 use Rattle.sv32_tables.specs.declared.leaf.Leaf.{Leaf as Entry}
 use Rattle.sv32_tables.specs.declared.shared_use.SharedUse.{SharedUse}
 use Rattle.sv32_tables.specs.Shared.{IsLeafTable, IsSharedRoot, IsUnused, SharedValue, entry_at, link_at, shared_leaf_at}
@@ -41,11 +41,15 @@ pub record SetsEntry (old new : SharedValue) (leaf index : ℕ) (entry : Entry) 
   pub links : SameLinks old new
   pub uses : new.uses ≡ old.uses
 
--- this leaf table has no entry at the pages of the block, and nothing else changes
-pub record ClearsBlock (old new : SharedValue) (leaf : ℕ) (block : BlockValue) : Type 0 where
-  pub entries : (f i : ℕ) → IsLeafTable old f → i < 1024 → entry_at new f i ≡ (if (f == leaf) && holds block i then None else entry_at old f i)
+-- this leaf table has no entry at the places from the first up to the end, and nothing else changes
+pub record ClearsPlaces (old new : SharedValue) (leaf first end : ℕ) : Type 0 where
+  pub entries : (f i : ℕ) → IsLeafTable old f → i < 1024 → entry_at new f i ≡ (if (f == leaf) && (nat_le first i && nat_lt i end) then None else entry_at old f i)
   pub links : SameLinks old new
   pub uses : new.uses ≡ old.uses
+
+-- this leaf table has no entry at the pages of the block, and nothing else changes
+abbrev pub ClearsBlock : SharedValue → SharedValue → ℕ → BlockValue → Type 0
+ClearsBlock old new leaf block = ClearsPlaces old new leaf (first_page block) (first_page block + page_count block)
 
 -- a call that changed a pool: a frame was made, a region linked or unlinked, an entry set, a block cleared, or all
 pub data SharedChange : Type 0 where

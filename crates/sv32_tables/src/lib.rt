@@ -1,7 +1,7 @@
 //! Sv32 page tables: pools of frames whose words are those that RISC-V hardware would walk.
 //!
-//! A root stands for an address space and leads from pages to leaves. In a `TablePool` each root has
-//! leaf tables of its own, in a `SharedPool` several may lead to one. Nothing here knows of
+//! A root stands for an address space and leads from pages to leaves. In a `SharedPool` several roots
+//! may lead to one leaf table, in a `TablePool`, which is one, each has leaf tables of its own. Nothing here knows of
 //! capabilities, of walks over them, or of what a leaf's page holds.
 #![tactic(auto)]
 
@@ -16,7 +16,7 @@ mod words;
 
 pub use frame_use::FrameUse;
 pub use leaf::Leaf;
-pub use pool::{FRAMES, TablePool, last_leaves_are_found};
+pub use pool::{TablePool, last_leaves_are_found};
 pub use refusal::{PageFault, PoolFull};
-pub use shared_pool::{SharedPool, last_entries_are_found};
+pub use shared_pool::{FRAMES, SharedPool, last_entries_are_found};
 pub use shared_use::SharedUse;

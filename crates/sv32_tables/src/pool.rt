@@ -1,24 +1,21 @@
-//! The pool of frames, its roots, and the walk over its words.
+//! The pool of frames in which each root has leaf tables of its own.
 
-ghost use Rattle.std.specs.Prelude.{◌≡◌, ◌≤◌, ◌<◌, ◌↔◌, ◌&&◌, ◌==◌, ◌-◌, ◌*◌, ◌/◌, min, ℕ, if◌then◌else◌, length, nat_le, nat_lt, slice_get, IfOk, IsErr, OnErr, OnOk};
+ghost use Rattle.std.specs.Prelude.{◌≡◌, ◌≤◌, ◌<◌, ◌↔◌, ◌&&◌, ◌==◌, ◌/◌, ℕ, if◌then◌else◌, length, nat_le, nat_lt, slice_get, IfOk, IsErr, OnErr, OnOk};
 ghost use Rattle.std.specs.Result.{result_ok};
-ghost use Rattle.sv32_tables.specs.Pool.{IsEmpty, IsPlace, IsPool, IsRoot, LacksFrame, leaf_at, with_region, word_at};
+ghost use Rattle.sv32_tables.specs.Pool.{IsEmpty, IsPlace, IsRoot, LacksFrame, leaf_at, with_region, word_at};
+ghost use Rattle.sv32_tables.specs.Owned.{IsPool};
 ghost use Rattle.sv32_tables.specs.Sv32.{WalksTo};
 ghost use Rattle.sv32_tables.specs.History.{Clears, HasLastLeaves, Installs, MakesRoot, SameRoots};
 
 use crate::frame_use::FrameUse;
 use crate::leaf::Leaf;
 use crate::refusal::{PageFault, PoolFull};
-use crate::word::{leaf_of, leaf_word, pointer, table_of};
-use crate::words::{FRAME_WORDS, get, put, wipe, zeros};
+use crate::shared_pool::SharedPool;
 use arrayvec::ArrayVec;
 use cap_format::OutOfMemory;
 use guard_math::Block;
 use std::alloc::Global;
 use std::marker::Model;
-
-/// How many frames a pool has, numbered from 0.
-pub const FRAMES: u16 = 256;
 
 /// A pool of 256 frames of 1,024 words. All memory is taken when it is made.
 ///
@@ -26,18 +23,20 @@ pub const FRAMES: u16 = 256;
 /// pool was, or since the last `clear_all`.
 #[derive(Drop)]
 pub struct TablePool {
-    words: Vec<u32>,
+    tables: SharedPool,
+    /// What each frame in use is for, by its number.
     uses: ArrayVec<FrameUse, 256>,
 }
 
 impl Model for TablePool {
-    ghost use Rattle.sv32_tables.specs.Pool.{IsPool, PoolValue, pool_of};
+    ghost use Rattle.sv32_tables.specs.Pool.{PoolValue, pool_of};
+    ghost use Rattle.sv32_tables.specs.Owned.{HasOwners};
 
     ghost Value = { PoolValue };
 
-    ghost view = { λ p. pool_of p.words.items p.uses.items };
+    ghost view = { λ p. pool_of p.tables.words p.uses.items };
 
-    ghost invariant = { λ p. IsPool p.words.items p.uses.items };
+    ghost invariant = { λ p. HasOwners p.tables p.uses.items };
 }
 
 impl TablePool {
@@ -45,9 +44,8 @@ impl TablePool {
     pub fn new(alloc: Global) -> Result<TablePool, OutOfMemory>
         ensures { IfOk result (λ pool. IsEmpty pool) }
     {
-        let words = zeros(alloc, FRAMES as usize * FRAME_WORDS)?;
         Ok(TablePool {
-            words,
+            tables: SharedPool::new(alloc)?,
             uses: ArrayVec::new(),
         })
     }
@@ -59,7 +57,7 @@ impl TablePool {
         ensures value { result ≡ word_at self.now.words frame index }
         ensures pool { IsPool self.now.words self.now.uses }
     {
-        get(&self.words, frame, index)
+        self.tables.word(frame, index)
     }
 
     /// How many frames are in use. They are the first ones.
@@ -77,13 +75,7 @@ impl TablePool {
         // What the walk of Sv32 over these words makes of each access there.
         ensures sv32 { WalksTo self.now.words root (va / 4096) (leaf_at self.now root (va / 4096)) }
     {
-        let page = va / 4096;
-        let first = get(&self.words, root, (page / 1024) as u16);
-        let Some(table) = table_of(first) else {
-            return Err(PageFault);
-        };
-        let second = get(&self.words, table, (page % 1024) as u16);
-        leaf_of(second).ok_or(PageFault)
+        self.tables.hw_walk(root, va)
     }
 
     /// A new root, with no leaf. It takes one frame.
@@ -93,10 +85,7 @@ impl TablePool {
 
         ensures root { IfOk result (λ root. MakesRoot self.old self.new root) }
     {
-        let root = self.uses.len() as u16;
-        if root == FRAMES {
-            return Err(PoolFull);
-        }
+        let root = self.tables.make_root()?;
         self.uses.push(FrameUse::Root);
         Ok(root)
     }
@@ -111,36 +100,30 @@ impl TablePool {
         ensures uses { OnOk result (self.new.uses ≡ with_region self.old root (va / 4096 / 1024)) }
         ensures roots { SameRoots self.old self.new }
     {
-        let page = va / 4096;
-        let table = self.table_for(root, (page / 1024) as u16)?;
-        let index = (page % 1024) as u16;
-        put(&mut self.words, table, index, leaf_word(leaf));
+        let table = self.table_for(root, va)?;
+        self.tables.set(table, va, leaf);
         Ok(())
     }
 
-    /// The frame of a region of a root: a new one where it has none.
-    fn table_for(&mut self, root: u16, region: u16) -> Result<u16, PoolFull>
-        requires made { IsRoot self.old root }
-        requires inside { region < 1024 }
-        ensures full { IsErr result ↔ LacksFrame self.old root region }
+    /// The frame of the region of an address: a new one where it has none.
+    fn table_for(&mut self, root: u16, va: u32) -> Result<u16, PoolFull>
+        requires { IsRoot self.old root }
+        ensures full { IsErr result ↔ LacksFrame self.old root (va / 4096 / 1024) }
         ensures err { OnErr result (self.new ≡ self.old) }
 
         ensures leaves { OnOk result
             ((r p : ℕ) → IsPlace self.old r p → leaf_at self.new r p ≡ leaf_at self.old r p) }
-        ensures uses { OnOk result (self.new.uses ≡ with_region self.old root region) }
+        ensures uses { OnOk result (self.new.uses ≡ with_region self.old root (va / 4096 / 1024)) }
         ensures roots { SameRoots self.old self.new }
         ensures table { IfOk result
-            (λ table. slice_get self.new.uses table ≡ Some (FrameUse.Region root region)) }
+            (λ table. slice_get self.new.uses table ≡ Some (FrameUse.Region root (va / 4096 / 1024))) }
     {
-        let first = get(&self.words, root, region);
-        if let Some(table) = table_of(first) {
+        if let Some(table) = self.tables.link_of(root, va) {
             return Ok(table);
         }
-        let table = self.uses.len() as u16;
-        if table == FRAMES {
-            return Err(PoolFull);
-        }
-        put(&mut self.words, root, region, pointer(table));
+        let table = self.tables.make_leaf()?;
+        self.tables.link(root, va, table);
+        let region = (va / 4096 / 1024) as u16;
         self.uses.push(FrameUse::Region { root, region });
         Ok(table)
     }
@@ -169,29 +152,22 @@ impl TablePool {
             ≡ (if (r == root) && ((page / 1024 == region) && (nat_le first page && nat_lt page end)) then None else leaf_at self.old r page) }
         ensures uses { self.new.uses ≡ self.old.uses }
     {
-        let Some(table) = table_of(get(&self.words, root, region)) else {
+        let start = u32::from(region) * 1024;
+        let Some(table) = self.tables.link_of(root, start * 4096) else {
             return;
         };
-        let start = table as usize * FRAME_WORDS;
-        let from = index_in(region, first);
-        let to = index_in(region, end);
-        wipe(&mut self.words, start + from, start + to);
+        let from = first.saturating_sub(start);
+        self.tables
+            .clear_places(table, from, end.saturating_sub(start));
     }
 
     /// No root and no frame in use, as in a new pool.
     pub fn clear_all(&mut self)
         ensures { IsEmpty self.new }
     {
-        wipe(&mut self.words, 0, self.uses.len() * FRAME_WORDS);
+        self.tables.clear_all();
         self.uses.clear();
     }
-}
-
-/// The index of a page in its region's frame; the nearest end for a page of another region.
-fn index_in(region: u16, page: u32) -> usize
-    ensures { result ≡ min (page - region * 1024) 1024 }
-{
-    page.saturating_sub(u32::from(region) * 1024).min(1024) as usize
 }
 
 /// Whatever was done to a pool, `hw_walk` finds the leaf last installed at a page and not cleared since.

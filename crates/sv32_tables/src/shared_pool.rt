@@ -5,10 +5,9 @@ ghost use Rattle.std.specs.Result.{result_ok};
 ghost use Rattle.sv32_tables.specs.Pool.{word_at};
 ghost use Rattle.sv32_tables.specs.Sv32.{WalksTo};
 ghost use Rattle.sv32_tables.specs.Shared.{IsLeafTable, IsShared, IsSharedRoot, IsUnused, link_at, shared_leaf_at};
-ghost use Rattle.sv32_tables.specs.SharedHistory.{ClearsBlock, HasLastEntries, Links, MakesFrame, SetsEntry, Unlinks};
+ghost use Rattle.sv32_tables.specs.SharedHistory.{ClearsBlock, ClearsPlaces, HasLastEntries, Links, MakesFrame, SetsEntry, Unlinks};
 
 use crate::leaf::Leaf;
-use crate::pool::FRAMES;
 use crate::refusal::{PageFault, PoolFull};
 use crate::shared_use::SharedUse;
 use crate::word::{leaf_of, leaf_word, pointer, table_of};
@@ -19,7 +18,10 @@ use guard_math::Block;
 use std::alloc::Global;
 use std::marker::Model;
 
-/// A pool of 256 frames of 1,024 words, as `TablePool`, in which a root is linked to leaf tables, and
+/// How many frames a pool has, numbered from 0.
+pub const FRAMES: u16 = 256;
+
+/// A pool of 256 frames of 1,024 words, in which a root is linked to leaf tables, and
 /// several roots may be linked to one. All memory is taken when it is made.
 ///
 /// A root and a leaf table are named by their frames' numbers. A call that takes one asks that it was
@@ -101,6 +103,7 @@ impl SharedPool {
         ensures err { OnErr result (self.new ≡ self.old) }
 
         ensures root { IfOk result (λ root. MakesFrame self.old self.new SharedUse.Root root) }
+        ensures range { IfOk result (λ root. root < 256) }
     {
         self.make(SharedUse::Root)
     }
@@ -111,6 +114,7 @@ impl SharedPool {
         ensures err { OnErr result (self.new ≡ self.old) }
 
         ensures leaf { IfOk result (λ leaf. MakesFrame self.old self.new SharedUse.Leaf leaf) }
+        ensures range { IfOk result (λ leaf. leaf < 256) }
     {
         self.make(SharedUse::Leaf)
     }
@@ -121,6 +125,7 @@ impl SharedPool {
         ensures err { OnErr result (self.new ≡ self.old) }
 
         ensures frame { IfOk result (λ frame. MakesFrame self.old self.new frame_use frame) }
+        ensures range { IfOk result (λ frame. frame < 256) }
     {
         let frame = self.uses.len() as u16;
         if frame == FRAMES {
@@ -162,9 +167,18 @@ impl SharedPool {
         requires { IsLeafTable self.old leaf }
         ensures { ClearsBlock self.old self.new leaf block }
     {
-        let start = leaf as usize * FRAME_WORDS;
         let first = block.first_page();
-        let end = first + block.page_count();
+        self.clear_places(leaf, first, first + block.page_count());
+    }
+
+    /// Takes out the entries of a leaf table at the pages whose places in the region are from `first` up
+    /// to `end`.
+    pub fn clear_places(&mut self, leaf: u16, first: u32, end: u32)
+        requires leaf { IsLeafTable self.old leaf }
+        requires order { first ≤ end }
+        ensures { ClearsPlaces self.old self.new leaf first end }
+    {
+        let start = leaf as usize * FRAME_WORDS;
         let from = (first as usize).min(FRAME_WORDS);
         let to = (end as usize).min(FRAME_WORDS);
         wipe(&mut self.words, start + from, start + to);
