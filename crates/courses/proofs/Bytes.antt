@@ -1,7 +1,7 @@
 -- From the lines of the input to its bytes.
 use Rattle.std.proofs.Common.{◌≡◌, ◌+◌, ◌++◌, [], ℕ, List, Option, None, Some, IfSome, false, length, sym, ap, subst, arith}
 use Rattle.std.specs.Io.KnownBytes.{Appends}
-use Rattle.coy_io.specs.Lines.{Part, IsUnfinished, parts_of, whole_lines}
+use Rattle.coy_io.specs.Lines.{Part, IsFront, parts_of, whole_lines}
 use Rattle.coy_io.specs.Reader.{Reader, new_reader, ahead, bytes_ahead, GivesLines}
 use Rattle.coy_io.proofs.GivenLaws.{GivesLines-trans, GivesLines-taken}
 use Rattle.kernel_core.specs.Outcome.{Touch}
@@ -32,11 +32,11 @@ module _ (behind : Behind) (held held' taken taken' : Option (List ℕ)) (fetche
   Stands lines listed = IsDone lines (listed_course behind listed)
 
   -- a new reader gave these lines, and what they make sure was done
-  stands-given : (reader : Reader) (given : List Part) → reader.ended ≡ false → IsUnfinished reader.rest
+  stands-given : (reader : Reader) (given : List Part) → reader.ended ≡ false → IsFront reader.rest
       → GivesLines (bytes_ahead new_reader held) (bytes_ahead reader held') given
       → Stands (length given) (listing_of Header 1 given) → StandsSure held held' taken taken' fetches fetches' count whole
   stands-given reader given going rest gives stands =
-      let read = GivesLines-taken reader held held' given going rest gives in
+      let read = GivesLines-taken reader held held' given going rest.unfinished gives in
       let stands = subst (λ parts. Stands (length parts) (listing_of Header 1 parts)) (sym read.2) stands in
       record { writes = record { bytes = read.0; read = read.1; goes_on = stands.goes_on; written = stands.written }; fetched = stands.fetched }
 

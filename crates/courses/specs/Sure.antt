@@ -1,7 +1,7 @@
 -- What stands where reading failed (this project's own).
 use Rattle.std.specs.Prelude.{◌≡◌, ℕ, ◌+◌, false, List, [], length, Option}
 use Rattle.std.specs.Io.KnownBytes.{Consumes, Appends}
-use Rattle.coy_io.specs.Lines.{Part, IsUnfinished, whole_lines}
+use Rattle.coy_io.specs.Lines.{Part, IsFront, whole_lines}
 use Rattle.coy_io.specs.Reader.{Reader, GivesLines, bytes_ahead}
 use Rattle.kernel_core.specs.Outcome.{Touch}
 use Rattle.courses.specs.Course.{Course}
@@ -26,7 +26,7 @@ pub record StandsSure (held held' taken taken' : Option (List ℕ)) (fetches fet
 pub record StandsOn (old new : Reader) (held held' taken taken' : Option (List ℕ)) (fetches fetches' : ℕ) (count : List Touch → ℕ) (course : List Part → Course) : Type 0 where
   pub before : old.ended ≡ false
   pub going : new.ended ≡ false
-  pub unfinished : IsUnfinished new.rest
+  pub unfinished : IsFront new.rest
   pub given : List Part
   pub gives : GivesLines (bytes_ahead old held) (bytes_ahead new held') given
   pub goes_on : (course given).last.exit ≡ Done

@@ -86,5 +86,5 @@ parts-past window room left h =
 pub parts-end : (window : List ℕ) (room : ℕ) → HasFront window room → parts [] room window ≡ (if length window == 0 then [] else Line window ∷ [])
 unfolding parts
 parts-end window room h =
-    let moved = parts-append window [] room [] h.unfinished h.within in
-    ap (parts [] room) (sym (append-nil window)) ∙ moved ∙ ap (λ p. if length window == 0 then [] else p ∷ []) (short_part window h.short)
+    let moved = parts-append window [] room [] h.front.unfinished h.within in
+    ap (parts [] room) (sym (append-nil window)) ∙ moved ∙ ap (λ p. if length window == 0 then [] else p ∷ []) (short_part window h.front.short)

@@ -4,7 +4,7 @@ use Rattle.std.specs.Io.KnownBytes.{IsAtEnd}
 use Rattle.coy_io.specs.declared.TheConstants.{LINE_LIMIT}
 use Rattle.coy_io.specs.declared.lines.LineFault.{LineFault}
 use Rattle.coy_io.specs.declared.lines.LineFault.TheVariants.{ReadFault, LineTooLong, TooLong}
-use Rattle.coy_io.specs.Lines.{line_len, IsUnfinished}
+use Rattle.coy_io.specs.Lines.{line_len, IsFront}
 
 -- a line stands at the front of the window, and `room` bytes may be read
 pub record HasLine (n : ℕ) (window : List ℕ) (room : ℕ) : Type 0 where
@@ -15,8 +15,7 @@ pub record HasLine (n : ℕ) (window : List ℕ) (room : ℕ) : Type 0 where
 
 -- the window holds the front of a line
 pub record HasFront (window : List ℕ) (room : ℕ) : Type 0 where
-  pub unfinished : IsUnfinished window
-  pub short : length window ≤ LINE_LIMIT
+  pub front : IsFront window
   pub within : length window ≤ room
 
 -- the line at the front of the window is too long

@@ -1,6 +1,6 @@
 -- The lines of a byte string, by this project's own limits. It is seen as a list of what stands in each
 -- line's place, so that nobody above speaks of places in a buffer.
-use Rattle.std.specs.Prelude.{◌≡◌, ℕ, ◌-◌, ◌==◌, nat_le, List, [], ◌∷◌, ◌++◌, length, Bool, if◌then◌else◌}
+use Rattle.std.specs.Prelude.{◌≡◌, ◌≤◌, ℕ, ◌-◌, ◌==◌, nat_le, List, [], ◌∷◌, ◌++◌, length, Bool, if◌then◌else◌}
 use Rattle.std.specs.List.{position_or_len}
 use Rattle.coy_io.specs.declared.TheConstants.{LINE_LIMIT, INPUT_LIMIT}
 
@@ -22,6 +22,11 @@ line_len bytes = position_or_len is_line_feed bytes
 -- no byte is a line feed
 abbrev pub IsUnfinished : List ℕ → Type 0
 IsUnfinished bytes = line_len bytes ≡ length bytes
+
+-- the front of a line: no byte is a line feed, and there are no more than a line may have
+pub record IsFront (bytes : List ℕ) : Type 0 where
+  pub unfinished : IsUnfinished bytes
+  pub short : length bytes ≤ LINE_LIMIT
 
 -- what stands in the place of a line that ended
 abbrev pub part_of : List ℕ → Part

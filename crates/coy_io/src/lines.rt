@@ -3,7 +3,7 @@ ghost use Rattle.std.specs.Prelude.{◌≡◌, ◌≢◌, ◌+◌, ◌-◌, ◌<
 ghost use Rattle.std.specs.Io.KnownBytes.{Keeps, IsAtEnd, prepend_known};
 ghost use Rattle.coy_io.specs.Causes.{Rose};
 ghost use Rattle.coy_io.specs.Pieces.{CountsIn};
-ghost use Rattle.coy_io.specs.Lines.{line_len, IsUnfinished};
+ghost use Rattle.coy_io.specs.Lines.{line_len, IsFront};
 ghost use Rattle.coy_io.specs.Reader.{Reader, new_reader, taken_by, bytes_ahead, ahead, IsLine, IsNext, IsSpent, IsLeft, TellsEnd, lines_in, ends_by, read_faults_in, giving, finished};
 
 use crate::last_line::LastLine;
@@ -117,7 +117,7 @@ impl LineReader {
         ensures number { self.new.number ≡ self.old.number + lines_in result }
         ensures failed { self.new.failed ≡ is_err result }
         ensures left { IsLeft result self.old self.new }
-        ensures unfinished { result ≡ Err LineFault.ReadFault → IsUnfinished self.new.rest }
+        ensures unfinished { result ≡ Err LineFault.ReadFault → IsFront self.new.rest }
 
         // What happens to the source.
         ensures read { result ≡ Err LineFault.ReadFault →

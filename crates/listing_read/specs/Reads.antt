@@ -1,7 +1,7 @@
 -- What reading a listing does to its reader: which lines were given, and that no byte of others was lost.
 use Rattle.std.specs.Prelude.{◌≡◌, ℕ, ◌+◌, false, List, [], ◌∷◌, ◌++◌, length, Option}
 use Rattle.std.specs.Io.KnownBytes.{Keeps}
-use Rattle.coy_io.specs.Lines.{Part, Line, IsUnfinished}
+use Rattle.coy_io.specs.Lines.{Part, Line, IsFront}
 use Rattle.coy_io.specs.Reader.{Reader, bytes_ahead, ahead, Advances, GivesLines}
 use Rattle.listing_read.specs.Listing.{Good, Refused, listing_of}
 use Rattle.listing_read.specs.Statement.{ListingValue}
@@ -20,7 +20,7 @@ pub record IsStopped (old new : Reader) (held held' : Option (List ℕ)) : Type 
   pub counted : new.number ≡ old.number
   pub before : old.ended ≡ false
   pub unended : new.ended ≡ false
-  pub unfinished : IsUnfinished new.rest
+  pub unfinished : IsFront new.rest
   pub kept : Keeps (bytes_ahead old held) (bytes_ahead new held')
 
 -- the lines given make this listing, whatever lines follow them
@@ -34,7 +34,7 @@ pub record GivesListing (old new : Reader) (held held' : Option (List ℕ)) (lis
 -- the reader holds the front of that line
 pub record GivesFront (old new : Reader) (held held' : Option (List ℕ)) : Type 0 where
   pub unended : new.ended ≡ false
-  pub unfinished : IsUnfinished new.rest
+  pub unfinished : IsFront new.rest
   pub given : List Part
   pub gives : GivesLines (bytes_ahead old held) (bytes_ahead new held') given
   pub counted : new.number ≡ old.number + length given

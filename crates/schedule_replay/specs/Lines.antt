@@ -1,6 +1,6 @@
 -- Lines as they are read, whatever is made of them (this project's own).
 use Rattle.std.specs.Prelude.{◌≡◌, ℕ, false, List, ◌++◌, Option}
-use Rattle.coy_io.specs.Lines.{Part, IsUnfinished}
+use Rattle.coy_io.specs.Lines.{Part, IsFront}
 use Rattle.coy_io.specs.Reader.{Reader, Advances, GivesLines, ahead, bytes_ahead}
 
 -- whole lines were read; what was to be made of them and the lines behind them is what is now made of those
@@ -15,7 +15,7 @@ pub record ReadsOn {M : Type 0} (was is : List Part → M) (old new : Reader) (h
 pub record FailsOn {M : Type 0} (was : List Part → M) (made : M) (old new : Reader) (held held' : Option (List ℕ)) : Type 0 where
   pub before : old.ended ≡ false
   pub going : new.ended ≡ false
-  pub unfinished : IsUnfinished new.rest
+  pub unfinished : IsFront new.rest
   pub given : List Part
   pub gives : GivesLines (bytes_ahead old held) (bytes_ahead new held') given
   pub makes : was given ≡ made

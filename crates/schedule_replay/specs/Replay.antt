@@ -4,7 +4,7 @@ use Rattle.std.specs.Io.KnownBytes.{Appends}
 use Rattle.cap_format.specs.Capability.{Capability}
 use Rattle.cap_format.specs.declared.item.Item.{Item}
 use Rattle.coy_io.specs.Causes.{Rose}
-use Rattle.coy_io.specs.Lines.{Part, IsUnfinished}
+use Rattle.coy_io.specs.Lines.{Part, IsFront}
 use Rattle.coy_io.specs.Reader.{Reader, GivesLines, ahead, bytes_ahead}
 use Rattle.object_store.specs.Store.{Items}
 use Rattle.walk_meaning.specs.declared.kind.Kind.{Kind}
@@ -54,7 +54,7 @@ Accords answer_of answer events all = (events ≡ all.events) × (answer ≡ ans
 pub record FailsBehind (harts : ℕ) (old new : Reader) (held held' : Option (List ℕ)) (events : List Event) : Type 0 where
   pub before : old.ended ≡ false
   pub going : new.ended ≡ false
-  pub unfinished : IsUnfinished new.rest
+  pub unfinished : IsFront new.rest
   pub given : List Part
   pub gives : GivesLines (bytes_ahead old held) (bytes_ahead new held') given
   pub asks : scheduled harts old.number given ≡ preceded events (ends AtEnd)
