@@ -4,9 +4,9 @@ use Rattle.cap_format.specs.declared.kind.CapKind.{CapKind}
 use Rattle.cap_format.specs.declared.kind.CapKind.TheVariants as kinds
 use Rattle.coy_io.specs.declared.TheConstants.{LINE_LIMIT}
 use Rattle.coy_text.specs.Numeral.{dec_of}
+use Rattle.coy_text.specs.Line.{is_visible_line, is_skipped}
 use Rattle.coy_text.specs.Words.{words_of, field}
 use Rattle.listing_read.specs.Faults.{◌>>=◌, ensured}
-use Rattle.listing_read.specs.Line.{is_visible_line, is_skipped}
 use Rattle.confinement.specs.Cut.{Sides, sides_of}
 use Rattle.confine_check.specs.declared.block.Block.{Block}
 use Rattle.confine_check.specs.declared.fault.CutFault.{CutFault}

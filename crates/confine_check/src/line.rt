@@ -2,7 +2,6 @@
 ghost use Rattle.std.specs.Prelude.{◌≡◌, ◌==◌, ◌||◌, ◌<◌, ◌≤◌, length, IfOk, IfSome};
 ghost use Rattle.coy_text.specs.Words.{words_of};
 ghost use Rattle.listing_read.specs.Faults.{ensured};
-ghost use Rattle.listing_read.specs.Line.{is_visible_line, is_skipped};
 ghost use Rattle.confinement.specs.Cut.{sides_of};
 ghost use Rattle.confine_check.specs.declared.fault.CutFault.TheVariants.{WrongWords};
 ghost use Rattle.confine_check.specs.CutLine.{kind_of, object_of, last_of, left_line, block_line, asked_by, cut_line, after_line, refusal};
@@ -12,7 +11,7 @@ use crate::cut::Cut;
 use crate::fault::CutFault;
 use cap_format::CapKind;
 use coy_io::LINE_LIMIT;
-use coy_text::{read_dec, word, word_count};
+use coy_text::{is_skipped, is_visible, read_dec, word, word_count};
 
 /// Puts the objects that a line names on the left. After a fault, and after a line that is skipped, the cut is as before.
 pub fn read_cut(line: &[u8], cut: &mut Cut) -> Result<(), CutFault>
@@ -145,21 +144,4 @@ fn last(size: usize, from: u16, line: &[u8]) -> Result<u16, CutFault>
         return object(size, word(line, 3));
     }
     Ok(from)
-}
-
-/// Whether all bytes of a line are spaces or visible characters of ASCII.
-fn is_visible(line: &[u8]) -> bool
-    ensures { result ≡ is_visible_line line.now }
-{
-    line.iter().all(|byte| 32 <= *byte && *byte <= 126)
-}
-
-/// Whether a line has nothing to say: no word, or a first word that begins with `#`.
-fn is_skipped(line: &[u8]) -> bool
-    ensures { result ≡ is_skipped (words_of line.now) }
-{
-    match word(line, 0) {
-        [] => true,
-        [first, ..] => *first == b'#',
-    }
 }

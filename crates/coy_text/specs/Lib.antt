@@ -1,3 +1,4 @@
 pub mod Numeral
 pub mod Words
+pub mod Line
 pub mod Reading

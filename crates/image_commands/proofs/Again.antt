@@ -8,7 +8,7 @@ use Rattle.coy_text.specs.Words.{words_of}
 use Rattle.image_binary.specs.Image.{image_of, unpacked}
 use Rattle.image_binary.specs.Laws.{ImagesAreRead, IsPacked}
 use Rattle.listing_read.specs.Faults.{◌>>=◌, ensured}
-use Rattle.listing_read.specs.Line.{is_skipped, is_visible_line}
+use Rattle.coy_text.specs.Line.{is_skipped, is_visible_line}
 use Rattle.listing_read.specs.Listing.{Good, IsListed, listing_of}
 use Rattle.listing_read.specs.Schedule.{asked_by, eventless_line, schedule_line}
 use Rattle.listing_read.specs.Statement.{ListingValue}

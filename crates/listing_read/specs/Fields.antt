@@ -1,6 +1,6 @@
 -- The fields of a line, each with its faults in the order in which they are tried: that it is no number, or no name that
 -- was given, then that it names no object or is out of its range.
-use Rattle.std.specs.Prelude.{ℕ, ◌+◌, ◌%◌, ◌==◌, ◌&&◌, nat_lt, nat_le, Bool, true, false, if◌then◌else◌, List, [], slice_index_or, bytes_eq, ok_or, Option, Some, None, Result, Ok, Err}
+use Rattle.std.specs.Prelude.{ℕ, ◌+◌, ◌%◌, ◌==◌, ◌&&◌, nat_lt, nat_le, Bool, true, false, if◌then◌else◌, List, [], bytes_eq, ok_or, Option, Some, None, Result, Ok, Err}
 use Rattle.coy_text.specs.Numeral.{dec_of, hex_of}
 use Rattle.cap_words.specs.Name.{name_of, called}
 use Rattle.cap_format.specs.declared.kind.CapKind.{CapKind}
@@ -13,10 +13,6 @@ use Rattle.listing_read.specs.Terms.{has_names}
 use Rattle.listing_read.specs.declared.terms.Terms.{Terms}
 use Rattle.listing_read.specs.declared.fault.Fault.{Fault}
 use Rattle.listing_read.specs.declared.fault.Fault.TheVariants.{BadNumber, NoObject, BadValue, BadName, NameUnknown}
-
--- word `n` of a line, from 0, which is empty where the line has no more
-abbrev pub field : List (List ℕ) → ℕ → List ℕ
-field words n = slice_index_or words n []
 
 -- a decimal number
 abbrev pub decimal_of : List ℕ → Result ℕ Fault

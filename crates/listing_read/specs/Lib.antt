@@ -2,7 +2,6 @@ pub mod Faults
 pub mod Names
 pub mod Terms
 pub mod Fields
-pub mod Line
 pub mod CapWord
 pub mod Bytes
 pub mod Statement

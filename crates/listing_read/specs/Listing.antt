@@ -2,12 +2,11 @@
 -- the version, the sizes and the names that earlier lines gave; and the listing that the lines make, in which every name
 -- is replaced by its number, or the first fault with the number of its line.
 use Rattle.std.specs.Prelude.{◌≡◌, ℕ, ◌+◌, ◌==◌, ◌&&◌, Bool, true, if◌then◌else◌, List, [], ◌∷◌, ◌++◌, length, ok_or, bytes_eq, codes, Option, Some, None, Result, Ok, Err, ⊤}
-use Rattle.coy_text.specs.Words.{words_of}
+use Rattle.coy_text.specs.Words.{words_of, field}
+use Rattle.coy_text.specs.Line.{is_visible_line, is_skipped}
 use Rattle.coy_io.specs.Lines.{Part, Line, LongLine, PastLimit}
 use Rattle.object_store.specs.Ranges.{IsWithinLimits}
 use Rattle.listing_read.specs.Faults.{◌>>=◌, ensured}
-use Rattle.listing_read.specs.Fields.{field}
-use Rattle.listing_read.specs.Line.{is_visible_line, is_skipped}
 use Rattle.listing_read.specs.Machine.{version_of, machine_of}
 use Rattle.listing_read.specs.Statement.{IsStatement, ListingValue}
 use Rattle.listing_read.specs.Terms.{has_names, terms_of, with_name}

@@ -3,7 +3,7 @@ use Rattle.std.specs.Prelude.{ℕ, ◌==◌, ◌&&◌, nat_le, List, length, byt
 use Rattle.object_store.specs.declared.sizes.Sizes.{Sizes}
 use Rattle.listing_read.specs.declared.terms.Version.{Version}
 use Rattle.listing_read.specs.declared.terms.Version.TheVariants.{One, Two}
-use Rattle.listing_read.specs.Fields.{field}
+use Rattle.coy_text.specs.Words.{field}
 use Rattle.coy_text.specs.Reading.{◌>>=◌, given}
 use Rattle.cap_words.specs.Spelling.{dec_to}
 

@@ -1,11 +1,10 @@
 -- A schedule: what each of its lines asks of a machine with so many harts, or the line's first fault.
 use Rattle.std.specs.Prelude.{ℕ, ◌==◌, ◌&&◌, nat_lt, nat_le, ◌<◌, ◌≤◌, if◌then◌else◌, List, length, ok_or, bytes_eq, codes, Option, Some, None, Result, Ok, Err}
 use Rattle.coy_text.specs.Numeral.{dec_of}
-use Rattle.coy_text.specs.Words.{words_of}
+use Rattle.coy_text.specs.Words.{words_of, field}
+use Rattle.coy_text.specs.Line.{is_visible_line, is_skipped}
 use Rattle.coy_io.specs.declared.TheConstants.{LINE_LIMIT}
 use Rattle.listing_read.specs.Faults.{◌>>=◌, ensured}
-use Rattle.listing_read.specs.Fields.{field}
-use Rattle.listing_read.specs.Line.{is_visible_line, is_skipped}
 use Rattle.listing_read.specs.declared.fault.ScheduleFault.{ScheduleFault}
 use Rattle.listing_read.specs.declared.fault.ScheduleFault.TheVariants.{LineTooLong, BadByte, UnknownEvent, WrongWords, BadNumber, NoHart, BadRepeat, EventInPack}
 use Rattle.listing_read.specs.declared.schedule.Timed.{Timed}

@@ -14,7 +14,8 @@ use Rattle.listing_read.specs.Names.{is_taken}
 use Rattle.listing_read.specs.Terms.{has_names}
 use Rattle.listing_read.specs.declared.terms.Terms.{Terms}
 use Rattle.listing_read.specs.declared.names.Naming.{Naming}
-use Rattle.listing_read.specs.Fields.{field, hex_number_of, object_of, plain_object_of, first_page_of, between_of, hex_to, aligned_to, either_of}
+use Rattle.coy_text.specs.Words.{field}
+use Rattle.listing_read.specs.Fields.{hex_number_of, object_of, plain_object_of, first_page_of, between_of, hex_to, aligned_to, either_of}
 use Rattle.listing_read.specs.Bytes.{bytes_of}
 use Rattle.listing_read.specs.CapWord.{cap_of}
 use Rattle.listing_read.specs.Statement.{is_recipient}

@@ -1,11 +1,11 @@
 //! Bytes written as pairs of hexadecimal digits.
-ghost use Rattle.std.specs.Prelude.{◌≡◌, ◌≤◌, ◌<◌, ◌*◌, ◌%◌, IfOk, IfSome, length};
-ghost use Rattle.coy_text.specs.Numeral.{hex_digit};
+ghost use Rattle.std.specs.Prelude.{◌≡◌, ◌≤◌, ◌*◌, ◌%◌, IfOk, IfSome, length};
 ghost use Rattle.listing_read.specs.Bytes.{byte_of, bytes_of};
 ghost use Rattle.listing_read.specs.StatementLines.{hex_bytes_of};
 
 use crate::fault::Fault;
 use crate::page_bytes::PageBytes;
+use coy_text::hex_value;
 
 /// 1 to 64 bytes.
 #[tactic(auto, unfolding(crate::specs::StatementLines::hex_bytes_of))]
@@ -40,17 +40,5 @@ fn pairs(digits: &[u8]) -> Option<PageBytes>
 fn byte(high: u8, low: u8) -> Option<u8>
     ensures { result ≡ byte_of high low }
 {
-    Some(digit(high)? * 16 + digit(low)?)
-}
-
-fn digit(byte: u8) -> Option<u8>
-    ensures value { result ≡ hex_digit byte }
-    ensures below { IfSome result (λ digit. digit < 16) }
-{
-    match byte {
-        b'0'..=b'9' => Some(byte - b'0'),
-        b'A'..=b'F' => Some(byte - b'A' + 10),
-        b'a'..=b'f' => Some(byte - b'a' + 10),
-        _ => None,
-    }
+    Some(hex_value(high)? * 16 + hex_value(low)?)
 }

@@ -9,7 +9,6 @@ mod fault;
 mod fields;
 mod flags;
 mod hex_bytes;
-mod line;
 mod listing;
 mod memory_statements;
 mod names;

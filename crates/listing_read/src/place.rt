@@ -1,21 +1,19 @@
 //! What a line says in its place.
 ghost use Rattle.std.specs.Prelude.{◌≡◌, true, bytes_eq, codes, IfOk, OnOk, IfSome};
-ghost use Rattle.coy_text.specs.Words.{words_of};
+ghost use Rattle.coy_text.specs.Words.{words_of, field};
 ghost use Rattle.object_store.specs.Ranges.{IsWithinLimits};
-ghost use Rattle.listing_read.specs.Fields.{field};
 ghost use Rattle.listing_read.specs.declared.place.Place.TheVariants.{Header, Machine, Statements};
 ghost use Rattle.listing_read.specs.Machine.{version_named, version_of, machine_of};
 ghost use Rattle.listing_read.specs.Listing.{header_line, machine_line, end_line, says_line, calls_line, stating_line, further_line, judged, fault_at_end, place_with, EndsAt, IsPlace, IsSaid};
 
 use crate::fault::Fault;
 use crate::fields::has_words;
-use crate::line::{is_skipped, is_visible};
 use crate::names::{Names, Naming};
 use crate::statement::Statement;
 use crate::statements::{naming, statement};
 use crate::terms::{Terms, Version};
 use cap_words::number_to;
-use coy_text::{word, word_count};
+use coy_text::{is_skipped, is_visible, word, word_count};
 use object_store::Sizes;
 use std::alloc::{AllocFailed, Global};
 

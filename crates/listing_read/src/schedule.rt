@@ -6,9 +6,8 @@ ghost use Rattle.listing_read.specs.Faults.{ensured};
 ghost use Rattle.listing_read.specs.Schedule.{IsTimed, schedule_number, hart_of, times_of, step_line, tick_line, round_line, timed_of, asked_by, schedule_line, eventless_line};
 
 use crate::fault::ScheduleFault;
-use crate::line::{is_skipped, is_visible};
 use coy_io::LINE_LIMIT;
-use coy_text::{read_dec, word, word_count};
+use coy_text::{is_skipped, is_visible, read_dec, word, word_count};
 
 /// What a line of a schedule asks for.
 #[derive(Clone, Copy)]

@@ -13,7 +13,7 @@ use Rattle.coy_io.specs.Lines.{IsUnfinished}
 use Rattle.listing_read.specs.Terms.{has_names}
 use Rattle.listing_read.specs.declared.terms.Terms.{Terms}
 use Rattle.listing_read.specs.declared.statement.Statement.{Statement}
-use Rattle.listing_read.specs.Line.{is_visible, says_nothing}
+use Rattle.coy_text.specs.Line.{is_visible, says_nothing}
 use Rattle.listing_read.specs.StatementLines.{statement_of}
 use Rattle.listing_read.specs.Listing.{judged, further_line, stating_line, says_line}
 use Rattle.statement_text.specs.Text.{line_feed, line_of}

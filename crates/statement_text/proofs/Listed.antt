@@ -12,7 +12,7 @@ use Rattle.coy_io.proofs.LineLaws.{parts-line_in_front}
 use Rattle.object_store.specs.declared.sizes.Sizes.{Sizes}
 use Rattle.object_store.specs.Ranges.{IsWithinLimits}
 use Rattle.cap_words.specs.Spelling.{dec_to}
-use Rattle.listing_read.specs.Line.{says_nothing}
+use Rattle.coy_text.specs.Line.{says_nothing}
 use Rattle.listing_read.specs.Machine.{version_of, machine_of}
 use Rattle.listing_read.specs.Terms.{terms_of}
 use Rattle.listing_read.specs.Statement.{IsStatement, ListingValue}

@@ -10,7 +10,7 @@ use Rattle.coy_text.specs.Numeral.{hex_glyph, hex_text}
 use Rattle.coy_text.proofs.NumeralLaws.{length_decimal_32, length-hex_text}
 use Rattle.coy_text.specs.Words.{lacks, is_word}
 use Rattle.coy_io.specs.Lines.{IsUnfinished}
-use Rattle.listing_read.specs.Line.{is_visible}
+use Rattle.coy_text.specs.Line.{is_visible}
 
 -- a visible byte that is no space
 abbrev pub is_glyph : ℕ → Bool

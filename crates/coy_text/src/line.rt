@@ -1,20 +1,22 @@
 //! Lines without regard to what they say.
 ghost use Rattle.std.specs.Prelude.{◌≡◌};
+ghost use Rattle.coy_text.specs.Line.{is_visible_line, is_skipped};
 ghost use Rattle.coy_text.specs.Words.{words_of};
-ghost use Rattle.listing_read.specs.Line.{is_visible_line, is_skipped};
+
+use crate::word;
 
 /// Whether all bytes of a line are spaces or visible characters of ASCII.
-pub(crate) fn is_visible(line: &[u8]) -> bool
+pub fn is_visible(line: &[u8]) -> bool
     ensures { result ≡ is_visible_line line.now }
 {
     line.iter().all(|byte| 32 <= *byte && *byte <= 126)
 }
 
 /// Whether a line has nothing to say: no word, or a first word that begins with `#`.
-pub(crate) fn is_skipped(line: &[u8]) -> bool
+pub fn is_skipped(line: &[u8]) -> bool
     ensures { result ≡ is_skipped (words_of line.now) }
 {
-    match coy_text::word(line, 0) {
+    match word(line, 0) {
         [] => true,
         [first, ..] => *first == b'#',
     }

@@ -1,7 +1,7 @@
 -- Lines before anything is asked of their place: which bytes they may have, and which of them say nothing.
 use Rattle.std.specs.Prelude.{ℕ, ◌==◌, ◌&&◌, nat_le, Bool, true, List, [], ◌∷◌}
 use Rattle.std.specs.List.{list_all}
-use Rattle.listing_read.specs.Fields.{field}
+use Rattle.coy_text.specs.Words.{field}
 
 -- a space or a visible character of ASCII
 abbrev pub is_visible : ℕ → Bool
