@@ -1,5 +1,5 @@
 -- A verdict is Yes exactly where the cut holds.
-use Rattle.std.proofs.Common.{◌≡◌, ◌≢◌, ℕ, zero, suc, ◌+◌, ◌-◌, ◌<◌, ◌≤◌, ◌⊎◌, inl, inr, Bool, true, false, ◌&&◌, ◌||◌, nat_lt, if◌then◌else◌, List, [], ◌∷◌, length, get_or, replicate, map, Option, Some, None, refl, sym, ◌∙◌, ap, subst, arith}
+use Rattle.std.proofs.Common.{◌≡◌, ℕ, zero, suc, ◌+◌, ◌-◌, ◌<◌, ◌≤◌, ◌⊎◌, inl, inr, Bool, true, false, ◌&&◌, ◌||◌, nat_lt, if◌then◌else◌, List, [], ◌∷◌, length, get_or, replicate, map, Option, Some, None, refl, sym, ◌∙◌, ap, subst, arith}
 use Rattle.std.specs.Option.{option_or}
 use Rattle.std.proofs.lemmas.Bool.{cases_lt, and_parts, lt-ltb, ltb-true}
 use Rattle.std.proofs.lemmas.List.{get_or_past}
@@ -9,7 +9,7 @@ use Rattle.cap_format.specs.declared.kind.CapKind.TheVariants.{Null, Page, CapPa
 use Rattle.cap_format.specs.Kind.{is_counted, object_kind}
 use Rattle.cap_format.specs.Capability.{Capability, null, bare}
 use Rattle.cap_format.specs.Weakening.{is_harmless}
-use Rattle.confinement.specs.Cut.{Cut, side_of, MayHold, EachMayHold, AllOn, SleepApart}
+use Rattle.confinement.specs.Cut.{Cut, side_of, same_side, MayHold, EachMayHold, AllOn, SleepApart}
 use Rattle.gpt_objects.specs.Gpt.{GptValue, slot_of as gpt_slot_of, empty_gpt, empty_slots as empty_gpt_slots}
 use Rattle.page_store.specs.CapPage.{cap_at, empty_cappage}
 use Rattle.process_objects.specs.Process.{ProcessValue, capreg_of, slot_of, empty_process, empty_capregs, empty_slots as empty_process_slots}
@@ -19,30 +19,17 @@ use Rattle.object_store.specs.Store.{Store, Items, size_of, gpt_at, slot_at, cap
 use Rattle.object_store.proofs.Means.{slot_at-map_of, cappage_at-state_map, process_at-state_map, endpoint_at-state_map}
 use Rattle.schedules.specs.Queues.{QueuesValue, sleepers_of}
 use Rattle.object_store.specs.Meaning.{is_live, live, meaning, state_map}
-use Rattle.confine_check.specs.declared.verdict.Verdict.{Verdict}
-use Rattle.confine_check.specs.declared.verdict.Verdict.TheVariants.{Yes, Capability as CapabilityBreaks}
-use Rattle.confine_check.specs.Breach.{first_from, same_side, is_range, may_hold, places_in, cap_in, breach_at, breach_of_object, breach_of_kind, breach_of, found_by, across_at, least_on, sleeper_of}
+use Rattle.confine_check.specs.declared.verdict.Breach.{Breach}
+use Rattle.confine_check.specs.declared.verdict.Verdict.TheVariants.{Yes}
+use Rattle.confine_check.specs.Breach.{first_from, is_range, may_hold, places_in, cap_in, breach_at, breach_of_object, breach_of_kind, breach_of, found_by, across_at, least_on, sleeper_of}
 use Rattle.confine_check.specs.Full.{AreFull}
 use Rattle.confinement.proofs.Held.{may-null}
+use Rattle.confinement.proofs.Sides.{same_side-tells, same_side-true}
 use Rattle.confine_check.proofs.First.{first_zero, first_suc}
 use Rattle.confine_check.proofs.Least.{least-each, each-least}
 use Rattle.confine_check.specs.Laws.{VerdictLaw}
 
 -- ---- one capability
-
--- two sides are one where the test says so
-pub same_side-tells : (a b : Bool) → same_side a b ≡ true → a ≡ b
-same_side-tells true true e = refl
-same_side-tells false false e = refl
-same_side-tells true false e = absurd (cc (e))
-same_side-tells false true e = absurd (cc (e))
-
--- and it does where they are
-pub same_side-true : (a b : Bool) → a ≡ b → same_side a b ≡ true
-same_side-true true true e = refl
-same_side-true false false e = refl
-same_side-true true false e = absurd (cc (e))
-same_side-true false true e = absurd (cc (e))
 
 is_range-kind : (k : CapKind) → is_range k ≡ true → k ≡ Range
 is_range-kind Range e = refl
@@ -147,60 +134,31 @@ module _ {A : Type 0} where
       first_suc f i n
       ∙ both_none (f i) (first_from f (suc i) n) (all i (omega arith) (omega arith)) (each_none f n (suc i) (λ j low high. all j (omega (arith, low)) (omega (arith, high))))
 
-  -- what holds of each answer holds of the first
-  pub first_holds : (P : A → Type 0) (f : ℕ → Option A) → ((j : ℕ) (x : A) → f j ≡ Some x → P x) → (n i : ℕ) (x : A) → first_from f i n ≡ Some x → P x
-  first_holds P f all zero i x e = let h = sym (first_zero f i) ∙ e in absurd (cc (h))
-  first_holds P f all (suc n) i x e = by (f i) refl (sym (first_suc f i n) ∙ e) (λ rest. first_holds P f all n (suc i) x rest)
-    where
-      by : (o : Option A) → f i ≡ o → option_or o (first_from f (suc i) n) ≡ Some x → (first_from f (suc i) n ≡ Some x → P x) → P x
-      by None is e rest = rest e
-      by (Some y) is e rest = all i x (is ∙ e)
-
-  -- and so it does of one of two
+  -- what holds of each of two answers holds of the one that is taken
   pub either_holds : (P : A → Type 0) (a b : Option A) → ((x : A) → a ≡ Some x → P x) → ((x : A) → b ≡ Some x → P x) → (x : A) → option_or a b ≡ Some x → P x
   either_holds P None b first second x e = second x e
   either_holds P (Some a) b first second x e = first x e
 
 -- ---- no breach is a Yes
 
-module _ (cut : Cut) (s : Store) where
-  breach_by-not : (kind : CapKind) (n i : ℕ) (c : Capability) (b : Bool) (v : Verdict) → (if b then None else Some (CapabilityBreaks kind n i c)) ≡ Some v → v ≢ Yes
-  breach_by-not kind n i c true v e = absurd (cc (e))
-  breach_by-not kind n i c false v e = λ yes. let h : CapabilityBreaks kind n i c ≡ v = cc (e) in let g = h ∙ yes in cc
-
-  kind-not : (kind : CapKind) (v : Verdict) → breach_of_kind cut s kind ≡ Some v → v ≢ Yes
-  kind-not kind v e =
-      first_holds (λ v. v ≢ Yes) (breach_of_object cut s kind)
-      (λ n w f. first_holds (λ v. v ≢ Yes) (breach_at cut s kind n)
-      (λ i u g. breach_by-not kind n i (live s.items (cap_in s kind n i)) (may_hold cut (side_of cut kind n) (live s.items (cap_in s kind n i))) u g)
-      (places_in kind) 0 w f)
-      (size_of s.items kind) 0 v e
-
-  pub breach-not : (v : Verdict) → breach_of cut s ≡ Some v → v ≢ Yes
-  breach-not v e =
-      either_holds (λ v. v ≢ Yes) (breach_of_kind cut s CapPage) _ (kind-not CapPage)
-      (either_holds (λ v. v ≢ Yes) (breach_of_kind cut s Gpt) _ (kind-not Gpt)
-      (either_holds (λ v. v ≢ Yes) (breach_of_kind cut s Endpoint) (breach_of_kind cut s Process) (kind-not Endpoint) (kind-not Process)))
-      v e
-
 -- a Yes comes where neither is found
-found-none : (o : Option Verdict) (p : Option ℕ) → ((v : Verdict) → o ≡ Some v → v ≢ Yes) → found_by o p ≡ Yes → (o ≡ None) × (p ≡ None)
-found-none (Some v) p never e = absurd (never v refl e)
-found-none None (Some p) never e = absurd (cc (e))
-found-none None None never e = (refl, refl)
+found-none : (o : Option Breach) (p : Option ℕ) → found_by o p ≡ Yes → (o ≡ None) × (p ≡ None)
+found-none (Some found) p e = absurd (cc (e))
+found-none None (Some p) e = absurd (cc (e))
+found-none None None e = (refl, refl)
 
-none-found : (o : Option Verdict) (p : Option ℕ) → o ≡ None → p ≡ None → found_by o p ≡ Yes
-none-found (Some v) p e f = absurd (cc (e))
+none-found : (o : Option Breach) (p : Option ℕ) → o ≡ None → p ≡ None → found_by o p ≡ Yes
+none-found (Some found) p e f = absurd (cc (e))
 none-found None (Some p) e f = absurd (cc (f))
 none-found None None e f = refl
 
 -- ---- capabilities
 
-if_none : (b : Bool) (v : Verdict) → (if b then None else Some v) ≡ None → b ≡ true
+if_none : (b : Bool) (v : Breach) → (if b then None else Some v) ≡ None → b ≡ true
 if_none true v e = refl
 if_none false v e = absurd (cc (e))
 
-if_true : (b : Bool) (v : Verdict) → b ≡ true → (if b then None else Some v) ≡ None
+if_true : (b : Bool) (v : Breach) → b ≡ true → (if b then None else Some v) ≡ None
 if_true true v e = refl
 if_true false v e = absurd (cc (e))
 
@@ -411,7 +369,7 @@ module _ (cut : Cut) where
     | inr past ↦ subst (λ (xs : List ℕ). AllOn cut (side_of cut Process on) xs) (sym (get_or_past q.sleepers on [] past)) tt
   ]
 
-  apart-none : (q : QueuesValue) → SleepApart cut q → sleeper_of cut q ≡ None
+  pub apart-none : (q : QueuesValue) → SleepApart cut q → sleeper_of cut q ≡ None
   apart-none q apart =
       each-least (least_on cut q) (length q.sleepers) (λ on there.
       each-least (across_at cut q on) (length (sleepers_of q on)) (λ i lt.
@@ -422,7 +380,7 @@ module _ (cut : Cut) where
 -- the law of verdicts
 pub verdict_law : VerdictLaw
 verdict_law cut s q full = (
-  λ e. let none = found-none (breach_of cut s) (sleeper_of cut q) (breach-not cut s) e in
+  λ e. let none = found-none (breach_of cut s) (sleeper_of cut q) e in
       record { each = each-held cut s full (none-all cut s none.0); sleepers = none-apart cut q none.1 },
   λ holds. none-found (breach_of cut s) (sleeper_of cut q) (all-none cut s (held-all cut s holds.each)) (apart-none cut q holds.sleepers),
 )

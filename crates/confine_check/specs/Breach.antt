@@ -1,6 +1,6 @@
 -- What breaks a cut: the first capability that may not stand where it does, or the least process that sleeps on one of
 -- the other side. (Own; the order is that in which a state is printed.)
-use Rattle.std.specs.Prelude.{ℕ, zero, suc, ◌-◌, nat_lt, Bool, true, false, not, ◌&&◌, ◌||◌, if◌then◌else◌, length, slice_index, Option, Some, None}
+use Rattle.std.specs.Prelude.{ℕ, zero, suc, ◌-◌, nat_lt, Bool, true, false, ◌&&◌, ◌||◌, if◌then◌else◌, length, slice_index, Option, Some, None}
 use Rattle.std.specs.Option.{option_or}
 use Rattle.cap_format.specs.declared.kind.CapKind.{CapKind}
 use Rattle.cap_format.specs.declared.kind.CapKind.TheVariants.{CapPage, Gpt, Endpoint, Process, Range}
@@ -12,7 +12,8 @@ use Rattle.process_objects.specs.Process.{capreg_of, slot_of}
 use Rattle.object_store.specs.Store.{Store, size_of, slot_at, cappage_at, process_at, endpoint_at}
 use Rattle.object_store.specs.Meaning.{live}
 use Rattle.schedules.specs.Queues.{QueuesValue, sleepers_of}
-use Rattle.confinement.specs.Cut.{Cut, side_of}
+use Rattle.confinement.specs.Cut.{Cut, side_of, same_side}
+use Rattle.confine_check.specs.declared.verdict.Breach.{Breach}
 use Rattle.confine_check.specs.declared.verdict.Verdict.{Verdict}
 use Rattle.confine_check.specs.declared.verdict.Verdict.TheVariants.{Yes, Capability as CapabilityBreaks, Sleeper}
 
@@ -22,11 +23,6 @@ first_from f i zero = None
 first_from f i (suc n) = option_or (f i) (first_from f (suc i) n)
 
 -- ---- capabilities
-
--- whether two sides are one
-abbrev pub same_side : Bool → Bool → Bool
-same_side true b = b
-same_side false b = not b
 
 -- whether a capability is a Range
 abbrev pub is_range : CapKind → Bool
@@ -57,24 +53,28 @@ cap_in s Endpoint n i = (endpoint_at s n).recipient
 cap_in s Process n i = if nat_lt i 3 then slot_of (process_at s n) i else capreg_of (process_at s n) (i - 3)
 cap_in s _ n i = null
 
+-- a capability in this place of this object, which may not stand there
+abbrev pub breach_with : CapKind → ℕ → ℕ → Capability → Breach
+breach_with kind n i c = record { kind = kind; number = n; place = i; cap = c }
+
 -- what a capability breaks that means this, where it may not stand there
-abbrev pub breach_by : Cut → CapKind → ℕ → ℕ → Capability → Option Verdict
-breach_by cut kind n i c = if may_hold cut (side_of cut kind n) c then None else Some (CapabilityBreaks kind n i c)
+abbrev pub breach_by : Cut → CapKind → ℕ → ℕ → Capability → Option Breach
+breach_by cut kind n i c = if may_hold cut (side_of cut kind n) c then None else Some (breach_with kind n i c)
 
 -- the same of the one that stands there
-abbrev pub breach_at : Cut → Store → CapKind → ℕ → ℕ → Option Verdict
+abbrev pub breach_at : Cut → Store → CapKind → ℕ → ℕ → Option Breach
 breach_at cut s kind n i = breach_by cut kind n i (live s.items (cap_in s kind n i))
 
 -- the first of an object
-abbrev pub breach_of_object : Cut → Store → CapKind → ℕ → Option Verdict
+abbrev pub breach_of_object : Cut → Store → CapKind → ℕ → Option Breach
 breach_of_object cut s kind n = first_from (breach_at cut s kind n) 0 (places_in kind)
 
 -- the first of the objects of a kind
-abbrev pub breach_of_kind : Cut → Store → CapKind → Option Verdict
+abbrev pub breach_of_kind : Cut → Store → CapKind → Option Breach
 breach_of_kind cut s kind = first_from (breach_of_object cut s kind) 0 (size_of s.items kind)
 
 -- the first of all objects; pages hold none
-abbrev pub breach_of : Cut → Store → Option Verdict
+abbrev pub breach_of : Cut → Store → Option Breach
 breach_of cut s =
     option_or (breach_of_kind cut s CapPage)
     (option_or (breach_of_kind cut s Gpt)
@@ -111,9 +111,19 @@ sleeper_of cut q = least_below (least_on cut q) (length q.sleepers)
 
 -- ---- the verdict
 
+-- a cut that this capability breaks
+abbrev pub broken_by : Breach → Verdict
+broken_by found = CapabilityBreaks found.kind found.number found.place found.cap
+
+-- the capability that a verdict tells, if it tells one
+abbrev pub breach_in : Verdict → Option Breach
+breach_in Yes = None
+breach_in (CapabilityBreaks kind n i c) = Some (breach_with kind n i c)
+breach_in (Sleeper p) = None
+
 -- a capability that breaks the cut, or else a sleeper that does, or that it holds
-abbrev pub found_by : Option Verdict → Option ℕ → Verdict
-found_by (Some found) sleeper = found
+abbrev pub found_by : Option Breach → Option ℕ → Verdict
+found_by (Some found) sleeper = broken_by found
 found_by None (Some p) = Sleeper p
 found_by None None = Yes
 

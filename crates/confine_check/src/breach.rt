@@ -3,12 +3,13 @@ ghost use Rattle.std.specs.Prelude.{ℕ, ◌≡◌, ◌<◌, ◌≤◌, ◌+◌,
 ghost use Rattle.cap_format.specs.declared.kind.CapKind.TheVariants.{Gpt};
 ghost use Rattle.process_objects.specs.Process.{slot_of, capreg_of};
 ghost use Rattle.object_store.specs.Store.{size_of};
+ghost use Rattle.confinement.specs.Cut.{same_side};
 ghost use Rattle.confine_check.specs.Sides.{cut_of};
-ghost use Rattle.confine_check.specs.Breach.{same_side, may_hold, places_in, cap_in, breach_at, breach_of_object, breach_of_kind, breach_of, reads_in, object_reads};
+ghost use Rattle.confine_check.specs.Breach.{may_hold, places_in, cap_in, breach_at, breach_of_object, breach_of_kind, breach_of, broken_by, reads_in, object_reads};
 ghost use Rattle.confine_check.specs.Found.{kinds_before, reads_to};
 
 use crate::cut::Cut;
-use crate::verdict::Verdict;
+use crate::verdict::Breach;
 use cap_format::{Cap, CapKind, is_harmless};
 use object_store::Objects;
 use process_objects::Process;
@@ -92,7 +93,7 @@ fn breach_at<L: Ledger>(
     n: u16,
     i: u16,
     fetches: &mut Steps<L>,
-) -> Option<Verdict>
+) -> Option<Breach>
     requires there { n < size_of objects.now.items kind }
     requires place { i < places_in kind }
     ensures value { result ≡ breach_at (cut_of cut.now) objects.now kind n i }
@@ -102,7 +103,7 @@ fn breach_at<L: Ledger>(
     if may_hold(cut, cut.is_left(kind, n as u32), cap) {
         return None;
     }
-    Some(Verdict::Capability {
+    Some(Breach {
         kind,
         number: n,
         place: i,
@@ -117,12 +118,12 @@ fn breach_of_object<L: Ledger>(
     kind: CapKind,
     n: u16,
     fetches: &mut Steps<L>,
-) -> Option<Verdict>
+) -> Option<Breach>
     requires { n < size_of objects.now.items kind }
     ensures value { result ≡ breach_of_object (cut_of cut.now) objects.now kind n }
     ensures counted { result ≡ None → fetches.new ≡ fetches.old + object_reads kind }
     ensures exact { let gpts = size_of objects.now.items Gpt in IfSome result (λ found.
-        fetches.new + kinds_before kind gpts + object_reads kind * n ≡ fetches.old + reads_to found gpts) }
+        fetches.new + kinds_before kind gpts + object_reads kind * n ≡ fetches.old + reads_to (broken_by found) gpts) }
     ensures most { fetches.new ≤ fetches.old + object_reads kind }
 {
     'each: for i in 0..places(kind) {
@@ -154,12 +155,12 @@ fn breach_of_kind<L: Ledger>(
     cut: &Cut,
     kind: CapKind,
     fetches: &mut Steps<L>,
-) -> Option<Verdict>
+) -> Option<Breach>
     ensures value { result ≡ breach_of_kind (cut_of cut.now) objects.now kind }
     ensures counted { result ≡ None →
         fetches.new ≡ fetches.old + object_reads kind * size_of objects.now.items kind }
     ensures exact { let gpts = size_of objects.now.items Gpt in IfSome result (λ found.
-        fetches.new + kinds_before kind gpts ≡ fetches.old + reads_to found gpts) }
+        fetches.new + kinds_before kind gpts ≡ fetches.old + reads_to (broken_by found) gpts) }
     ensures most { fetches.new ≤ fetches.old + object_reads kind * size_of objects.now.items kind }
 {
     'each: for n in 0..size(objects, kind) {
@@ -175,12 +176,12 @@ pub(crate) fn breach_of<L: Ledger>(
     objects: &Objects,
     cut: &Cut,
     fetches: &mut Steps<L>,
-) -> Option<Verdict>
+) -> Option<Breach>
     ensures value { result ≡ breach_of (cut_of cut.now) objects.now }
     ensures counted { result ≡ None →
         fetches.new ≡ fetches.old + 16 * size_of objects.now.items Gpt }
     ensures exact { IfSome result (λ found.
-        fetches.new ≡ fetches.old + reads_to found (size_of objects.now.items Gpt)) }
+        fetches.new ≡ fetches.old + reads_to (broken_by found) (size_of objects.now.items Gpt)) }
     ensures most { fetches.new ≤ fetches.old + 16 * size_of objects.now.items Gpt }
 {
     if let Some(found) = breach_of_kind(objects, cut, CapKind::CapPage, fetches) {

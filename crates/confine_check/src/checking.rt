@@ -8,14 +8,14 @@ ghost use Rattle.confinement.specs.Acts.{system_of};
 ghost use Rattle.confinement.specs.Separation.{Separated};
 ghost use Rattle.confine_check.specs.declared.verdict.Verdict.TheVariants.{Yes};
 ghost use Rattle.confine_check.specs.Sides.{cut_of};
-ghost use Rattle.confine_check.specs.Breach.{verdict_of};
+ghost use Rattle.confine_check.specs.Breach.{broken_by, verdict_of};
 ghost use Rattle.confine_check.specs.Found.{meant, reads_to, verdict_in};
 ghost use Rattle.confine_check.specs.Full.{IsFull, AreFull};
 
 use crate::breach::breach_of;
 use crate::cut::Cut;
 use crate::sleeping::sleeper_of;
-use crate::verdict::Verdict;
+use crate::verdict::{Breach, Verdict};
 use machine_state::Machine;
 use object_store::Objects;
 use std::sync::ledger::Ledger;
@@ -58,7 +58,7 @@ fn verdict<T: Translator, L: Ledger>(
 {
     let objects = machine.objects();
     if let Some(found) = breach_of(objects, cut, fetches) {
-        return found;
+        return broken(found);
     }
     let count = objects.sizes().processes;
     match sleeper_of(machine.queues(), count, cut) {
@@ -67,8 +67,26 @@ fn verdict<T: Translator, L: Ledger>(
     }
 }
 
+/// A cut that this capability breaks.
+fn broken(found: Breach) -> Verdict
+    ensures { result ≡ broken_by found }
+{
+    let Breach {
+        kind,
+        number,
+        place,
+        cap,
+    } = found;
+    Verdict::Capability {
+        kind,
+        number,
+        place,
+        cap,
+    }
+}
+
 /// Does nothing: its contract tells that all objects have all of their places.
-fn tell_full(objects: &Objects)
+pub(crate) fn tell_full(objects: &Objects)
     ensures { AreFull objects.now }
 {
     objects.in_ranges();

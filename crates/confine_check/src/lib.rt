@@ -17,6 +17,6 @@ mod verdict;
 pub use checking::confined;
 pub use cut::Cut;
 pub use fault::CutFault;
-pub use laws::verdict_law;
+pub use laws::{verdict_in_law, verdict_law};
 pub use line::read_cut;
 pub use verdict::Verdict;

@@ -2,7 +2,7 @@ use Rattle.std.proofs.Common.{◌≡◌, ℕ, ◌+◌, ◌*◌, ◌<◌, ◌≤�
 use Rattle.cap_format.specs.declared.kind.CapKind.TheVariants.{Gpt}
 use Rattle.object_store.specs.Store.{size_of}
 use Rattle.confine_check.specs.Sides.{cut_of}
-use Rattle.confine_check.specs.Breach.{places_in, reads_in, object_reads, breach_at}
+use Rattle.confine_check.specs.Breach.{places_in, reads_in, object_reads, breach_at, broken_by}
 use Rattle.confine_check.specs.Found.{kinds_before, reads_to}
 use Rattle.confine_check.proofs.First.{first_next, first_here, first_past, reads-more, reads-places}
 use Rattle.confine_check.proofs.Found.{found-at}
@@ -18,7 +18,7 @@ returns-in-Some-clause-exact g c =
     let here = found-at (cut_of c.args.cut.now) c.args.objects.now c.args.kind c.args.n c.each.i c.in-Some.found (sym c.breach_at.ensures.value ∙ c.in-Some.is) in
     let more = reads-more (reads_in c.args.kind) c.each.i in
     let gpts : ℕ = size_of c.args.objects.now.items Gpt in
-    subst (λ v. c.breach_at.new.fetches + kinds_before c.args.kind gpts + object_reads c.args.kind * c.args.n ≡ c.args.fetches.now + reads_to v gpts) (sym here)
+    subst (λ v. c.breach_at.new.fetches + kinds_before c.args.kind gpts + object_reads c.args.kind * c.args.n ≡ c.args.fetches.now + reads_to (broken_by v) gpts) (sym here)
     (omega (arith, more, c.each.invariant.fetches, c.breach_at.ensures.counted))
 
 pub each-preserved : goal.each-preserved
