@@ -1,0 +1,4 @@
+pub mod Reading
+pub mod Cuts
+mod Closing
+pub mod Theorems

@@ -1,0 +1,6 @@
+pub mod DomainSet
+pub mod Policy
+pub mod Making
+pub mod Closure
+pub mod Bounds
+pub mod Laws

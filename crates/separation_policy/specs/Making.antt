@@ -1,0 +1,95 @@
+-- How a policy is made: first of one domain, then with more, with their objects and with who reads whom. (Own.)
+use Rattle.std.specs.Prelude.{ℕ, ◌+◌, ◌-◌, ◌==◌, Bool, false, not, List, [], ◌∷◌, ◌++◌, take, drop, replicate, codes, bytes_eq, slice_index_or, slice_set, position, Option, Some, None}
+use Rattle.std.specs.List.{count_by, list_any}
+use Rattle.cap_format.specs.declared.kind.CapKind.{CapKind}
+use Rattle.cap_format.specs.declared.kind.CapKind.TheVariants.{Page, CapPage, Gpt, Endpoint, Process}
+use Rattle.object_store.specs.declared.sizes.Sizes.{Sizes}
+use Rattle.separation_policy.specs.declared.policy.Domain.{Domain}
+use Rattle.separation_policy.specs.DomainSet.{no_domains, with_domain}
+use Rattle.separation_policy.specs.Policy.{Assigned, PolicyValue, assigned_of, domain_or_rest, unmade}
+
+-- a domain as it is made: it may read nobody
+abbrev pub domain_with : List ℕ → Domain
+domain_with name = record { name = name; reads = no_domains }
+
+-- no object of a machine of these sizes was assigned a domain
+abbrev pub none_assigned : Sizes → Assigned
+none_assigned sizes = record {
+  pages = replicate sizes.pages None;
+  cappages = replicate sizes.cappages None;
+  gpts = replicate sizes.gpts None;
+  processes = replicate sizes.processes None;
+  endpoints = replicate sizes.endpoints None;
+}
+
+-- the policy of one domain, `rest`
+abbrev pub first_policy : Sizes → PolicyValue
+first_policy sizes = record { domains = domain_with (codes "rest") ∷ []; assigned = none_assigned sizes }
+
+-- with a domain more
+abbrev pub with_made : PolicyValue → List ℕ → PolicyValue
+with_made policy name = record { domains = policy.domains ++ domain_with name ∷ []; assigned = policy.assigned }
+
+-- the elements from `from` to `to` are assigned this domain
+abbrev pub assigned_between : List (Option ℕ) → ℕ → ℕ → ℕ → List (Option ℕ)
+assigned_between assigned from to d = take from assigned ++ replicate (to + 1 - from) (Some d) ++ drop (to + 1) assigned
+
+-- the objects of these numbers of a kind are
+abbrev pub with_assigned_of : Assigned → CapKind → ℕ → ℕ → ℕ → Assigned
+with_assigned_of assigned Page from to d = record assigned { pages = assigned_between assigned.pages from to d }
+with_assigned_of assigned CapPage from to d = record assigned { cappages = assigned_between assigned.cappages from to d }
+with_assigned_of assigned Gpt from to d = record assigned { gpts = assigned_between assigned.gpts from to d }
+with_assigned_of assigned Process from to d = record assigned { processes = assigned_between assigned.processes from to d }
+with_assigned_of assigned Endpoint from to d = record assigned { endpoints = assigned_between assigned.endpoints from to d }
+with_assigned_of assigned _ from to d = assigned
+
+-- the policy where they are
+abbrev pub with_assigned : PolicyValue → CapKind → ℕ → ℕ → ℕ → PolicyValue
+with_assigned policy kind from to d = record { domains = policy.domains; assigned = with_assigned_of policy.assigned kind from to d }
+
+-- a domain that may read domain `b` too
+abbrev pub domain_reading : Domain → ℕ → Domain
+domain_reading domain b = record { name = domain.name; reads = with_domain domain.reads b }
+
+-- the policy where domain `a` may read domain `b` too
+abbrev pub with_reading : PolicyValue → ℕ → ℕ → PolicyValue
+with_reading policy a b = record {
+  domains = slice_set policy.domains a (domain_reading (slice_index_or policy.domains a unmade) b);
+  assigned = policy.assigned;
+}
+
+-- the number of the domain of this name, if it was made
+abbrev pub domain_called : PolicyValue → List ℕ → Option ℕ
+domain_called policy name = position (λ domain. bytes_eq domain.name name) policy.domains
+
+-- whether another domain than this was assigned
+abbrev pub is_other : ℕ → Option ℕ → Bool
+is_other d None = false
+is_other d (Some other) = not (other == d)
+
+-- whether another domain has one of the objects of these numbers of a kind
+abbrev pub is_assigned_other : PolicyValue → CapKind → ℕ → ℕ → ℕ → Bool
+is_assigned_other policy kind from to d = list_any (is_other d) (take (to + 1 - from) (drop from (assigned_of policy.assigned kind)))
+
+-- how many of these objects are of a domain
+abbrev pub count_in : ℕ → List (Option ℕ) → ℕ
+count_in d assigned = count_by (λ x. domain_or_rest x == d) assigned
+
+-- how many objects are of it
+abbrev pub object_count : PolicyValue → ℕ → ℕ
+object_count policy d =
+    let assigned = policy.assigned in
+    count_in d assigned.pages + count_in d assigned.cappages + count_in d assigned.gpts + count_in d assigned.processes + count_in d assigned.endpoints
+
+-- how many processes are
+abbrev pub process_count : PolicyValue → ℕ → ℕ
+process_count policy d = count_in d policy.assigned.processes
+
+-- the assigned domains of all objects, by the lists of the five kinds
+abbrev pub assigned_by_kind : List (Option ℕ) → List (Option ℕ) → List (Option ℕ) → List (Option ℕ) → List (Option ℕ) → Assigned
+assigned_by_kind pages cappages gpts processes endpoints =
+    record { pages = pages; cappages = cappages; gpts = gpts; processes = processes; endpoints = endpoints }
+
+-- the policy of these domains and lists
+abbrev pub policy_of : List Domain → Assigned → PolicyValue
+policy_of domains assigned = record { domains = domains; assigned = assigned }

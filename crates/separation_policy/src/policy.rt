@@ -1,0 +1,274 @@
+//! Policies: domains, their objects, and who may read whom.
+ghost use Rattle.std.specs.Prelude.{ℕ, ◌≡◌, ◌≤◌, ◌<◌, ◌+◌, ◌==◌, ◌++◌, ◌∷◌, [], bytes_eq, codes, length, position, slice_index_or, IfOk, IfSome, OnOk, OnErr};
+ghost use Rattle.std.specs.List.{list_any};
+ghost use Rattle.separation_policy.specs.Policy.{assigned_of, domain_of, domain_or_rest, unmade};
+ghost use Rattle.separation_policy.specs.Making.{first_policy, with_made, assigned_between, with_assigned, with_reading, domain_called, is_other, is_assigned_other, count_in, object_count, process_count};
+
+use crate::domain_set::DomainSet;
+use cap_format::{CapKind, OutOfMemory};
+use cap_words::{Name, read_name};
+use object_store::Sizes;
+use std::alloc::Global;
+use std::marker::Model;
+
+/// The most domains that a policy has, `rest` among them.
+pub const DOMAIN_LIMIT: usize = 64;
+
+/// A domain by its name, and whom it may read.
+#[derive(Drop)]
+pub struct Domain {
+    pub name: Name,
+    pub reads: DomainSet,
+}
+
+/// Which domain each object has, what the domains are called, and who may read whom. Domain 0 is `rest`, and has each
+/// object that was assigned to none.
+#[derive(Drop)]
+pub struct Policy {
+    domains: Vec<Domain>,
+    pages: Vec<Option<u8>>,
+    cappages: Vec<Option<u8>>,
+    gpts: Vec<Option<u8>>,
+    processes: Vec<Option<u8>>,
+    endpoints: Vec<Option<u8>>,
+}
+
+impl Model for Policy {
+    ghost use Rattle.separation_policy.specs.Policy.{PolicyValue};
+    ghost use Rattle.separation_policy.specs.Making.{assigned_by_kind, policy_of};
+    ghost use Rattle.separation_policy.specs.Bounds.{IsPolicy};
+
+    ghost Value = { PolicyValue };
+
+    ghost view = { λ p. policy_of p.domains.items (assigned_by_kind p.pages.items p.cappages.items p.gpts.items
+        p.processes.items p.endpoints.items) };
+
+    ghost invariant = { λ p. IsPolicy (policy_of p.domains.items (assigned_by_kind p.pages.items p.cappages.items
+        p.gpts.items p.processes.items p.endpoints.items)) };
+}
+
+impl Policy {
+    /// The policy of one domain, `rest`, for a machine of these sizes: each object is of it.
+    pub fn new(alloc: Global, sizes: Sizes) -> Result<Policy, OutOfMemory>
+        ensures { IfOk result (λ policy. policy ≡ first_policy sizes) }
+    {
+        let mut domains = Vec::new(alloc);
+        domains.push(Domain {
+            name: rest_name(),
+            reads: DomainSet::empty(),
+        })?;
+        Ok(Policy {
+            domains,
+            pages: vec![in alloc; None; sizes.pages as usize]?,
+            cappages: vec![in alloc; None; sizes.cappages as usize]?,
+            gpts: vec![in alloc; None; sizes.gpts as usize]?,
+            processes: vec![in alloc; None; sizes.processes as usize]?,
+            endpoints: vec![in alloc; None; sizes.endpoints as usize]?,
+        })
+    }
+
+    /// How many domains there are.
+    pub fn len(&self) -> usize
+        ensures value { result ≡ length self.now.domains }
+        ensures few { result ≤ 64 }
+    {
+        self.domains.len()
+    }
+
+    /// The name of a domain. A domain that was never made has an empty one.
+    pub fn name(&self, domain: u8) -> &[u8]
+        ensures { result.now ≡ (slice_index_or self.now.domains domain unmade).name }
+    {
+        if domain as usize >= self.domains.len() {
+            return &[];
+        }
+        self.domains[domain as usize].name.as_slice()
+    }
+
+    /// Whom a domain may read, as lines say it: the closure is `Closure`.
+    pub fn reads(&self, domain: u8) -> DomainSet
+        ensures { result ≡ (slice_index_or self.now.domains domain unmade).reads }
+    {
+        if domain as usize >= self.domains.len() {
+            return DomainSet::empty();
+        }
+        self.domains[domain as usize].reads
+    }
+
+    /// The domain of this name, if it was made.
+    pub fn domain_called(&self, name: &[u8]) -> Option<u8>
+        ensures value { result ≡ domain_called self.now name.now }
+        ensures there { IfSome result (λ d. d < length self.now.domains) }
+    {
+        match place_called(&self.domains, name) {
+            Some(found) => Some(found as u8),
+            None => None,
+        }
+    }
+
+    /// The domains that were assigned to the objects of a kind, none where it is no kind of objects.
+    fn of(&self, kind: CapKind) -> &[Option<u8>]
+        ensures value { result.now ≡ assigned_of self.now.assigned kind }
+        ensures small { length result.now < 65536 }
+    {
+        match kind {
+            CapKind::Page => &self.pages,
+            CapKind::CapPage => &self.cappages,
+            CapKind::Gpt => &self.gpts,
+            CapKind::Process => &self.processes,
+            CapKind::Endpoint => &self.endpoints,
+            _ => &[],
+        }
+    }
+
+    /// How many objects of a kind the machine has.
+    pub fn size(&self, kind: CapKind) -> usize
+        ensures value { result ≡ length (assigned_of self.now.assigned kind) }
+        ensures small { result < 65536 }
+    {
+        self.of(kind).len()
+    }
+
+    /// The domain of an object. One that the machine hasn't is of `rest`.
+    pub fn domain_of(&self, kind: CapKind, number: u32) -> u8
+        ensures { result ≡ domain_of self.now kind number }
+    {
+        match self.of(kind).get(number as usize) {
+            Some(assigned) => assigned_or_rest(*assigned),
+            None => 0,
+        }
+    }
+
+    /// Whether another domain was assigned to one of the objects `from` to `to` of a kind, both of them included.
+    pub fn is_assigned_other(&self, kind: CapKind, from: u16, to: u16, domain: u8) -> bool
+        requires order { from ≤ to }
+        requires there { to < length (assigned_of self.now.assigned kind) }
+        ensures { result ≡ is_assigned_other self.now kind from to domain }
+    {
+        self.of(kind)[from as usize..=to as usize]
+            .iter()
+            .any(|assigned| is_other(domain, *assigned))
+    }
+
+    /// How many objects are of a domain.
+    pub fn object_count(&self, domain: u8) -> u32
+        ensures { result ≡ object_count self.now domain }
+    {
+        count_in(domain, &self.pages)
+            + count_in(domain, &self.cappages)
+            + count_in(domain, &self.gpts)
+            + count_in(domain, &self.processes)
+            + count_in(domain, &self.endpoints)
+    }
+
+    /// How many processes are of a domain.
+    pub fn process_count(&self, domain: u8) -> u32
+        ensures { result ≡ process_count self.now domain }
+    {
+        count_in(domain, &self.processes)
+    }
+
+    /// Makes a domain behind the others, which has no object and may read nobody. The policy is as before where memory is
+    /// wanting.
+    pub fn make(&mut self, name: Name) -> Result<(), OutOfMemory>
+        requires { length self.old.domains < 64 }
+        ensures ok { OnOk result (self.new ≡ with_made self.old name) }
+        ensures err { OnErr result (self.new ≡ self.old) }
+    {
+        self.domains.push(Domain {
+            name,
+            reads: DomainSet::empty(),
+        })?;
+        Ok(())
+    }
+
+    /// Assigns a domain to the objects `from` to `to` of a kind, both of them included.
+    pub fn assign(&mut self, kind: CapKind, from: u16, to: u16, domain: u8)
+        requires order { from ≤ to }
+        requires there { to < length (assigned_of self.old.assigned kind) }
+        ensures { self.new ≡ with_assigned self.old kind from to domain }
+    {
+        let first = from as usize;
+        let last = to as usize;
+        match kind {
+            CapKind::Page => put_between(&mut self.pages, first, last, domain),
+            CapKind::CapPage => put_between(&mut self.cappages, first, last, domain),
+            CapKind::Gpt => put_between(&mut self.gpts, first, last, domain),
+            CapKind::Process => put_between(&mut self.processes, first, last, domain),
+            CapKind::Endpoint => put_between(&mut self.endpoints, first, last, domain),
+            _ => {}
+        }
+    }
+
+    /// Lets domain `reader` read domain `read` too.
+    pub fn allow(&mut self, reader: u8, read: u8)
+        requires reader { reader < length self.old.domains }
+        requires read { read < length self.old.domains }
+        ensures { self.new ≡ with_reading self.old reader read }
+    {
+        let now = self.domains[reader as usize].reads;
+        self.domains[reader as usize].reads = now.with(read);
+    }
+}
+
+/// Where the domain of this name stands.
+fn place_called(domains: &[Domain], name: &[u8]) -> Option<usize>
+    ensures value { result ≡ position (λ domain. bytes_eq domain.name name.now) domains.now }
+    ensures there { IfSome result (λ d. d < length domains.now) }
+{
+    domains
+        .iter()
+        .position(|domain| domain.name.as_slice() == name)
+}
+
+/// The name of the first domain.
+#[tactic(auto, unfolding(cap_words::specs::Name::name_of))]
+fn rest_name() -> Name
+    ensures { result ≡ codes "rest" }
+{
+    match read_name(b"rest".as_slice()) {
+        Some(name) => name,
+        None => unreachable!(),
+    }
+}
+
+/// The domain that was assigned, or `rest`.
+fn assigned_or_rest(assigned: Option<u8>) -> u8
+    ensures { result ≡ domain_or_rest assigned }
+{
+    match assigned {
+        Some(domain) => domain,
+        None => 0,
+    }
+}
+
+/// Whether another domain than this was assigned.
+fn is_other(domain: u8, assigned: Option<u8>) -> bool
+    ensures { result ≡ is_other domain assigned }
+{
+    match assigned {
+        Some(other) => other != domain,
+        None => false,
+    }
+}
+
+/// How many of these objects are of a domain.
+fn count_in(domain: u8, assigned: &[Option<u8>]) -> u32
+    requires { length assigned.now < 65536 }
+    ensures value { result ≡ count_in domain assigned.now }
+    ensures most { result ≤ length assigned.now }
+{
+    assigned
+        .iter()
+        .filter(|one| assigned_or_rest(**one) == domain)
+        .count() as u32
+}
+
+/// Assigns a domain to the elements from `from` to `to`.
+fn put_between(assigned: &mut [Option<u8>], from: usize, to: usize, domain: u8)
+    requires order { from ≤ to }
+    requires there { to < length assigned.old }
+    ensures { assigned.new ≡ assigned_between assigned.old from to domain }
+{
+    assigned[from..=to].fill(Some(domain));
+}
