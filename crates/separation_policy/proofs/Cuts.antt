@@ -9,8 +9,7 @@ use Rattle.cap_format.specs.Capability.{Capability}
 use Rattle.cap_format.specs.Weakening.{is_harmless}
 use Rattle.schedules.specs.Queues.{sleepers_of, stands_in}
 use Rattle.operations.specs.System.{System}
-use Rattle.confinement.specs.Cut.{Cut, side_of, NamesOwn, MayCross, MayHold, AllOn, SleepApart, Holds}
-use Rattle.isolation.specs.Turns.{same_side}
+use Rattle.confinement.specs.Cut.{Cut, side_of, same_side, NamesOwn, MayCross, MayHold, AllOn, SleepApart, Holds}
 use Rattle.separation_policy.specs.Policy.{PolicyValue, rest_domain, domain_or_rest, domain_of, domain_named, Reads, MayStand, SleepAtHome, PolicyHolds, sees, side_by, sides_by, domain_cut, view_side, view_cut}
 use Rattle.separation_policy.specs.Laws.{CutsLaw}
 use Rattle.separation_policy.proofs.Reading.{reads-seen, seen-reads, sees-itself, sees-then}

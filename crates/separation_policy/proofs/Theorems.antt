@@ -1,24 +1,25 @@
 -- The theorems: those of confinement and isolation, for the cuts of each domain.
-use Rattle.std.proofs.Common.{◌≡◌, ◌≢◌, ℕ, ◌==◌, Bool, true, false, not, List, refl, ◌∙◌, eqb-true}
+use Rattle.std.proofs.Common.{◌≡◌, ◌≢◌, ℕ, ◌==◌, Bool, true, false, not, List, refl, ◌∙◌, eqb-true, [], ◌∷◌, filter, ap₂, if◌then◌else◌, Option, Some, None, ap, sym}
 use Rattle.std.proofs.lemmas.Bool.{eq-eqb}
 use Rattle.cap_format.specs.declared.kind.CapKind.{CapKind}
 use Rattle.cap_format.specs.declared.kind.CapKind.TheVariants.{Process}
+use Rattle.schedules.specs.Queues.{QueuesValue, ready_queue, hart_of}
 use Rattle.operations.specs.System.{System}
 use Rattle.machine_state.specs.declared.event.Event.{Event}
 use Rattle.machine_state.specs.State.{State}
-use Rattle.kernel_core.specs.Event.{performer, event_of}
+use Rattle.kernel_core.specs.Event.{event_of}
 use Rattle.kernel_core.specs.Run.{run_state}
-use Rattle.confinement.specs.Cut.{side_of}
-use Rattle.confinement.specs.Acts.{system_of}
+use Rattle.confinement.specs.Cut.{side_of, same_side}
+use Rattle.confinement.specs.Acts.{SparesPlaces, others_in, other_on, system_of}
 use Rattle.confinement.specs.Separation.{Kept}
+use Rattle.confinement.proofs.Sides.{same_side-tells, same_side-true}
 use Rattle.confinement.proofs.Runs.{event_kept, holds-run, holds-event}
-use Rattle.isolation.specs.Turns.{same_side}
 use Rattle.isolation.specs.Agree.{Agree}
 use Rattle.isolation.specs.Isolation.{AlikeRuns, Isolation}
-use Rattle.separation_policy.specs.Policy.{PolicyValue, rest_domain, domain_of, PolicyHolds, WritesAtHome, sees, domain_cut, view_side, view_cut, SameFor, Reads}
+use Rattle.separation_policy.specs.Policy.{PolicyValue, rest_domain, domain_of, PolicyHolds, StandStill, others_than, other_than, WritesAtHome, sees, domain_cut, view_side, view_cut, SameFor, Reads}
 use Rattle.separation_policy.specs.Laws.{IntegrityLaw, NoninterferenceLaw}
-use Rattle.separation_policy.proofs.Reading.{reads-seen, seen-reads, sees-itself}
-use Rattle.separation_policy.proofs.Cuts.{both-inside, side-inside, cuts_law}
+use Rattle.separation_policy.proofs.Reading.{same_answer, reads-seen, seen-reads, sees-itself}
+use Rattle.separation_policy.proofs.Cuts.{on-one-side, both-inside, side-inside, cuts_law}
 
 -- ---- integrity
 
@@ -30,13 +31,43 @@ module _ (policy : PolicyValue) where
       let a = domain_of policy Process p in
       other (eqb-true _ _ (both-inside policy (λ b. b == a) (λ side. true) kind Process n p same ∙ eq-eqb a a refl))
 
+  -- processes are on one side of a domain's cut where one of them is of the domain and the other too
+  one-domain : (p q : ℕ) → let cut = domain_cut policy (domain_of policy Process p) in same_side (side_of cut Process q) (side_of cut Process p) ≡ (domain_of policy Process q == domain_of policy Process p)
+  one-domain p q =
+      let a = domain_of policy Process p in
+      let inside : ℕ → Bool = λ b. b == a in
+      let weakly : Bool → Bool = λ side. true in
+      same_answer _ _
+      (λ e. both-inside policy inside weakly Process Process q p (same_side-tells _ _ e) ∙ eq-eqb a a refl)
+      (λ e. same_side-true _ _ (on-one-side policy inside weakly Process Process q p (e ∙ sym (eq-eqb a a refl))))
+
+  filter-same : (f g : ℕ → Bool) → ((x : ℕ) → f x ≡ g x) → (xs : List ℕ) → filter f xs ≡ filter g xs
+  filter-same f g same [] = refl
+  filter-same f g same (x ∷ xs) = ap₂ (λ (b : Bool) (rest : List ℕ). if b then x ∷ rest else rest) (same x) (filter-same f g same xs)
+
+  -- those on the other side of a domain's cut are those that are not of the domain
+  others-domain : (p : ℕ) (ps : List ℕ) → let cut = domain_cut policy (domain_of policy Process p) in others_in cut (side_of cut Process p) ps ≡ others_than policy (domain_of policy Process p) ps
+  others-domain p ps = filter-same _ _ (λ q. ap not (one-domain p q)) ps
+
+  other-domain : (p : ℕ) (on : Option ℕ) → let cut = domain_cut policy (domain_of policy Process p) in other_on cut (side_of cut Process p) on ≡ other_than policy (domain_of policy Process p) on
+  other-domain p None = refl
+  other-domain p (Some q) = ap (λ (b : Bool). if b then None else Some q) (one-domain p q)
+
+  stand-still : (p : ℕ) (q r : QueuesValue) → let cut = domain_cut policy (domain_of policy Process p) in SparesPlaces cut (side_of cut Process p) q r → StandStill policy (domain_of policy Process p) q r
+  stand-still p q r places = record {
+    ready = λ priority. sym (others-domain p (ready_queue q priority)) ∙ (places.ready priority ∙ others-domain p (ready_queue r priority));
+    harts = λ hart. sym (other-domain p (hart_of q hart)) ∙ (places.harts hart ∙ other-domain p (hart_of r hart));
+  }
+
   -- what each cut keeps, of a policy
-  at_home : (s : State) (e : Event) (t : State) → PolicyHolds policy (system_of t) → ((a : ℕ) → Kept (domain_cut policy a) s (performer s e) t) → WritesAtHome policy s e t
+  at_home : (s : State) (e : Event) (t : State) → PolicyHolds policy (system_of t) → ((a : ℕ) → Kept (domain_cut policy a) s e t) → WritesAtHome policy s e t
   at_home s e t holds kept = record {
     holds = holds;
     objects = λ p by kind n other. let each = kept (domain_of policy Process p) in each.spares p by kind n (across-domain kind n p other);
     sleepers = λ p by on other. let each = kept (domain_of policy Process p) in each.sleepers p by on (across-domain Process on p other);
+    places = λ p by. let each = kept (domain_of policy Process p) in stand-still p s.queues t.queues (each.places p by);
     idle = let each = kept rest_domain in each.idle;
+    still = let each = kept rest_domain in each.still;
   }
 
   -- the policy holds after each event
@@ -57,9 +88,9 @@ module _ (policy : PolicyValue) where
 pub integrity_law : IntegrityLaw
 integrity_law policy s holds before e =
     let t = run_state s before in
-    let then = policy-run policy s before holds in
-    at_home policy t e (event_of t e).state (policy-event policy t e then)
-    (λ a. event_kept (domain_cut policy a) t e ((cuts_law policy (system_of t)).0 then a).0)
+    let holds_then = policy-run policy s before holds in
+    at_home policy t e (event_of t e).state (policy-event policy t e holds_then)
+    (λ a. event_kept (domain_cut policy a) t e ((cuts_law policy (system_of t)).0 holds_then a).0)
 
 -- ---- noninterference
 

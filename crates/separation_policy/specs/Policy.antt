@@ -5,7 +5,7 @@
 -- writing and sending among them, and under a scheduler that gives each domain fixed turns. Here a policy lets domains read
 -- and no more, whether it holds is decided over the objects of a machine, and the turns of domains are a premise in place
 -- of a scheduler. Nothing is said of time, here or there.
-use Rattle.std.specs.Prelude.{◌≡◌, ◌≢◌, ℕ, zero, suc, ◌==◌, ◌&&◌, ◌||◌, ◌⊎◌, Bool, true, not, List, [], map, length, slice_index_or, Option, Some, None}
+use Rattle.std.specs.Prelude.{◌≡◌, ◌≢◌, ℕ, zero, suc, ◌<◌, ◌==◌, ◌&&◌, ◌||◌, ◌⊎◌, Bool, true, not, if◌then◌else◌, List, [], map, filter, length, slice_index_or, Option, Some, None}
 use Rattle.cap_format.specs.declared.kind.CapKind.{CapKind}
 use Rattle.cap_format.specs.declared.kind.CapKind.TheVariants.{Page, CapPage, Gpt, Endpoint, Process, Range}
 use Rattle.cap_format.specs.Kind.{is_counted, object_kind}
@@ -15,16 +15,17 @@ use Rattle.page_store.specs.CapPage.{cap_at}
 use Rattle.process_objects.specs.Process.{capreg_of, slot_of}
 use Rattle.object_store.specs.Store.{Store, slot_at, cappage_at, process_at, endpoint_at}
 use Rattle.object_store.specs.Object.{SameObject}
-use Rattle.schedules.specs.Queues.{QueuesValue, sleepers_of, stands_in}
+use Rattle.schedules.specs.Queues.{QueuesValue, ready_queue, sleepers_of, hart_of, stands_in}
 use Rattle.operations.specs.System.{System}
 use Rattle.machine_state.specs.declared.event.Event.{Event}
 use Rattle.machine_state.specs.declared.record.Record.{Record}
+use Rattle.machine_state.specs.Machine.{hart_in}
 use Rattle.machine_state.specs.State.{State}
 use Rattle.kernel_core.specs.Event.{performer, event_of}
 use Rattle.kernel_core.specs.Run.{run_state}
-use Rattle.confinement.specs.Cut.{Cut, Sides, Holds}
+use Rattle.confinement.specs.Cut.{Cut, Sides, same_side, Holds}
 use Rattle.confinement.specs.Acts.{SameSizes, system_of}
-use Rattle.isolation.specs.Turns.{Turn, same_side, turns, told}
+use Rattle.isolation.specs.Turns.{Turn, turns, told}
 use Rattle.separation_policy.specs.declared.policy.Domain.{Domain}
 use Rattle.separation_policy.specs.DomainSet.{no_domains, has_domain}
 
@@ -111,14 +112,31 @@ pub record PolicyHolds (policy : PolicyValue) (w : System) : Type 0 where
 
 -- ---- integrity
 
--- An event takes state `s` to state `t`. The policy holds afterwards; each object of another domain than that of the
+-- the processes of a list that are not of domain `a`, in their order
+abbrev pub others_than : PolicyValue → ℕ → List ℕ → List ℕ
+others_than policy a ps = filter (λ p. not (domain_of policy Process p == a)) ps
+
+-- the process on a hart, where it is not of domain `a`
+abbrev pub other_than : PolicyValue → ℕ → Option ℕ → Option ℕ
+other_than policy a None = None
+other_than policy a (Some p) = if domain_of policy Process p == a then None else Some p
+
+-- the processes that are not of domain `a` stand in the same order in each ready queue, and on the same harts
+pub record StandStill (policy : PolicyValue) (a : ℕ) (q r : QueuesValue) : Type 0 where
+  pub ready : (priority : ℕ) → others_than policy a (ready_queue q priority) ≡ others_than policy a (ready_queue r priority)
+  pub harts : (hart : ℕ) → other_than policy a (hart_of q hart) ≡ other_than policy a (hart_of r hart)
+
+-- An event takes state `s` to state `t`. The policy holds afterwards. Each object of another domain than that of the
 -- process which performs the event is the same, its age and state included, and so is who sleeps on each process of
--- another domain; and where nobody performs it, all of this is the same.
+-- another domain; and the processes of all other domains stand where they stood. Where nobody performs the event, no object
+-- changes, and no sleeper; and where it is one of a hart that there is, no queue and no hart.
 pub record WritesAtHome (policy : PolicyValue) (s : State) (e : Event) (t : State) : Type 0 where
   pub holds : PolicyHolds policy (system_of t)
   pub objects : (p : ℕ) → performer s e ≡ Some p → (kind : CapKind) (n : ℕ) → domain_of policy kind n ≢ domain_of policy Process p → SameObject kind n s.store t.store
   pub sleepers : (p : ℕ) → performer s e ≡ Some p → (on : ℕ) → domain_of policy Process on ≢ domain_of policy Process p → sleepers_of s.queues on ≡ sleepers_of t.queues on
+  pub places : (p : ℕ) → performer s e ≡ Some p → StandStill policy (domain_of policy Process p) s.queues t.queues
   pub idle : performer s e ≡ None → (t.store ≡ s.store) × (t.queues.sleepers ≡ s.queues.sleepers)
+  pub still : performer s e ≡ None → hart_in e < length s.queues.harts → t.queues ≡ s.queues
 
 -- *Nobody writes across*: so it is with every event, behind any events, from this state on.
 abbrev pub Integrity : PolicyValue → State → Type 0
