@@ -1,0 +1,86 @@
+//! Steps of one hart, one after the other.
+ghost use Rattle.std.specs.Prelude.{◌≡◌, ◌<◌, ◌≤◌, ◌-◌, ◌∷◌, [], IsTrue, replicate};
+ghost use Rattle.cap_format.specs.declared.kind.CapKind.TheVariants.{Process};
+ghost use Rattle.object_store.specs.Store.{size_of};
+ghost use Rattle.machine_state.specs.declared.event.Event.TheVariants.{Step};
+ghost use Rattle.machine_state.specs.State.{state_of};
+ghost use Rattle.kernel_core.specs.Event.{event_of, event_by};
+ghost use Rattle.untraced_steps.specs.Untraced.{CameUntraced, RanUntraced, TellsNothing, untraced};
+
+use crate::instructions::untraced_instruction;
+use decoded_words::Decoder;
+use kernel_core::{Machine, Records};
+use std::sync::ledger::Ledger;
+use steps::Steps;
+use walk_engine::Translator;
+
+/// Performs so many steps of a hart, one at least. It stops early behind a step that is more than an instruction of which
+/// a trace alone would tell, and answers how many it performed. What the last of them told is left in the list, but for
+/// records of accesses and instructions, some of which may be missing.
+pub fn run_untraced<T: Translator, L: Ledger>(
+    machine: &mut Machine<T>,
+    hart: u8,
+    times: u32,
+    decoder: &mut Decoder,
+    records: &mut Records,
+    fetches: &mut Steps<L>,
+) -> u32
+    requires hart { hart < machine.old.objects.harts }
+    requires some { 1 ≤ times }
+    ensures some { 1 ≤ result }
+    ensures most { result ≤ times }
+    ensures ran { RanUntraced T.kept T.cost T.after T.without (replicate result (Step hart))
+        machine.old fetches.old machine.new records.new fetches.new }
+    ensures before { TellsNothing (state_of machine.old) (replicate (result - 1) (Step hart)) }
+{
+    records.clear();
+    let mut done = 0;
+    'steps: loop {
+        let plain = step_untraced(machine, hart, decoder, records, fetches);
+        done += 1;
+        if !plain || done == times {
+            return done;
+        }
+    }
+}
+
+/// One step of a hart. Whether it was an instruction of which a trace alone tells, or nothing: then it leaves no record.
+fn step_untraced<T: Translator, L: Ledger>(
+    machine: &mut Machine<T>,
+    hart: u8,
+    decoder: &mut Decoder,
+    records: &mut Records,
+    fetches: &mut Steps<L>,
+) -> bool
+    requires hart { hart < machine.old.objects.harts }
+    requires none { records.old ≡ [] }
+    ensures came { CameUntraced T.kept T.cost T.after T.without (event_of (state_of machine.old) (Step hart))
+        machine.old fetches.old machine.new records.new fetches.new }
+    ensures plain { IsTrue result → records.new ≡ [] }
+{
+    if machine.halted() {
+        return true;
+    }
+    step_running(machine, hart, decoder, records, fetches)
+}
+
+/// The same of a machine that is not halted.
+#[tactic(auto, unfolding(kernel_core::specs::Event::event_by))]
+fn step_running<T: Translator, L: Ledger>(
+    machine: &mut Machine<T>,
+    hart: u8,
+    decoder: &mut Decoder,
+    records: &mut Records,
+    fetches: &mut Steps<L>,
+) -> bool
+    requires hart { hart < machine.old.objects.harts }
+    requires none { records.old ≡ [] }
+    ensures came { CameUntraced T.kept T.cost T.after T.without (event_by (state_of machine.old) (Step hart))
+        machine.old fetches.old machine.new records.new fetches.new }
+    ensures plain { IsTrue result → records.new ≡ [] }
+{
+    match machine.dispatch(hart) {
+        Some(p) => untraced_instruction(machine, p, decoder, records, fetches),
+        None => true,
+    }
+}
