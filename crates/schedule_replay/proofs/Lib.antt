@@ -6,5 +6,6 @@ pub mod Ran
 pub mod Reading
 pub mod ReadOn
 pub mod Asked
+mod First
 pub mod SoFar
 pub mod Counted

@@ -49,6 +49,10 @@ of_harts-append : (harts : ℕ) (first second : List Event) → OfHarts harts fi
 of_harts-append harts [] second f s = s
 of_harts-append harts (event ∷ first) second f s = (f.0, of_harts-append harts first second f.1 s)
 
+pub of_harts-behind : (harts : ℕ) (first second : List Event) → OfHarts harts (first ++ second) → OfHarts harts second
+of_harts-behind harts [] second all = all
+of_harts-behind harts (event ∷ first) second all = of_harts-behind harts first second all.1
+
 round_of_harts : (harts hart n : ℕ) → hart + n ≤ harts → OfHarts harts (steps_from hart n)
 round_of_harts harts hart zero h = tt
 round_of_harts harts hart (suc n) h = (omega arith, round_of_harts harts (suc hart) n (omega arith))

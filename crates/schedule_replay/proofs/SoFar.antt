@@ -11,13 +11,15 @@ use Rattle.coy_io.specs.Reader.{Reader, ahead}
 use Rattle.object_store.specs.Store.{Items}
 use Rattle.walk_meaning.specs.declared.kind.Kind.{Kind}
 use Rattle.machine_state.specs.declared.event.Event.{Event}
+use Rattle.machine_state.specs.declared.record.Record.{Record}
 use Rattle.kernel_core.specs.Machine.{MachineValue}
 use Rattle.kernel_core.specs.Run.{run_records}
 use Rattle.kernel_core.specs.State.{State, state_of}
 use Rattle.schedule_replay.specs.Counts.{AreAtMost, and_more, events_alone, counts_of}
 use Rattle.schedule_replay.specs.Replay.{Accords, FailsBehind, Follows, Ran, Replays, WritesRun, answer_at, run_answer, stop_answer}
 use Rattle.schedule_replay.specs.Scheduled.{Scheduled, Ending, AtEnd, AtFault, AtLimit, ends, preceded, scheduled, EndHere, IsNextLine, Reads}
-use Rattle.schedule_replay.specs.Told.{told}
+use Rattle.schedule_replay.specs.First.{RunsFirst}
+use Rattle.schedule_replay.specs.Told.{lines_of, told}
 use Rattle.schedule_replay.specs.declared.counts.Counts.{Counts}
 use Rattle.schedule_replay.specs.declared.lines.Stop.{Stop}
 use Rattle.schedule_replay.specs.declared.lines.Stop.TheVariants as stops
@@ -131,27 +133,28 @@ module _ {T K : Type 0} (kept : T → K) (cost : K → Items → Capability → 
     told-behind done events ran =
         told-append mode (state_of m) done events ∙ ap (λ s. told mode (state_of m) done ++ told mode s events) (sym ran.state)
 
-    -- one event more was run, written and counted
-    pub so_far-performed : (n1 : MachineValue T) (taken1 : Option (List ℕ)) (fetches1 : ℕ) (counts1 : Counts) (event : Event) (all left : List Event)
-        → all ≡ event ∷ left → SoFar n now held' taken' fetches' counts all → Ran kept cost after without n fetches' n1 fetches1 (event ∷ [])
-        → Appends taken' taken1 (told mode (state_of n) (event ∷ [])) → counts1 ≡ and_more counts 1 (run_records (state_of n) (event ∷ []))
-        → ((most : ℕ) → AreAtMost most counts → AreAtMost (most + 65) counts1) → SoFar n1 now held' taken1 fetches1 counts1 left
-    so_far-performed n1 taken1 fetches1 counts1 event all left split s ran text counted most =
-        let size : length (s.done ++ event ∷ []) ≡ length s.done + 1 = length-append s.done (event ∷ []) in
-        let sizes = ap length split in
+    -- these events more were run, written and counted
+    pub so_far-performed : (n1 : MachineValue T) (taken1 : Option (List ℕ)) (fetches1 : ℕ) (entries : List Record) (counts1 : Counts) (all split left : List Event)
+        → split ≡ all → (first : RunsFirst kept cost after without mode all left n fetches' n1 fetches1 entries counts counts1) → SoFar n now held' taken' fetches' counts split
+        → Appends taken' taken1 (lines_of mode entries) → SoFar n1 now held' taken1 fetches1 counts1 left
+    so_far-performed n1 taken1 fetches1 entries counts1 all split left is first s written =
+        let events : List Event = first.before ++ first.last ∷ [] in
+        let size : length (s.done ++ events) ≡ length s.done + length events = length-append s.done events in
+        let whole : split ≡ events ++ left = is ∙ first.split in
+        let sizes : length split ≡ length events + length left = ap length whole ∙ length-append events left in
         let few = s.few in
         record {
-          done = s.done ++ event ∷ [];
-          ran = ran-trans kept cost after without m n n1 fetches fetches' fetches1 s.done (event ∷ []) s.ran ran;
-          text = subst (Appends taken taken1) (sym (told-behind s.done (event ∷ []) s.ran))
-              (Appends-trans taken taken' taken1 (told mode (state_of m) s.done) (told mode (state_of n) (event ∷ [])) s.text text);
-          reads = reads-same m.objects.harts old now held held' (s.done ++ all) ((s.done ++ event ∷ []) ++ left)
-              (ap (λ es. s.done ++ es) split ∙ sym (append_assoc s.done (event ∷ []) left)) s.reads;
+          done = s.done ++ events;
+          ran = ran-trans kept cost after without m n n1 fetches fetches' fetches1 s.done events s.ran first.ran;
+          text = subst (Appends taken taken1) (sym (told-behind s.done events s.ran))
+              (Appends-trans taken taken' taken1 (told mode (state_of m) s.done) (told mode (state_of n) events) s.text (subst (Appends taken' taken1) first.lines written));
+          reads = reads-same m.objects.harts old now held held' (s.done ++ split) ((s.done ++ events) ++ left)
+              (ap (λ es. s.done ++ es) whole ∙ sym (append_assoc s.done events left)) s.reads;
           counted =
-              counted ∙ ap (λ k. and_more k 1 (run_records (state_of n) (event ∷ []))) s.counted
-              ∙ ap (λ t. and_more (counts_of (state_of m) s.done) 1 (run_records t (event ∷ []))) s.ran.state
-              ∙ counts_of-append (state_of m) s.done (event ∷ []);
-          most = at_most-trans (65 * length s.done + 65) (65 * length (s.done ++ event ∷ [])) counts1 (omega (arith, size)) (most (65 * length s.done) s.most);
+              first.counted ∙ ap (λ k. and_more k (length events) (run_records (state_of n) events)) s.counted
+              ∙ ap (λ t. and_more (counts_of (state_of m) s.done) (length events) (run_records t events)) s.ran.state
+              ∙ counts_of-append (state_of m) s.done events;
+          most = at_most-trans (65 * length s.done + 65 * length events) (65 * length (s.done ++ events)) counts1 (omega (arith, size)) (first.most (65 * length s.done) s.most);
           few = omega (arith, size, sizes, few);
         }
 
@@ -174,39 +177,44 @@ module _ {T K : Type 0} (kept : T → K) (cost : K → Items → Capability → 
           few = omega (arith, few, most, number);
         }
 
-    -- writing failed in the records of the next event
-    pub replays-cut : (n1 : MachineValue T) (taken1 : Option (List ℕ)) (fetches1 : ℕ) (event : Event) (all left : List Event)
-        → all ≡ event ∷ left → SoFar n now held' taken' fetches' counts all → Ran kept cost after without n fetches' n1 fetches1 (event ∷ [])
-        → AppendsSome taken' taken1 (told mode (state_of n) (event ∷ []))
+    -- writing failed in the records of the last of these events
+    pub replays-cut : (n1 : MachineValue T) (taken1 : Option (List ℕ)) (fetches1 : ℕ) (entries : List Record) (counts1 : Counts) (all split left : List Event)
+        → split ≡ all → (first : RunsFirst kept cost after without mode all left n fetches' n1 fetches1 entries counts counts1) → SoFar n now held' taken' fetches' counts split
+        → AppendsSome taken' taken1 (lines_of mode entries)
         → Replays kept cost after without mode m n1 old now held held' taken taken1 fetches fetches1 answers.WriteFault
-    replays-cut n1 taken1 fetches1 event all left split s ran some =
+    replays-cut n1 taken1 fetches1 entries counts1 all split left is first s some =
+        let events : List Event = first.before ++ first.last ∷ [] in
+        let whole : split ≡ events ++ left = is ∙ first.split in
         let before : List ℕ = told mode (state_of m) s.done in
-        let last : List ℕ = told mode (state_of n) (event ∷ []) in
-        let whole : told mode (state_of m) (s.done ++ event ∷ []) ≡ before ++ last = told-behind s.done (event ∷ []) s.ran in
+        let text : told mode (state_of m) (s.done ++ events) ≡ before ++ lines_of mode entries =
+        told-behind s.done events s.ran ∙ ap (λ lines. before ++ lines) (sym first.lines) in
+        let quiet : told mode (state_of m) (s.done ++ first.before) ≡ before =
+        told-behind s.done first.before s.ran ∙ ap (λ lines. before ++ lines) first.quiet ∙ append-nil before in
+        let quiet_size = ap length quiet in
         let count : ℕ = some.0 in
-        let short : count < length last = some.1 in
-        let size : length (told mode (state_of m) (s.done ++ event ∷ [])) ≡ length before + length last = ap length whole ∙ length-append before last in
-        let front : take (length before + count) (told mode (state_of m) (s.done ++ event ∷ [])) ≡ before ++ take count last =
-        ap (take (length before + count)) whole ∙ take-append-add before last count in
+        let short : count < length (lines_of mode entries) = some.1 in
+        let size : length (told mode (state_of m) (s.done ++ events)) ≡ length before + length (lines_of mode entries) = ap length text ∙ length-append before (lines_of mode entries) in
+        let front : take (length before + count) (told mode (state_of m) (s.done ++ events)) ≡ before ++ take count (lines_of mode entries) =
+        ap (take (length before + count)) text ∙ take-append-add before (lines_of mode entries) count in
         record {
-          events = s.done ++ event ∷ [];
-          ran = ran-trans kept cost after without m n n1 fetches fetches' fetches1 s.done (event ∷ []) s.ran ran;
+          events = s.done ++ events;
+          ran = ran-trans kept cost after without m n n1 fetches fetches' fetches1 s.done events s.ran first.ran;
           text = record {
-            before = s.done;
-            last = event;
-            all = refl;
+            before = s.done ++ first.before;
+            last = first.last;
+            all = sym (append_assoc s.done first.before (first.last ∷ []));
             count = length before + count;
-            written = subst (Appends taken taken1) (sym front) (Appends-trans taken taken' taken1 before (take count last) s.text some.2);
-            behind = omega arith;
+            written = subst (Appends taken taken1) (sym front) (Appends-trans taken taken' taken1 before (take count (lines_of mode entries)) s.text some.2);
+            behind = omega (arith, quiet_size);
             short = omega (arith, size, short);
           };
           follows = record {
             lines =
-                on_read m.objects.harts old now held held' ((s.done ++ event ∷ []) ++ left)
-                (Accords (run_answer (state_of m)) answers.WriteFault (s.done ++ event ∷ []))
-                (reads-same m.objects.harts old now held held' (s.done ++ all) ((s.done ++ event ∷ []) ++ left)
-                (ap (λ es. s.done ++ es) split ∙ sym (append_assoc s.done (event ∷ []) left)) s.reads)
-                (λ rest known. (left ++ (scheduled m.objects.harts now.number rest).events, append_assoc (s.done ++ event ∷ []) left (scheduled m.objects.harts now.number rest).events));
+                on_read m.objects.harts old now held held' ((s.done ++ events) ++ left)
+                (Accords (run_answer (state_of m)) answers.WriteFault (s.done ++ events))
+                (reads-same m.objects.harts old now held held' (s.done ++ split) ((s.done ++ events) ++ left)
+                (ap (λ es. s.done ++ es) whole ∙ sym (append_assoc s.done events left)) s.reads)
+                (λ rest known. (left ++ (scheduled m.objects.harts now.number rest).events, append_assoc (s.done ++ events) left (scheduled m.objects.harts now.number rest).events));
             read = λ fault. absurd (write-no-read fault);
           };
         }

@@ -1,11 +1,10 @@
 -- Counts of records, by parts.
-use Rattle.std.proofs.Common.{◌≡◌, ◌<◌, ◌≤◌, ◌+◌, ◌∙◌, ℕ, Bool, true, false, List, [], ◌∷◌, ◌++◌, length, get_or, drop, if◌then◌else◌, refl, sym, ap, arith}
+use Rattle.std.proofs.Common.{◌≡◌, ◌<◌, ◌≤◌, ◌+◌, ◌∙◌, ℕ, Bool, true, false, List, [], ◌∷◌, ◌++◌, length, get_or, drop, not, cond, if◌then◌else◌, refl, sym, ap, arith}
 use Rattle.machine_state.specs.declared.event.Event.{Event}
 use Rattle.machine_state.specs.declared.record.Record.{Record}
 use Rattle.machine_state.specs.declared.record.Record.TheVariants.{Access, Insn, Message, Fault, Log, Destroy, Halt}
-use Rattle.std.proofs.lemmas.Bool.{and_parts, false≢true}
-use Rattle.std.specs.List.{list_all}
-use Rattle.schedule_replay.specs.Told.{is_detail}
+use Rattle.std.proofs.lemmas.Bool.{false≢true}
+use Rattle.untraced_steps.specs.Untraced.{is_detail, untraced}
 use Rattle.kernel_core.proofs.Ran.{run_records-nil, run_records-append}
 use Rattle.kernel_core.specs.Run.{run_state, run_records}
 use Rattle.kernel_core.specs.State.{State}
@@ -48,22 +47,26 @@ no_kind (Log _ _) detail = absurd (false≢true detail)
 no_kind (Destroy _ _) detail = absurd (false≢true detail)
 no_kind (Halt _) detail = absurd (false≢true detail)
 
--- so no list of them has one
-details-none : (entries : List Record) → list_all is_detail entries ≡ true → (test : Record → Bool) → ((entry : Record) → is_detail entry ≡ true → test entry ≡ false) → how_many test entries ≡ 0
-unfolding how_many
-details-none [] all test passes = refl
-details-none (entry ∷ entries) all test passes =
-    let parts = and_parts (is_detail entry) (list_all is_detail entries) all in
-    let first = passes entry parts.0 in
-    let rest = details-none entries parts.1 test passes in
-    rw (first, rest) refl
+-- a kind that no access and no instruction is of is counted by the other records
+how_many-untraced : (test : Record → Bool) → ((entry : Record) → is_detail entry ≡ true → test entry ≡ false) → (entries : List Record) → how_many test (untraced entries) ≡ how_many test entries
+how_many-untraced test passes [] = refl
+how_many-untraced test passes (entry ∷ entries) = by (how_many-untraced test passes entries) (is_detail entry) refl
+  where
+    by : how_many test (untraced entries) ≡ how_many test entries → (b : Bool) → is_detail entry ≡ b
+        → how_many test (cond (not b) (entry ∷ untraced entries) (untraced entries)) ≡ how_many test (entry ∷ entries)
+    by rest true is =
+        let all = how_many-cons test entry entries ∙ ap (λ b. (if b then 1 else 0) + how_many test entries) (passes entry is) in
+        omega (arith, rest, all)
+    by rest false is = how_many-cons test entry (untraced entries) ∙ (ap (λ n. (if test entry then 1 else 0) + n) rest ∙ sym (how_many-cons test entry entries))
 
--- one event more, whose records are such
-pub and_more-details : (counts : Counts) (entries : List Record) → list_all is_detail entries ≡ true → record { events = counts.events + 1; messages = counts.messages; faults = counts.faults; logs = counts.logs; destroys = counts.destroys } ≡ and_more counts 1 entries
-and_more-details counts entries all =
-    let m = details-none entries all is_message (λ e d. (no_kind e d).0) in let f = details-none entries all is_fault (λ e d. (no_kind e d).1.0) in
-    let l = details-none entries all is_log (λ e d. (no_kind e d).1.1.0) in let d = details-none entries all is_destroy (λ e d. (no_kind e d).1.1.1) in
-    counts-same _ (and_more counts 1 entries) refl (omega (arith, m)) (omega (arith, f)) (omega (arith, l)) (omega (arith, d))
+-- so records that differ in accesses and instructions alone count alike
+pub and_more-untraced : (counts : Counts) (events : ℕ) (first second : List Record) → untraced first ≡ untraced second → and_more counts events first ≡ and_more counts events second
+and_more-untraced counts events first second same =
+    let alike : (test : Record → Bool) → ((entry : Record) → is_detail entry ≡ true → test entry ≡ false) → how_many test first ≡ how_many test second =
+    λ test passes. sym (how_many-untraced test passes first) ∙ (ap (how_many test) same ∙ how_many-untraced test passes second) in
+    let m = alike is_message (λ e d. (no_kind e d).0) in let f = alike is_fault (λ e d. (no_kind e d).1.0) in
+    let l = alike is_log (λ e d. (no_kind e d).1.1.0) in let d = alike is_destroy (λ e d. (no_kind e d).1.1.1) in
+    counts-same _ (and_more counts events second) refl (omega (arith, m)) (omega (arith, f)) (omega (arith, l)) (omega (arith, d))
 
 -- some, and then more
 pub and_more-append : (counts : Counts) (n k : ℕ) (first second : List Record) → and_more (and_more counts n first) k second ≡ and_more counts (n + k) (first ++ second)

@@ -1,5 +1,5 @@
 -- The lines of records, by parts.
-use Rattle.std.proofs.Common.{◌≡◌, ◌<◌, ◌+◌, ℕ, suc, true, not, if◌then◌else◌, List, [], ◌∷◌, ◌++◌, length, get_or, drop, refl, sym, ap, ◌∙◌, append_assoc, append-nil, arith}
+use Rattle.std.proofs.Common.{◌≡◌, ◌≢◌, ◌<◌, ◌+◌, ℕ, suc, Bool, true, false, not, cond, if◌then◌else◌, List, [], ◌∷◌, ◌++◌, length, get_or, drop, refl, sym, ap, ◌∙◌, append_assoc, append-nil, arith}
 use Rattle.std.proofs.lemmas.Bool.{and_parts, false≢true}
 use Rattle.std.specs.List.{list_all}
 use Rattle.std.proofs.Math.Seq.{drop-cons}
@@ -12,7 +12,8 @@ use Rattle.kernel_core.specs.State.{State}
 use Rattle.schedule_replay.specs.declared.mode.Mode.{Mode}
 use Rattle.schedule_replay.specs.declared.mode.Mode.TheVariants.{Silent, Records, Trace}
 use Rattle.run_text.specs.Record.{record_text}
-use Rattle.schedule_replay.specs.Told.{are_untold, is_detail, line_of, lines_of, told}
+use Rattle.untraced_steps.specs.Untraced.{is_detail, untraced}
+use Rattle.schedule_replay.specs.Told.{are_untold, line_of, lines_of, told}
 
 pub lines_of-nil : (mode : Mode) → lines_of mode [] ≡ []
 unfolding lines_of
@@ -56,11 +57,27 @@ details_untold (entry ∷ entries) all =
     ap (λ b. (if not b then record_text entry else []) ++ lines_of Records entries) parts.0
     ∙ details_untold entries parts.1
 
--- of these records nothing is told, and all are accesses and instructions
-pub untold : (mode : Mode) (entries : List Record) → are_untold mode entries ≡ true → (lines_of mode entries ≡ []) × (list_all is_detail entries ≡ true)
-untold Silent entries all = (silent_untold entries, all)
-untold Records entries all = (details_untold entries all, all)
+-- of these records nothing is told
+pub untold : (mode : Mode) (entries : List Record) → are_untold mode entries ≡ true → lines_of mode entries ≡ []
+untold Silent entries all = silent_untold entries
+untold Records entries all = details_untold entries all
 untold Trace entries all = absurd (false≢true all)
+
+-- where no trace is written the lines are those of the other records
+untraced_lines : (mode : Mode) → mode ≢ Trace → (entries : List Record) → lines_of mode (untraced entries) ≡ lines_of mode entries
+untraced_lines Trace other entries = absurd (other refl)
+untraced_lines Silent other entries = silent_untold (untraced entries) ∙ sym (silent_untold entries)
+untraced_lines Records other [] = refl
+untraced_lines Records other (entry ∷ entries) = by (untraced_lines Records other entries) (is_detail entry) refl
+  where
+    by : lines_of Records (untraced entries) ≡ lines_of Records entries → (b : Bool) → is_detail entry ≡ b
+        → lines_of Records (cond (not b) (entry ∷ untraced entries) (untraced entries)) ≡ lines_of Records (entry ∷ entries)
+    by rest true is = rest ∙ sym (lines_of-cons Records entry entries ∙ ap (λ b. (if not b then record_text entry else []) ++ lines_of Records entries) is)
+    by rest false is = lines_of-cons Records entry (untraced entries) ∙ (ap (λ more. line_of Records entry ++ more) rest ∙ sym (lines_of-cons Records entry entries))
+
+-- so records that differ in accesses and instructions alone have the same lines there
+pub same_lines : (mode : Mode) → mode ≢ Trace → (first second : List Record) → untraced first ≡ untraced second → lines_of mode first ≡ lines_of mode second
+same_lines mode other first second same = sym (untraced_lines mode other first) ∙ ap (lines_of mode) same ∙ untraced_lines mode other second
 
 -- ---- the lines of events
 

@@ -6,3 +6,4 @@ pub mod Asked
 pub mod Told
 pub mod Counts
 pub mod Replay
+pub mod First

@@ -3,18 +3,12 @@ use Rattle.std.specs.Prelude.{Bool, true, false, not, if◌then◌else◌, List,
 use Rattle.std.specs.List.{list_all}
 use Rattle.machine_state.specs.declared.event.Event.{Event}
 use Rattle.machine_state.specs.declared.record.Record.{Record}
-use Rattle.machine_state.specs.declared.record.Record.TheVariants.{Access, Insn}
 use Rattle.kernel_core.specs.State.{State}
 use Rattle.kernel_core.specs.Run.{run_records}
 use Rattle.run_text.specs.Record.{record_text}
+use Rattle.untraced_steps.specs.Untraced.{is_detail}
 use Rattle.schedule_replay.specs.declared.mode.Mode.{Mode}
 use Rattle.schedule_replay.specs.declared.mode.Mode.TheVariants.{Silent, Records, Trace}
-
--- an access or an instruction, of which a trace alone tells
-abbrev pub is_detail : Record → Bool
-is_detail (Access process kind address number) = true
-is_detail (Insn process at insn) = true
-is_detail _ = false
 
 -- the records that are written
 abbrev pub is_told : Mode → Record → Bool

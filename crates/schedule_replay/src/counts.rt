@@ -33,15 +33,15 @@ impl Counts {
     }
 }
 
-/// The counts after one event more, which told these records.
-pub(crate) fn count_event(counts: Counts, records: &[Record]) -> Counts
+/// The counts after so many events more, which told these records.
+pub(crate) fn count_events(counts: Counts, events: u32, records: &[Record]) -> Counts
     requires room { AreAtMost (2 ^ 62) counts }
     requires few { length records.now ≤ 64 }
-    ensures value { result ≡ and_more counts 1 records.now }
-    ensures most { (most : ℕ) → AreAtMost most counts → AreAtMost (most + 65) result }
+    ensures value { result ≡ and_more counts events records.now }
+    ensures most { (most : ℕ) → AreAtMost most counts → AreAtMost (most + events + 64) result }
 {
     let mut counts = counts;
-    counts.events += 1;
+    counts.events += events as u64;
     'each: for i in 0..records.len() {
         counts = count_record(counts, &records[i]);
     }

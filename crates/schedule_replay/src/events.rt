@@ -1,5 +1,6 @@
 //! The events of a line of the schedule, one after the other.
-ghost use Rattle.std.specs.Prelude.{◌≡◌, ◌<◌, ◌≤◌, ◌∷◌, [], ℕ, length, IfSome, IsNone, Some, None};
+ghost use Rattle.std.specs.Prelude.{◌≡◌, ◌<◌, ◌≤◌, ◌++◌, ◌∷◌, [], ℕ, length, replicate, IfSome, IsNone, Some, None};
+ghost use Rattle.machine_state.specs.declared.event.Event.TheVariants.{Step};
 ghost use Rattle.kernel_core.specs.Machine.{hart_in};
 ghost use Rattle.listing_read.specs.Schedule.{IsTimed};
 ghost use Rattle.schedule_replay.specs.Events.{line_events, left, IsTaken};
@@ -88,6 +89,31 @@ impl Events {
                 Some(Event::Step(0))
             }
             Events::NoneLeft => None,
+        }
+    }
+
+    /// Takes all steps of this hart that are left, where nothing else is, and answers how many they are; else none.
+    pub(crate) fn take_steps(&mut self, hart: u8) -> u32
+        ensures split { left self.old ≡ replicate result (Step hart) ++ left self.new }
+        ensures alone { 0 < result → left self.new ≡ [] }
+    {
+        let Events::StepsLeft { hart: next, times } = *self else {
+            return 0;
+        };
+        if next != hart {
+            return 0;
+        }
+        *self = Events::NoneLeft;
+        times
+    }
+
+    /// Puts so many steps of a hart back in front, where nothing is left or they are none.
+    pub(crate) fn put_back(&mut self, hart: u8, times: u32)
+        requires { 0 < times → left self.old ≡ [] }
+        ensures { left self.new ≡ replicate times (Step hart) ++ left self.old }
+    {
+        if times > 0 {
+            *self = Events::StepsLeft { hart, times };
         }
     }
 }

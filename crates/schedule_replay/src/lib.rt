@@ -8,6 +8,7 @@ mod counts;
 mod events;
 mod lines;
 mod mode;
+mod performing;
 mod replayed;
 mod replaying;
 mod telling;

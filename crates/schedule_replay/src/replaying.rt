@@ -1,23 +1,18 @@
 //! The lines behind a listing, run as they are read.
-ghost use Rattle.std.specs.Prelude.{◌≡◌, ◌<◌, ◌≤◌, ◌+◌, ◌^◌, ◌∷◌, [], ℕ, length, false, true};
-ghost use Rattle.coy_io.specs.Causes.{HasCause};
+ghost use Rattle.std.specs.Prelude.{◌≡◌, false, true};
 ghost use Rattle.coy_io.specs.Reader.{TellsEnd};
-ghost use Rattle.kernel_core.specs.Machine.{hart_in};
-ghost use Rattle.kernel_core.specs.Run.{run_records};
-ghost use Rattle.kernel_core.specs.State.{state_of};
-ghost use Rattle.run_text.specs.Written.{Writes};
-ghost use Rattle.schedule_replay.specs.Counts.{and_more, AreAtMost};
-ghost use Rattle.schedule_replay.specs.Replay.{Ran, Replays, HasReasons, stop_answer};
-ghost use Rattle.schedule_replay.specs.Told.{told};
+ghost use Rattle.schedule_replay.specs.Replay.{Replays, HasReasons, stop_answer};
 
-use crate::counts::{Counts, count_event};
+use crate::counts::Counts;
 use crate::events::Events;
 use crate::lines::{Stop, next_line};
 use crate::mode::Mode;
+use crate::performing::perform;
 use crate::replayed::Replayed;
-use crate::telling::{are_untold, put_records};
-use coy_io::{LineReader, Sink, Source, WriteFault};
-use kernel_core::{Event, Machine, Records, event_into};
+use crate::telling::put_told;
+use coy_io::{LineReader, Sink, Source};
+use decoded_words::Decoder;
+use kernel_core::{Machine, Records};
 use std::sync::ledger::Ledger;
 use steps::Steps;
 use walk_engine::Translator;
@@ -48,21 +43,24 @@ pub fn replay<T: Translator, S: Source, K: Sink, L: Ledger>(
     ensures end { (counts : Counts) → result ≡ Replayed.Ended counts → lines.new.ended ≡ true }
 {
     let harts = machine.objects().sizes().harts;
+    let mut decoder = Decoder::new();
     let mut records = Records::new();
     let mut counts = Counts::of_events(0);
     let mut left = Events::NoneLeft;
     'each: loop {
         match left.take() {
             Some(event) => {
-                match perform(
+                perform(
                     event,
+                    &mut left,
                     mode,
                     machine,
+                    &mut decoder,
                     &mut records,
                     &mut counts,
-                    output,
                     fetches,
-                ) {
+                );
+                match put_told(mode, &records, output) {
                     Ok(()) => {}
                     Err(_) => return Replayed::WriteFault,
                 }
@@ -73,38 +71,6 @@ pub fn replay<T: Translator, S: Source, K: Sink, L: Ledger>(
             },
         }
     }
-}
-
-/// Runs one event, counts it and its records, and writes those that the mode names.
-fn perform<T: Translator, K: Sink, L: Ledger>(
-    event: Event,
-    mode: Mode,
-    machine: &mut Machine<T>,
-    records: &mut Records,
-    counts: &mut Counts,
-    output: &mut K,
-    fetches: &mut Steps<L>,
-) -> Result<(), WriteFault>
-    requires hart { hart_in event < machine.old.objects.harts }
-    requires room { AreAtMost (2 ^ 62) counts.old }
-    ensures ran { Ran T.kept T.cost T.after T.without machine.old fetches.old
-        machine.new fetches.new (event ∷ []) }
-    ensures text { let text = told mode (state_of machine.old) (event ∷ []) in
-        Writes (K.taken output.old) (K.taken output.new) result text }
-    ensures cause { HasCause (K.faults output.old) (K.faults output.new) result }
-    ensures silent { mode ≡ Mode.Silent → output.new ≡ output.old }
-    ensures counts { counts.new ≡
-        and_more counts.old 1 (run_records (state_of machine.old) (event ∷ [])) }
-    ensures most { (most : ℕ) → AreAtMost most counts.old → AreAtMost (most + 65) counts.new }
-{
-    event_into(machine, event, records, fetches);
-    let all = records.as_slice();
-    if are_untold(mode, all) {
-        counts.events += 1;
-        return Ok(());
-    }
-    *counts = count_event(*counts, all);
-    put_records(mode, records, output)
 }
 
 /// The answer where there is no further line.

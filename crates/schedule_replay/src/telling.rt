@@ -4,7 +4,8 @@ ghost use Rattle.std.specs.Prelude.{◌≡◌};
 ghost use Rattle.coy_io.specs.Causes.{HasCause};
 ghost use Rattle.kernel_core.specs.Machine.{IsRecord};
 ghost use Rattle.run_text.specs.Written.{Writes};
-ghost use Rattle.schedule_replay.specs.Told.{are_untold, is_detail, is_told, line_of, lines_of};
+ghost use Rattle.schedule_replay.specs.Told.{are_untold, is_told, line_of, lines_of};
+ghost use Rattle.untraced_steps.specs.Untraced.{is_detail};
 
 use crate::mode::Mode;
 use coy_io::{Sink, WriteFault, put_all};
@@ -12,12 +13,25 @@ use coy_text::LineBuf;
 use kernel_core::{Record, Records};
 use run_text::record_line;
 
-/// Writes the lines of the records that the mode names.
-pub(crate) fn put_records<K: Sink>(
+/// Writes the lines of the records that the mode names. Where it names none, nothing is done.
+pub(crate) fn put_told<K: Sink>(
     mode: Mode,
     records: &Records,
     output: &mut K,
 ) -> Result<(), WriteFault>
+    ensures text { let text = lines_of mode records.now in
+        Writes (K.taken output.old) (K.taken output.new) result text }
+    ensures cause { HasCause (K.faults output.old) (K.faults output.new) result }
+    ensures silent { mode ≡ Mode.Silent → output.new ≡ output.old }
+{
+    if are_untold(mode, records.as_slice()) {
+        return Ok(());
+    }
+    put_records(mode, records, output)
+}
+
+/// Writes the lines of the records that the mode names.
+fn put_records<K: Sink>(mode: Mode, records: &Records, output: &mut K) -> Result<(), WriteFault>
     ensures text { let text = lines_of mode records.now in
         Writes (K.taken output.old) (K.taken output.new) result text }
     ensures cause { HasCause (K.faults output.old) (K.faults output.new) result }
@@ -62,8 +76,8 @@ fn is_told(mode: Mode, entry: &Record) -> bool
     }
 }
 
-/// Whether none of these records is written, and none counted: accesses and instructions alone, and no trace.
-pub(crate) fn are_untold(mode: Mode, records: &[Record]) -> bool
+/// Whether it is plain that none of these records is written: accesses and instructions alone, and no trace.
+fn are_untold(mode: Mode, records: &[Record]) -> bool
     ensures { result ≡ are_untold mode records.now }
 {
     match mode {

@@ -1,6 +1,7 @@
-use Rattle.std.proofs.Common.{◌∙◌, length, refl, sym, ap, subst, arith}
-use Rattle.schedule_replay.specs.Events.{OfHarts}
-use Rattle.schedule_replay.proofs.Rounds.{asked_of_harts}
+use Rattle.std.proofs.Common.{◌∙◌, ◌∷◌, ◌++◌, [], length, refl, sym, ap, subst, arith}
+use Rattle.std.proofs.lemmas.List.{length-append}
+use Rattle.schedule_replay.specs.Events.{left, OfHarts}
+use Rattle.schedule_replay.proofs.Rounds.{asked_of_harts, of_harts-behind}
 use Rattle.schedule_replay.proofs.SoFar.{replays-cut, replays-stop, so_far-performed, so_far-read, so_far-start}
 use Rattle.schedule_replay.proofs.replaying.replay.Goals as goal
 
@@ -24,14 +25,16 @@ pub each-preserved-in-Ok : goal.each-preserved-in-Ok
 each-preserved-in-Ok g c =
     let t = g.T.Translator in
     let split = c.in-Some.ensures in
+    let first = c.perform.ensures in
     let i = c.each.invariant in
     let few = i.few in
-    let size = ap length split in
+    let more = ap length split in
+    let size = ap length first.split ∙ length-append (first.before ++ first.last ∷ []) (left c.perform.new.events) in
     record {
-      so_far = so_far-performed t.kept t.cost t.after t.without _ _ _ _ _ _ _ _ _ _ _ _ _ _ _ _ c.in-Some.event _ _ split i.so_far c.in-Ok.ensures.ran c.in-Ok.ensures.text c.in-Ok.ensures.counts c.in-Ok.ensures.most;
+      so_far = so_far-performed t.kept t.cost t.after t.without _ _ _ _ _ _ _ _ _ _ _ _ _ _ _ _ _ _ _ _ split first i.so_far c.in-Ok.ensures.text;
       harts = i.harts;
-      there = (subst (OfHarts c.sizes-harts.result.harts) split i.there).1;
-      few = omega (arith, few, size);
+      there = of_harts-behind c.sizes-harts.result.harts (first.before ++ first.last ∷ []) (left c.perform.new.events) (subst (OfHarts c.sizes-harts.result.harts) (split ∙ first.split) i.there);
+      few = omega (arith, few, more, size);
       bound = i.bound;
       going = i.going;
       told = i.told;
@@ -43,7 +46,7 @@ each-preserved-in-Ok g c =
 pub returns-in-Err-clause-replays : goal.returns-in-Err-clause-replays
 returns-in-Err-clause-replays g c =
     let t = g.T.Translator in
-    replays-cut t.kept t.cost t.after t.without _ _ _ _ _ _ _ _ _ _ _ _ _ _ _ c.in-Some.event _ _ c.in-Some.ensures c.each.invariant.so_far c.in-Err.ensures.ran c.in-Err.ensures.text
+    replays-cut t.kept t.cost t.after t.without _ _ _ _ _ _ _ _ _ _ _ _ _ _ _ _ _ _ _ _ c.in-Some.ensures c.perform.ensures c.each.invariant.so_far c.in-Err.ensures.text
 
 pub each-preserved : goal.each-preserved
 each-preserved g c =

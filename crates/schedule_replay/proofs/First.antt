@@ -1,0 +1,84 @@
+-- The first of some events, performed and counted.
+use Rattle.std.proofs.Common.{◌≡◌, ◌≢◌, ◌<◌, ◌≤◌, ◌+◌, ◌-◌, ◌*◌, ◌∙◌, ◌∷◌, ◌++◌, [], ℕ, zero, suc, List, length, replicate, refl, sym, ap, subst, append_assoc, append-nil, arith}
+use Rattle.std.proofs.lemmas.List.{length-append, length-replicate, replicate_more, replicate-append-replicate}
+use Rattle.cap_format.specs.Capability.{Capability}
+use Rattle.cap_format.specs.declared.item.Item.{Item}
+use Rattle.object_store.specs.Store.{Items}
+use Rattle.walk_meaning.specs.declared.kind.Kind.{Kind}
+use Rattle.machine_state.specs.declared.event.Event.{Event}
+use Rattle.machine_state.specs.declared.record.Record.{Record}
+use Rattle.kernel_core.specs.Event.{event_of}
+use Rattle.kernel_core.specs.Machine.{MachineValue}
+use Rattle.kernel_core.specs.Run.{run_records}
+use Rattle.kernel_core.specs.State.{state_of}
+use Rattle.untraced_steps.specs.Untraced.{RanUntraced, TellsNothing, untraced}
+use Rattle.schedule_replay.specs.Counts.{AreAtMost, and_more}
+use Rattle.schedule_replay.specs.First.{RunsFirst}
+use Rattle.schedule_replay.specs.Replay.{Ran}
+use Rattle.schedule_replay.specs.Told.{lines_of, told}
+use Rattle.schedule_replay.specs.declared.counts.Counts.{Counts}
+use Rattle.schedule_replay.specs.declared.mode.Mode.{Mode}
+use Rattle.schedule_replay.specs.declared.mode.Mode.TheVariants.{Trace}
+use Rattle.schedule_replay.proofs.Tallies.{and_more-untraced, at_most-trans}
+use Rattle.schedule_replay.proofs.Told.{lines_of-nil, records-one, same_lines, told-nil}
+
+module _ {T K : Type 0} (kept : T → K) (cost : K → Items → Capability → ℕ → Kind → ℕ) (after : K → Items → Capability → ℕ → Kind → K) (without : K → Item → K) where
+  -- one event
+  pub first-one : (mode : Mode) (event : Event) (behind : List Event) (m : MachineValue T) (fetches : ℕ) (n : MachineValue T) (fetches' : ℕ) (entries : List Record) (counts counts' : Counts)
+      → Ran kept cost after without m fetches n fetches' (event ∷ []) → entries ≡ (event_of (state_of m) event).records → counts' ≡ and_more counts 1 entries
+      → ((most : ℕ) → AreAtMost most counts → AreAtMost (most + 1 + 64) counts')
+      → RunsFirst kept cost after without mode (event ∷ behind) behind m fetches n fetches' entries counts counts'
+  first-one mode event behind m fetches n fetches' entries counts counts' ran told counted most =
+      let records : entries ≡ run_records (state_of m) (event ∷ []) = told ∙ sym (records-one (state_of m) event) in
+      record {
+        before = [];
+        last = event;
+        split = refl;
+        ran = ran;
+        quiet = told-nil mode (state_of m);
+        lines = ap (lines_of mode) records;
+        counted = counted ∙ ap (and_more counts 1) records;
+        most = λ limit all. at_most-trans (limit + 1 + 64) (limit + 65 * 1) counts' (omega arith) (most limit all);
+      }
+
+  -- what is said of these events, which are the first of all
+  record RunsEvents (mode : Mode) (all left : List Event) (m : MachineValue T) (fetches : ℕ) (n : MachineValue T) (fetches' : ℕ) (entries : List Record) (counts counts' : Counts) (events : List Event) : Type 0 where
+    pub split : all ≡ events ++ left
+    pub ran : Ran kept cost after without m fetches n fetches' events
+    pub lines : lines_of mode entries ≡ told mode (state_of m) events
+    pub counted : counts' ≡ and_more counts (length events) (run_records (state_of m) events)
+    pub most : (most : ℕ) → AreAtMost most counts → AreAtMost (most + 65 * length events) counts'
+
+  -- so many steps of one hart, of which no trace is kept
+  pub first-steps : (mode : Mode) → mode ≢ Trace → (event : Event) (done times : ℕ) (all left left' : List Event) (m : MachineValue T) (fetches : ℕ) (n : MachineValue T) (fetches' : ℕ) (entries : List Record) (counts counts' : Counts)
+      → 1 ≤ done → done ≤ times → all ≡ replicate times event ++ left → left' ≡ replicate (times - done) event ++ left → RanUntraced kept cost after without (replicate done event) m fetches n entries fetches'
+      → TellsNothing (state_of m) (replicate (done - 1) event) → counts' ≡ and_more counts done entries → ((most : ℕ) → AreAtMost most counts → AreAtMost (most + done + 64) counts')
+      → RunsFirst kept cost after without mode all left' m fetches n fetches' entries counts counts'
+  first-steps mode other event done times all left left' m fetches n fetches' entries counts counts' some less split behind ran before counted most =
+      let s = state_of m in
+      let one : done - 1 + 1 ≡ done = omega (arith, some) in
+      let events : replicate (done - 1) event ++ event ∷ [] ≡ replicate done event = replicate_more (done - 1) event ∙ ap (λ k. replicate k event) one in
+      let size : length (replicate done event) ≡ done = length-replicate done event in
+      let rest : done + (times - done) ≡ times = omega (arith, less) in
+      let whole : replicate times event ≡ replicate done event ++ replicate (times - done) event = sym (replicate-append-replicate done (times - done) event ∙ ap (λ k. replicate k event) rest) in
+      let ends : RunsEvents mode all left' m fetches n fetches' entries counts counts' (replicate done event) =
+      record {
+        split = split ∙ (ap (λ es. es ++ left) whole ∙ append_assoc (replicate done event) (replicate (times - done) event) left ∙ ap (λ es. replicate done event ++ es) (sym behind));
+        ran = record { state = ran.state; counted = ran.counted; keeps = ran.keeps; harts = ran.harts };
+        lines = same_lines mode other entries (run_records s (replicate done event)) ran.records;
+        counted =
+            counted ∙ and_more-untraced counts done entries (run_records s (replicate done event)) ran.records
+            ∙ ap (λ k. and_more counts k (run_records s (replicate done event))) (sym size);
+        most = λ limit under. at_most-trans (limit + done + 64) (limit + 65 * length (replicate done event)) counts' (omega (arith, some, size)) (most limit under);
+      } in
+      let said = subst (RunsEvents mode all left' m fetches n fetches' entries counts counts') (sym events) ends in
+      record {
+        before = replicate (done - 1) event;
+        last = event;
+        split = said.split;
+        ran = said.ran;
+        quiet = same_lines mode other (run_records s (replicate (done - 1) event)) [] before ∙ lines_of-nil mode;
+        lines = said.lines;
+        counted = said.counted;
+        most = said.most;
+      }
