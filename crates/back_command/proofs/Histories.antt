@@ -11,9 +11,8 @@ use Rattle.kernel_core.specs.Event.{event_of}
 use Rattle.kernel_core.specs.Run.{run_state}
 use Rattle.kernel_core.proofs.Ran.{run_state-append, run_state-cons, run_state-nil}
 use Rattle.reverse_run.specs.History.{History, after_event, after_undo, remembered}
-use Rattle.back_command.specs.Back.{back_text, events_left, undone}
+use Rattle.back_command.specs.Back.{back_text, events_left, undone, most_remembered}
 use Rattle.back_command.specs.Runs.{history_at, states_before, text_of, undos}
-use Rattle.back_command.specs.declared.TheConstants.{DEPTH}
 
 -- ---- the states before events
 
@@ -49,10 +48,10 @@ take-push zero x xs least = absurd (omega (arith, least))
 take-push (suc depth) x xs least = ap (λ rest. x ∷ rest) (take-take_suc depth xs)
 
 -- no event was run
-pub history-start : (h : History) → h.before ≡ [] → h ≡ history_at DEPTH h.present []
+pub history-start : (h : History) → h.before ≡ [] → h ≡ history_at most_remembered h.present []
 history-start h none =
     ap₂ (λ (s : State) (before : List State). record { present = s; before = before }) (sym (run_state-nil h.present))
-    (none ∙ sym (ap (take DEPTH) (states_before-nil h.present)))
+    (none ∙ sym (ap (take most_remembered) (states_before-nil h.present)))
 
 -- one event more was run
 pub history-event : (depth : ℕ) (s : State) (events : List Event) (e : Event) → 1 ≤ depth → after_event depth (history_at depth s events) e ≡ history_at depth s (events ++ e ∷ [])
@@ -98,20 +97,20 @@ history-undos (suc n) room s events within =
     ∙ history-undo room s (take j events) last
 
 -- as many events are remembered as there were, and no more than there is room for
-remembered-at : (s : State) (events : List Event) → remembered (history_at DEPTH s events) ≡ min DEPTH (length events)
-remembered-at s events = length-take DEPTH (states_before s events) ∙ ap (min DEPTH) (length-states_before s events)
+remembered-at : (s : State) (events : List Event) → remembered (history_at most_remembered s events) ≡ min most_remembered (length events)
+remembered-at s events = length-take most_remembered (states_before s events) ∙ ap (min most_remembered) (length-states_before s events)
 
 -- what is written is the state before the events that are undone
-pub text-at : (number : ℕ) (s : State) (h : History) (events : List Event) → h ≡ history_at DEPTH s events
+pub text-at : (number : ℕ) (s : State) (h : History) (events : List Event) → h ≡ history_at most_remembered s events
     → text_of number h ≡ back_text (undone number events) (run_state s (events_left number events))
 text-at number s h events is =
     let n : ℕ = undone number events in
-    let some : n ≤ min DEPTH (length events) = min-le_right number (min DEPTH (length events)) in
-    let most : min DEPTH (length events) ≤ 256 = min-le_left DEPTH (length events) in
-    let within : min DEPTH (length events) ≤ length events = min-le_right DEPTH (length events) in
-    let depth : DEPTH ≡ n + (256 - n) = omega (arith, some, most) in
-    let back : undos n (history_at DEPTH s events) ≡ history_at (256 - n) s (events_left number events) =
+    let some : n ≤ min most_remembered (length events) = min-le_right number (min most_remembered (length events)) in
+    let most : min most_remembered (length events) ≤ 256 = min-le_left most_remembered (length events) in
+    let within : min most_remembered (length events) ≤ length events = min-le_right most_remembered (length events) in
+    let depth : most_remembered ≡ n + (256 - n) = omega (arith, some, most) in
+    let back : undos n (history_at most_remembered s events) ≡ history_at (256 - n) s (events_left number events) =
     ap (λ k. undos n (history_at k s events)) depth ∙ history-undos n (256 - n) s events (omega (arith, some, within)) in
     ap (text_of number) is
-    ∙ ap (λ k. back_text (min number k) (undos (min number k) (history_at DEPTH s events)).present) (remembered-at s events)
+    ∙ ap (λ k. back_text (min number k) (undos (min number k) (history_at most_remembered s events)).present) (remembered-at s events)
     ∙ ap (λ (g : History). back_text n g.present) back

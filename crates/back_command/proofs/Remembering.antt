@@ -11,32 +11,32 @@ use Rattle.schedule_replay.specs.declared.lines.Stop.{Stop}
 use Rattle.schedule_replay.proofs.Reading.{reads-none, reads-same, reads-trans}
 use Rattle.schedule_replay.proofs.SoFar.{follows-stop}
 use Rattle.back_command.specs.Runs.{RunsLines, history_at}
-use Rattle.back_command.specs.declared.TheConstants.{DEPTH}
+use Rattle.back_command.specs.Back.{most_remembered}
 use Rattle.back_command.proofs.Histories.{history-event, history-start}
 
 module _ (harts : ℕ) (s : State) (old : Reader) (held : Option (List ℕ)) where
   -- these events were run, and those that are left are the last of the lines that were read
   pub record SoFar (h : History) (now : Reader) (held' : Option (List ℕ)) (left : List Event) : Type 0 where
     pub done : List Event
-    pub history : h ≡ history_at DEPTH s done
+    pub history : h ≡ history_at most_remembered s done
     pub reads : Reads harts old now held held' (done ++ left)
 
   -- at the start
   pub so_far-start : (h : History) → h.present ≡ s → h.before ≡ [] → SoFar h old held []
   so_far-start h present none = record {
     done = [];
-    history = history-start h none ∙ ap (λ t. history_at DEPTH t []) present;
+    history = history-start h none ∙ ap (λ t. history_at most_remembered t []) present;
     reads = reads-none harts old held;
   }
 
   module _ (h : History) (now : Reader) (held' : Option (List ℕ)) where
     -- one event more was run
-    pub so_far-event : (n : History) (depth : ℕ) (event : Event) (all left : List Event) → depth ≡ DEPTH → all ≡ event ∷ left → SoFar h now held' all → n ≡ after_event depth h event → SoFar n now held' left
+    pub so_far-event : (n : History) (depth : ℕ) (event : Event) (all left : List Event) → depth ≡ most_remembered → all ≡ event ∷ left → SoFar h now held' all → n ≡ after_event depth h event → SoFar n now held' left
     so_far-event n depth event all left deep split so after = record {
       done = so.done ++ event ∷ [];
       history =
-          after ∙ ap (λ k. after_event k h event) deep ∙ ap (λ (g : History). after_event DEPTH g event) so.history
-          ∙ history-event DEPTH s so.done event (omega arith);
+          after ∙ ap (λ k. after_event k h event) deep ∙ ap (λ (g : History). after_event most_remembered g event) so.history
+          ∙ history-event most_remembered s so.done event (omega arith);
       reads = reads-same harts old now held held' (so.done ++ all) ((so.done ++ event ∷ []) ++ left)
           (ap (λ es. so.done ++ es) split ∙ sym (append_assoc so.done (event ∷ []) left)) so.reads;
     }

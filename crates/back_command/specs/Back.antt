@@ -10,11 +10,14 @@ use Rattle.courses.specs.Course.{Course, ends_in}
 use Rattle.courses.specs.Ending.{Output, refused_schedule, too_long}
 use Rattle.courses.specs.Listed.{Behind}
 use Rattle.courses.specs.declared.exit.Exit.TheVariants.{Done}
-use Rattle.back_command.specs.declared.TheConstants.{DEPTH}
 
--- how many events are undone: as many as asked for, but no more than there were, and no more than 256
+-- how many events of a run are remembered, unless it has fewer: its last
+abbrev pub most_remembered : ℕ
+most_remembered = 256
+
+-- how many events are undone: as many as asked for, but no more than there were, and no more than are remembered
 abbrev pub undone : ℕ → List Event → ℕ
-undone number events = min number (min DEPTH (length events))
+undone number events = min number (min most_remembered (length events))
 
 -- the events that are left: all but the last of them
 abbrev pub events_left : ℕ → List Event → List Event

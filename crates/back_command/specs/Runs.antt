@@ -13,8 +13,7 @@ use Rattle.schedule_replay.specs.declared.lines.Stop.TheVariants as stops
 use Rattle.courses.specs.Ending.{EndsIn, refused_schedule, too_long}
 use Rattle.courses.specs.declared.exit.Exit.{Exit}
 use Rattle.courses.specs.declared.exit.Exit.TheVariants.{Done, ReadFault}
-use Rattle.back_command.specs.Back.{back_text}
-use Rattle.back_command.specs.declared.TheConstants.{DEPTH}
+use Rattle.back_command.specs.Back.{back_text, most_remembered}
 
 -- the states before each event of a run, the latest first
 unfoldable pub states_before : State → List Event → List State
@@ -34,7 +33,7 @@ undos (suc n) h = after_undo (undos n h)
 -- they are known
 pub record RunsLines (harts : ℕ) (s : State) (h : History) (old new : Reader) (held held' : Option (List ℕ)) (stop : Stop) : Type 0 where
   pub events : List Event
-  pub history : h ≡ history_at DEPTH s events
+  pub history : h ≡ history_at most_remembered s events
   pub follows : Follows count_answer harts old new held held' events (stop_answer (events_alone (length events)) stop)
 
 -- ---- the end

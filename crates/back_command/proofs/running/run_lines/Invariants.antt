@@ -3,7 +3,7 @@ use Rattle.coy_io.specs.Reader.{TellsEnd}
 use Rattle.machine_state.specs.State.{state_of}
 use Rattle.reverse_run.specs.History.{history_of}
 use Rattle.schedule_replay.specs.Events.{left, OfHarts}
-use Rattle.back_command.specs.declared.TheConstants.{DEPTH}
+use Rattle.back_command.specs.Back.{most_remembered}
 use Rattle.back_command.proofs.Remembering.{SoFar}
 use Rattle.back_command.proofs.running.run_lines.Given as goal
 
@@ -13,7 +13,7 @@ invariant-each g l = record {
       (history_of l.reversible) l.lines (g.S.Source.held l.source) (left l.left);
   harts : l.harts ≡ l.fn.reversible.machine.objects.harts;
   same : l.reversible.machine.objects.harts ≡ l.fn.reversible.machine.objects.harts;
-  depth : l.reversible.depth ≡ DEPTH;
+  depth : l.reversible.depth ≡ most_remembered;
   there : OfHarts l.harts (left l.left);
   few : length (left l.left) ≤ 255000000;
   going : l.lines.failed ≡ false;
