@@ -20,7 +20,9 @@ use Rattle.courses.proofs.Lasts.{IsLast, comes-last, last-causes, last-done, las
 use Rattle.image_builder.specs.Boot.{booted}
 use Rattle.listing_read.specs.Statement.{ListingValue}
 use Rattle.confine_check.specs.Sides.{all_right}
-use Rattle.confine_command.specs.Confine.{Concludes, checked, confine_course, reads, told}
+use Rattle.confine_command.specs.Confine.{Concludes, NobodySleeps, checked, confine_course, reads, told}
+use Rattle.confine_command.specs.Decided.{DecidesStated}
+use Rattle.confine_command.proofs.Deciding.{decides}
 use Rattle.confine_command.specs.Stated.{PastEnd, RefusedAt, Stated, StateAll, StatesRest, StatesSides, stated}
 use Rattle.confine_command.specs.declared.lines.CutStop.{CutStop}
 use Rattle.confine_command.specs.declared.lines.CutStop.TheVariants as stops
@@ -108,6 +110,16 @@ module _ {K : Type 0} (taken : K → Option (List ℕ)) (faults : K → ℕ) (s 
         write = λ cut. let bad : ReadFault ≡ WriteFault = sym read ∙ cut in cc;
         write_quiet = λ other. ap faults same;
       })
+
+  -- where all was done, what was told is so
+  pub concludes-decided : NobodySleeps s.queues → (stop : CutStop) → StatesRest first sides old new held held' stop → Concludes taken faults s sides stop out out' fetches fetches' exit → exit ≡ Done
+      → OnParts (ahead old held) (λ parts. DecidesStated s (stated first old.number parts) (course_output (checked s (stated first old.number parts))).text)
+  concludes-decided awake stops.End r c done =
+      on_all (ahead old held) (λ parts. stated first old.number parts ≡ StatesSides sides) (λ parts. DecidesStated s (stated first old.number parts) (course_output (checked s (stated first old.number parts))).text)
+      (λ parts is. subst (λ (x : Stated). DecidesStated s x (course_output (checked s x)).text) (sym is) (decides s sides awake c.2)) r
+  concludes-decided awake (stops.Refused line fault) r c done = let other = concludes-done (stops.Refused line fault) c done in absurd (cc (other))
+  concludes-decided awake stops.TooLong r c done = let other = concludes-done stops.TooLong c done in absurd (cc (other))
+  concludes-decided awake stops.ReadFault r c done = let other = concludes-done stops.ReadFault c done in absurd (cc (other))
 
   -- reading failed
   pub concludes-sure : (stop : CutStop) → StatesRest first sides old new held held' stop → Concludes taken faults s sides stop out out' fetches fetches' exit → exit ≡ ReadFault

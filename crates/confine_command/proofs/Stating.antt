@@ -1,5 +1,5 @@
 -- Line by line, what the lines of a cut state.
-use Rattle.std.proofs.Common.{◌≡◌, ◌+◌, ◌∙◌, ◌∷◌, [], ℕ, List, true, Option, Some, None, Result, Ok, Err, refl, sym, ap, subst}
+use Rattle.std.proofs.Common.{◌≡◌, ◌+◌, ◌∙◌, ◌∷◌, [], ℕ, List, true, Option, Some, Result, Ok, Err, refl, sym, ap, subst}
 use Rattle.coy_io.specs.Lines.{Part, Line, LongLine, PastLimit}
 use Rattle.coy_io.specs.Reader.{Reader, Begins, IsDone, IsLine, IsNext, IsSpent, ahead, bytes_ahead}
 use Rattle.confinement.specs.Cut.{Sides}
@@ -10,7 +10,7 @@ use Rattle.confine_check.specs.declared.fault.CutFault.TheVariants.{LineTooLong}
 use Rattle.schedule_replay.specs.Lines.{FailsOn, ReadsOn}
 use Rattle.schedule_replay.proofs.ReadOn.{fails_on, on_lines, reads_on-line}
 use Rattle.schedule_replay.proofs.Reading.{gave, gave_none, on_begun, on_given, on_none}
-use Rattle.confine_command.specs.Stated.{PastEnd, RefusedAt, StateAll, Stated, StatesNext, StatesRest, StatesSides, refusal_at, stated, stated_with}
+use Rattle.confine_command.specs.Stated.{PastEnd, RefusedAt, StateAll, StatesNext, StatesRest, StatesSides, refusal_at, stated, stated_with}
 use Rattle.confine_command.specs.declared.lines.CutStop.{CutStop}
 use Rattle.confine_command.specs.declared.lines.CutStop.TheVariants as stops
 

@@ -1,19 +1,19 @@
 -- What `confine` comes to (this project's own).
-use Rattle.std.specs.Prelude.{◌≡◌, ◌+◌, ℕ, List, [], ◌++◌, codes, decimal, Option}
-use Rattle.coy_io.specs.Lines.{Part}
+use Rattle.std.specs.Prelude.{◌≡◌, ◌↔◌, ◌+◌, ℕ, List, [], ◌++◌, codes, decimal, Option, Some, None}
 use Rattle.cap_format.specs.declared.kind.CapKind.{CapKind}
 use Rattle.cap_format.specs.declared.kind.CapKind.TheVariants.{Gpt}
 use Rattle.cap_format.specs.Capability.{Capability}
 use Rattle.cap_words.specs.Text.{cap_text}
 use Rattle.object_store.specs.Store.{size_of}
 use Rattle.kernel_core.specs.State.{State}
-use Rattle.listing_read.specs.Statement.{ListingValue}
 use Rattle.statement_text.specs.Words.{kind_word}
 use Rattle.image_builder.specs.Boot.{booted}
-use Rattle.confinement.specs.Cut.{Sides}
-use Rattle.confine_check.specs.declared.verdict.Verdict.{Verdict}
+use Rattle.schedules.specs.Queues.{QueuesValue, sleepers_of}
+use Rattle.confinement.specs.Cut.{Sides, Holds}
+use Rattle.confinement.specs.Acts.{system_of}
+use Rattle.confine_check.specs.declared.verdict.Breach.{Breach}
 use Rattle.confine_check.specs.declared.verdict.Verdict.TheVariants as verdicts
-use Rattle.confine_check.specs.Found.{reads_to, verdict_in}
+use Rattle.confine_check.specs.Found.{meant_of, reads_to, verdict_in}
 use Rattle.confine_check.specs.Sides.{all_right, cut_of, left_count, right_count}
 use Rattle.courses.specs.Course.{Course, ends_in}
 use Rattle.courses.specs.Ending.{Output, EndsIn, refused_cut, too_long}
@@ -33,15 +33,22 @@ unfoldable pub breach_text : CapKind → ℕ → ℕ → Capability → List ℕ
 breach_text kind n place cap =
     codes "breach " ++ kind_word kind ++ codes " " ++ decimal n ++ codes " " ++ decimal place ++ codes " " ++ cap_text cap ++ codes "\n"
 
--- what is told of a verdict; nobody sleeps at a machine's start, so nothing is told of a sleeper
-abbrev pub verdict_text : Sides → Verdict → List ℕ
-verdict_text sides verdicts.Yes = confined_text sides
-verdict_text sides (verdicts.Capability kind n place cap) = breach_text kind n place cap
-verdict_text sides (verdicts.Sleeper process) = []
+-- what is told of a cut: the first capability that breaks it, or that it holds where none does
+abbrev pub cut_text : Sides → Option Breach → List ℕ
+cut_text sides None = confined_text sides
+cut_text sides (Some found) = breach_text found.kind found.number found.place found.cap
 
--- what is told of a state and a cut
+-- what is told of a state and a cut; nobody sleeps at a machine's start, so a capability alone can break it
 abbrev pub told : State → Sides → Output
-told s sides = record { text = verdict_text sides (verdict_in (cut_of sides) s); exit = Done }
+told s sides = record { text = cut_text sides (meant_of (cut_of sides) s.store); exit = Done }
+
+-- nobody sleeps on any process
+abbrev pub NobodySleeps : QueuesValue → Type 0
+NobodySleeps q = (on : ℕ) → sleepers_of q on ≡ []
+
+-- nothing is found of a state and a cut exactly where the cut holds
+abbrev pub FindsExactly : State → Sides → Type 0
+FindsExactly s sides = (verdict_in (cut_of sides) s ≡ verdicts.Yes) ↔ Holds (cut_of sides) (system_of s)
 
 -- how many slots are read for it
 abbrev pub reads : State → Sides → ℕ
@@ -61,7 +68,7 @@ confine_course listing last rest = checked (booted listing) (stated (all_right l
 -- how the program ends by the reason why there is no further line, where the lines gave these sides
 abbrev pub Concludes : {K : Type 0} → (K → Option (List ℕ)) → (K → ℕ) → State → Sides → CutStop → K → K → ℕ → ℕ → Exit → Type 0
 Concludes taken faults s sides stops.End old new fetches fetches' exit =
-    EndsIn taken faults old new exit (told s sides) × (fetches' ≡ fetches + reads s sides)
+    EndsIn taken faults old new exit (told s sides) × (fetches' ≡ fetches + reads s sides) × FindsExactly s sides
 Concludes taken faults s sides (stops.Refused line fault) old new fetches fetches' exit =
     EndsIn taken faults old new exit (refused_cut line fault) × (fetches' ≡ fetches)
 Concludes taken faults s sides stops.TooLong old new fetches fetches' exit =

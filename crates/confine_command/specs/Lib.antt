@@ -1,2 +1,4 @@
 pub mod Stated
 pub mod Confine
+pub mod Decided
+pub mod Laws

@@ -1,7 +1,9 @@
 //! What is told of a machine and a cut.
-ghost use Rattle.std.specs.Prelude.{◌≡◌, ◌+◌, []};
+ghost use Rattle.std.specs.Prelude.{ℕ, ◌≡◌, ◌≢◌, ◌+◌, []};
 ghost use Rattle.kernel_core.specs.State.{state_of};
-ghost use Rattle.confine_command.specs.Confine.{told, reads, verdict_text, confined_text, breach_text};
+ghost use Rattle.confine_check.specs.Breach.{breach_in};
+ghost use Rattle.confine_check.specs.declared.verdict.Verdict.TheVariants.{Sleeper};
+ghost use Rattle.confine_command.specs.Confine.{told, reads, cut_text, confined_text, breach_text, FindsExactly, NobodySleeps};
 ghost use Rattle.courses.specs.Ending.{EndsIn};
 
 use cap_format::{Cap, CapKind};
@@ -16,16 +18,18 @@ use std::sync::ledger::Ledger;
 use steps::Steps;
 use walk_engine::Translator;
 
-/// Tells whether a cut holds of a machine, or what breaks it.
+/// Tells whether a cut holds of a machine on which nobody sleeps, or what breaks it.
 pub(crate) fn tell<T: Translator, K: Sink, L: Ledger>(
     machine: &Machine<T>,
     cut: &Cut,
     output: &mut K,
     fetches: &mut Steps<L>,
 ) -> Exit
+    requires { NobodySleeps machine.now.queues }
     ensures ends { EndsIn K.taken K.faults output.old output.new result
         (told (state_of machine.now) cut.now) }
     ensures counted { fetches.new ≡ fetches.old + reads (state_of machine.now) cut.now }
+    ensures exactly { FindsExactly (state_of machine.now) cut.now }
 {
     let verdict = confined(machine, cut, fetches);
     let mut line = LineBuf::new();
@@ -33,10 +37,11 @@ pub(crate) fn tell<T: Translator, K: Sink, L: Ledger>(
     end_with(line.as_bytes(), Exit::Done, output)
 }
 
-/// Makes the line of a verdict. Nothing is told of a sleeper, of which there is none at a machine's start.
+/// Makes the line of a verdict that is of no sleeper.
 fn push_verdict(cut: &Cut, verdict: Verdict, line: &mut LineBuf)
-    requires { line.old ≡ [] }
-    ensures { line.new ≡ verdict_text cut.now verdict }
+    requires empty { line.old ≡ [] }
+    requires awake { (p : ℕ) → verdict ≢ Sleeper p }
+    ensures { line.new ≡ cut_text cut.now (breach_in verdict) }
 {
     match verdict {
         Verdict::Yes => push_counts(cut, line),
@@ -46,7 +51,7 @@ fn push_verdict(cut: &Cut, verdict: Verdict, line: &mut LineBuf)
             place,
             cap,
         } => push_breach(kind, number, place, cap, line),
-        Verdict::Sleeper { .. } => {}
+        Verdict::Sleeper { .. } => unreachable!(),
     }
 }
 

@@ -5,11 +5,12 @@ ghost use Rattle.coy_io.specs.Lines.{parts_of, whole_lines};
 ghost use Rattle.coy_io.specs.Reader.{TellsEnd, ahead};
 ghost use Rattle.kernel_core.specs.State.{state_of};
 ghost use Rattle.schedule_replay.specs.Scheduled.{OnParts};
-ghost use Rattle.courses.specs.Course.{ComesTo, HasEntries, cached};
+ghost use Rattle.courses.specs.Course.{ComesTo, cached, course_output};
 ghost use Rattle.courses.specs.Ending.{HasCauses};
 ghost use Rattle.courses.specs.Listed.{lines_course};
 ghost use Rattle.courses.specs.Sure.{StandsOn, StandsSure};
-ghost use Rattle.confine_command.specs.Confine.{checked, confine_course, Concludes};
+ghost use Rattle.confine_command.specs.Confine.{checked, confine_course, Concludes, NobodySleeps};
+ghost use Rattle.confine_command.specs.Decided.{DecidesStated, IsDecided};
 ghost use Rattle.confine_command.specs.Stated.{stated};
 
 use crate::checking::tell;
@@ -39,6 +40,10 @@ pub fn confine<S: Source, K: Sink, L: Ledger>(
     ensures sure { result ≡ Exit.ReadFault →
         StandsSure (S.held input.old) (S.held input.new) (K.taken output.old) (K.taken output.new)
         fetches.old fetches.new cached (λ bytes. lines_course confine_course (whole_lines [] bytes)) }
+
+    // What it tells of the cut is so of the listing's machine, for good.
+    ensures decided { result ≡ Exit.Done → IfSome (S.held input.old) (λ bytes.
+        IsDecided bytes (course_output (lines_course confine_course (parts_of bytes))).text) }
 
     // Why it may end otherwise.
     ensures usage { result ≢ Exit.Usage }
@@ -72,6 +77,7 @@ fn check_lines<T: Translator, S: Source, K: Sink, L: Ledger>(
 ) -> Exit
     requires reader { lines.old.failed ≡ false }
     requires told { TellsEnd lines.old (S.held input.old) }
+    requires awake { NobodySleeps machine.now.queues }
     ensures comes { OnParts (ahead lines.old (S.held input.old)) (λ parts.
         ComesTo (K.taken output.old) (K.taken output.new) fetches.old fetches.new result cached
         (checked (state_of machine.now) (stated cut.old lines.old.number parts))) }
@@ -80,6 +86,10 @@ fn check_lines<T: Translator, S: Source, K: Sink, L: Ledger>(
         StandsOn lines.old lines.new (S.held input.old) (S.held input.new)
         (K.taken output.old) (K.taken output.new) fetches.old fetches.new cached
         (λ parts. checked (state_of machine.now) (stated cut.old lines.old.number parts)) }
+    ensures decided { result ≡ Exit.Done → OnParts (ahead lines.old (S.held input.old)) (λ parts.
+        DecidesStated (state_of machine.now) (stated cut.old lines.old.number parts)
+        (course_output (checked (state_of machine.now)
+        (stated cut.old lines.old.number parts))).text) }
     ensures usage { result ≢ Exit.Usage }
     ensures memory { result ≢ Exit.OutOfMemory }
     ensures causes { HasCauses (S.faults input.old) (S.faults input.new)
@@ -97,6 +107,7 @@ fn conclude<T: Translator, K: Sink, L: Ledger>(
     output: &mut K,
     fetches: &mut Steps<L>,
 ) -> Exit
+    requires { NobodySleeps machine.now.queues }
     ensures { Concludes K.taken K.faults (state_of machine.now) cut.now stop
         output.old output.new fetches.old fetches.new result }
 {

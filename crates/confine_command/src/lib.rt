@@ -6,6 +6,8 @@
 
 mod checking;
 mod input;
+mod laws;
 mod lines;
 
 pub use input::confine;
+pub use laws::awake_law;

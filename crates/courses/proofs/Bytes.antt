@@ -68,7 +68,7 @@ module _ (behind : Behind) (held held' taken taken' : Option (List ℕ)) (fetche
       (subst (Stands lines) (sym (front.makes s.given)) stands)
 
 -- what is so of the known lines behind a listing is so of the known bytes
-on_listed : (held : Option (List ℕ)) (left : Option (List Part)) (listing : ListingValue) (last : ℕ) (P : Listed → Type 0) → IsListed Header 1 (ahead new_reader held) listing last left
+pub on_listed : (held : Option (List ℕ)) (left : Option (List Part)) (listing : ListingValue) (last : ℕ) (P : Listed → Type 0) → IsListed Header 1 (ahead new_reader held) listing last left
     → OnParts left (λ parts. P (Good listing last parts)) → IfSome held (λ bytes. P (listing_of Header 1 (parts_of bytes)))
 on_listed None left listing last P listed all = tt
 on_listed (Some bytes) None listing last P listed all = absurd listed

@@ -1,6 +1,6 @@
 use Rattle.std.proofs.Common.{None}
 use Rattle.kernel_core.specs.State.{state_of}
-use Rattle.confine_command.proofs.Concluding.{concludes-causes, concludes-comes, concludes-done, concludes-memory, concludes-sure, concludes-usage}
+use Rattle.confine_command.proofs.Concluding.{concludes-causes, concludes-comes, concludes-decided, concludes-done, concludes-memory, concludes-sure, concludes-usage}
 use Rattle.confine_command.proofs.input.check_lines.Goals as goal
 
 pub returns-clause-comes : goal.returns-clause-comes
@@ -26,3 +26,7 @@ pub returns-clause-causes : goal.returns-clause-causes
 returns-clause-causes g c =
     concludes-causes g.K.Sink.taken g.K.Sink.faults (state_of c.args.machine.now) c.args.cut.now _ c.args.lines.now c.args.lines.now None None _ _ _ _ _ _ _ _ c.conclude.ensures
     c.read_sides-stop.ensures.read c.read_sides-stop.ensures.quiet
+
+pub returns-clause-decided : goal.returns-clause-decided
+returns-clause-decided g c =
+    concludes-decided g.K.Sink.taken g.K.Sink.faults (state_of c.args.machine.now) c.args.cut.now _ c.args.lines.now _ _ _ _ _ _ _ _ c.requires.awake _ c.read_sides-stop.ensures.states c.conclude.ensures
