@@ -164,7 +164,7 @@ if_true false v e = absurd (cc (e))
 
 module _ (cut : Cut) (s : Store) where
   -- a fact of each place of the objects of a kind
-  abbrev PlacesMay : CapKind → Type 0
+  abbrev pub PlacesMay : CapKind → Type 0
   PlacesMay kind = (n i : ℕ) → n < size_of s.items kind → i < places_in kind → MayHold cut (side_of cut kind n) (meaning s.items (cap_in s kind n i))
 
   places-none : (kind : CapKind) → PlacesMay kind → breach_of_kind cut s kind ≡ None
@@ -180,11 +180,11 @@ module _ (cut : Cut) (s : Store) where
       may-meaning cut (side_of cut kind n) s.items (cap_in s kind n i) (may_hold-says cut (side_of cut kind n) (live s.items (cap_in s kind n i)) (if_none _ _ at))
 
   -- all four kinds
-  record AllPlaces : Type 0 where
-    cappages : PlacesMay CapPage
-    gpts : PlacesMay Gpt
-    endpoints : PlacesMay Endpoint
-    processes : PlacesMay Process
+  pub record AllPlaces : Type 0 where
+    pub cappages : PlacesMay CapPage
+    pub gpts : PlacesMay Gpt
+    pub endpoints : PlacesMay Endpoint
+    pub processes : PlacesMay Process
 
   none-all : breach_of cut s ≡ None → AllPlaces
   none-all e =
@@ -315,7 +315,7 @@ module _ (cut : Cut) (s : Store) where
     ]
 
     -- so each capability of the map may stand where it does
-    each-held : EachMayHold cut (state_map s)
+    pub each-held : EachMayHold cut (state_map s)
     each-held = record {
       slots = λ g i. subst (λ (c : Capability). MayHold cut (side_of cut Gpt g) c) (sym (slot_at-map_of s.items g i)) (slot-held g i);
       cappages = λ n i. subst (λ (v : List Capability). MayHold cut (side_of cut CapPage n) (cap_at v i)) (sym (cappage_at-state_map s n)) (read-meaning (side_of cut CapPage n) (cappage_at s n) i (cappage-held n i));
@@ -332,7 +332,7 @@ module _ (cut : Cut) (s : Store) where
       by true = meaning-read (side_of cut Process p) (process_at s p).slots i (subst (λ (v : ProcessValue). MayHold cut (side_of cut Process p) (slot_of v i)) (process_at-state_map s p) (each.process_slots p i))
       by false = meaning-read (side_of cut Process p) (process_at s p).capregs (i - 3) (subst (λ (v : ProcessValue). MayHold cut (side_of cut Process p) (capreg_of v (i - 3))) (process_at-state_map s p) (each.capregs p (i - 3)))
 
-  held-all : EachMayHold cut (state_map s) → AllPlaces
+  pub held-all : EachMayHold cut (state_map s) → AllPlaces
   held-all each = record {
     cappages = λ n i there place. meaning-read (side_of cut CapPage n) (cappage_at s n) i (subst (λ (v : List Capability). MayHold cut (side_of cut CapPage n) (cap_at v i)) (cappage_at-state_map s n) (each.cappages n i));
     gpts = λ g i there place. subst (λ (c : Capability). MayHold cut (side_of cut Gpt g) c) (slot_at-map_of s.items g i) (each.slots g i);

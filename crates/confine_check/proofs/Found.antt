@@ -42,7 +42,7 @@ module _ {A B : Type 0} (g : A → B) where
 -- ---- what stands in a place
 
 -- of the map it is the meaning of what is stored
-cap_in-state_map : (s : Store) (kind : CapKind) (n i : ℕ) → cap_in (state_map s) kind n i ≡ meaning s.items (cap_in s kind n i)
+pub cap_in-state_map : (s : Store) (kind : CapKind) (n i : ℕ) → cap_in (state_map s) kind n i ≡ meaning s.items (cap_in s kind n i)
 cap_in-state_map s CapPage n i = ap (λ page. cap_at page i) (cappage_at-state_map s n) ∙ get_or-map (meaning s.items) (cappage_at s n) i null
 cap_in-state_map s Gpt n i = slot_at-map_of s.items n i
 cap_in-state_map s Endpoint n i = ap (λ endpoint. endpoint.recipient) (endpoint_at-state_map s n)

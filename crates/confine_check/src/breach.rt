@@ -37,8 +37,8 @@ fn may_hold(cut: &Cut, side: bool, cap: Cap) -> bool
     is_same(cut.is_left(kind.object_kind(), cap.object()), side) || is_harmless(cap)
 }
 
-/// How many places for capabilities an object of a kind has.
-fn places(kind: CapKind) -> u16
+/// How many places for capabilities an object of a kind has, none where it is no kind of objects that hold any.
+pub fn places(kind: CapKind) -> u16
     ensures { result ≡ places_in kind }
 {
     match kind {
@@ -63,8 +63,9 @@ fn held_by(process: &Process, i: u8) -> Cap
     }
 }
 
-/// The capability in a place of an object, as it is stored.
-fn cap_in<L: Ledger>(
+/// The capability in a place of an object, as it is stored. Of a process its slots stand before its registers; a slot of
+/// a GPT is read, and so counted.
+pub fn cap_in<L: Ledger>(
     objects: &Objects,
     kind: CapKind,
     n: u16,
@@ -134,8 +135,8 @@ fn breach_of_object<L: Ledger>(
     None
 }
 
-/// How many objects of a kind there are.
-fn size(objects: &Objects, kind: CapKind) -> u16
+/// How many objects of a kind there are, none where it is no kind of objects.
+pub fn size(objects: &Objects, kind: CapKind) -> u16
     ensures { result ≡ size_of objects.now.items kind }
 {
     let sizes = objects.sizes();

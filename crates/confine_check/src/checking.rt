@@ -86,7 +86,7 @@ fn broken(found: Breach) -> Verdict
 }
 
 /// Does nothing: its contract tells that all objects have all of their places.
-pub(crate) fn tell_full(objects: &Objects)
+pub fn tell_full(objects: &Objects)
     ensures { AreFull objects.now }
 {
     objects.in_ranges();

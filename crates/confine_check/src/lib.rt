@@ -1,7 +1,8 @@
 //! A checker of a stated cut: which objects are on the left, and whether the two sides of a machine are kept apart.
 //!
 //! A cut gives each object a side, by lines that are read one at a time. `confined` says whether the cut holds; where it
-//! does, no event of any run leads across it. Nothing here runs a machine or prints.
+//! does, no event of any run leads across it. The passage over all places for capabilities is public by its parts, for
+//! other questions about a machine. Nothing here runs a machine or prints.
 #![tactic(auto)]
 
 mod block;
@@ -14,7 +15,8 @@ mod line;
 mod sleeping;
 mod verdict;
 
-pub use checking::confined;
+pub use breach::{cap_in, places, size};
+pub use checking::{confined, tell_full};
 pub use cut::Cut;
 pub use fault::CutFault;
 pub use laws::{verdict_in_law, verdict_law};

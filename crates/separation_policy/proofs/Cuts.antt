@@ -86,7 +86,7 @@ module _ (policy : PolicyValue) (kind : CapKind) (n : ℕ) (c : Capability) wher
   OwnOver over = NamesOwn over (side_of over kind n) c ⊎ MayCross over (side_of over kind n) c
 
   -- over the cut of any domain
-  domain-held : (a : ℕ) → MayStand policy home c → MayHold (domain_cut policy a) (side_of (domain_cut policy a) kind n) c
+  pub domain-held : (a : ℕ) → MayStand policy home c → MayHold (domain_cut policy a) (side_of (domain_cut policy a) kind n) c
   domain-held a may = record { no_range = may.no_range; own = by (cases_Bool (is_counted c.kind)) }
     where
       by : (is_counted c.kind ≡ true) ⊎ (is_counted c.kind ≡ false) → OwnOver (domain_cut policy a)
@@ -97,7 +97,7 @@ module _ (policy : PolicyValue) (kind : CapKind) (n : ℕ) (c : Capability) wher
       ]
 
   -- over the cut of what any domain reads
-  view-held : (a : ℕ) → MayStand policy home c → MayHold (view_cut policy a) (side_of (view_cut policy a) kind n) c
+  pub view-held : (a : ℕ) → MayStand policy home c → MayHold (view_cut policy a) (side_of (view_cut policy a) kind n) c
   view-held a may = record { no_range = may.no_range; own = by (cases_Bool (is_counted c.kind)) }
     where
       crossing : Reads policy home (domain_named policy c) → is_harmless c ≡ true → (sees policy a home ≡ true) ⊎ (sees policy a home ≡ false)
@@ -119,7 +119,7 @@ module _ (policy : PolicyValue) (kind : CapKind) (n : ℕ) (c : Capability) wher
       ]
 
   -- and back from both cuts of the domain in which it stands
-  held-may : MayHold (domain_cut policy home) (side_of (domain_cut policy home) kind n) c → MayHold (view_cut policy home) (side_of (view_cut policy home) kind n) c → MayStand policy home c
+  pub held-may : MayHold (domain_cut policy home) (side_of (domain_cut policy home) kind n) c → MayHold (view_cut policy home) (side_of (view_cut policy home) kind n) c → MayStand policy home c
   held-may domain view = record { no_range = domain.no_range; named = λ counted. by counted domain.own view.own }
     where
       by : is_counted c.kind ≡ true
@@ -156,7 +156,7 @@ module _ (cut : Cut) (side : Bool) where
 -- ---- a whole system
 
 module _ (policy : PolicyValue) (w : System) where
-  apart-by : (some : ℕ → Bool) (weakly : Bool → Bool) → SleepAtHome policy w.queues → SleepApart (cut policy some weakly) w.queues
+  pub apart-by : (some : ℕ → Bool) (weakly : Bool → Bool) → SleepAtHome policy w.queues → SleepApart (cut policy some weakly) w.queues
   apart-by some weakly home on = each_on (cut policy some weakly) (side_of (cut policy some weakly) Process on) (sleepers_of w.queues on) (λ p there. on-one-side policy some weakly Process Process p on (ap some (home on p there)))
 
   holds-domain : (a : ℕ) → PolicyHolds policy w → Holds (domain_cut policy a) w
