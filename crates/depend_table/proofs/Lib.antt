@@ -1,4 +1,9 @@
+pub mod Tests
 pub mod Members
+pub mod Records
+pub mod Coded
+pub mod Sets
+pub mod Notes
 mod Places
 mod Listed
 mod Linked

@@ -7,16 +7,8 @@ use Rattle.cap_format.specs.declared.kind.CapKind.{CapKind}
 use Rattle.cap_format.specs.declared.item.Item.{Item}
 use Rattle.cap_format.specs.declared.item.Item.TheVariants.{Header, Slot}
 use Rattle.guard_math.specs.Block.{BlockValue, block_of}
+use Rattle.depend_table.proofs.Tests.{both, same_numbers}
 use Rattle.depend_table.specs.Depend.{Adds, Depend, Takes, depend, has, same, same_block, same_item}
-
--- both of two tests that hold together hold
-both : (a b : Bool) → (a && b) ≡ true → (a ≡ true) × (b ≡ true)
-both true b holds = (refl, holds)
-both false b holds = absurd (cc)
-
--- numbers that pass the test are one
-same_numbers : (m n : ℕ) → (m == n) ≡ true → m ≡ n
-same_numbers m n holds = grind (arith, nat_tests, holds)
 
 -- items that pass the test are one
 pub same_item_tells : (a b : Item) → same_item a b ≡ true → a ≡ b

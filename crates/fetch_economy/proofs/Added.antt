@@ -19,19 +19,23 @@ use Rattle.walk_meaning.specs.After.{trail_after}
 use Rattle.walk_meaning.proofs.Walked.{trail_from-suc}
 use Rattle.map_cache.specs.declared.key.Key.{Key}
 use Rattle.map_cache.specs.Key.{has_key, same_key, with_key}
-use Rattle.map_cache.specs.Kept.{Note, note, note_order, noted_all}
-use Rattle.map_cache.proofs.Codes.{either, note_itself, notes_total, or_left, or_right, same_key_itself}
-use Rattle.fetch_economy.proofs.Sets.{Within}
+use Rattle.map_cache.specs.Kept.{Note, note_order, noted_all}
+use Rattle.depend_table.proofs.Coded.{key_itself}
+use Rattle.depend_table.proofs.Notes.{notes_apart, notes_total}
+use Rattle.depend_table.proofs.Sets.{Within, itself}
+use Rattle.depend_table.proofs.Tests.{either, or_left, or_right}
+use Rattle.depend_table.specs.Notes.{note}
+use Rattle.map_cache.proofs.Codes.{key_coding, space_coding}
 
 -- ---- notes
 
 -- what was noted stays
 insert-within : (s : FinSet note_order) (k : Note) → Within s (insert s k)
-insert-within s k n there = contains-insert notes_total s k n ∙ or_right (eq_by_cmp note_order n k) (contains s n) there
+insert-within s k n there = contains-insert (notes_total space_coding) s k n ∙ or_right (eq_by_cmp note_order n k) (contains s n) there
 
 insert-both : (s t : FinSet note_order) (k : Note) → Within s t → Within (insert s k) (insert t k)
 insert-both s t k within n there =
-    contains-insert notes_total t k n ∙ on (either (eq_by_cmp note_order n k) (contains s n) (sym (contains-insert notes_total s k n) ∙ there))
+    contains-insert (notes_total space_coding) t k n ∙ on (either (eq_by_cmp note_order n k) (contains s n) (sym (contains-insert (notes_total space_coding) s k n) ∙ there))
   where
     on : (eq_by_cmp note_order n k ≡ true) ⊎ (contains s n ≡ true) → (eq_by_cmp note_order n k || contains t n) ≡ true
     on (inl here) = or_left (eq_by_cmp note_order n k) (contains t n) here
@@ -51,8 +55,8 @@ noted_all-both s t space (r ∷ reads) within =
 pub noted_all-first : (s : FinSet note_order) (space : Capability) (r : Noted) (reads : List Noted) → contains (noted_all s space (r ∷ reads)) (note space r.item r.block) ≡ true
 noted_all-first s space r reads =
     noted_all-within (insert s (note space r.item r.block)) space reads (note space r.item r.block)
-    (contains-insert notes_total s (note space r.item r.block) (note space r.item r.block)
-    ∙ or_left (eq_by_cmp note_order (note space r.item r.block) (note space r.item r.block)) (contains s (note space r.item r.block)) (note_itself (note space r.item r.block)))
+    (contains-insert (notes_total space_coding) s (note space r.item r.block) (note space r.item r.block)
+    ∙ or_left (eq_by_cmp note_order (note space r.item r.block) (note space r.item r.block)) (contains s (note space r.item r.block)) (itself (notes_total space_coding) (notes_apart space_coding) (note space r.item r.block)))
 
 -- the header of the object that a capability names
 abbrev pub header_of : Capability → Item
@@ -105,4 +109,4 @@ has_key-added keys k = on (has_key keys k) refl
     on true there = there
     on false new =
         list_any-append (same_key k) keys (k ∷ [])
-        ∙ or_right (has_key keys k) (has_key (k ∷ []) k) (or_left (same_key k k) (has_key [] k) (same_key_itself k))
+        ∙ or_right (has_key keys k) (has_key (k ∷ []) k) (or_left (same_key k k) (has_key [] k) (key_itself key_coding k))

@@ -11,7 +11,6 @@ use Rattle.walk_meaning.specs.Trail.{slots, trail}
 use Rattle.walk_meaning.proofs.SlotsLaw.{slots_law}
 use Rattle.map_cache.specs.Key.{region_key, root_key, with_key}
 use Rattle.map_cache.specs.Kept.{KeptValue, added, added_to, cost_of, counted, fits, is_reached, kept_after, kept_without, nothing, overflows}
-use Rattle.map_cache.proofs.Economy.{noted_all-grows, with_key-grows}
 use Rattle.machine_state.specs.Outcome.{Touch}
 use Rattle.machine_state.specs.Outcome.Touch.{DataAccess, CapAccess, GptCall, Changed}
 use Rattle.fetch_economy.proofs.Bound.{slot_reads-most}
@@ -20,6 +19,9 @@ use Rattle.fetch_economy.specs.Economy.{EconomyValue, at_start, covering, econom
 use Rattle.fetch_economy.specs.Ages.{AgesAreTold}
 use Rattle.fetch_economy.specs.Laws.{FetchEconomy, RoundEconomy}
 use Rattle.fetch_economy.proofs.Meets.{Meets, meets-added, meets-changed, meets-fits, meets-held, meets-same, meets-start, within_need}
+use Rattle.depend_table.proofs.Coded.{with_key-grows}
+use Rattle.depend_table.proofs.Notes.{noted_all-grows}
+use Rattle.map_cache.proofs.Codes.{key_coding, space_coding}
 
 -- ---- the need only grows
 
@@ -28,10 +30,10 @@ within_less a b c d keys notes holds = grind (arith, nat_tests, keys, notes, hol
 
 need-before_access : (e : EconomyValue) (space aged : Capability) (page : ℕ) (reads : List Noted) → within_need (covering e space aged page reads) ≡ true → within_need e ≡ true
 need-before_access e space aged page reads =
-    let one = with_key-grows e.frames (root_key aged) in
-    let two = with_key-grows (with_key e.frames (root_key aged)) (region_key aged (page / 1024)) in
+    let one = with_key-grows key_coding e.frames (root_key aged) in
+    let two = with_key-grows key_coding (with_key e.frames (root_key aged)) (region_key aged (page / 1024)) in
     let covers : EconomyValue = covering e space aged page reads in
-    within_less (length e.frames) (len e.noted) (length covers.frames) (len covers.noted) (omega (arith, one.0, two.0)) (noted_all-grows e.noted aged reads)
+    within_less (length e.frames) (len e.noted) (length covers.frames) (len covers.noted) (omega (arith, one.0, two.0)) (noted_all-grows space_coding e.noted aged reads)
 
 need-before_touch : (e : EconomyValue) (t : Touch) → within_need (economy_at e t) ≡ true → within_need e ≡ true
 need-before_touch e (DataAccess o space address kind) need = on (is_reached (access o space address kind)) need

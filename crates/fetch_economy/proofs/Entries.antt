@@ -7,9 +7,9 @@ use Rattle.map_cache.specs.declared.mapping.Mapping.{Mapping}
 use Rattle.map_cache.specs.Kept.{KeptValue, counted}
 use Rattle.map_cache.specs.Cache.{CacheValue, kept_of, leaf_for}
 use Rattle.map_cache.specs.Mappings.{AreMappings}
-use Rattle.map_cache.proofs.Codes.{both}
 use Rattle.fetch_economy.specs.Laws.{CoveredHaveEntries, HasEntry}
 use Rattle.fetch_economy.proofs.Economic.{fetch_economy}
+use Rattle.depend_table.proofs.Tests.{both}
 
 -- a pair that is held has its entry
 held-entry : (cache : CacheValue) (entries : List Mapping) → AreMappings cache entries → (space : Capability) (page : ℕ) → (kept_of cache).held space page ≡ true

@@ -1,7 +1,6 @@
 pub mod Bound
 pub mod Told
 pub mod Appended
-mod Sets
 mod Added
 mod Meets
 pub mod Economic

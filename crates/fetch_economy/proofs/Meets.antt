@@ -14,13 +14,17 @@ use Rattle.walk_meaning.specs.Trail.{trail}
 use Rattle.depend_table.specs.Depend.{same_item}
 use Rattle.map_cache.specs.declared.key.Key.{Key}
 use Rattle.map_cache.specs.Key.{has_key, region_key, root_key, same_space, with_key}
-use Rattle.map_cache.specs.Kept.{KeptValue, Note, note, nothing, added, fits, counted, is_on, kept_without}
-use Rattle.map_cache.proofs.Codes.{both, either, not_true, notes_apart, number_itself, or_left, or_right, same_numbers, same_space_itself, same_space_tells}
+use Rattle.map_cache.specs.Kept.{KeptValue, Note, nothing, added, fits, counted, is_on, kept_without}
 use Rattle.map_cache.proofs.Economy.{fits-within}
 use Rattle.fetch_economy.specs.Economy.{EconomyValue, at_start, covering, is_for, uncovering}
 use Rattle.fetch_economy.specs.Ages.{SameAges, SameAgesBut}
-use Rattle.fetch_economy.proofs.Sets.{Within, any-note, any-within, note-any, within-len}
 use Rattle.fetch_economy.proofs.Added.{all-holds, has_key-added, has_key-more, header-noted, header_of, noted_all-both, noted_all-within, with_key-there}
+use Rattle.depend_table.proofs.Coded.{key_itself, key_tells}
+use Rattle.depend_table.proofs.Notes.{notes_apart, notes_total}
+use Rattle.depend_table.proofs.Sets.{Within, any-note, any-within, note-any, within-len}
+use Rattle.depend_table.proofs.Tests.{both, either, not_true, number_itself, or_left, or_right, same_numbers}
+use Rattle.depend_table.specs.Notes.{note}
+use Rattle.map_cache.proofs.Codes.{space_coding}
 
 -- ---- spaces with their ages
 
@@ -92,17 +96,17 @@ module _ (k : KeptValue) (e : EconomyValue) (o : Items) (space : Capability) (ad
   pair s p covered = elim (either (same_space s space && (p == page)) (e.covered s p) covered) [
     | inl here ↦
         let parts = both (same_space s space) (p == page) here in
-        inl (same_space_tells s space parts.0, same_numbers p page parts.1)
+        inl (key_tells space_coding s space parts.0, same_numbers p page parts.1)
     | inr before ↦ inr before
   ]
 
   -- the header of this space is noted, for a block that has the page
   header_here : is_counted space.kind ≡ true → list_any (is_for space page (header_of space)) (items covers.noted) ≡ true
   header_here named =
-      note-any (is_for space page (header_of space)) covers.noted (note aged (header_of space) (around address 32))
+      note-any (notes_total space_coding) (notes_apart space_coding) (is_for space page (header_of space)) covers.noted (note aged (header_of space) (around address 32))
       (header-noted e.noted aged o space address kind named)
       (rw (header_itself space, all-holds address)
-      (ap (λ (c : Capability). same_space (bare space) c && true) (bare-counted o space) ∙ ap (λ (b : Bool). b && true) (same_space_itself (bare space))))
+      (ap (λ (c : Capability). same_space (bare space) c && true) (bare-counted o space) ∙ ap (λ (b : Bool). b && true) (key_itself space_coding (bare space))))
 
   headed_then : (s : Capability) (p : ℕ) → covers.covered s p ≡ true → is_counted s.kind ≡ true → list_any (is_for s p (header_of s)) (items covers.noted) ≡ true
   headed_then s p covered named = elim (pair s p covered) [
@@ -110,7 +114,7 @@ module _ (k : KeptValue) (e : EconomyValue) (o : Items) (space : Capability) (ad
         ap (λ (c : Capability). list_any (is_for c p (header_of c)) (items covers.noted)) here.0
         ∙ ap (λ (n : ℕ). list_any (is_for space n (header_of space)) (items covers.noted)) here.1
         ∙ header_here (ap (λ (c : Capability). is_counted c.kind) (sym here.0) ∙ named)
-    | inr before ↦ any-within (is_for s p (header_of s)) e.noted covers.noted (noted_all-within e.noted aged reads) (m.headed s p before named)
+    | inr before ↦ any-within (notes_total space_coding) (notes_apart space_coding) (is_for s p (header_of s)) e.noted covers.noted (noted_all-within e.noted aged reads) (m.headed s p before named)
   ]
 
   -- where the pair was held, nothing is added
@@ -140,14 +144,14 @@ module _ (k : KeptValue) (e : EconomyValue) (o : Items) (space : Capability) (ad
   meets-added = record {
     held = λ s p covered. elim (pair s p covered) [
       | inl here ↦ or_left (same_space (counted o s) aged && (p == page)) (k.held (counted o s) p)
-          (rw (here.0, here.1, same_space_itself aged) (number_itself page))
+          (rw (here.0, here.1, key_itself space_coding aged) (number_itself page))
       | inr before ↦ or_right (same_space (counted o s) aged && (p == page)) (k.held (counted o s) p) (m.held s p before)
     ];
     headed = headed_then;
     keyed = λ s p held. elim (either (same_space s aged && (p == page)) (k.held s p) held) [
       | inl here ↦
           let parts = both (same_space s aged) (p == page) here in
-          let same : s ≡ aged = same_space_tells s aged parts.0 in
+          let same : s ≡ aged = key_tells space_coding s aged parts.0 in
           let at : p ≡ page = same_numbers p page parts.1 in
           rw (same, at) (
             has_key-more (with_key k.keys (root_key aged)) (root_key aged) (region_key aged (page / 1024)) (has_key-added k.keys (root_key aged)),
@@ -189,13 +193,13 @@ module _ (k : KeptValue) (e : EconomyValue) (item : Item) (o q : Items) (ages : 
   -- a kept note that takes a pair out is one of those that uncover it
   taken : (s : Capability) (p : ℕ) → list_any (is_on (counted q s) p item) (items k.notes) ≡ true → list_any (is_for s p item) (items e.noted) ≡ true
   taken s p some =
-      let at = any-note (is_on (counted q s) p item) k.notes some in
+      let at = any-note (notes_total space_coding) (notes_apart space_coding) (is_on (counted q s) p item) k.notes some in
       let n : Note = at.0 in
-      let parts = both (same_item n.item item) (same_space (counted q s) n.space && holds n.block p) at.1.1 in
-      let more = both (same_space (counted q s) n.space) (holds n.block p) parts.1 in
-      let space_is : bare s ≡ bare n.space = sym (bare-counted q s) ∙ ap bare (same_space_tells (counted q s) n.space more.0) in
-      note-any (is_for s p item) e.noted n (m.noted n at.1.0)
-      (rw (parts.0, more.1) (ap (λ (c : Capability). same_space (bare s) c && true) (sym space_is) ∙ ap (λ (b : Bool). b && true) (same_space_itself (bare s))))
+      let parts = both (same_item n.item item) (same_space (counted q s) n.key && holds n.block p) at.1.1 in
+      let more = both (same_space (counted q s) n.key) (holds n.block p) parts.1 in
+      let space_is : bare s ≡ bare n.key = sym (bare-counted q s) ∙ ap bare (key_tells space_coding (counted q s) n.key more.0) in
+      note-any (notes_total space_coding) (notes_apart space_coding) (is_for s p item) e.noted n (m.noted n at.1.0)
+      (rw (parts.0, more.1) (ap (λ (c : Capability). same_space (bare s) c && true) (sym space_is) ∙ ap (λ (b : Bool). b && true) (key_itself space_coding (bare s))))
 
   pub meets-changed : Meets (kept_without k item) uncovers q
   meets-changed = record {
@@ -210,7 +214,7 @@ module _ (k : KeptValue) (e : EconomyValue) (item : Item) (o q : Items) (ages : 
     frames = m.frames;
     noted = λ n there.
         m.noted n (both (contains k.notes n) (not (same_item n.item item))
-        (sym (contains-retain k.notes (λ x. not (same_item x.item item)) n (λ x tie. ap (λ (y : Note). not (same_item y.item item)) (sym (notes_apart n x tie)))) ∙ there)).0;
+        (sym (contains-retain k.notes (λ x. not (same_item x.item item)) n (λ x tie. ap (λ (y : Note). not (same_item y.item item)) (sym ((notes_apart space_coding) n x tie)))) ∙ there)).0;
   }
 
 -- ---- the need
@@ -225,7 +229,7 @@ meets-fits k e o m need =
     let parts = both (nat_le (length e.frames) 256) (nat_le (len e.noted) 16384) need in
     fits-within k
     (omega (arith, at_most (length e.frames) 256 parts.0, ap (λ (keys : List Key). length keys) m.frames))
-    (omega (arith, at_most (len e.noted) 16384 parts.1, within-len k.notes e.noted m.noted))
+    (omega (arith, at_most (len e.noted) 16384 parts.1, within-len (notes_total space_coding) (notes_apart space_coding) k.notes e.noted m.noted))
   where
     at_most : (n most : ℕ) → nat_le n most ≡ true → n ≤ most
     at_most n most holds = grind (arith, nat_tests, holds)

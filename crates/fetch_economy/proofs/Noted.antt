@@ -5,20 +5,23 @@ use Rattle.std.specs.Ordering.{eq_by_cmp}
 use Rattle.std.specs.FinSet.{FinSet, contains, contains-insert, insert, items, len, len-insert, same_set}
 use Rattle.cap_format.specs.Capability.{Capability}
 use Rattle.walk_meaning.specs.declared.noted.Noted.{Noted}
-use Rattle.map_cache.specs.Kept.{Note, note, note_order, noted_all}
-use Rattle.map_cache.proofs.Codes.{either, notes_apart, notes_total, note_tells, same_tests}
-use Rattle.fetch_economy.proofs.Sets.{any-note, found, note-any, passes}
+use Rattle.map_cache.specs.Kept.{Note, note_order, noted_all}
 use Rattle.fetch_economy.proofs.Added.{noted_all-first}
+use Rattle.depend_table.proofs.Notes.{notes_apart, notes_total}
+use Rattle.depend_table.proofs.Sets.{any-note, found, note-any, passes, tells}
+use Rattle.depend_table.proofs.Tests.{either, same_tests}
+use Rattle.depend_table.specs.Notes.{note}
+use Rattle.map_cache.proofs.Codes.{space_coding}
 
 -- the notes of a set are those of a list
 abbrev pub Lists : List Note → FinSet note_order → Type 0
 Lists notes s = (q : Note) → contains s q ≡ list_any (eq_by_cmp note_order q) notes
 
--- some note of a set passes a test where one of its list does
+-- some note of a set passes (notes_total space_coding) (notes_apart space_coding) a test where one of its list does
 pub any-listed : (p : Note → Bool) (notes : List Note) (s : FinSet note_order) → Lists notes s → list_any p (items s) ≡ list_any p notes
 any-listed p notes s are = same_tests (list_any p (items s)) (list_any p notes)
-    (λ some. let at = any-note p s some in passes p notes at.0 (sym (are at.0) ∙ at.1.0) at.1.1)
-    (λ some. let at = found p notes some in note-any p s at.0 (are at.0 ∙ at.1.0) at.1.1)
+    (λ some. let at = any-note (notes_total space_coding) (notes_apart space_coding) p s some in passes (notes_total space_coding) (notes_apart space_coding) p notes at.0 (sym (are at.0) ∙ at.1.0) at.1.1)
+    (λ some. let at = found (notes_total space_coding) (notes_apart space_coding) p notes some in note-any (notes_total space_coding) (notes_apart space_coding) p s at.0 (are at.0 ∙ at.1.0) at.1.1)
 
 module _ (aged : Capability) where
   abbrev note_at : Noted → Note
@@ -35,7 +38,7 @@ module _ (aged : Capability) where
   new_notes notes (r ∷ reads) = cond (list_any (eq_by_cmp note_order (note_at r)) notes) 0 1 + new_notes (note_at r ∷ notes) reads
 
   one-more : (s : FinSet note_order) (notes : List Note) (k : Note) → Lists notes s → Lists (k ∷ notes) (insert s k)
-  one-more s notes k are q = contains-insert notes_total s k q ∙ ap (λ (b : Bool). eq_by_cmp note_order q k || b) (are q)
+  one-more s notes k are q = contains-insert (notes_total space_coding) s k q ∙ ap (λ (b : Bool). eq_by_cmp note_order q k || b) (are q)
 
   -- what is noted is listed
   pub lists-noted_all : (s : FinSet note_order) (notes : List Note) → Lists notes s → (reads : List Noted) → Lists (with_notes notes reads) (noted_all s aged reads)
@@ -47,7 +50,7 @@ module _ (aged : Capability) where
   len-noted_all s notes are [] = sym (omega arith)
   len-noted_all s notes are (r ∷ reads) =
       let one : len (insert s (note_at r)) ≡ cond (list_any (eq_by_cmp note_order (note_at r)) notes) (len s) (len s + 1) =
-      len-insert notes_total s (note_at r) ∙ ap (λ (b : Bool). cond b (len s) (len s + 1)) (are (note_at r)) in
+      len-insert (notes_total space_coding) s (note_at r) ∙ ap (λ (b : Bool). cond b (len s) (len s + 1)) (are (note_at r)) in
       step (list_any (eq_by_cmp note_order (note_at r)) notes) (len s) (len (insert s (note_at r))) (len (noted_all s aged (r ∷ reads))) (new_notes (note_at r ∷ notes) reads) one
       (len-noted_all (insert s (note_at r)) (note_at r ∷ notes) (one-more s notes (note_at r) are) reads)
     where
@@ -70,11 +73,11 @@ module _ (aged : Capability) where
       or_true false = refl
 
       same : insert s (note_at r) ≡ s
-      same = same_set notes_total notes_apart (insert s (note_at r)) s (λ q.
-          contains-insert notes_total s (note_at r) q
+      same = same_set (notes_total space_coding) (notes_apart space_coding) (insert s (note_at r)) s (λ q.
+          contains-insert (notes_total space_coding) s (note_at r) q
           ∙ same_tests (eq_by_cmp note_order q (note_at r) || contains s q) (contains s q)
           (λ holds. elim (either (eq_by_cmp note_order q (note_at r)) (contains s q) holds) [
-            | inl here ↦ ap (contains s) (note_tells q (note_at r) here) ∙ there.0
+            | inl here ↦ ap (contains s) (tells (notes_total space_coding) (notes_apart space_coding) q (note_at r) here) ∙ there.0
             | inr more ↦ more
           ])
           (λ holds. rw holds (or_true (eq_by_cmp note_order q (note_at r)))))

@@ -52,7 +52,7 @@ covering e space aged page reads = record {
 
 -- whether a note is for this space, of whatever age, and this item, and its block has the page
 abbrev pub is_for : Capability → ℕ → Item → Note → Bool
-is_for space page item n = same_item n.item item && (same_space (bare space) (bare n.space) && holds n.block page)
+is_for space page item n = same_item n.item item && (same_space (bare space) (bare n.key) && holds n.block page)
 
 -- a change of an item
 abbrev pub uncovering : EconomyValue → Item → EconomyValue

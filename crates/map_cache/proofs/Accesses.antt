@@ -1,8 +1,7 @@
 -- What a fresh leaf says of an access, what a walk that reached makes of a leaf, and what either costs.
-use Rattle.std.proofs.Common.{◌≡◌, ◌≢◌, ℕ, ◌+◌, ◌*◌, ◌<◌, ◌≤◌, ◌/◌, ◌%◌, ◌^◌, Bool, true, false, not, ◌&&◌, ◌||◌, ◌==◌, nat_lt, if◌then◌else◌, List, [], ◌∷◌, length, Option, Some, None, Result, Ok, Err, is_some, refl, sym, ap, ◌∙◌, subst, arith}
+use Rattle.std.proofs.Common.{◌≡◌, ℕ, ◌*◌, ◌<◌, ◌/◌, ◌%◌, ◌^◌, Bool, true, false, not, ◌&&◌, ◌==◌, nat_lt, if◌then◌else◌, List, [], length, Ok, Err, is_some, refl, sym, ap, ◌∙◌, subst, arith}
 use Rattle.std.specs.Prelude.{slice_index}
 use Rattle.std.specs.List.{AllByRecursion as Each}
-use Rattle.std.proofs.lemmas.Bool.Decides.{nat_tests}
 use Rattle.cap_format.specs.Kind.{is_counted, object_kind}
 use Rattle.cap_format.specs.Capability.{Capability, IsCapability, bare, null, with_count}
 use Rattle.cap_format.specs.Item.{IsItem}
@@ -10,7 +9,6 @@ use Rattle.guard_math.specs.Block.{holds}
 use Rattle.object_store.specs.Store.{Items, count_of, counts_of}
 use Rattle.object_store.specs.Meaning.{is_current, is_live, meaning}
 use Rattle.object_store.specs.Ranges.{IsRanged}
-use Rattle.object_store.proofs.Live.{IsCapability-meaning}
 use Rattle.sv32_tables.specs.declared.leaf.Leaf.{Leaf}
 use Rattle.sv32_tables.specs.Pool.{PoolValue}
 use Rattle.tlb_model.specs.declared.entry.Entry.{Entry}
@@ -25,12 +23,12 @@ use Rattle.walk_meaning.specs.Trail.{slots, trail}
 use Rattle.walk_meaning.proofs.FrameLaw.{null_stops}
 use Rattle.walk_meaning.specs.Laws.{IsRead, KindLaw, PageLaw, ReadsLaw}
 use Rattle.map_cache.specs.declared.key.Key.{Key}
-use Rattle.map_cache.specs.Kept.{KeptValue, added, added_to, cost_of, counted, fits, is_new, is_reached, is_spared, kept_after, overflows, tlb_after}
+use Rattle.map_cache.specs.Kept.{KeptValue, added, added_to, cost_of, counted, fits, is_new, is_reached, is_spared, kept_after, tlb_after}
 use Rattle.map_cache.specs.Cache.{CacheValue, kept_of, leaf_for, leaf_in, notes_of, root_at}
 use Rattle.map_cache.specs.Coherent.{IsCoherent, IsFresh}
 use Rattle.map_cache.specs.Effects.{ChangesHart, IsWalked, allows, reached_leaf}
-use Rattle.map_cache.proofs.Codes.{both, same_numbers}
 use Rattle.map_cache.proofs.Coherence.{each_map}
+use Rattle.depend_table.proofs.Tests.{both, same_numbers}
 
 -- ---- the kinds
 

@@ -1,6 +1,6 @@
 -- Coherence: with more records, after a new leaf, after a cleared block, and over a change of one item.
-use Rattle.std.proofs.Common.{◌≡◌, ◌≢◌, ◌⊎◌, inl, inr, ℕ, ◌+◌, ◌*◌, ◌<◌, ◌/◌, ◌%◌, ◌^◌, Bool, true, false, not, ◌&&◌, ◌||◌, ◌==◌, if◌then◌else◌, List, [], ◌∷◌, ◌++◌, length, Option, Some, None, Ok, refl, sym, ap, ◌∙◌, subst, arith}
-use Rattle.std.specs.Prelude.{slice_get, ◌↔◌}
+use Rattle.std.proofs.Common.{◌≡◌, ◌≢◌, inl, inr, ℕ, ◌*◌, ◌<◌, ◌/◌, Bool, true, false, ◌&&◌, ◌==◌, if◌then◌else◌, List, [], ◌∷◌, ◌++◌, length, Some, None, refl, sym, ap, ◌∙◌, subst, arith}
+use Rattle.std.specs.Prelude.{slice_get}
 use Rattle.std.specs.List.{AllByRecursion as Each}
 use Rattle.std.proofs.lemmas.Option.{none-some, slice_get_within}
 use Rattle.cap_format.specs.Capability.{Capability}
@@ -11,10 +11,10 @@ use Rattle.object_store.specs.Meaning.{meaning}
 use Rattle.object_store.specs.Differ.{DifferIn}
 use Rattle.sv32_tables.specs.declared.leaf.Leaf.{Leaf}
 use Rattle.sv32_tables.specs.declared.frame_use.FrameUse.TheVariants.{Root}
-use Rattle.sv32_tables.specs.Pool.{IsPlace, IsRoot, PoolValue, leaf_at}
+use Rattle.sv32_tables.specs.Pool.{IsPlace, PoolValue, leaf_at}
 use Rattle.sv32_tables.specs.History.{Clears, Installs, MakesRoot, SameRoots}
 use Rattle.sv32_tables.proofs.Uses.{slice_get-push}
-use Rattle.walk_meaning.specs.Laws.{ReachAlike, SpaceFrameLaw, Unread}
+use Rattle.walk_meaning.specs.Laws.{SpaceFrameLaw}
 use Rattle.walk_meaning.specs.declared.kind.Kind.TheVariants.{Load}
 use Rattle.walk_meaning.specs.declared.noted.Noted.{Noted}
 use Rattle.walk_meaning.specs.Trail.{trail}
@@ -23,12 +23,12 @@ use Rattle.depend_table.specs.Depend.{Depend, Takes, depend, has}
 use Rattle.depend_table.proofs.Members.{has-taken_cases}
 use Rattle.map_cache.specs.declared.key.Key.{Key}
 use Rattle.map_cache.specs.Key.{has_key, region_key, root_key, with_key}
-use Rattle.map_cache.specs.Cache.{IsCache, cache_of, space_at}
+use Rattle.map_cache.specs.Cache.{cache_of, space_at}
 use Rattle.map_cache.specs.Coherent.{IsCoherent, IsFresh, IsRecorded}
 use Rattle.map_cache.specs.Effects.{IsWalked}
-use Rattle.map_cache.proofs.Codes.{both, number_itself, same_numbers}
 use Rattle.map_cache.proofs.Keyed.{space_at-at, space_at-more}
 use Rattle.map_cache.proofs.Invariant.{leaf_at-words}
+use Rattle.depend_table.proofs.Tests.{both, number_itself, same_numbers}
 
 -- from one property of the reads to another
 pub each_map : (P Q : Noted → Type 0) → ((n : Noted) → P n → Q n) → (ns : List Noted) → Each P ns → Each Q ns

@@ -1,7 +1,6 @@
 -- The entries of the tables are the leaves of spaces, each once, and those of a space in order of address.
 use Rattle.std.proofs.Common.{◌≡◌, ◌⊎◌, inl, inr, ℕ, zero, suc, ◌+◌, ◌-◌, ◌*◌, ◌<◌, ◌≤◌, ◌^◌, List, [], ◌∷◌, ◌++◌, length, Option, Some, None, refl, sym, ap, ◌∙◌, subst, arith}
 use Rattle.std.specs.Prelude.{slice_get}
-use Rattle.std.proofs.lemmas.Bool.{cases_lt}
 use Rattle.std.proofs.lemmas.Option.{none-some, slice_get_within}
 use Rattle.cap_format.specs.Capability.{Capability}
 use Rattle.sv32_tables.specs.declared.leaf.Leaf.{Leaf}
@@ -9,11 +8,12 @@ use Rattle.sv32_tables.specs.Pool.{PoolValue, leaf_at}
 use Rattle.map_cache.specs.declared.key.Key.{Key}
 use Rattle.map_cache.specs.declared.mapping.Mapping.{Mapping}
 use Rattle.map_cache.specs.Key.{root_key}
-use Rattle.map_cache.specs.Cache.{AreApart, CacheValue, leaf_for, leaf_in, root_at}
+use Rattle.map_cache.specs.Cache.{CacheValue, leaf_for, leaf_in, root_at}
 use Rattle.map_cache.specs.Mappings.{AreMappings, entries_from, entries_in, entries_under, page_entries, mapping_of, mappings_of}
-use Rattle.map_cache.proofs.Codes.{one_or_not}
 use Rattle.map_cache.proofs.Keyed.{root_at-is, root_at-some}
 use Rattle.map_cache.proofs.Listed.{entries_from-suc, entries_from-zero}
+use Rattle.depend_table.proofs.Tests.{one_or_not}
+use Rattle.depend_table.specs.Keyed.{AreApart}
 
 -- what stands in the second of two lists stands behind the first
 get-right : {X : Type 0} (xs ys : List X) (j : ℕ) (x : X) → slice_get ys j ≡ Some x → slice_get (xs ++ ys) (length xs + j) ≡ Some x

@@ -1,18 +1,15 @@
 -- What a taken record leaves, what is left when an item has none, and forgetting everything.
-use Rattle.std.proofs.Common.{◌≡◌, ◌≢◌, ◌⊎◌, inl, inr, ℕ, ◌+◌, ◌<◌, ◌≤◌, ◌/◌, ◌^◌, Bool, true, false, not, ◌&&◌, ◌||◌, ◌==◌, nat_lt, if◌then◌else◌, List, [], ◌∷◌, length, Option, Some, None, is_some, refl, sym, ap, ◌∙◌, subst, arith}
+use Rattle.std.proofs.Common.{◌≡◌, ℕ, ◌<◌, ◌≤◌, ◌^◌, Bool, true, false, not, ◌&&◌, ◌||◌, ◌==◌, nat_lt, if◌then◌else◌, List, [], length, Option, Some, None, is_some, refl, sym, ap, ◌∙◌, arith}
 use Rattle.std.specs.Prelude.{slice_get}
 use Rattle.std.specs.List.{list_any}
-use Rattle.std.specs.Ordering.{eq_by_cmp}
-use Rattle.std.specs.FinSet.{FinSet, contains, contains-items, items, retain}
+use Rattle.std.specs.FinSet.{items}
 use Rattle.std.proofs.Math.Path.{fun_ext}
 use Rattle.std.proofs.lemmas.Bool.Decides.{nat_tests}
-use Rattle.std.proofs.lemmas.Option.{none-some}
 use Rattle.cap_format.specs.Capability.{Capability}
 use Rattle.cap_format.specs.declared.item.Item.{Item}
 use Rattle.guard_math.specs.Block.{BlockValue, holds}
-use Rattle.object_store.specs.Store.{Items}
 use Rattle.sv32_tables.specs.declared.leaf.Leaf.{Leaf}
-use Rattle.sv32_tables.specs.Pool.{IsPlace, PoolValue, leaf_at}
+use Rattle.sv32_tables.specs.Pool.{PoolValue, leaf_at}
 use Rattle.sv32_tables.specs.History.{Clears}
 use Rattle.tlb_model.specs.declared.entry.Entry.{Entry}
 use Rattle.tlb_model.specs.Tlb.{without_block}
@@ -22,19 +19,20 @@ use Rattle.depend_table.proofs.Members.{same_item_tells, same_itself, same_tells
 use Rattle.walk_meaning.specs.declared.noted.Noted.{Noted}
 use Rattle.map_cache.specs.declared.key.Key.{Key}
 use Rattle.map_cache.specs.Key.{root_key, same_space}
-use Rattle.map_cache.specs.Kept.{KeptValue, Note, added, added_to, fits, is_on, kept_without, note, note_order, nothing}
-use Rattle.map_cache.specs.Cache.{CacheValue, IsCache, cache_of, kept_of, leaf_for, leaf_in, note_of, notes_of, root_at, space_at, tlb_at}
-use Rattle.map_cache.specs.Coherent.{IsCoherent}
-use Rattle.map_cache.specs.Effects.{Forgets, IsBlank, IsWalked, Keeps, Remembers, hits, is_left, leaf_left}
-use Rattle.map_cache.proofs.Codes.{both, either, note_itself, note_tells, number_itself, or_left, or_right, same_numbers, same_space_itself, same_space_tells, same_tests}
-use Rattle.map_cache.proofs.Records.{adds-taken, any-added, any_has, has_any}
-use Rattle.map_cache.proofs.Keyed.{one_key, root_at-is, root_at-none, root_at-some}
-use Rattle.map_cache.proofs.Notes.{has-note, note-has, notes_of-without}
+use Rattle.map_cache.specs.Kept.{KeptValue, added, fits, is_on, kept_without, nothing}
+use Rattle.map_cache.specs.Cache.{CacheValue, IsCache, cache_of, kept_of, leaf_for, leaf_in, notes_of, root_at, space_at, tlb_at}
+use Rattle.map_cache.specs.Effects.{Forgets, IsBlank, Keeps, Remembers, hits, leaf_left}
+use Rattle.depend_table.proofs.Notes.{any-items, notes_of-kept}
+use Rattle.map_cache.proofs.Codes.{space_coding}
+use Rattle.map_cache.proofs.Keyed.{root_at-some}
 use Rattle.map_cache.proofs.Invariant.{cache-clear, if-false, if-true, root_made, root_space}
 use Rattle.map_cache.proofs.Coherence.{coherent-clear}
 use Rattle.map_cache.proofs.Economy.{fits-alone, fits-within}
 use Rattle.map_cache.proofs.Installing.{Made}
 use Rattle.map_cache.proofs.Blank.{blank-bare, starts}
+use Rattle.depend_table.proofs.Coded.{one_key, key_itself, key_tells}
+use Rattle.depend_table.proofs.Records.{adds-taken, any-added, any_has}
+use Rattle.depend_table.proofs.Tests.{both, number_itself, same_numbers, same_tests}
 
 -- ---- one record
 
@@ -95,9 +93,9 @@ module _ (t : PoolValue) (keys : List Key) (tlbs : List (List Entry)) (ds : List
               (λ e.
               let at' = ap (slice_get keys) (sym (same_numbers r d.root e)) ∙ at in
               let k = one_key keys d.root (root_key s) (root_key (space_at keys d.root)) at' there in
-              ap (same_space s) (sym (ap (λ (k : Key). k.space) k)) ∙ same_space_itself s)
+              ap (same_space s) (sym (ap (λ (k : Key). k.space) k)) ∙ key_itself space_coding s)
               (λ e.
-              let same' = same_space_tells s (space_at keys d.root) e in
+              let same' = key_tells space_coding s (space_at keys d.root) e in
               let r_is = cache.apart r d.root (root_key s) at (there ∙ ap (λ (x : Capability). Some (root_key x)) (sym same')) in
               ap (λ (n : ℕ). n == d.root) r_is ∙ number_itself d.root) in
               let hit : ((r == d.root) && holds d.block p) ≡ hits keys s p d.item d =
@@ -121,39 +119,12 @@ forgets-more v w x item first second = record {
 pub forgets-none : (v : CacheValue) (item : Item) → Forgets v v item
 forgets-none v item = record { keys = refl; leaves = λ s p low. refl; records = λ d. refl; coherent = λ o coherent. coherent; harts = refl }
 
--- some note of a set passes a test that one of a record passes
-any-item : (p : Note → Bool) (ns : List Note) → list_any p ns ≡ true → (q : Note) × ((list_any (eq_by_cmp note_order q) ns ≡ true) × (p q ≡ true))
-any-item p [] holds = absurd (cc)
-any-item p (n ∷ ns) holds = on (either (p n) (list_any p ns) holds) (any-item p ns)
-  where
-    on : (p n ≡ true) ⊎ (list_any p ns ≡ true) → (list_any p ns ≡ true → (q : Note) × ((list_any (eq_by_cmp note_order q) ns ≡ true) × (p q ≡ true))) → (q : Note) × ((list_any (eq_by_cmp note_order q) (n ∷ ns) ≡ true) × (p q ≡ true))
-    on (inl here) later = (n, (or_left (eq_by_cmp note_order n n) (list_any (eq_by_cmp note_order n) ns) (note_itself n), here))
-    on (inr there) later = let next = later there in (next.0, (or_right (eq_by_cmp note_order next.0 n) (list_any (eq_by_cmp note_order next.0) ns) next.1.0, next.1.1))
-
-item-any : (p : Note → Bool) (ns : List Note) (q : Note) → list_any (eq_by_cmp note_order q) ns ≡ true → p q ≡ true → list_any p ns ≡ true
-item-any p [] q there holds = absurd (cc)
-item-any p (n ∷ ns) q there holds = on (either (eq_by_cmp note_order q n) (list_any (eq_by_cmp note_order q) ns) there) (item-any p ns q)
-  where
-    on : (eq_by_cmp note_order q n ≡ true) ⊎ (list_any (eq_by_cmp note_order q) ns ≡ true) → (list_any (eq_by_cmp note_order q) ns ≡ true → p q ≡ true → list_any p ns ≡ true) → list_any p (n ∷ ns) ≡ true
-    on (inl here) later = or_left (p n) (list_any p ns) (ap p (sym (note_tells q n here)) ∙ holds)
-    on (inr there) later = or_right (p n) (list_any p ns) (later there holds)
-
-any-items : (p : Note → Bool) (keys : List Key) (ds : List Depend) → list_any p (items (notes_of keys ds)) ≡ list_any (λ d. p (note_of keys d)) ds
-any-items p keys ds = same_tests (list_any p (items (notes_of keys ds))) (list_any (λ d. p (note_of keys d)) ds)
-    (λ holds.
-    let found = any-item p (items (notes_of keys ds)) holds in
-    let record' = note-has keys ds found.0 (contains-items (notes_of keys ds) found.0 ∙ found.1.0) in
-    has_any (λ d. p (note_of keys d)) ds record'.0 record'.1.0 (ap p (sym record'.1.1) ∙ found.1.1))
-    (λ holds.
-    let found = any_has (λ d. p (note_of keys d)) ds holds in
-    item-any p (items (notes_of keys ds)) (note_of keys found.0) (sym (contains-items (notes_of keys ds) (note_of keys found.0)) ∙ has-note keys ds found.0 found.1.0) found.1.1)
-
 -- where no record of the item is left, what is kept is what the change leaves
 pub forgotten : (v w : CacheValue) (item : Item) → Forgets v w item → ((root : ℕ) (block : BlockValue) → has w.records (depend item root block) ≡ false) → kept_of w ≡ kept_without (kept_of v) item
 forgotten v w item forgets none = λ i. record {
   held = fun_ext {f = λ s p. nat_lt p (2 ^ 20) && is_some (leaf_for w s p)} {g = λ s p. (nat_lt p (2 ^ 20) && is_some (leaf_for v s p)) && not (list_any (is_on s p item) (items (notes_of v.keys v.records)))} (λ s. fun_ext (λ p. held s p (nat_lt p (2 ^ 20)) refl)) i;
   keys = forgets.keys i;
-  notes = (ap (λ (ks : List Key). notes_of ks w.records) forgets.keys ∙ notes_of-without v.keys v.records w.records item left) i;
+  notes = (ap (λ (ks : List Key). notes_of ks w.records) forgets.keys ∙ notes_of-kept space_coding (space_at v.keys) v.records w.records (λ n. not (same_item n.item item)) (λ d. left d ∙ swap (not (same_item d.item item)) (has v.records d))) i;
 }
   where
     unnoted : (d : Depend) → has w.records d ≡ true → same_item d.item item ≡ true → ⊥
@@ -161,6 +132,12 @@ forgotten v w item forgets none = λ i. record {
         let gone = none d.root d.block in
         let here : has w.records (depend item d.root d.block) ≡ true = ap (λ (i : Item). has w.records (depend i d.root d.block)) (sym (same_item_tells d.item item same')) ∙ there in
         cc
+
+    swap : (a b : Bool) → (a && b) ≡ (b && a)
+    swap true true = refl
+    swap true false = refl
+    swap false true = refl
+    swap false false = refl
 
     left : (d : Depend) → has w.records d ≡ (not (same_item d.item item) && has v.records d)
     left d = on (has w.records d) (same_item d.item item) refl refl ∙ forgets.records d
@@ -188,7 +165,7 @@ forgotten v w item forgets none = λ i. record {
         let low : p < 2 ^ 20 = grind (arith, nat_tests, is) in
         ap is_some (sym (ap (λ (b : Bool). if b then None else leaf_for w s p) (no_hits s p (list_any (hits w.keys s p item) w.records) refl)) ∙ forgets.leaves s p low)
         ∙ test (list_any (hits v.keys s p item) v.records) (leaf_for v s p)
-        ∙ ap (λ (b : Bool). is_some (leaf_for v s p) && not b) (sym (any-items (is_on s p item) v.keys v.records))
+        ∙ ap (λ (b : Bool). is_some (leaf_for v s p) && not b) (sym (any-items space_coding (space_at v.keys) (is_on s p item) v.records))
     held s p false is = refl
 
 -- ---- everything

@@ -1,5 +1,5 @@
 -- The entries of a coherent cache are those of what it keeps, and they are right.
-use Rattle.std.proofs.Common.{◌≡◌, ◌⊎◌, inl, inr, ℕ, zero, suc, ◌+◌, ◌-◌, ◌*◌, ◌<◌, ◌≤◌, ◌^◌, Bool, true, false, ◌&&◌, not, if◌then◌else◌, List, [], ◌∷◌, ◌++◌, length, nat_lt, is_some, Option, Some, None, Result, Ok, Err, refl, sym, ap, ◌∙◌, subst, arith}
+use Rattle.std.proofs.Common.{◌≡◌, inl, inr, ℕ, zero, suc, ◌+◌, ◌-◌, ◌*◌, ◌<◌, ◌≤◌, ◌^◌, Bool, true, false, ◌&&◌, if◌then◌else◌, List, [], ◌∷◌, ◌++◌, is_some, Option, Some, None, Ok, refl, sym, ap, ◌∙◌, subst, arith}
 use Rattle.std.specs.Prelude.{slice_get}
 use Rattle.std.proofs.lemmas.Bool.{cases_lt, lt-ltb}
 use Rattle.std.proofs.lemmas.Option.{none-some}
@@ -7,21 +7,17 @@ use Rattle.cap_format.specs.Capability.{Capability, bare, null}
 use Rattle.object_store.specs.Store.{Items}
 use Rattle.object_store.specs.Meaning.{is_live, meaning}
 use Rattle.sv32_tables.specs.declared.leaf.Leaf.{Leaf}
-use Rattle.sv32_tables.specs.Pool.{IsPlace, IsRoot, PoolValue, leaf_at}
-use Rattle.tlb_model.specs.declared.entry.Entry.{Entry}
-use Rattle.depend_table.specs.Depend.{Depend}
+use Rattle.sv32_tables.specs.Pool.{leaf_at}
 use Rattle.walk_meaning.specs.declared.kind.Kind.TheVariants.{Load}
 use Rattle.walk_meaning.specs.declared.place.Place.{Place}
-use Rattle.walk_meaning.specs.declared.place.WalkFault.{WalkFault}
 use Rattle.walk_meaning.specs.Walk.{access, start_at}
 use Rattle.map_cache.specs.declared.key.Key.{Key}
 use Rattle.map_cache.specs.declared.mapping.Mapping.{Mapping}
 use Rattle.map_cache.specs.Key.{root_key}
-use Rattle.map_cache.specs.Cache.{CacheValue, IsCache, kept_of, leaf_for, leaf_in, root_at, space_at}
+use Rattle.map_cache.specs.Cache.{CacheValue, IsCache, kept_of, leaf_for, leaf_in, root_at}
 use Rattle.map_cache.specs.Coherent.{IsCoherent, IsFresh, IsRecorded}
-use Rattle.map_cache.specs.Held.{AreRight, IsRight, entries_of, entries_to, entry_to, held_entries, held_from, held_in, held_under}
+use Rattle.map_cache.specs.Held.{AreRight, IsRight, entries_of, entries_to, held_entries, held_from, held_in, held_under}
 use Rattle.map_cache.specs.Mappings.{AreMappings, entries_from, entries_in, entries_under, mapping_of, mappings_of, page_entries}
-use Rattle.map_cache.proofs.Codes.{one_or_not}
 use Rattle.map_cache.proofs.Entries.{are-mappings}
 use Rattle.map_cache.proofs.Invariant.{root_made}
 use Rattle.map_cache.proofs.Keyed.{root_at-is, root_at-some, space_at-at}

@@ -1,8 +1,8 @@
 -- What a new root, reads that are recorded, and an installed leaf leave; and all of them together.
-use Rattle.std.proofs.Common.{◌≡◌, ◌≢◌, ◌⊎◌, inl, inr, ℕ, ◌+◌, ◌<◌, ◌≤◌, ◌/◌, ◌^◌, Bool, true, false, not, ◌&&◌, ◌||◌, ◌==◌, nat_le, nat_lt, cond, if◌then◌else◌, List, [], ◌∷◌, ◌++◌, length, length-append, get_or, take, drop, Option, Some, None, is_some, refl, sym, ap, ◌∙◌, subst, arith}
+use Rattle.std.proofs.Common.{◌≡◌, ◌≢◌, ℕ, ◌+◌, ◌<◌, ◌≤◌, ◌/◌, ◌^◌, Bool, true, false, ◌&&◌, ◌||◌, ◌==◌, nat_lt, cond, if◌then◌else◌, List, [], ◌∷◌, ◌++◌, length, length-append, get_or, take, drop, Option, Some, None, is_some, refl, sym, ap, ◌∙◌, subst, arith}
 use Rattle.std.specs.Prelude.{slice_get}
 use Rattle.std.specs.List.{AllByRecursion as Each}
-use Rattle.std.specs.FinSet.{FinSet, contains, insert, len, len-insert}
+use Rattle.std.specs.FinSet.{FinSet, len, len-insert}
 use Rattle.std.proofs.Math.Path.{fun_ext}
 use Rattle.std.proofs.lemmas.Bool.Decides.{nat_tests}
 use Rattle.std.proofs.lemmas.List.{drop_more, take-append-drop, take_more}
@@ -22,17 +22,20 @@ use Rattle.depend_table.proofs.Members.{has-added, has-added_itself}
 use Rattle.walk_meaning.specs.declared.noted.Noted.{Noted}
 use Rattle.map_cache.specs.declared.key.Key.{Key}
 use Rattle.map_cache.specs.Key.{has_key, region_key, root_key, same_space, with_key}
-use Rattle.map_cache.specs.Kept.{KeptValue, Note, added, fits, note, note_order, noted_all}
-use Rattle.map_cache.specs.Cache.{CacheValue, IsBacked, IsCache, cache_of, kept_of, leaf_for, leaf_in, note_of, notes_of, root_at, space_at, tlb_at}
-use Rattle.map_cache.specs.Coherent.{IsCoherent, IsFresh, IsRecorded}
-use Rattle.map_cache.specs.Effects.{IsHeld, IsWalked, Keeps, NotesReads, RootsSpace, SetsPage}
-use Rattle.map_cache.proofs.Codes.{has-at, notes_total, number_itself}
+use Rattle.map_cache.specs.Kept.{added, fits, note_order, noted_all}
+use Rattle.map_cache.specs.Cache.{CacheValue, IsCache, cache_of, kept_of, leaf_for, leaf_in, note_of, notes_of, root_at, space_at, tlb_at}
+use Rattle.map_cache.specs.Coherent.{IsCoherent}
+use Rattle.map_cache.specs.Effects.{Keeps, NotesReads, RootsSpace, SetsPage}
 use Rattle.map_cache.proofs.Keyed.{none-root_at, root_at-is, root_at-some, space_at-at}
-use Rattle.map_cache.proofs.Notes.{contains-note, notes_of-added, notes_of-more}
+use Rattle.map_cache.proofs.Keyed.{notes_of-more}
 use Rattle.map_cache.proofs.Invariant.{alone, cache-fill, cache-install, cache-note, cache-root, if-false, if-true, region_keyed, root_made, root_within}
 use Rattle.map_cache.proofs.Leaves.{leaves-install, leaves-root, root_at-region}
 use Rattle.map_cache.proofs.Coherence.{coherent-install, coherent-more, coherent-root, each_map, fresh-recorded}
-use Rattle.map_cache.proofs.Economy.{noted_all-append, noted_all-grows, over-notes, over-region, over-root}
+use Rattle.map_cache.proofs.Economy.{over-notes, over-region, over-root}
+use Rattle.depend_table.proofs.Coded.{has-at}
+use Rattle.depend_table.proofs.Notes.{contains-note, noted_all-append, noted_all-grows, notes_of-added, notes_total}
+use Rattle.depend_table.proofs.Tests.{number_itself}
+use Rattle.map_cache.proofs.Codes.{key_coding, space_coding}
 
 -- both, where one was to be said of two
 pub record Made (t : PoolValue) (keys : List Key) (tlbs : List (List Entry)) (ds : List Depend) (P : CacheValue → Type 0) : Type 0 where
@@ -45,7 +48,7 @@ module _ (t : PoolValue) (keys : List Key) (tlbs : List (List Entry)) (ds : List
   root-there space root is = record {
     here = here;
     made = root_made t keys tlbs ds cache root space here;
-    keys = sym (if-true (has_key keys (root_key space)) keys (keys ++ root_key space ∷ []) (has-at keys root (root_key space) here));
+    keys = sym (if-true (has_key keys (root_key space)) keys (keys ++ root_key space ∷ []) (has-at key_coding keys root (root_key space) here));
     notes = refl;
     tlbs = refl;
     leaves = λ s p low. refl;
@@ -89,7 +92,7 @@ module _ (t : PoolValue) (keys : List Key) (tlbs : List (List Entry)) (ds : List
       tables = refl;
       keys = refl;
       tlbs = refl;
-      notes = notes_of-added keys ds new d adds;
+      notes = notes_of-added space_coding (space_at keys) ds new d adds;
       stay = λ e there. has-added ds new d e adds there;
       there = (has-added_itself ds new d adds, tt);
     };
@@ -107,8 +110,8 @@ module _ (t : PoolValue) (keys : List Key) (tlbs : List (List Entry)) (ds : List
       → 16384 < len (noted_all (notes_of keys ds) (space_at keys root) (read ∷ []))
   note-wanting root read made none full =
       let d : Depend = depend read.item root read.block in
-      let more = len-insert notes_total (notes_of keys ds) (note_of keys d)
-      ∙ ap (λ (b : Bool). cond b (len (notes_of keys ds)) (len (notes_of keys ds) + 1)) (contains-note keys ds d (alone t keys tlbs ds cache d made) ∙ none) in
+      let more = len-insert (notes_total space_coding) (notes_of keys ds) (note_of keys d)
+      ∙ ap (λ (b : Bool). cond b (len (notes_of keys ds)) (len (notes_of keys ds) + 1)) (contains-note space_coding (space_at keys) ds d (alone t keys tlbs ds cache d made) ∙ none) in
       omega (arith, more, cache.noted, full)
 
   -- a page that gets a leaf
@@ -182,7 +185,7 @@ reads-append v w x space root xs ys first second = record {
   tables = second.tables ∙ first.tables;
   keys = second.keys ∙ first.keys;
   tlbs = second.tlbs ∙ first.tlbs;
-  notes = second.notes ∙ ap (λ (s : FinSet note_order). noted_all s space ys) first.notes ∙ sym (noted_all-append (notes_of v.keys v.records) space xs ys);
+  notes = second.notes ∙ ap (λ (s : FinSet note_order). noted_all s space ys) first.notes ∙ sym (noted_all-append space_coding (notes_of v.keys v.records) space xs ys);
   stay = λ d there. second.stay d (first.stay d there);
   there = each_append (λ n. has x.records (depend n.item root n.block) ≡ true) xs ys
       (each_map (λ n. has w.records (depend n.item root n.block) ≡ true) (λ n. has x.records (depend n.item root n.block) ≡ true) (λ n there. second.stay (depend n.item root n.block) there) xs first.there) second.there;
@@ -196,8 +199,8 @@ reads-none v space root = record { tables = refl; keys = refl; tlbs = refl; note
 pub reads-wanting : (v w : CacheValue) (space : Capability) (root : ℕ) (xs ys zs : List Noted) → NotesReads v w space root xs → 16384 < len (noted_all (notes_of w.keys w.records) space ys)
     → 16384 < len (noted_all (notes_of v.keys v.records) space (xs ++ (ys ++ zs)))
 reads-wanting v w space root xs ys zs first more =
-    let all = noted_all-append (notes_of v.keys v.records) space xs (ys ++ zs) ∙ ap (λ (s : FinSet note_order). noted_all s space (ys ++ zs)) (sym first.notes) ∙ noted_all-append (notes_of w.keys w.records) space ys zs in
-    omega (arith, more, ap (λ (s : FinSet note_order). len s) all, noted_all-grows (noted_all (notes_of w.keys w.records) space ys) space zs)
+    let all = noted_all-append space_coding (notes_of v.keys v.records) space xs (ys ++ zs) ∙ ap (λ (s : FinSet note_order). noted_all s space (ys ++ zs)) (sym first.notes) ∙ noted_all-append space_coding (notes_of w.keys w.records) space ys zs in
+    omega (arith, more, ap (λ (s : FinSet note_order). len s) all, noted_all-grows space_coding (noted_all (notes_of w.keys w.records) space ys) space zs)
 
 -- a list of reads with one more, and that it is a front of all
 module _ (v w x : CacheValue) (root : ℕ) (reads : List Noted) (i : ℕ) (read : Noted) (less : i < length reads) (at : read ≡ get_or reads i read)

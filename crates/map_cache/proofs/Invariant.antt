@@ -1,17 +1,16 @@
 -- What is always true of the parts: after a new root, a new leaf, a fill, a record more, a record taken, and from the start.
-use Rattle.std.proofs.Common.{◌≡◌, ◌≢◌, ◌⊎◌, inl, inr, ℕ, ◌+◌, ◌*◌, ◌<◌, ◌≤◌, ◌/◌, ◌%◌, ◌^◌, Bool, true, false, ◌&&◌, ◌==◌, if◌then◌else◌, List, [], ◌∷◌, ◌++◌, length, length-append, replicate, Option, Some, None, refl, sym, ap, ◌∙◌, subst, arith}
-use Rattle.std.specs.Prelude.{slice_get, ◌↔◌, IfSome}
-use Rattle.std.specs.List.{list_any}
-use Rattle.std.specs.FinSet.{FinSet, empty, len, len-empty}
+use Rattle.std.proofs.Common.{◌≡◌, ◌≢◌, inl, inr, ℕ, ◌<◌, ◌≤◌, ◌/◌, ◌%◌, Bool, true, false, ◌&&◌, ◌==◌, if◌then◌else◌, List, [], ◌∷◌, ◌++◌, length, length-append, replicate, Option, Some, None, refl, sym, ap, ◌∙◌, subst, arith}
+use Rattle.std.specs.Prelude.{slice_get, IfSome}
+use Rattle.std.specs.FinSet.{FinSet, len, len-empty}
 use Rattle.std.proofs.lemmas.Option.{none-some, slice_get-get_or, slice_get_within}
 use Rattle.std.proofs.lemmas.Bool.Decides.{leb_tells}
 use Rattle.std.proofs.lemmas.List.{get_or-replicate, get_or_past, length-replicate}
 use Rattle.cap_format.specs.Capability.{Capability}
-use Rattle.guard_math.specs.Block.{BlockValue, holds}
+use Rattle.guard_math.specs.Block.{holds}
 use Rattle.sv32_tables.specs.declared.leaf.Leaf.{Leaf}
 use Rattle.sv32_tables.specs.declared.frame_use.FrameUse.{FrameUse}
 use Rattle.sv32_tables.specs.declared.frame_use.FrameUse.TheVariants.{Root, Region}
-use Rattle.sv32_tables.specs.Pool.{IsPlace, IsRoot, PoolValue, has_region, is_for, leaf_at, leaf_below, with_region, word_at}
+use Rattle.sv32_tables.specs.Pool.{IsPlace, IsRoot, PoolValue, has_region, leaf_at, leaf_below, with_region, word_at}
 use Rattle.sv32_tables.specs.Word.{table_of}
 use Rattle.sv32_tables.specs.History.{Clears, Installs, MakesRoot, SameRoots}
 use Rattle.sv32_tables.proofs.Regions.{has_region-frame, region-frame}
@@ -19,15 +18,18 @@ use Rattle.sv32_tables.proofs.Uses.{slice_get-more, slice_get-push, slice_get-pu
 use Rattle.tlb_model.specs.declared.entry.Entry.{Entry}
 use Rattle.tlb_model.specs.Tlb.{IsTlb, filled, look, without_block}
 use Rattle.tlb_model.specs.Laws.{DropLaw, FillLaw}
-use Rattle.depend_table.specs.Depend.{Adds, Depend, Takes, depend, has}
-use Rattle.depend_table.proofs.Members.{has-added, has-added_cases, has-taken}
+use Rattle.depend_table.specs.Depend.{Adds, Depend, Takes, has}
+use Rattle.depend_table.proofs.Members.{has-added_cases, has-taken}
 use Rattle.map_cache.specs.declared.key.Key.{Key}
 use Rattle.map_cache.specs.Key.{has_key, region_key, root_key, with_key}
 use Rattle.map_cache.specs.Kept.{Note}
-use Rattle.map_cache.specs.Cache.{AreApart, HasKey, IsBacked, IsCache, note_of, notes_of, root_at, space_at, tlb_at}
-use Rattle.map_cache.proofs.Codes.{at-has, has-at, number_itself, one_or_not, same_numbers, same_tests}
-use Rattle.map_cache.proofs.Notes.{IsAlone, noted-added, noted-taken, notes_of-more}
-use Rattle.map_cache.proofs.Keyed.{HasKey-more, apart-more, one_key, root_at-is, root_at-some, space_at-at}
+use Rattle.map_cache.specs.Cache.{HasKey, IsBacked, IsCache, notes_of, root_at, space_at, tlb_at}
+use Rattle.map_cache.proofs.Keyed.{notes_of-more}
+use Rattle.map_cache.proofs.Keyed.{HasKey-more, root_at-is, root_at-some, space_at-at}
+use Rattle.depend_table.proofs.Coded.{apart-more, at-has, has-at, one_key}
+use Rattle.depend_table.proofs.Notes.{IsAlone, noted-added, noted-taken}
+use Rattle.depend_table.proofs.Tests.{one_or_not, same_numbers, same_tests}
+use Rattle.map_cache.proofs.Codes.{key_coding, space_coding}
 
 -- the leaf goes by the words alone
 pub leaf_at-words : (t u : PoolValue) (r p : ℕ) → u.words ≡ t.words → leaf_at u r p ≡ leaf_at t r p
@@ -83,9 +85,9 @@ module _ (t : PoolValue) (keys : List Key) (tlbs : List (List Entry)) (ds : List
       cache.apart q r (root_key (space_at keys r)) (root_space q madeq ∙ ap (λ (s : Capability). Some (root_key s)) same) (root_space r mader)
 
   -- each record under a root has a note of its own
-  pub alone : (d : Depend) → IsRoot t d.root → IsAlone keys ds d
+  pub alone : (d : Depend) → IsRoot t d.root → IsAlone (space_at keys) ds d
   alone d made e there same =
-      let roots = one_root e.root d.root (cache.roots e there) made (ap (λ (n : Note). n.space) same) in
+      let roots = one_root e.root d.root (cache.roots e there) made (ap (λ (n : Note). n.key) same) in
       λ i. record { item = ap (λ (n : Note). n.item) same i; root = roots i; block = ap (λ (n : Note). n.block) same i }
 
   -- a region has a frame where its key is there
@@ -97,16 +99,16 @@ module _ (t : PoolValue) (keys : List Key) (tlbs : List (List Entry)) (ds : List
           let found = region-frame root region t.uses holds in
           let key = cache.frame found.0 (Region root region) found.1 in
           let one = one_key keys root (root_key key.0) (root_key space) key.2 here in
-          has-at keys found.0 (region_key space region) (key.1 ∙ ap (λ (k : Key). Some (region_key k.space region)) one)
+          has-at key_coding keys found.0 (region_key space region) (key.1 ∙ ap (λ (k : Key). Some (region_key k.space region)) one)
 
       from : has_key keys (region_key space region) ≡ true → has_region t root region ≡ true
       from holds = on (slice_get t.uses frame) refl
         where
           frame : ℕ
-          frame = (at-has keys (region_key space region) holds).0
+          frame = (at-has key_coding keys (region_key space region) holds).0
 
           at : slice_get keys frame ≡ Some (region_key space region)
-          at = (at-has keys (region_key space region) holds).1
+          at = (at-has key_coding keys (region_key space region) holds).1
 
           on : (u : Option FrameUse) → slice_get t.uses frame ≡ u → has_region t root region ≡ true
           on None is =
@@ -134,7 +136,7 @@ module _ (t : PoolValue) (keys : List Key) (tlbs : List (List Entry)) (ds : List
     frames = omega (arith, length-append keys (root_key space ∷ []), ap (λ (us : List FrameUse). length us) makes.uses, length-append t.uses (Root ∷ []), cache.frames);
     most_keys = omega (arith, length-append keys (root_key space ∷ []), room);
     frame = frame;
-    apart = apart-more keys (root_key space) cache.apart new;
+    apart = apart-more key_coding keys (root_key space) cache.apart new;
     backed = λ hart r p leaf found.
         let was = cache.backed hart r p leaf found in
         record {
@@ -209,7 +211,7 @@ module _ (t : PoolValue) (keys : List Key) (tlbs : List (List Entry)) (ds : List
           frames = omega (arith, length-append keys (k ∷ []), ap (λ (us : List FrameUse). length us) same, length-append t.uses (Region root (page / 1024) ∷ []), cache.frames);
           most_keys = room;
           frame = frame;
-          apart = apart-more keys k cache.apart is;
+          apart = apart-more key_coding keys k cache.apart is;
           backed = backed;
           roots = λ d there. (roots d.root).1 (cache.roots d there);
           noted = ap (λ (s : FinSet _). len s) (notes_of-more keys k ds root_within) ∙ cache.noted;
@@ -259,7 +261,7 @@ module _ (t : PoolValue) (keys : List Key) (tlbs : List (List Entry)) (ds : List
       | inl was ↦ cache.roots e was
       | inr is ↦ ap (λ (x : Depend). slice_get t.uses x.root) is ∙ made
     ];
-    noted = noted-added keys ds new d adds (alone d made) cache.noted;
+    noted = noted-added space_coding (space_at keys) ds new d adds (alone d made) cache.noted;
     most_records = room;
   }
 
@@ -273,7 +275,7 @@ module _ (t : PoolValue) (keys : List Key) (tlbs : List (List Entry)) (ds : List
     apart = cache.apart;
     backed = λ k r p l found. backed k r p l ((r == d.root) && holds d.block p) refl (sym (law (tlb_at tlbs k) d.root d.block r p) ∙ ap (λ (es : List Entry). look es r p) (sym (drops k)) ∙ found);
     roots = λ e there. again e.root (cache.roots e (has-taken ds new d e takes there));
-    noted = noted-taken keys ds new d takes (λ e there same. alone d (cache.roots d takes.there) e (has-taken ds new d e takes there) same) cache.noted;
+    noted = noted-taken space_coding (space_at keys) ds new d takes (λ e there same. alone d (cache.roots d takes.there) e (has-taken ds new d e takes there) same) cache.noted;
     most_records = omega (arith, takes.count, cache.most_records);
   }
     where

@@ -1,7 +1,5 @@
 pub mod Codes
-pub mod Records
 mod Keyed
-mod Notes
 mod Invariant
 mod Leaves
 pub mod Coherence

@@ -1,5 +1,5 @@
 -- Entries page by page and frame by frame.
-use Rattle.std.proofs.Common.{◌≡◌, ◌⊎◌, inl, inr, ℕ, zero, suc, ◌+◌, ◌-◌, ◌*◌, ◌/◌, ◌<◌, ◌≤◌, ◌^◌, max, List, [], ◌∷◌, ◌++◌, length, get_or, drop, Bool, false, is_some, Option, Some, None, refl, sym, ap, ◌∙◌, subst, arith}
+use Rattle.std.proofs.Common.{◌≡◌, inl, inr, ℕ, zero, suc, ◌+◌, ◌-◌, ◌*◌, ◌/◌, ◌<◌, ◌≤◌, ◌^◌, max, List, [], ◌∷◌, ◌++◌, length, get_or, drop, false, is_some, Option, Some, None, refl, sym, ap, ◌∙◌, arith}
 use Rattle.std.specs.Prelude.{slice_get}
 use Rattle.cap_format.specs.Capability.{Capability}
 use Rattle.sv32_tables.specs.declared.leaf.Leaf.{Leaf}
@@ -11,8 +11,8 @@ use Rattle.map_cache.specs.declared.key.Key.{Key}
 use Rattle.map_cache.specs.declared.mapping.Mapping.{Mapping}
 use Rattle.map_cache.specs.declared.mapping.MappingPlace.{MappingPlace}
 use Rattle.map_cache.specs.Cache.{CacheValue}
-use Rattle.map_cache.proofs.Codes.{one_or_not}
 use Rattle.map_cache.specs.Mappings.{HasNext, entries_at, entries_from, entries_in, entries_under, page_entries, mapping_of, mappings_left, mappings_of, place_at, start}
+use Rattle.depend_table.proofs.Tests.{one_or_not}
 
 -- no page
 pub entries_from-zero : (t : PoolValue) (root : ℕ) (space : Capability) (page : ℕ) → entries_from t root space page zero ≡ []

@@ -1,6 +1,5 @@
 -- A translation: by a leaf that is there, and by a walk.
-use Rattle.std.proofs.Common.{◌≡◌, ◌≢◌, ℕ, ◌+◌, ◌*◌, ◌<◌, ◌≤◌, ◌/◌, ◌%◌, ◌^◌, Bool, true, false, not, ◌&&◌, nat_lt, if◌then◌else◌, List, [], Option, Some, None, Result, Ok, Err, is_some, refl, sym, ap, ◌∙◌, subst, arith}
-use Rattle.std.specs.Prelude.{slice_get}
+use Rattle.std.proofs.Common.{◌≡◌, ℕ, ◌<◌, ◌/◌, ◌%◌, ◌^◌, Bool, true, false, ◌&&◌, nat_lt, if◌then◌else◌, List, [], Option, Some, None, Ok, is_some, refl, sym, ap, ◌∙◌, subst, arith}
 use Rattle.std.specs.List.{AllByRecursion as Each}
 use Rattle.std.proofs.lemmas.Bool.Decides.{nat_tests}
 use Rattle.std.proofs.lemmas.Option.{none-some}
@@ -14,23 +13,21 @@ use Rattle.object_store.specs.Ranges.{IsRanged}
 use Rattle.object_store.proofs.Ranged.{IsRanged-map_of}
 use Rattle.object_store.proofs.Live.{IsCapability-meaning}
 use Rattle.sv32_tables.specs.declared.leaf.Leaf.{Leaf}
-use Rattle.sv32_tables.specs.Pool.{IsPlace, leaf_at}
 use Rattle.tlb_model.specs.declared.entry.Entry.{Entry}
 use Rattle.walk_meaning.specs.declared.kind.Kind.{Kind}
 use Rattle.walk_meaning.specs.declared.noted.Noted.{Noted}
 use Rattle.walk_meaning.specs.declared.place.Place.{Place}
 use Rattle.walk_meaning.specs.Walk.{access, is_data}
-use Rattle.walk_meaning.specs.Trail.{slots, trail}
+use Rattle.walk_meaning.specs.Trail.{trail}
 use Rattle.walk_meaning.specs.Laws.{KindLaw, PageLaw, PlaceLaw, ReadsLaw}
 use Rattle.walk_engine.specs.Answer.{hit_of}
-use Rattle.walk_engine.specs.declared.hit.Hit.{Hit}
 use Rattle.map_cache.specs.Kept.{KeptValue, added, added_to, cost_of, fits, kept_after, tlb_after}
-use Rattle.map_cache.specs.Cache.{CacheValue, IsCache, kept_of, leaf_for, leaf_in, root_at, space_at, tlb_at}
+use Rattle.map_cache.specs.Cache.{CacheValue, IsCache, kept_of, leaf_for, leaf_in, root_at}
 use Rattle.map_cache.specs.Coherent.{IsCoherent, IsFresh, IsRecorded}
 use Rattle.map_cache.specs.Effects.{ChangesHart, IsWalked, Remembers, allows, reached_leaf}
 use Rattle.map_cache.proofs.Keyed.{root_at-some, space_at-at}
 use Rattle.map_cache.proofs.Invariant.{root_made}
-use Rattle.map_cache.proofs.Accesses.{IsAdded, IsSpared, Reaches, adds, changes-coherent, changes-kept, changes-leaf, counted-reached, leaf-reaches, leaf-refuses, reads-items, spared, walked-fresh}
+use Rattle.map_cache.proofs.Accesses.{IsAdded, adds, changes-coherent, changes-kept, counted-reached, leaf-reaches, leaf-refuses, reads-items, spared, walked-fresh}
 
 -- an access that a leaf serves
 pub record Served (items : Items) (space : Capability) (address : ℕ) (kind : Kind) (k : KeptValue) (leaf : Leaf) : Type 0 where

@@ -1,7 +1,6 @@
 -- A mapping cache by its parts: tables, keys, the harts' caches and records; and what is kept by them (this project's own).
-use Rattle.std.specs.Prelude.{ℕ, Bool, true, false, ◌&&◌, ◌≡◌, ◌<◌, ◌≤◌, ◌^◌, nat_lt, List, [], ◌∷◌, length, map, slice_get, slice_index_or, is_some, Option, Some, None, ⊤}
-use Rattle.std.specs.List.{position}
-use Rattle.std.specs.FinSet.{FinSet, from_list, len}
+use Rattle.std.specs.Prelude.{ℕ, true, ◌&&◌, ◌≡◌, ◌≤◌, ◌^◌, nat_lt, List, [], length, slice_get, slice_index_or, is_some, Option, Some, None}
+use Rattle.std.specs.FinSet.{FinSet, len}
 use Rattle.cap_format.specs.Capability.{Capability}
 use Rattle.sv32_tables.specs.declared.frame_use.FrameUse.{FrameUse}
 use Rattle.sv32_tables.specs.declared.frame_use.FrameUse.TheVariants.{Root, Region}
@@ -10,9 +9,11 @@ use Rattle.sv32_tables.specs.Pool.{IsPlace, IsRoot, PoolValue, leaf_at}
 use Rattle.tlb_model.specs.declared.entry.Entry.{Entry}
 use Rattle.tlb_model.specs.Tlb.{look}
 use Rattle.depend_table.specs.Depend.{Depend, has}
+use Rattle.depend_table.specs.Keyed.{AreApart, frame_by}
+use Rattle.depend_table.specs.Notes.{note_by, notes_by}
 use Rattle.map_cache.specs.declared.key.Key.{Key}
-use Rattle.map_cache.specs.Key.{no_key, region_key, root_key, same_key}
-use Rattle.map_cache.specs.Kept.{KeptValue, Note, note, note_order}
+use Rattle.map_cache.specs.Key.{code_of, key_code, no_key, region_key, root_key}
+use Rattle.map_cache.specs.Kept.{KeptValue, Note, note_order}
 
 -- the tables; what each frame in use is for, by the frames' numbers; what each hart holds; and what walks read
 pub record CacheValue : Type 0 where
@@ -31,7 +32,7 @@ tlb_at tlbs hart = slice_index_or tlbs hart []
 
 -- the root of a space: the frame that has its key
 abbrev pub root_at : List Key → Capability → Option ℕ
-root_at keys space = position (same_key (root_key space)) keys
+root_at keys space = frame_by key_code keys (root_key space)
 
 -- the space of a root
 abbrev pub space_at : List Key → ℕ → Capability
@@ -48,11 +49,11 @@ leaf_for v space page = leaf_in v.tables page (root_at v.keys space)
 
 -- the note of a record, whose root stands for its space
 abbrev pub note_of : List Key → Depend → Note
-note_of keys d = note (space_at keys d.root) d.item d.block
+note_of keys = note_by (space_at keys)
 
 -- the notes of all records
 abbrev pub notes_of : List Key → List Depend → FinSet note_order
-notes_of keys records = from_list (map (note_of keys) records)
+notes_of keys = notes_by code_of (space_at keys)
 
 -- What is kept: the pairs for which the tables have a leaf, the keys of the frames in use, and the notes of all records.
 abbrev pub kept_of : CacheValue → KeptValue
@@ -69,10 +70,6 @@ abbrev pub HasKey : List Key → ℕ → FrameUse → Type 0
 HasKey keys frame Root = (space : Capability) × (slice_get keys frame ≡ Some (root_key space))
 HasKey keys frame (Region root region) =
     (space : Capability) × (slice_get keys frame ≡ Some (region_key space region)) × (slice_get keys root ≡ Some (root_key space))
-
--- no key stands at two places
-abbrev pub AreApart : List Key → Type 0
-AreApart keys = (f g : ℕ) (k : Key) → slice_get keys f ≡ Some k → slice_get keys g ≡ Some k → f ≡ g
 
 -- a hart's leaf is the tables'
 pub record IsBacked (tables : PoolValue) (root page : ℕ) (leaf : Leaf) : Type 0 where

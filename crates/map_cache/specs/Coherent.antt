@@ -1,5 +1,5 @@
 -- Coherence: each leaf is what a fresh walk reaches now, and what that walk reads was recorded (this project's own).
-use Rattle.std.specs.Prelude.{ℕ, ◌≡◌, true, not, ◌*◌, List, Option, Some, Ok}
+use Rattle.std.specs.Prelude.{ℕ, ◌≡◌, true, not, ◌*◌, List, Some, Ok}
 use Rattle.std.specs.List.{AllByRecursion as Each}
 use Rattle.cap_format.specs.Capability.{Capability}
 use Rattle.guard_math.specs.Block.{holds}

@@ -1,16 +1,13 @@
 -- What a mapping cache keeps, what that spares, and what a change takes out of it (this project's own). A space is a
 -- capability with its count.
-use Rattle.std.specs.Prelude.{ℕ, Bool, true, false, not, ◌&&◌, ◌||◌, ◌==◌, nat_le, if◌then◌else◌, ◌/◌, List, [], ◌∷◌, ◌++◌, length, Option, Some, None, Result, Ok, Err}
+use Rattle.std.specs.Prelude.{ℕ, Bool, true, false, not, ◌&&◌, ◌||◌, ◌==◌, nat_le, if◌then◌else◌, ◌/◌, List, [], length, Result, Ok, Err}
 use Rattle.std.specs.List.{list_any}
-use Rattle.std.specs.Ordering.{nat_cmp, on}
 use Rattle.std.specs.declared.cmp.Ordering.{Ordering}
-use Rattle.std.specs.Cmp.Lexicographic.{slice_cmp}
-use Rattle.std.specs.FinSet.{FinSet, empty, insert, items, len, retain}
-use Rattle.cap_format.specs.Kind.{is_counted, number_of, object_kind}
+use Rattle.std.specs.FinSet.{FinSet, empty, items, len, retain}
+use Rattle.cap_format.specs.Kind.{is_counted, object_kind}
 use Rattle.cap_format.specs.Capability.{Capability, with_count}
 use Rattle.cap_format.specs.declared.item.Item.{Item}
-use Rattle.cap_format.specs.declared.item.Item.TheVariants.{Header, Slot}
-use Rattle.guard_math.specs.Block.{BlockValue, holds}
+use Rattle.guard_math.specs.Block.{holds}
 use Rattle.object_store.specs.Store.{Items, count_of}
 use Rattle.walk_meaning.specs.declared.kind.Kind.{Kind}
 use Rattle.walk_meaning.specs.declared.noted.Noted.{Noted}
@@ -20,33 +17,19 @@ use Rattle.walk_meaning.specs.Walk.{access}
 use Rattle.walk_meaning.specs.Trail.{slots, trail}
 use Rattle.tlb_model.specs.declared.entry.Entry.{Entry}
 use Rattle.depend_table.specs.Depend.{same_item}
+use Rattle.depend_table.specs.Notes.{Note as NoteFor, noted_by, order_by}
 use Rattle.map_cache.specs.declared.key.Key.{Key}
 use Rattle.map_cache.specs.Key.{code_of, region_key, root_key, same_space, with_key}
 
 -- ---- what is kept
 
 -- what a walk from a space read: an item, for the addresses of a block
-pub record Note : Type 0 where
-  pub space : Capability
-  pub item : Item
-  pub block : BlockValue
-
--- a note by its parts
-abbrev pub note : Capability → Item → BlockValue → Note
-note space item block = record { space = space; item = item; block = block }
-
--- an item as numbers
-abbrev pub item_code : Item → List ℕ
-item_code (Header kind number) = 0 ∷ number_of kind ∷ number ∷ []
-item_code (Slot gpt slot) = 1 ∷ gpt ∷ slot ∷ []
-
--- a note as numbers
-abbrev pub note_code : Note → List ℕ
-note_code n = n.block.base ∷ n.block.l2 ∷ (code_of n.space ++ item_code n.item)
+abbrev pub Note : Type 0
+Note = NoteFor Capability
 
 -- an order of notes, by their numbers; notes that tie are one
 abbrev pub note_order : Note → Note → Ordering
-note_order = on note_code (slice_cmp nat_cmp)
+note_order = order_by code_of
 
 -- What is kept: which pairs of a space and a page are held; the spaces, and the pairs of a space and a region, that have
 -- a frame; and what the walks to the pages read.
@@ -63,8 +46,7 @@ nothing = record { held = λ space page. false; keys = []; notes = empty }
 
 -- the notes with those of a walk's reads
 abbrev pub noted_all : FinSet note_order → Capability → List Noted → FinSet note_order
-noted_all notes space [] = notes
-noted_all notes space (n ∷ rest) = noted_all (insert notes (note space n.item n.block)) space rest
+noted_all = noted_by code_of
 
 -- with a pair more: its space, its space with its region, and what the walk to it read
 abbrev pub added : KeptValue → Capability → ℕ → List Noted → KeptValue
@@ -123,7 +105,7 @@ tlb_after k o c address kind entries = if overflows k o c address kind then [] e
 
 -- whether a note is for this space and this item, and its block has the page
 abbrev pub is_on : Capability → ℕ → Item → Note → Bool
-is_on space page item n = same_item n.item item && (same_space space n.space && holds n.block page)
+is_on space page item n = same_item n.item item && (same_space space n.key && holds n.block page)
 
 -- without the pairs whose page lies in a block noted for their space and the item, and without the item's notes
 abbrev pub kept_without : KeptValue → Item → KeptValue

@@ -1,9 +1,8 @@
 -- What takes a frame of the tables (this project's own).
-use Rattle.std.specs.Prelude.{ℕ, Bool, true, false, ◌&&◌, ◌==◌, if◌then◌else◌, List, [], ◌∷◌, ◌++◌, Option, Some, None, nat_eq}
-use Rattle.std.specs.List.{list_any}
-use Rattle.std.specs.Cmp.Lexicographic.{pointwise}
+use Rattle.std.specs.Prelude.{ℕ, Bool, List, [], ◌∷◌, ◌++◌, Option, Some, None}
 use Rattle.cap_format.specs.Kind.{number_of}
 use Rattle.cap_format.specs.Capability.{Capability, null}
+use Rattle.depend_table.specs.Keyed.{has_by, same_by, with_by}
 use Rattle.map_cache.specs.declared.key.Key.{Key}
 
 -- a capability as numbers, its count among them
@@ -12,7 +11,7 @@ code_of c = number_of c.kind ∷ c.restr ∷ c.count ∷ c.guard.l2g ∷ c.guard
 
 -- whether two spaces are one: the same capability with the same count
 abbrev pub same_space : Capability → Capability → Bool
-same_space s t = pointwise nat_eq (code_of s) (code_of t)
+same_space = same_by code_of
 
 -- a key by its parts
 abbrev pub key : Capability → Option ℕ → Key
@@ -30,21 +29,23 @@ region_key space region = key space (Some region)
 abbrev pub no_key : Key
 no_key = root_key null
 
--- whether two regions are one; a root has none
-abbrev pub same_region : Option ℕ → Option ℕ → Bool
-same_region None None = true
-same_region None (Some j) = false
-same_region (Some i) None = false
-same_region (Some i) (Some j) = (i == j)
+-- a region as numbers; a root has none
+abbrev pub region_code : Option ℕ → List ℕ
+region_code None = 0 ∷ []
+region_code (Some region) = 1 ∷ region ∷ []
+
+-- a key as numbers
+abbrev pub key_code : Key → List ℕ
+key_code k = code_of k.space ++ region_code k.region
 
 -- whether two keys are one
 abbrev pub same_key : Key → Key → Bool
-same_key j k = same_region j.region k.region && same_space j.space k.space
+same_key = same_by key_code
 
 -- whether a key is among some
 abbrev pub has_key : List Key → Key → Bool
-has_key keys k = list_any (same_key k) keys
+has_key = has_by key_code
 
 -- the keys with one more, unless it is there
 abbrev pub with_key : List Key → Key → List Key
-with_key keys k = if has_key keys k then keys else keys ++ k ∷ []
+with_key = with_by key_code

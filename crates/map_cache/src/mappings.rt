@@ -4,7 +4,8 @@ ghost use Rattle.std.specs.Prelude.{◌≡◌, ◌≢◌, ◌<◌, ◌/◌, ℕ,
 ghost use Rattle.std.specs.List.{position};
 ghost use Rattle.map_cache.specs.Key.{root_key, same_key};
 ghost use Rattle.map_cache.specs.Kept.{nothing};
-ghost use Rattle.map_cache.specs.Cache.{AreApart, kept_of, leaf_for, root_at, tlb_at};
+ghost use Rattle.depend_table.specs.Keyed.{AreApart};
+ghost use Rattle.map_cache.specs.Cache.{kept_of, leaf_for, root_at, tlb_at};
 ghost use Rattle.map_cache.specs.Effects.{ChangesHart, IsBlank, IsHeld, IsKept, value_of};
 
 use crate::key::Key;

@@ -18,20 +18,23 @@ use Rattle.walk_meaning.proofs.ReadsLaw.{NotedAt, each-middle, noted_at}
 use Rattle.producers.specs.Producer.{join_of}
 use Rattle.depend_table.specs.Depend.{lies_in}
 use Rattle.map_cache.specs.Key.{same_space}
-use Rattle.map_cache.specs.Kept.{note as space_note, counted}
-use Rattle.map_cache.proofs.Codes.{both, either, number_itself, or_left, or_right, same_numbers, same_space_itself, same_space_tells}
+use Rattle.map_cache.specs.Kept.{counted}
 use Rattle.shared_leaves.specs.declared.key.Key.{Key}
 use Rattle.shared_leaves.specs.Key.{has_key, is_leaf, root_key, same_key, with_key}
-use Rattle.shared_leaves.specs.Kept.{Addition, Note, SharedKept, added, addition_by, holds_page, is_held, note, noted_all}
-use Rattle.shared_leaves.proofs.Codes.{same_key_itself, same_key_tells}
+use Rattle.shared_leaves.specs.Kept.{Addition, Note, SharedKept, added, addition_by, holds_page, is_held, noted_all}
 use Rattle.fetch_economy.specs.Economy.{EconomyValue, covering}
 use Rattle.shared_economy.specs.Need.{NeedValue, needing}
 use Rattle.shared_economy.proofs.Keys.{has_key-added, has_key-more, with_key-there}
-use Rattle.shared_economy.proofs.Sets.{IsOf, noted_all-each, noted_all-more, noted_all-tells, spaces-each, spaces-more}
 use Rattle.shared_economy.proofs.Places.{InPlace, IsWide, falls-before, place-held, place-nested, whole-held}
 use Rattle.shared_economy.proofs.Trails.{Ends, IsFresh, LinkLeads, each_both, each_map, each_split, leads-map, reads_behind}
 use Rattle.shared_economy.proofs.Added.{Adds, bare-counted, key-linked, key-region, load-adds}
 use Rattle.shared_economy.proofs.Meets.{IsCovered, IsNoted, IsNotedOn, Meets}
+use Rattle.depend_table.proofs.Coded.{key_itself, key_tells}
+use Rattle.depend_table.proofs.Notes.{IsOf, noted_all-each, noted_all-more, noted_all-tells}
+use Rattle.depend_table.proofs.Tests.{both, either, number_itself, or_left, or_right, same_numbers}
+use Rattle.depend_table.specs.Notes.{note}
+use Rattle.map_cache.proofs.Codes.{space_coding}
+use Rattle.shared_leaves.proofs.Codes.{key_coding}
 
 module _ (k : SharedKept) (e : EconomyValue) (n : NeedValue) (o : Items) (m : Meets k e n o) (ranged : IsRanged o) (c : Capability) (is : IsCapability c) (uncounted : bare c ≡ c)
     (p : ℕ) (inside : p < 2 ^ 20) (place : Place) (reach : access o c (p * 4096) Load ≡ Ok place) where
@@ -63,16 +66,16 @@ module _ (k : SharedKept) (e : EconomyValue) (n : NeedValue) (o : Items) (m : Me
   less = omega arith
 
   -- the reads of the load are noted for its space
-  noted_now : Each (λ q. (contains covers.noted (space_note space q.item q.block) ≡ true) × (holds q.block p ≡ true)) whole
-  noted_now = each_both (λ q. contains covers.noted (space_note space q.item q.block) ≡ true) (λ q. holds q.block p ≡ true) whole
-      (spaces-each e.noted space whole) (each_map (NotedAt (p * 4096)) (λ q. holds q.block p ≡ true) (λ q at. whole-held p q inside at) whole (noted_at o c (p * 4096) Load ranged is))
+  noted_now : Each (λ q. (contains covers.noted (note space q.item q.block) ≡ true) × (holds q.block p ≡ true)) whole
+  noted_now = each_both (λ q. contains covers.noted (note space q.item q.block) ≡ true) (λ q. holds q.block p ≡ true) whole
+      (noted_all-each space_coding e.noted space whole) (each_map (NotedAt (p * 4096)) (λ q. holds q.block p ≡ true) (λ q at. whole-held p q inside at) whole (noted_at o c (p * 4096) Load ranged is))
 
   -- a pair that is covered then is this one or was covered
   pair : (s : Capability) (q : ℕ) → covers.covered s q ≡ true → ((s ≡ c) × (q ≡ p)) ⊎ (e.covered s q ≡ true)
   pair s q covered = elim (either (same_space s c && (q == p)) (e.covered s q) covered) [
     | inl here ↦
         let parts = both (same_space s c) (q == p) here in
-        inl (same_space_tells s c parts.0, same_numbers q p parts.1)
+        inl (key_tells space_coding s c parts.0, same_numbers q p parts.1)
     | inr before ↦ inr before
   ]
 
@@ -100,9 +103,9 @@ module _ (k : SharedKept) (e : EconomyValue) (n : NeedValue) (o : Items) (m : Me
     inside = was.inside;
     place = was.place;
     reached = was.reached;
-    noted = each_map (λ t. (contains e.noted (space_note (counted o s) t.item t.block) ≡ true) × (holds t.block q ≡ true))
-        (λ t. (contains covers.noted (space_note (counted o s) t.item t.block) ≡ true) × (holds t.block q ≡ true))
-        (λ t there. (spaces-more e.noted space whole (space_note (counted o s) t.item t.block) there.0, there.1)) (trail o s (q * 4096) Load) was.noted;
+    noted = each_map (λ t. (contains e.noted (note (counted o s) t.item t.block) ≡ true) × (holds t.block q ≡ true))
+        (λ t. (contains covers.noted (note (counted o s) t.item t.block) ≡ true) × (holds t.block q ≡ true))
+        (λ t there. (noted_all-more space_coding e.noted space whole (note (counted o s) t.item t.block) there.0, there.1)) (trail o s (q * 4096) Load) was.noted;
     key = was.key;
     link = link;
     held = held;
@@ -134,8 +137,8 @@ module _ (k : SharedKept) (e : EconomyValue) (n : NeedValue) (o : Items) (m : Me
           with_key-there n.frames add.key ((λ i. has_key (sym m.frames i) (same i)) ∙ at.1) in
           record {
             frames = m.frames ∙ sym (ap (λ (keys : List Key). with_key keys add.key) root_there ∙ key_there);
-            roots = λ s i b there. let was = m.roots s i b there in (spaces-more e.noted space whole (space_note s i b) was.0, was.1);
-            leaves = λ q there leaf. noted_all-more n.records add.key add.entry_reads q (m.leaves q there leaf);
+            roots = λ s i b there. let was = m.roots s i b there in (noted_all-more space_coding e.noted space whole (note s i b) was.0, was.1);
+            leaves = λ q there leaf. noted_all-more key_coding n.records add.key add.entry_reads q (m.leaves q there leaf);
             fresh = m.fresh;
             links = m.links;
             held = m.held;
@@ -149,42 +152,42 @@ module _ (k : SharedKept) (e : EconomyValue) (n : NeedValue) (o : Items) (m : Me
 
   notes_more : (q : Note) → contains k.notes q ≡ true → contains more.notes q ≡ true
   notes_more q there =
-      noted_all-more (noted_all k.notes (root_key space) add.link_reads) add.key add.entry_reads q (noted_all-more k.notes (root_key space) add.link_reads q there)
+      noted_all-more key_coding (noted_all k.notes (root_key space) add.link_reads) add.key add.entry_reads q (noted_all-more key_coding k.notes (root_key space) add.link_reads q there)
 
   on_more : (key : Key) (page : ℕ) (t : Noted) → IsNotedOn k.notes key page t → IsNotedOn more.notes key page t
   on_more key page t there = (notes_more (note key t.item t.block) there.0, there.1)
 
   links_noted : Each (IsNoted more.notes (root_key space)) add.link_reads
   links_noted = each_map (IsNoted (noted_all k.notes (root_key space) add.link_reads) (root_key space)) (IsNoted more.notes (root_key space))
-      (λ t there. noted_all-more (noted_all k.notes (root_key space) add.link_reads) add.key add.entry_reads (note (root_key space) t.item t.block) there)
-      add.link_reads (noted_all-each k.notes (root_key space) add.link_reads)
+      (λ t there. noted_all-more key_coding (noted_all k.notes (root_key space) add.link_reads) add.key add.entry_reads (note (root_key space) t.item t.block) there)
+      add.link_reads (noted_all-each key_coding k.notes (root_key space) add.link_reads)
 
   entries_noted : Each (IsNoted more.notes add.key) add.entry_reads
-  entries_noted = noted_all-each (noted_all k.notes (root_key space) add.link_reads) add.key add.entry_reads
+  entries_noted = noted_all-each key_coding (noted_all k.notes (root_key space) add.link_reads) add.key add.entry_reads
 
   -- a note is one that was there, one of the link, or one of the entry
   tell : (q : Note) → contains more.notes q ≡ true → (contains k.notes q ≡ true) ⊎ (IsOf (root_key space) add.link_reads q ⊎ IsOf add.key add.entry_reads q)
-  tell q there = elim (noted_all-tells (noted_all k.notes (root_key space) add.link_reads) add.key add.entry_reads q there) [
+  tell q there = elim (noted_all-tells key_coding (noted_all k.notes (root_key space) add.link_reads) add.key add.entry_reads q there) [
     | inr of ↦ inr (inr of)
-    | inl before ↦ elim (noted_all-tells k.notes (root_key space) add.link_reads q before) [
+    | inl before ↦ elim (noted_all-tells key_coding k.notes (root_key space) add.link_reads q before) [
       | inl was ↦ inl was
       | inr of ↦ inr (inl of)
     ]
   ]
 
-  roots_then : (s : Capability) (i : Item) (b : BlockValue) → contains more.notes (note (root_key s) i b) ≡ true → (contains covers.noted (space_note s i b) ≡ true) × IsWide b
+  roots_then : (s : Capability) (i : Item) (b : BlockValue) → contains more.notes (note (root_key s) i b) ≡ true → (contains covers.noted (note s i b) ≡ true) × IsWide b
   roots_then s i b there = elim (tell (note (root_key s) i b) there) [
-    | inl before ↦ let was = m.roots s i b before in (spaces-more e.noted space whole (space_note s i b) was.0, was.1)
+    | inl before ↦ let was = m.roots s i b before in (noted_all-more space_coding e.noted space whole (note s i b) was.0, was.1)
     | inr new ↦ elim new [
       | inl of ↦
           let spaces : s ≡ space = ap (λ (q : Note). q.key.space) of.note_is in
           let item : i ≡ of.read.item = ap (λ (q : Note). q.item) of.note_is in
           let block : b ≡ of.read.block = ap (λ (q : Note). q.block) of.note_is in
-          let P : Noted → Type 0 = λ t. contains covers.noted (space_note space t.item t.block) ≡ true in
+          let P : Noted → Type 0 = λ t. contains covers.noted (note space t.item t.block) ≡ true in
           let Q : Noted → Type 0 = λ t. IsWide t.block × (holds t.block (r * 1024) ≡ true) in
-          let one = each-middle P of.before of.after of.read (subst (Each P) of.whole (adds.among P (spaces-each e.noted space whole))) in
+          let one = each-middle P of.before of.after of.read (subst (Each P) of.whole (adds.among P (noted_all-each space_coding e.noted space whole))) in
           let two = each-middle Q of.before of.after of.read (subst (Each Q) of.whole adds.links) in
-          ((λ z. contains covers.noted (space_note (spaces z) (item z) (block z))) ∙ one, subst IsWide (sym block) two.0)
+          ((λ z. contains covers.noted (note (spaces z) (item z) (block z))) ∙ one, subst IsWide (sym block) two.0)
       | inr of ↦ let no : false ≡ true = ap (λ (q : Note). is_leaf q.key) of.note_is ∙ adds.leaf in absurd (cc)
     ]
   ]
@@ -194,13 +197,13 @@ module _ (k : SharedKept) (e : EconomyValue) (n : NeedValue) (o : Items) (m : Me
 
   leaves_then : (q : Note) → contains more.notes q ≡ true → is_leaf q.key ≡ true → contains needs.records q ≡ true
   leaves_then q there leaf = elim (tell q there) [
-    | inl before ↦ noted_all-more n.records add.key add.entry_reads q (m.leaves q before leaf)
+    | inl before ↦ noted_all-more key_coding n.records add.key add.entry_reads q (m.leaves q before leaf)
     | inr new ↦ elim new [
       | inl of ↦ absurd (root_no_leaf q of leaf)
       | inr of ↦
           let P : Noted → Type 0 = IsNoted needs.records add.key in
           ap (contains needs.records) of.note_is
-          ∙ each-middle P of.before of.after of.read (subst (Each P) of.whole (noted_all-each n.records add.key add.entry_reads))
+          ∙ each-middle P of.before of.after of.read (subst (Each P) of.whole (noted_all-each key_coding n.records add.key add.entry_reads))
     ]
   ]
 
@@ -266,7 +269,7 @@ module _ (k : SharedKept) (e : EconomyValue) (n : NeedValue) (o : Items) (m : Me
           let parts = both (same_space s space) (i == r) is in
           let key_is : add.key ≡ key = cc (link) in
           subst (Linked s i) key_is
-          (subst (λ (x : ℕ). Linked s x add.key) (sym (same_numbers i r parts.1)) (subst (λ (d : Capability). Linked d r add.key) (sym (same_space_tells s space parts.0)) linked_now))
+          (subst (λ (x : ℕ). Linked s x add.key) (sym (same_numbers i r parts.1)) (subst (λ (d : Capability). Linked d r add.key) (sym (key_tells space_coding s space parts.0)) linked_now))
       on false is link = linked_still s i key link
 
   held_then : (x : Key) (i : ℕ) → more.held x i ≡ true → Ends o x i × Each (IsNotedOn more.notes x i) (reads_behind o x i)
@@ -277,7 +280,7 @@ module _ (k : SharedKept) (e : EconomyValue) (n : NeedValue) (o : Items) (m : Me
         each_both (IsNoted more.notes add.key) (λ t. holds t.block j ≡ true) add.entry_reads entries_noted
         (each_map (InPlace j) (λ t. holds t.block j ≡ true) (λ t at. place-held j t less at) add.entry_reads adds.placed) in
         let now : Ends o add.key j × Each (IsNotedOn more.notes add.key j) (reads_behind o add.key j) = (adds.ends, subst (Each (IsNotedOn more.notes add.key j)) adds.entry notes) in
-        subst (λ (y : Key). Ends o y i × Each (IsNotedOn more.notes y i) (reads_behind o y i)) (sym (same_key_tells x add.key parts.0))
+        subst (λ (y : Key). Ends o y i × Each (IsNotedOn more.notes y i) (reads_behind o y i)) (sym (key_tells key_coding x add.key parts.0))
         (subst (λ (y : ℕ). Ends o add.key y × Each (IsNotedOn more.notes add.key y) (reads_behind o add.key y)) (sym (same_numbers i j parts.1)) now)
     | inr before ↦
         let was = m.held x i before in
@@ -292,7 +295,7 @@ module _ (k : SharedKept) (e : EconomyValue) (n : NeedValue) (o : Items) (m : Me
       on false other = was.link
       on true here =
           let parts = both (same_space (counted o s) space) (q / 1024 == r) here in
-          let spaces : counted o s ≡ space = same_space_tells (counted o s) space parts.0 in
+          let spaces : counted o s ≡ space = key_tells space_coding (counted o s) space parts.0 in
           let one : s ≡ c = sym was.uncounted ∙ (sym (bare-counted o s) ∙ (ap bare spaces ∙ (bare-counted o c ∙ uncounted))) in
           let reach_too : access o c (q * 4096) Load ≡ Ok was.place = ap (λ (d : Capability). access o d (q * 4096) Load) (sym one) ∙ was.reached in
           let link : k.links space (q / 1024) ≡ Some was.key = ap (λ (d : Capability). k.links d (q / 1024)) (sym spaces) ∙ was.link in
@@ -304,12 +307,12 @@ module _ (k : SharedKept) (e : EconomyValue) (n : NeedValue) (o : Items) (m : Me
 
   link_now : more.links space r ≡ Some add.key
   link_now =
-      let here : (same_space space space && (r == r)) ≡ true = rw (same_space_itself space) (number_itself r) in
+      let here : (same_space space space && (r == r)) ≡ true = rw (key_itself space_coding space) (number_itself r) in
       ap (λ (b : Bool). if b then Some add.key else k.links space r) here
 
   held_now : more.held add.key j ≡ true
   held_now =
-      let here : (same_key add.key add.key && (j == j)) ≡ true = rw (same_key_itself add.key) (number_itself j) in
+      let here : (same_key add.key add.key && (j == j)) ≡ true = rw (key_itself key_coding add.key) (number_itself j) in
       or_left (same_key add.key add.key && (j == j)) (k.held add.key j) here
 
   pub meets-added : Meets more covers needs o

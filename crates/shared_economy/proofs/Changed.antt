@@ -22,22 +22,26 @@ use Rattle.producers.proofs.Staying.{unread-append}
 use Rattle.depend_table.specs.Depend.{lies_in, same_item}
 use Rattle.depend_table.proofs.Members.{same_item_tells}
 use Rattle.map_cache.specs.Key.{same_space}
-use Rattle.map_cache.specs.Kept.{note as space_note, counted}
-use Rattle.map_cache.proofs.Codes.{both, not_true, notes_apart as spaces_apart, notes_total as spaces_total, number_itself, same_space_itself}
+use Rattle.map_cache.specs.Kept.{counted}
 use Rattle.shared_leaves.specs.declared.key.Key.{Key}
 use Rattle.shared_leaves.specs.declared.key.Table.{Table}
 use Rattle.shared_leaves.specs.declared.key.Table.TheVariants.{Region, Root, Producer as Joins}
 use Rattle.shared_leaves.specs.Key.{has_entries, has_key, is_leaf, root_key, same_key}
-use Rattle.shared_leaves.specs.Kept.{Note, SharedKept, covers_note, is_on, kept_without, note}
-use Rattle.shared_leaves.proofs.Codes.{notes_apart, notes_total, same_key_itself, same_key_tells}
+use Rattle.shared_leaves.specs.Kept.{Note, SharedKept, covers_note, is_on, kept_without}
 use Rattle.shared_leaves.proofs.Dropped.{holds-within, lies-through}
 use Rattle.fetch_economy.specs.Economy.{EconomyValue, is_for, uncovering}
 use Rattle.shared_economy.specs.Need.{NeedValue}
-use Rattle.shared_economy.proofs.Sets.{any-note, note-any}
 use Rattle.shared_economy.proofs.Places.{wide-same}
 use Rattle.shared_economy.proofs.Trails.{Ends, EndsIn, IsFresh, LinkLeads, each_map, end-stays, fresh-stays, leads-map, leads-stays, reads_behind}
 use Rattle.shared_economy.proofs.Added.{bare-counted}
 use Rattle.shared_economy.proofs.Meets.{IsCovered, IsNoted, IsNotedOn, Meets, none_some}
+use Rattle.depend_table.proofs.Coded.{key_itself, key_tells}
+use Rattle.depend_table.proofs.Notes.{notes_apart, notes_total}
+use Rattle.depend_table.proofs.Sets.{any-note, note-any}
+use Rattle.depend_table.proofs.Tests.{both, not_true, number_itself}
+use Rattle.depend_table.specs.Notes.{note}
+use Rattle.map_cache.proofs.Codes.{space_coding}
+use Rattle.shared_leaves.proofs.Codes.{key_coding}
 
 item_itself : (i : Item) → same_item i i ≡ true
 item_itself (Header kind n) = rw (number_itself (number_of kind)) (number_itself n)
@@ -71,7 +75,7 @@ module _ (k : SharedKept) (e : EconomyValue) (n : NeedValue) (o q : Items) (m : 
   stays y = not (same_item y.item x) && not (is_leaf y.key && list_any (covers_note x y) (items k.notes))
 
   kept_is : (y : Note) → contains left.notes y ≡ (contains k.notes y && stays y)
-  kept_is y = contains-retain k.notes stays y (λ z tie. ap stays (sym (notes_apart y z tie)))
+  kept_is y = contains-retain k.notes stays y (λ z tie. ap stays (sym ((notes_apart key_coding) y z tie)))
 
   was_kept : (y : Note) → contains left.notes y ≡ true → (contains k.notes y ≡ true) × (stays y ≡ true)
   was_kept y there = both (contains k.notes y) (stays y) (sym (kept_is y) ∙ there)
@@ -89,19 +93,19 @@ module _ (k : SharedKept) (e : EconomyValue) (n : NeedValue) (o q : Items) (m : 
   other_on : (key : Key) (page : ℕ) (t : Noted) → list_any (is_on key page x) (items k.notes) ≡ false → IsNotedOn k.notes key page t → t.item ≢ x
   other_on key page t none there same =
       never (list_any (is_on key page x) (items k.notes)) none
-      (note-any notes_total notes_apart (is_on key page x) k.notes (note key t.item t.block) there.0
-      (all_true (same_item t.item x) (same_key key key) (holds t.block page) (ap (λ (i : Item). same_item i x) same ∙ item_itself x) (same_key_itself key) there.1))
+      (note-any (notes_total key_coding) (notes_apart key_coding) (is_on key page x) k.notes (note key t.item t.block) there.0
+      (all_true (same_item t.item x) (same_key key key) (holds t.block page) (ap (λ (i : Item). same_item i x) same ∙ item_itself x) (key_itself key_coding key) there.1))
 
   -- and its note stays
   kept_on : (key : Key) (page : ℕ) (t : Noted) → list_any (is_on key page x) (items k.notes) ≡ false → IsNotedOn k.notes key page t → IsNotedOn left.notes key page t
   kept_on key page t none there = (
     is_kept (note key t.item t.block) there.0 (other_on key page t none there) (λ leaf some.
-        let at = any-note notes_total notes_apart (covers_note x (note key t.item t.block)) k.notes some in
+        let at = any-note (notes_total key_coding) (notes_apart key_coding) (covers_note x (note key t.item t.block)) k.notes some in
         let y : Note = at.0 in
         let parts = both (same_item y.item x) (same_key key y.key && lies_in t.block y.block) at.1.1 in
         let inner = both (same_key key y.key) (lies_in t.block y.block) parts.1 in
         never (list_any (is_on key page x) (items k.notes)) none
-        (note-any notes_total notes_apart (is_on key page x) k.notes y at.1.0
+        (note-any (notes_total key_coding) (notes_apart key_coding) (is_on key page x) k.notes y at.1.0
         (all_true (same_item y.item x) (same_key key y.key) (holds y.block page) parts.0 inner.0 (holds-within t.block y.block page inner.1 there.1)))),
     there.1,
   )
@@ -127,18 +131,18 @@ module _ (k : SharedKept) (e : EconomyValue) (n : NeedValue) (o q : Items) (m : 
       keeps t noted inner = (
         another,
         is_kept (note y.key t.item t.block) noted another (λ leaf some.
-            let at = any-note notes_total notes_apart (covers_note x (note y.key t.item t.block)) k.notes some in
+            let at = any-note (notes_total key_coding) (notes_apart key_coding) (covers_note x (note y.key t.item t.block)) k.notes some in
             let z : Note = at.0 in
             let one = both (same_item z.item x) (same_key y.key z.key && lies_in t.block z.block) at.1.1 in
             let two = both (same_key y.key z.key) (lies_in t.block z.block) one.1 in
-            none (note-any notes_total notes_apart (covers_note x y) k.notes z at.1.0
+            none (note-any (notes_total key_coding) (notes_apart key_coding) (covers_note x y) k.notes z at.1.0
             (all_true (same_item z.item x) (same_key y.key z.key) (lies_in y.block z.block) one.0 two.0 (lies-through y.block t.block z.block inner two.1)))),
       )
         where
           another : t.item ≢ x
           another same =
-              none (note-any notes_total notes_apart (covers_note x y) k.notes (note y.key t.item t.block) noted
-              (all_true (same_item t.item x) (same_key y.key y.key) (lies_in y.block t.block) (ap (λ (i : Item). same_item i x) same ∙ item_itself x) (same_key_itself y.key) inner))
+              none (note-any (notes_total key_coding) (notes_apart key_coding) (covers_note x y) k.notes (note y.key t.item t.block) noted
+              (all_true (same_item t.item x) (same_key y.key y.key) (lies_in y.block t.block) (ap (λ (i : Item). same_item i x) same ∙ item_itself x) (key_itself key_coding y.key) inner))
 
   links_left : (s : Capability) (r : ℕ) (key : Key) → left.links s r ≡ Some key
       → (has_key k.keys (root_key s) ≡ true) × (has_key k.keys key ≡ true) × LinkLeads q s r key (IsNotedOn left.notes (root_key s) (r * 1024))
@@ -181,17 +185,17 @@ module _ (k : SharedKept) (e : EconomyValue) (n : NeedValue) (o q : Items) (m : 
     j = p % 1024
 
     same_bare : same_space (bare s) (bare space) ≡ true
-    same_bare = ap (same_space (bare s)) (bare-counted o s) ∙ same_space_itself (bare s)
+    same_bare = ap (same_space (bare s)) (bare-counted o s) ∙ key_itself space_coding (bare s)
 
     -- no note of the item is for it
-    not_for : (i : Item) (b : BlockValue) → contains e.noted (space_note space i b) ≡ true → same_item i x ≡ true → holds b p ≡ true → ⊥
+    not_for : (i : Item) (b : BlockValue) → contains e.noted (note space i b) ≡ true → same_item i x ≡ true → holds b p ≡ true → ⊥
     not_for i b there item held =
         never (list_any (is_for s p x) (items e.noted)) none
-        (note-any spaces_total spaces_apart (is_for s p x) e.noted (space_note space i b) there
+        (note-any (notes_total space_coding) (notes_apart space_coding) (is_for s p x) e.noted (note space i b) there
         (all_true (same_item i x) (same_space (bare s) (bare space)) (holds b p) item same_bare held))
 
     unread : Unread x whole
-    unread = each_map (λ t. (contains e.noted (space_note space t.item t.block) ≡ true) × (holds t.block p ≡ true)) (λ t. t.item ≢ x)
+    unread = each_map (λ t. (contains e.noted (note space t.item t.block) ≡ true) × (holds t.block p ≡ true)) (λ t. t.item ≢ x)
         (λ t there same. not_for t.item t.block there.0 (ap (λ (i : Item). same_item i x) same ∙ item_itself x) there.1) whole was.noted
 
     -- its space has the age that it had
@@ -212,22 +216,22 @@ module _ (k : SharedKept) (e : EconomyValue) (n : NeedValue) (o q : Items) (m : 
     link_left =
         let no : list_any (is_on (root_key space) (p / 1024 * 1024) x) (items k.notes) ≡ false =
         not_true (list_any (is_on (root_key space) (p / 1024 * 1024) x) (items k.notes)) (λ some.
-        let at = any-note notes_total notes_apart (is_on (root_key space) (p / 1024 * 1024) x) k.notes some in
+        let at = any-note (notes_total key_coding) (notes_apart key_coding) (is_on (root_key space) (p / 1024 * 1024) x) k.notes some in
         let y : Note = at.0 in
         let one = both (same_item y.item x) (same_key (root_key space) y.key && holds y.block (p / 1024 * 1024)) at.1.1 in
         let two = both (same_key (root_key space) y.key) (holds y.block (p / 1024 * 1024)) one.1 in
-        let key : root_key space ≡ y.key = same_key_tells (root_key space) y.key two.0 in
+        let key : root_key space ≡ y.key = key_tells key_coding (root_key space) y.key two.0 in
         let root = m.roots space y.item y.block ((λ z. contains k.notes (note (key z) y.item y.block)) ∙ at.1.0) in
         not_for y.item y.block root.0 one.0 (wide-same y.block (p / 1024) p root.1 refl ∙ two.1)) in
         ap (λ (b : Bool). if b then None else k.links space (p / 1024)) no ∙ was.link
 
     held_no : list_any (is_on was.key j x) (items k.notes) ≡ false
     held_no = not_true (list_any (is_on was.key j x) (items k.notes)) (λ some.
-        let at = any-note notes_total notes_apart (is_on was.key j x) k.notes some in
+        let at = any-note (notes_total key_coding) (notes_apart key_coding) (is_on was.key j x) k.notes some in
         let y : Note = at.0 in
         let one = both (same_item y.item x) (same_key was.key y.key && holds y.block j) at.1.1 in
         let two = both (same_key was.key y.key) (holds y.block j) one.1 in
-        let key : was.key ≡ y.key = same_key_tells was.key y.key two.0 in
+        let key : was.key ≡ y.key = key_tells key_coding was.key y.key two.0 in
         let leaf : is_leaf y.key ≡ true = ap is_leaf (sym key) ∙ ends_leaf o was.key.space was.key.table j (m.held was.key j was.held).0 in
         let fresh = m.fresh y at.1.0 leaf in
         let made = fresh.made j (omega arith) two.1 in
@@ -244,8 +248,8 @@ module _ (k : SharedKept) (e : EconomyValue) (n : NeedValue) (o q : Items) (m : 
           inside = was.inside;
           place = was.place;
           reached = stay.reached;
-          noted = subst (λ (d : Capability). Each (λ t. (contains e.noted (space_note d t.item t.block) ≡ true) × (holds t.block p ≡ true)) (trail q s (p * 4096) Load)) (sym aged)
-              (subst (Each (λ t. (contains e.noted (space_note space t.item t.block) ≡ true) × (holds t.block p ≡ true))) (sym stay.reads) was.noted);
+          noted = subst (λ (d : Capability). Each (λ t. (contains e.noted (note d t.item t.block) ≡ true) × (holds t.block p ≡ true)) (trail q s (p * 4096) Load)) (sym aged)
+              (subst (Each (λ t. (contains e.noted (note space t.item t.block) ≡ true) × (holds t.block p ≡ true))) (sym stay.reads) was.noted);
           key = was.key;
           link = ap (λ (d : Capability). left.links d (p / 1024)) aged ∙ link_left;
           held = rw (was.held, held_no) refl;

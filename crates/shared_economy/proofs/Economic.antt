@@ -14,11 +14,9 @@ use Rattle.walk_meaning.specs.Trail.{slots, trail}
 use Rattle.walk_meaning.proofs.SlotsLaw.{slots_law}
 use Rattle.producers.specs.Producer.{join_of}
 use Rattle.map_cache.specs.Kept.{counted, is_reached}
-use Rattle.map_cache.proofs.Economy.{noted_all-grows as spaces-grow}
 use Rattle.shared_leaves.specs.declared.key.Key.{Key}
 use Rattle.shared_leaves.specs.Key.{root_key, with_key}
 use Rattle.shared_leaves.specs.Kept.{Addition, SharedKept, added, added_to, addition_by, addition_of, cost_of, fits, holds_page, is_held, kept_after, kept_without, nothing}
-use Rattle.shared_leaves.proofs.Economy.{noted_all-grows, with_key-grows}
 use Rattle.machine_state.specs.Outcome.{Touch}
 use Rattle.machine_state.specs.Outcome.Touch.{DataAccess, CapAccess, GptCall, Changed}
 use Rattle.fetch_economy.proofs.Bound.{slot_reads-most}
@@ -33,6 +31,10 @@ use Rattle.shared_economy.proofs.Added.{AsLoad, as-load}
 use Rattle.shared_economy.proofs.Meets.{Meets, meets-fits, meets-start, within_need}
 use Rattle.shared_economy.proofs.Adding.{meets-added, meets-held}
 use Rattle.shared_economy.proofs.Changed.{meets-changed}
+use Rattle.depend_table.proofs.Coded.{with_key-grows}
+use Rattle.depend_table.proofs.Notes.{noted_all-grows}
+use Rattle.map_cache.proofs.Codes.{space_coding}
+use Rattle.shared_leaves.proofs.Codes.{key_coding}
 
 -- ---- the need only grows
 
@@ -42,12 +44,12 @@ within_less a b c d f g keys spaces leaves holds = grind (arith, nat_tests, keys
 need-before_access : (e : EconomyValue) (n : NeedValue) (space aged : Capability) (page : ℕ) (reads : List Noted) (add : Addition)
     → within_need (covering e space aged page reads) (needing n aged add) ≡ true → within_need e n ≡ true
 need-before_access e n space aged page reads add =
-    let one = with_key-grows n.frames (root_key aged) in
-    let two = with_key-grows (with_key n.frames (root_key aged)) add.key in
+    let one = with_key-grows key_coding n.frames (root_key aged) in
+    let two = with_key-grows key_coding (with_key n.frames (root_key aged)) add.key in
     let covers : EconomyValue = covering e space aged page reads in
     let needs : NeedValue = needing n aged add in
     within_less (length n.frames) (len e.noted) (len n.records) (length needs.frames) (len covers.noted) (len needs.records)
-    (omega (arith, one.0, two.0)) (spaces-grow e.noted aged reads) (noted_all-grows n.records add.key add.entry_reads)
+    (omega (arith, one.0, two.0)) (noted_all-grows space_coding e.noted aged reads) (noted_all-grows key_coding n.records add.key add.entry_reads)
 
 need-before_touch : (e : EconomyValue) (n : NeedValue) (t : Touch) → within_need (economy_at e t) (need_at n t) ≡ true → within_need e n ≡ true
 need-before_touch e n (DataAccess o space address kind) need = on (is_reached (access o space address kind)) need

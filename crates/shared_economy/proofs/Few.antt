@@ -9,13 +9,14 @@ use Rattle.walk_meaning.specs.Walk.{access}
 use Rattle.map_cache.specs.Kept.{counted, is_reached}
 use Rattle.shared_leaves.specs.Key.{root_key, with_key}
 use Rattle.shared_leaves.specs.Kept.{Addition, SharedKept, added, added_to, addition_of, fits, is_held, kept_after, kept_without, nothing}
-use Rattle.shared_leaves.proofs.Economy.{with_key-grows}
 use Rattle.machine_state.specs.Outcome.{Touch}
 use Rattle.machine_state.specs.Outcome.Touch.{DataAccess, CapAccess, GptCall, Changed}
 use Rattle.shared_economy.specs.Counts.{kept_by}
 use Rattle.shared_economy.specs.Need.{NeedValue, need_after, need_at, needing, no_need}
 use Rattle.shared_economy.specs.Laws.{FewerFrames}
 use Rattle.shared_economy.proofs.Keys.{Among, Distinct, among-more, among-with, distinct-with, length-among}
+use Rattle.depend_table.proofs.Coded.{with_key-grows}
+use Rattle.shared_leaves.proofs.Codes.{key_coding}
 
 -- the keys that are kept, by those that are needed
 record AreNeeded (k : SharedKept) (n : NeedValue) : Type 0 where
@@ -42,7 +43,7 @@ module _ (k : SharedKept) (n : NeedValue) (space : Capability) (page : ℕ) (add
       on true is = needed-more k needed.distinct needed.among (within (length (added k space page add).keys) (len (added k space page add).notes) is)
       on false is =
           needed-more nothing tt (λ j there. absurd (cc))
-          (omega (arith, (with_key-grows [] (root_key space)).1, (with_key-grows (with_key [] (root_key space)) add.key).1))
+          (omega (arith, (with_key-grows key_coding [] (root_key space)).1, (with_key-grows key_coding (with_key [] (root_key space)) add.key).1))
 
   -- where nothing is added, no more is kept than needed
   needed-same : AreNeeded k (needing n space add)

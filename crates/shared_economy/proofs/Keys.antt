@@ -1,10 +1,11 @@
 -- Keys in lists: which are there with one more, and that a list of distinct keys within another is no longer.
 use Rattle.std.proofs.Common.{◌≡◌, ◌≢◌, ◌⊎◌, inl, inr, ◌+◌, ◌≤◌, Bool, true, false, ◌||◌, if◌then◌else◌, List, [], ◌∷◌, ◌++◌, length, refl, sym, ap, ◌∙◌, arith}
 use Rattle.std.proofs.lemmas.List.Folds.{list_any-append}
-use Rattle.map_cache.proofs.Codes.{either, not_true, or_left, or_right}
 use Rattle.shared_leaves.specs.declared.key.Key.{Key}
 use Rattle.shared_leaves.specs.Key.{has_key, same_key, with_key}
-use Rattle.shared_leaves.proofs.Codes.{key_cases, same_key_itself, same_key_tells}
+use Rattle.depend_table.proofs.Coded.{key_cases, key_itself, key_tells}
+use Rattle.depend_table.proofs.Tests.{either, not_true, or_left, or_right}
+use Rattle.shared_leaves.proofs.Codes.{key_coding}
 
 -- ---- a key more
 
@@ -28,14 +29,14 @@ has_key-added keys k = on (has_key keys k) refl
     on true there = there
     on false new =
         list_any-append (same_key k) keys (k ∷ [])
-        ∙ or_right (has_key keys k) (has_key (k ∷ []) k) (or_left (same_key k k) (has_key [] k) (same_key_itself k))
+        ∙ or_right (has_key keys k) (has_key (k ∷ []) k) (or_left (same_key k k) (has_key [] k) (key_itself key_coding k))
 
 -- a key that is there was there, or is the added one
 has_key-with : (keys : List Key) (j k : Key) → has_key (with_key keys k) j ≡ true → (has_key keys j ≡ true) ⊎ (j ≡ k)
 has_key-with keys j k = on (has_key keys k)
   where
     last : (has_key (k ∷ []) j ≡ true) → j ≡ k
-    last there = elim (either (same_key j k) (has_key [] j) there) [ inl here ↦ same_key_tells j k here | inr none ↦ absurd (cc) ]
+    last there = elim (either (same_key j k) (has_key [] j) there) [ inl here ↦ key_tells key_coding j k here | inr none ↦ absurd (cc) ]
 
     on : (b : Bool) → has_key (if b then keys else keys ++ k ∷ []) j ≡ true → (has_key keys j ≡ true) ⊎ (j ≡ k)
     on true there = inl there
@@ -72,7 +73,7 @@ distinct-last (x ∷ keys) k distinct new = (not_true (has_key (keys ++ k ∷ []
       | inl before ↦ let no : has_key keys x ≡ false = distinct.0 in cc
       | inr here ↦ elim (either (same_key x k) (has_key [] x) here) [
         | inl same ↦
-            let one : same_key k x ≡ true = ap (same_key k) (same_key_tells x k same) ∙ same_key_itself k in
+            let one : same_key k x ≡ true = ap (same_key k) (key_tells key_coding x k same) ∙ key_itself key_coding k in
             let no : same_key k x ≡ false = parts.0 in
             cc
         | inr none ↦ cc
@@ -116,14 +117,14 @@ length-without (x ∷ keys) k there = on (same_key k x) there (length-without ke
 has_key-without : (keys : List Key) (j k : Key) → has_key keys j ≡ true → j ≢ k → has_key (without keys k) j ≡ true
 unfolding without
 has_key-without [] j k there other = absurd (cc)
-has_key-without (x ∷ keys) j k there other = on (key_cases k x) (λ later. has_key-without keys j k later other)
+has_key-without (x ∷ keys) j k there other = on (key_cases key_coding k x) (λ later. has_key-without keys j k later other)
   where
     on : ((same_key k x ≡ true) × (k ≡ x)) ⊎ ((same_key k x ≡ false) × (k ≢ x)) → (has_key keys j ≡ true → has_key (without keys k) j ≡ true)
         → has_key (if same_key k x then keys else x ∷ without keys k) j ≡ true
     on (inl same) ih =
         ap (λ (b : Bool). has_key (if b then keys else x ∷ without keys k) j) same.0
         ∙ elim (either (same_key j x) (has_key keys j) there) [
-          | inl here ↦ absurd (other (same_key_tells j x here ∙ sym same.1))
+          | inl here ↦ absurd (other (key_tells key_coding j x here ∙ sym same.1))
           | inr later ↦ later
         ]
     on (inr differ) ih =
@@ -140,7 +141,7 @@ length-among (k ∷ keys) others distinct among =
     omega (arith, length-without others k first, length-among keys (without others k) distinct.1 rest)
   where
     first : has_key others k ≡ true
-    first = among k (or_left (same_key k k) (has_key keys k) (same_key_itself k))
+    first = among k (or_left (same_key k k) (has_key keys k) (key_itself key_coding k))
 
     rest : Among keys (without others k)
     rest j there = has_key-without others j k (among j (or_right (same_key j k) (has_key keys j) there)) (λ same.

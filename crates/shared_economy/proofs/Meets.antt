@@ -14,20 +14,23 @@ use Rattle.walk_meaning.specs.declared.place.Place.{Place}
 use Rattle.walk_meaning.specs.Walk.{access}
 use Rattle.walk_meaning.specs.Trail.{noted_in, trail}
 use Rattle.walk_meaning.specs.Laws.{Unread}
-use Rattle.map_cache.specs.Kept.{note as space_note, counted}
-use Rattle.map_cache.proofs.Codes.{both}
+use Rattle.map_cache.specs.Kept.{counted}
 use Rattle.shared_leaves.specs.declared.key.Key.{Key}
 use Rattle.shared_leaves.specs.declared.key.Table.{Table}
 use Rattle.shared_leaves.specs.declared.key.Table.TheVariants.{Region, Root, Producer as Joins}
 use Rattle.shared_leaves.specs.Key.{has_entries, has_key, is_leaf, root_key}
-use Rattle.shared_leaves.specs.Kept.{Note, SharedKept, fits, note, note_order, nothing}
-use Rattle.shared_leaves.proofs.Codes.{notes_apart, notes_total}
+use Rattle.shared_leaves.specs.Kept.{Note, SharedKept, fits, note_order, nothing}
 use Rattle.shared_leaves.proofs.Economy.{fits-within}
 use Rattle.fetch_economy.specs.Economy.{EconomyValue, at_start}
 use Rattle.shared_economy.specs.Need.{NeedValue, no_need}
-use Rattle.shared_economy.proofs.Sets.{Rooted, rooted, within-len}
+use Rattle.shared_economy.proofs.Sets.{Rooted, rooted}
 use Rattle.shared_economy.proofs.Places.{IsWide}
 use Rattle.shared_economy.proofs.Trails.{Ends, IsFresh, LinkLeads, reads_behind}
+use Rattle.depend_table.proofs.Notes.{notes_apart, notes_total}
+use Rattle.depend_table.proofs.Sets.{within-len}
+use Rattle.depend_table.proofs.Tests.{both}
+use Rattle.depend_table.specs.Notes.{note}
+use Rattle.shared_leaves.proofs.Codes.{key_coding}
 
 -- a read is noted for a frame
 abbrev pub IsNoted : FinSet note_order → Key → Noted → Type 0
@@ -45,7 +48,7 @@ pub record IsCovered (k : SharedKept) (e : EconomyValue) (o : Items) (s : Capabi
   pub inside : p < 2 ^ 20
   pub place : Place
   pub reached : access o s (p * 4096) Load ≡ Ok place
-  pub noted : Each (λ m. (contains e.noted (space_note (counted o s) m.item m.block) ≡ true) × (holds m.block p ≡ true)) (trail o s (p * 4096) Load)
+  pub noted : Each (λ m. (contains e.noted (note (counted o s) m.item m.block) ≡ true) × (holds m.block p ≡ true)) (trail o s (p * 4096) Load)
   pub key : Key
   pub link : k.links (counted o s) (p / 1024) ≡ Some key
   pub held : k.held key (p % 1024) ≡ true
@@ -55,7 +58,7 @@ pub record IsCovered (k : SharedKept) (e : EconomyValue) (o : Items) (s : Capabi
 pub record Meets (k : SharedKept) (e : EconomyValue) (n : NeedValue) (o : Items) : Type 0 where
   pub frames : k.keys ≡ n.frames
   pub roots : (s : Capability) (i : Item) (b : BlockValue) → contains k.notes (note (root_key s) i b) ≡ true
-      → (contains e.noted (space_note s i b) ≡ true) × IsWide b
+      → (contains e.noted (note s i b) ≡ true) × IsWide b
   pub leaves : (q : Note) → contains k.notes q ≡ true → is_leaf q.key ≡ true → contains n.records q ≡ true
   pub fresh : (q : Note) → contains k.notes q ≡ true → is_leaf q.key ≡ true → IsFresh o q.key (noted_in q.item q.block) (IsNoted k.notes q.key)
   pub links : (s : Capability) (r : ℕ) (key : Key) → k.links s r ≡ Some key
@@ -91,7 +94,7 @@ within_need e n = nat_le (length n.frames) 256 && nat_le (2 * len e.noted + len 
 notes_few : (k : SharedKept) (e : EconomyValue) (n : NeedValue) (o : Items) → Meets k e n o → len k.notes ≤ len e.noted + len n.records
 notes_few k e n o m =
     let all = rooted e.noted n.records in
-    let few = within-len notes_total notes_apart k.notes all.all (λ y there. on all y y.key.table refl there) in
+    let few = within-len (notes_total key_coding) (notes_apart key_coding) k.notes all.all (λ y there. on all y y.key.table refl there) in
     let total = all.count in
     omega (arith, few, total)
   where
@@ -99,7 +102,7 @@ notes_few k e n o m =
     on all y Root is there =
         let key : y.key ≡ root_key y.key.space = λ z. record { space = y.key.space; table = is z } in
         let root = m.roots y.key.space y.item y.block ((λ z. contains k.notes (note (sym key z) y.item y.block)) ∙ there) in
-        (λ z. contains all.all (note (key z) y.item y.block)) ∙ all.roots_there (space_note y.key.space y.item y.block) root.0
+        (λ z. contains all.all (note (key z) y.item y.block)) ∙ all.roots_there (note y.key.space y.item y.block) root.0
     on all y (Region r) is there = all.leaves_there y (m.leaves y there (ap has_entries is))
     on all y (Joins key) is there = all.leaves_there y (m.leaves y there (ap has_entries is))
 

@@ -24,11 +24,14 @@ use Rattle.shared_leaves.specs.Cache.{IsCache, SharedCache, cache_of, entry_for,
 use Rattle.shared_leaves.specs.Coherent.{IsCoherent, IsEntry, IsLink, IsRecorded}
 use Rattle.shared_leaves.specs.Effects.{Agrees, Connects, HasFrame, IsBlank, IsDue, IsWalked, Keeps, NotesReads, Remembers, SameEntriesFor, SetsPlace}
 use Rattle.shared_leaves.proofs.Blank.{kept-blank, starts}
-use Rattle.shared_leaves.proofs.Economy.{fits-alone, fits-within, noted_all-grows, over-keys, over-notes, with_key-grows}
+use Rattle.shared_leaves.proofs.Economy.{fits-alone, fits-within, over-keys, over-notes}
 use Rattle.shared_leaves.proofs.Filed.{Made, if-false, if-true}
 use Rattle.shared_leaves.proofs.Invariant.{cache-fill, leaf_by, root_made}
-use Rattle.shared_leaves.proofs.Keyed.{frame_of-is, key_at-at}
+use Rattle.shared_leaves.proofs.Keyed.{key_at-at}
 use Rattle.shared_leaves.proofs.Readings.{due-recorded, each_map, entry-map, link-map}
+use Rattle.depend_table.proofs.Coded.{frame_of-is, with_key-grows}
+use Rattle.depend_table.proofs.Notes.{noted_all-grows}
+use Rattle.shared_leaves.proofs.Codes.{key_coding}
 
 -- coherence goes by tables, keys and records, and more records do no harm
 pub coherent-more : (v w : SharedCache) (o : Items) → w.tables ≡ v.tables → w.keys ≡ v.keys → ((d : Depend) → has v.records d ≡ true → has w.records d ≡ true) → IsCoherent v o → IsCoherent w o
@@ -192,7 +195,7 @@ module _ (v0 v1 v2 v3 v4 v5 v6 : SharedCache) (space : Capability) (page root ta
           coherent = λ o walked was. coherent-more v6 (cache_of v6.tables v6.keys to v6.records) o refl refl (λ d h. h) (coherent o walked was);
           held = record {
             root = root;
-            root_is = frame_of-is v6.keys (root_key space) root cache.apart at6;
+            root_is = frame_of-is key_coding v6.keys (root_key space) root cache.apart at6;
             tables = there;
             tlb = ap (λ (es : List TlbEntry). look es root page) own ∙ (law (tlb_at v6.tlbs hart) root page leaf is).new;
           };
@@ -222,7 +225,7 @@ agrees-still v0 v1 v2 v4 v5 space key page root table leaf cache first second ta
     inside = omega arith
 
     there : frame_of v5.keys key ≡ Some table
-    there = frame_of-is v5.keys key table cache.apart (ap (λ (ks : List Key). slice_get ks table) (keys5 ∙ keys) ∙ second.here)
+    there = frame_of-is key_coding v5.keys key table cache.apart (ap (λ (ks : List Key). slice_get ks table) (keys5 ∙ keys) ∙ second.here)
 
     here : entry_for v5 key (page % 1024) ≡ Some e
     here = if-true (is_leaf key) (entry_in v5.tables (page % 1024) (frame_of v5.keys key)) None is ∙ (ap (entry_in v5.tables (page % 1024)) there ∙ at)
@@ -236,7 +239,7 @@ on_err (Err x) P h = h
 
 -- too many keys once the space has its root, or the key its leaf table
 pub root-over : (v : SharedCache) (space : Capability) (page : ℕ) (add : Addition) → 256 < length (with_key v.keys (root_key space)) → fits (added (kept_of v) space page add) ≡ false
-root-over v space page add more = over-keys (kept_of v) space page add (let grows = (with_key-grows (with_key v.keys (root_key space)) add.key).0 in omega (arith, more, grows))
+root-over v space page add more = over-keys (kept_of v) space page add (let grows = (with_key-grows key_coding (with_key v.keys (root_key space)) add.key).0 in omega (arith, more, grows))
 
 pub table-over : (v w : SharedCache) (space : Capability) (page root : ℕ) (add : Addition) → HasFrame v w (root_key space) root → 256 < length (with_key w.keys add.key) → fits (added (kept_of v) space page add) ≡ false
 table-over v w space page root add has more = over-keys (kept_of v) space page add (subst (λ (ks : List Key). 256 < length (with_key ks add.key)) has.keys more)
@@ -247,7 +250,7 @@ pub links-over : (v w x : SharedCache) (space : Capability) (page root table : �
 links-over v w x space page root table add first second at more =
     over-notes (kept_of v) space page add
     (let same : noted_all (notes_of x.keys x.records) (key_at x.keys root) add.link_reads ≡ noted_all (notes_of v.keys v.records) (root_key space) add.link_reads = (λ i. noted_all ((second.notes ∙ first.notes) i) (key_at-at x.keys root (root_key space) at i) add.link_reads) in
-    let grows = noted_all-grows (noted_all (notes_of v.keys v.records) (root_key space) add.link_reads) add.key add.entry_reads in
+    let grows = noted_all-grows key_coding (noted_all (notes_of v.keys v.records) (root_key space) add.link_reads) add.key add.entry_reads in
     let long = ap (λ (s : FinSet note_order). len s) same in
     omega (arith, more, grows, long))
 

@@ -19,22 +19,22 @@ use Rattle.depend_table.specs.Depend.{Depend, Takes, depend, has, is_within, lie
 use Rattle.depend_table.proofs.Members.{has-taken, same_tells}
 use Rattle.walk_meaning.specs.declared.noted.Noted.{Noted}
 use Rattle.map_cache.specs.Cache.{tlb_at}
-use Rattle.map_cache.proofs.Codes.{both, number_itself, or_left, or_right, same_numbers, same_tests}
-use Rattle.map_cache.proofs.Records.{any_has, has_any}
 use Rattle.shared_leaves.specs.declared.key.Key.{Key}
 use Rattle.shared_leaves.specs.Key.{is_leaf, root_key, same_key}
 use Rattle.shared_leaves.specs.Kept.{covers_note, is_on}
 use Rattle.shared_leaves.specs.Cache.{IsCache, cache_of, entry_for, entry_in, frame_of, key_at, key_of_link, link_for, link_in, note_of, notes_of, root_at}
 use Rattle.shared_leaves.specs.Coherent.{IsCoherent, IsEntry, IsRecorded}
 use Rattle.shared_leaves.specs.Effects.{Forgets, entry_left, is_left, link_left}
-use Rattle.shared_leaves.proofs.Codes.{same_key_itself}
 use Rattle.shared_leaves.proofs.Dropped.{has-filter, holds-within, length-filter_most, lies-through, noted-filter}
 use Rattle.shared_leaves.proofs.Filed.{Made}
 use Rattle.shared_leaves.proofs.Invariant.{alone, leaf_made, root_made, standing}
-use Rattle.shared_leaves.proofs.Keyed.{frame_of-some}
-use Rattle.shared_leaves.proofs.Notes.{noted-taken}
 use Rattle.shared_leaves.proofs.Readings.{entry-map, link-map}
 use Rattle.shared_leaves.proofs.Taking.{own, frame_test, hit, unlike, item_itself, join, none_left, together, covered, lies_itself}
+use Rattle.depend_table.proofs.Coded.{frame_of-some, key_itself}
+use Rattle.depend_table.proofs.Notes.{noted-taken}
+use Rattle.depend_table.proofs.Records.{any_has, has_any}
+use Rattle.depend_table.proofs.Tests.{both, number_itself, or_left, or_right, same_numbers, same_tests}
+use Rattle.shared_leaves.proofs.Codes.{key_coding}
 
 module _ (t : SharedValue) (keys : List Key) (tlbs : List (List TlbEntry)) (ds : List Depend) (cache : IsCache t keys tlbs ds) (d : Depend) (there : has ds d ≡ true) where
   abbrev K : Key
@@ -95,7 +95,7 @@ module _ (t : SharedValue) (keys : List Key) (tlbs : List (List TlbEntry)) (ds :
       where
         on : (q : Option ℕ) → root_at keys s ≡ q → link_in u keys r q ≡ link_in t keys r q
         on None is = refl
-        on (Some q) is = ap (key_of_link keys) (clears.links q r (root_made t keys tlbs ds cache q s (frame_of-some keys (root_key s) q is)) low)
+        on (Some q) is = ap (key_of_link keys) (clears.links q r (root_made t keys tlbs ds cache q s (frame_of-some key_coding keys (root_key s) q is)) low)
 
     leaf_links : (s : Capability) (r : ℕ) → r < 1024 → link_left (cache_of u keys to new) d.item s r ≡ link_left (cache_of t keys tlbs ds) d.item s r
     leaf_links s r low =
@@ -120,7 +120,7 @@ module _ (t : SharedValue) (keys : List Key) (tlbs : List (List TlbEntry)) (ds :
         on false is f at = none_left later (mine || later)
         on true is None at = none_left later (mine || later)
         on true is (Some f) at =
-            let here = frame_of-some keys k f at in
+            let here = frame_of-some key_coding keys k f at in
             let hits : ((f == d.root) && holds d.block j) ≡ mine = ap (λ (b : Bool). b && holds d.block j) (frame_test t keys tlbs ds cache d there f k here) ∙ sym (hit t keys tlbs ds cache d there k j) in
             ap (λ (x : Option Entry). if later then None else x) (clears.entries f j (leaf_made t keys tlbs ds cache f k here is) low ∙ ap (λ (b : Bool). if b then None else entry_at t f j) hits)
             ∙ join mine later (entry_at t f j)
@@ -144,7 +144,7 @@ module _ (t : SharedValue) (keys : List Key) (tlbs : List (List TlbEntry)) (ds :
         on true is =
             let gone' : has new e ≡ false = left e ∙ ap (λ (b : Bool). not b && has ds e) is in
             let keyed = within_key e is in
-            let yes : p d ≡ true = mine ∙ together (same_key (key_at keys e.root) K) (lies_in e.block d.block) (ap (λ (k : Key). same_key k K) keyed ∙ same_key_itself K) (within_block e is) in
+            let yes : p d ≡ true = mine ∙ together (same_key (key_at keys e.root) K) (lies_in e.block d.block) (ap (λ (k : Key). same_key k K) keyed ∙ key_itself key_coding K) (within_block e is) in
             let all : list_any p ds ≡ true = has_any p ds d there yes in
             ap (λ (b : Bool). b && (not (same_item e.item d.item) && not (is_leaf (key_at keys e.root) && list_any p new))) gone'
             ∙ sym (covered (has ds e) (same_item e.item d.item) (is_leaf (key_at keys e.root)) (list_any p ds) (ap is_leaf keyed ∙ leaf) all)
@@ -224,7 +224,7 @@ module _ (t : SharedValue) (keys : List Key) (tlbs : List (List TlbEntry)) (ds :
         backed = λ hart r p l found. absurd (none-some l (ap (λ (es : List TlbEntry). look es r p) (sym (dropped hart)) ∙ found));
         within = λ e h. cache.within e (had e h);
         noted = ap (λ (xs : List Depend). len (notes_of keys xs)) is_new
-            ∙ (noted-filter keys (λ e. not (is_within d.root d.block e)) mid (noted-taken keys ds mid d takes (λ e h same'. alone t keys tlbs ds cache d (cache.within d there) e (has-taken ds mid d e takes h) same') cache.noted)
+            ∙ (noted-filter keys (λ e. not (is_within d.root d.block e)) mid (noted-taken key_coding (key_at keys) ds mid d takes (λ e h same'. alone t keys tlbs ds cache d (cache.within d there) e (has-taken ds mid d e takes h) same') cache.noted)
             ∙ sym (ap (λ (xs : List Depend). length xs) is_new));
         most_records = let fewer = takes.count in let long = ap (λ (xs : List Depend). length xs) is_new in let most = length-filter_most (λ e. not (is_within d.root d.block e)) mid in omega (arith, fewer, long, most, cache.most_records);
       };

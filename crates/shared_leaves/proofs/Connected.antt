@@ -15,17 +15,18 @@ use Rattle.tlb_model.specs.Tlb.{look}
 use Rattle.depend_table.specs.Depend.{Depend}
 use Rattle.map_cache.specs.Key.{same_space}
 use Rattle.map_cache.specs.Cache.{tlb_at}
-use Rattle.map_cache.proofs.Codes.{number_itself, same_numbers, same_space_itself, same_space_tells, same_tests}
 use Rattle.shared_leaves.specs.declared.key.Key.{Key}
 use Rattle.shared_leaves.specs.Key.{is_leaf, root_key, same_key}
 use Rattle.shared_leaves.specs.Kept.{leads_to}
 use Rattle.shared_leaves.specs.Cache.{IsBacked, IsCache, cache_of, entry_for, entry_in, frame_of, key_at, key_of_link, link_for, link_in, root_at}
 use Rattle.shared_leaves.specs.Coherent.{IsCoherent, IsEntry, IsLink, IsRecorded}
 use Rattle.shared_leaves.specs.Effects.{Connects, SameEntriesFor, SetsPlace}
-use Rattle.shared_leaves.proofs.Codes.{same_key_itself, same_key_tells}
-use Rattle.shared_leaves.proofs.Keyed.{frame_of-is, frame_of-some, one_key}
 use Rattle.shared_leaves.proofs.Filed.{Made}
 use Rattle.shared_leaves.proofs.Invariant.{leaf_by, leaf_keyed, leaf_made, leaf_none, root_made, root_space}
+use Rattle.depend_table.proofs.Coded.{frame_of-is, frame_of-some, key_itself, key_tells, one_key}
+use Rattle.depend_table.proofs.Tests.{number_itself, same_numbers, same_tests}
+use Rattle.map_cache.proofs.Codes.{space_coding}
+use Rattle.shared_leaves.proofs.Codes.{key_coding}
 
 -- a link that passes the test for one is that one
 pub linked_tells : (x : Option ℕ) (y : ℕ) → option_eq eqb x (Some y) ≡ true → x ≡ Some y
@@ -46,12 +47,12 @@ module _ (t : SharedValue) (keys : List Key) (tlbs : List (List TlbEntry)) (ds :
   root_same : (root q : ℕ) (s : Capability) → IsSharedRoot t root → root_at keys s ≡ Some q → (q == root) ≡ same_space s (key_at keys root).space
   root_same root q s made is = same_tests (q == root) (same_space s (key_at keys root).space)
       (λ e.
-      let at = ap (slice_get keys) (sym (same_numbers q root e)) ∙ frame_of-some keys (root_key s) q is in
+      let at = ap (slice_get keys) (sym (same_numbers q root e)) ∙ frame_of-some key_coding keys (root_key s) q is in
       let k = one_key keys root (root_key s) (root_key (key_at keys root).space) at (root_space t keys tlbs ds cache root made) in
-      ap (same_space s) (sym (ap (λ (k : Key). k.space) k)) ∙ same_space_itself s)
+      ap (same_space s) (sym (ap (λ (k : Key). k.space) k)) ∙ key_itself space_coding s)
       (λ e.
-      let same = same_space_tells s (key_at keys root).space e in
-      let there = frame_of-is keys (root_key s) root cache.apart (root_space t keys tlbs ds cache root made ∙ ap (λ (x : Capability). Some (root_key x)) (sym same)) in
+      let same = key_tells space_coding s (key_at keys root).space e in
+      let there = frame_of-is key_coding keys (root_key s) root cache.apart (root_space t keys tlbs ds cache root made ∙ ap (λ (x : Capability). Some (root_key x)) (sym same)) in
       let some : Some q ≡ Some root = sym is ∙ there in
       let one : q ≡ root = cc in
       ap (λ (n : ℕ). n == root) one ∙ number_itself root)
@@ -62,22 +63,22 @@ module _ (t : SharedValue) (keys : List Key) (tlbs : List (List TlbEntry)) (ds :
       on : (b : Bool) → same_space s (key_at keys root).space ≡ b → b ≡ false
       on false e = refl
       on true e =
-          let same = same_space_tells s (key_at keys root).space e in
-          let there = frame_of-is keys (root_key s) root cache.apart (root_space t keys tlbs ds cache root made ∙ ap (λ (x : Capability). Some (root_key x)) (sym same)) in
+          let same = key_tells space_coding s (key_at keys root).space e in
+          let there = frame_of-is key_coding keys (root_key s) root cache.apart (root_space t keys tlbs ds cache root made ∙ ap (λ (x : Capability). Some (root_key x)) (sym same)) in
           absurd (none-some root (sym is ∙ there))
 
   -- a region of a root is linked to the key of the leaf table to which the words lead
   leads-there : (root region table : ℕ) → IsSharedRoot t root → link_at t root region ≡ Some table
       → leads_to (link_for (cache_of t keys tlbs ds) (key_at keys root).space region) (key_at keys table) ≡ true
   leads-there root region table made at =
-      ap (λ (r : Option ℕ). leads_to (link_in t keys region r) (key_at keys table)) (frame_of-is keys (root_key (key_at keys root).space) root cache.apart (root_space t keys tlbs ds cache root made))
-      ∙ (ap (λ (l : Option ℕ). leads_to (key_of_link keys l) (key_at keys table)) at ∙ same_key_itself (key_at keys table))
+      ap (λ (r : Option ℕ). leads_to (link_in t keys region r) (key_at keys table)) (frame_of-is key_coding keys (root_key (key_at keys root).space) root cache.apart (root_space t keys tlbs ds cache root made))
+      ∙ (ap (λ (l : Option ℕ). leads_to (key_of_link keys l) (key_at keys table)) at ∙ key_itself key_coding (key_at keys table))
 
   -- and to no other's
   leads-elsewhere : (root region table : ℕ) → IsSharedRoot t root → IsLeafTable t table → region < 1024 → option_eq eqb (link_at t root region) (Some table) ≡ false
       → leads_to (link_for (cache_of t keys tlbs ds) (key_at keys root).space region) (key_at keys table) ≡ false
   leads-elsewhere root region table made leaf inside differs =
-      ap (λ (r : Option ℕ). leads_to (link_in t keys region r) (key_at keys table)) (frame_of-is keys (root_key (key_at keys root).space) root cache.apart (root_space t keys tlbs ds cache root made))
+      ap (λ (r : Option ℕ). leads_to (link_in t keys region r) (key_at keys table)) (frame_of-is key_coding keys (root_key (key_at keys root).space) root cache.apart (root_space t keys tlbs ds cache root made))
       ∙ on (link_at t root region) refl differs
     where
       on : (l : Option ℕ) → link_at t root region ≡ l → option_eq eqb l (Some table) ≡ false → leads_to (key_of_link keys l) (key_at keys table) ≡ false
@@ -87,7 +88,7 @@ module _ (t : SharedValue) (keys : List Key) (tlbs : List (List TlbEntry)) (ds :
           case : (b : Bool) → same_key (key_at keys f) (key_at keys table) ≡ b → b ≡ false
           case false e = refl
           case true e =
-              let same = same_key_tells (key_at keys f) (key_at keys table) e in
+              let same = key_tells key_coding (key_at keys f) (key_at keys table) e in
               let here = (leaf_keyed t keys tlbs ds cache f (cache.linked root region f made inside at)).0 in
               let there = (leaf_keyed t keys tlbs ds cache table leaf).0 in
               let one = cache.apart f table (key_at keys table) (here ∙ ap (λ (k : Key). Some k) same) there in
@@ -106,7 +107,7 @@ module _ (t : SharedValue) (keys : List Key) (tlbs : List (List TlbEntry)) (ds :
         on : (q : Option ℕ) → root_at keys s ≡ q → link_in u keys r q ≡ (if same_space s (key_at keys root).space && (r == region) then Some (key_at keys table) else link_in t keys r q)
         on None is = sym (ap (λ (b : Bool). if b && (r == region) then Some (key_at keys table) else None) (root_other root s made is))
         on (Some q) is =
-            let there = root_made t keys tlbs ds cache q s (frame_of-some keys (root_key s) q is) in
+            let there = root_made t keys tlbs ds cache q s (frame_of-some key_coding keys (root_key s) q is) in
             ap (key_of_link keys) (sets.links q r there low)
             ∙ (key_choice keys ((q == root) && (r == region)) table (link_at t q r)
             ∙ ap (λ (b : Bool). if b && (r == region) then Some (key_at keys table) else key_of_link keys (link_at t q r)) (root_same root q s made is))
@@ -117,7 +118,7 @@ module _ (t : SharedValue) (keys : List Key) (tlbs : List (List TlbEntry)) (ds :
         on : (b : Bool) → is_leaf x ≡ b → (f : Option ℕ) → frame_of keys x ≡ f → (if b then entry_in u j f else None) ≡ (if b then entry_in t j f else None)
         on false is f at = refl
         on true is None at = refl
-        on true is (Some f) at = sets.entries f j (leaf_made t keys tlbs ds cache f x (frame_of-some keys x f at) is) low
+        on true is (Some f) at = sets.entries f j (leaf_made t keys tlbs ds cache f x (frame_of-some key_coding keys x f at) is) low
 
     coherent : (o : Items) → IsLink o (key_at keys root).space region (key_at keys table) (IsRecorded ds root (region * 1024)) → IsCoherent (cache_of t keys tlbs ds) o → IsCoherent (cache_of u keys to ds) o
     coherent o link was = record {
@@ -246,10 +247,10 @@ module _ (t : SharedValue) (keys : List Key) (tlbs : List (List TlbEntry)) (ds :
             case : (b : Bool) → same_key x (key_at keys table) ≡ b → b ≡ false
             case false e = refl
             case true e =
-                let same = same_key_tells x (key_at keys table) e in
+                let same = key_tells key_coding x (key_at keys table) e in
                 absurd (elim why [
                   | inl unlike ↦ let yes : is_leaf x ≡ true = ap is_leaf same ∙ here.1 in cc
-                  | inr gone ↦ none-some table (sym gone ∙ frame_of-is keys x table cache.apart (here.0 ∙ ap (λ (k : Key). Some k) (sym same)))
+                  | inr gone ↦ none-some table (sym gone ∙ frame_of-is key_coding keys x table cache.apart (here.0 ∙ ap (λ (k : Key). Some k) (sym same)))
                 ])
 
         on : (b : Bool) → is_leaf x ≡ b → (f : Option ℕ) → frame_of keys x ≡ f
@@ -257,13 +258,13 @@ module _ (t : SharedValue) (keys : List Key) (tlbs : List (List TlbEntry)) (ds :
         on false is f at = sym (ap (λ (b : Bool). if b && (j == place) then Some entry else None) (apart (inl is)))
         on true is None at = sym (ap (λ (b : Bool). if b && (j == place) then Some entry else None) (apart (inr at)))
         on true is (Some f) at =
-            let there = frame_of-some keys x f at in
+            let there = frame_of-some key_coding keys x f at in
             let one : (f == table) ≡ same_key x (key_at keys table) = same_tests (f == table) (same_key x (key_at keys table))
             (λ e.
             let k = one_key keys table x (key_at keys table) (ap (slice_get keys) (sym (same_numbers f table e)) ∙ there) here.0 in
-            ap (same_key x) (sym k) ∙ same_key_itself x)
+            ap (same_key x) (sym k) ∙ key_itself key_coding x)
             (λ e.
-            let same = same_key_tells x (key_at keys table) e in
+            let same = key_tells key_coding x (key_at keys table) e in
             let f_is = cache.apart f table x there (here.0 ∙ ap (λ (k : Key). Some k) (sym same)) in
             ap (λ (n : ℕ). n == table) f_is ∙ number_itself table) in
             sets.entries f j (leaf_made t keys tlbs ds cache f x there is) low
@@ -304,7 +305,7 @@ module _ (t : SharedValue) (keys : List Key) (tlbs : List (List TlbEntry)) (ds :
 
         same_link : (s : Capability) (r : ℕ) → r < 1024 → (q : Option ℕ) → root_at keys s ≡ q → link_in u keys r q ≡ link_in t keys r q
         same_link s r low None is = refl
-        same_link s r low (Some q) is = ap (key_of_link keys) (sets.links q r (root_made t keys tlbs ds cache q s (frame_of-some keys (root_key s) q is)) low)
+        same_link s r low (Some q) is = ap (key_of_link keys) (sets.links q r (root_made t keys tlbs ds cache q s (frame_of-some key_coding keys (root_key s) q is)) low)
 
         on : (o : Items) → IsEntry o (key_at keys table) place entry (IsRecorded ds table place) → IsCoherent (cache_of t keys tlbs ds) o
             → (f j : ℕ) (e : Entry) → IsLeafTable t f → j < 1024 → (b : Bool) → ((f == table) && (j == place)) ≡ b → (if b then Some entry else entry_at t f j) ≡ Some e

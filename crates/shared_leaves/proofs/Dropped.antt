@@ -1,19 +1,16 @@
 -- Records that are dropped: what stays, and that each has a note of its own still.
-use Rattle.std.proofs.Common.{◌≡◌, ◌⊎◌, inl, inr, ℕ, suc, ◌+◌, ◌<◌, ◌≤◌, Bool, true, false, ◌&&◌, ◌||◌, nat_le, nat_lt, cond, if◌then◌else◌, List, [], ◌∷◌, filter, length, refl, sym, ap, ◌∙◌, arith}
-use Rattle.std.specs.List.{list_any}
-use Rattle.std.specs.Ordering.{eq_by_cmp}
-use Rattle.std.specs.FinSet.{contains, contains-items, insert, items, len, len-empty, len-insert}
+use Rattle.std.proofs.Common.{◌≡◌, ℕ, suc, ◌+◌, ◌<◌, ◌≤◌, Bool, true, false, ◌&&◌, ◌||◌, nat_le, nat_lt, cond, if◌then◌else◌, List, [], ◌∷◌, filter, length, refl, sym, ap, ◌∙◌, arith}
+use Rattle.std.specs.FinSet.{contains, insert, len, len-empty, len-insert}
 use Rattle.std.proofs.lemmas.Bool.Decides.{nat_tests}
 use Rattle.guard_math.specs.Block.{BlockValue, first_page, holds, page_count}
 use Rattle.depend_table.specs.Depend.{Depend, has, lies_in, same}
 use Rattle.depend_table.proofs.Members.{same_tells}
-use Rattle.map_cache.proofs.Codes.{both, either, or_left, or_right, same_tests}
-use Rattle.map_cache.proofs.Records.{any_has, has_any}
 use Rattle.shared_leaves.specs.declared.key.Key.{Key}
-use Rattle.shared_leaves.specs.Kept.{Note, note_order}
-use Rattle.shared_leaves.specs.Cache.{note_of, notes_of}
-use Rattle.shared_leaves.proofs.Codes.{note_itself, note_tells, notes_total}
-use Rattle.shared_leaves.proofs.Notes.{has-note, note-has}
+use Rattle.shared_leaves.specs.Kept.{note_order}
+use Rattle.shared_leaves.specs.Cache.{note_of, notes_of, key_at}
+use Rattle.depend_table.proofs.Notes.{has-note, note-has, notes_total}
+use Rattle.depend_table.proofs.Tests.{both}
+use Rattle.shared_leaves.proofs.Codes.{key_coding}
 
 -- what is among those that pass a test
 pub has-filter : (p : Depend → Bool) (ds : List Depend) (e : Depend) → has (filter p ds) e ≡ (p e && has ds e)
@@ -47,7 +44,7 @@ length-filter_most p (d ∷ ds) = on (p d) (length-filter_most p ds)
 
 notes-most : (keys : List Key) (ds : List Depend) → len (notes_of keys ds) ≤ length ds
 notes-most keys [] = omega (arith, len-empty note_order)
-notes-most keys (d ∷ ds) = on (contains (notes_of keys ds) (note_of keys d)) (len-insert notes_total (notes_of keys ds) (note_of keys d)) (notes-most keys ds)
+notes-most keys (d ∷ ds) = on (contains (notes_of keys ds) (note_of keys d)) (len-insert (notes_total key_coding) (notes_of keys ds) (note_of keys d)) (notes-most keys ds)
   where
     on : (b : Bool) → len (insert (notes_of keys ds) (note_of keys d)) ≡ cond b (len (notes_of keys ds)) (len (notes_of keys ds) + 1) → len (notes_of keys ds) ≤ length ds → len (insert (notes_of keys ds) (note_of keys d)) ≤ suc (length ds)
     on true is rest = omega (arith, is, rest)
@@ -57,7 +54,7 @@ notes-most keys (d ∷ ds) = on (contains (notes_of keys ds) (note_of keys d)) (
 pub noted-filter : (keys : List Key) (p : Depend → Bool) (ds : List Depend) → len (notes_of keys ds) ≡ length ds → len (notes_of keys (filter p ds)) ≡ length (filter p ds)
 noted-filter keys p [] noted = noted
 noted-filter keys p (d ∷ ds) noted =
-    on (contains (notes_of keys ds) (note_of keys d)) refl (len-insert notes_total (notes_of keys ds) (note_of keys d)) (notes-most keys ds) (noted-filter keys p ds)
+    on (contains (notes_of keys ds) (note_of keys d)) refl (len-insert (notes_total key_coding) (notes_of keys ds) (note_of keys d)) (notes-most keys ds) (noted-filter keys p ds)
   where
     on : (b : Bool) → contains (notes_of keys ds) (note_of keys d) ≡ b → len (insert (notes_of keys ds) (note_of keys d)) ≡ cond b (len (notes_of keys ds)) (len (notes_of keys ds) + 1) → len (notes_of keys ds) ≤ length ds
         → (len (notes_of keys ds) ≡ length ds → len (notes_of keys (filter p ds)) ≡ length (filter p ds)) → len (notes_of keys (if p d then d ∷ filter p ds else filter p ds)) ≡ length (if p d then d ∷ filter p ds else filter p ds)
@@ -73,15 +70,15 @@ noted-filter keys p (d ∷ ds) noted =
             gone : (b : Bool) → contains (notes_of keys (filter p ds)) (note_of keys d) ≡ b → b ≡ false
             gone false e = refl
             gone true e =
-                let found = note-has keys (filter p ds) (note_of keys d) e in
+                let found = note-has key_coding (key_at keys) (filter p ds) (note_of keys d) e in
                 let was = (both (p found.0) (has ds found.0) (sym (has-filter p ds found.0) ∙ found.1.0)).1 in
-                let here : contains (notes_of keys ds) (note_of keys d) ≡ true = ap (contains (notes_of keys ds)) found.1.1 ∙ has-note keys ds found.0 was in
+                let here : contains (notes_of keys ds) (note_of keys d) ≡ true = ap (contains (notes_of keys ds)) found.1.1 ∙ has-note key_coding (key_at keys) ds found.0 was in
                 absurd (cc)
 
         keep : (c : Bool) → len (notes_of keys (if c then d ∷ filter p ds else filter p ds)) ≡ length (if c then d ∷ filter p ds else filter p ds)
         keep false = rest all
         keep true =
-            let more = len-insert notes_total (notes_of keys (filter p ds)) (note_of keys d) ∙ ap (λ (b : Bool). cond b (len (notes_of keys (filter p ds))) (len (notes_of keys (filter p ds)) + 1)) absent in
+            let more = len-insert (notes_total key_coding) (notes_of keys (filter p ds)) (note_of keys d) ∙ ap (λ (b : Bool). cond b (len (notes_of keys (filter p ds))) (len (notes_of keys (filter p ds)) + 1)) absent in
             let before = rest all in
             omega (arith, more, before)
 
@@ -123,32 +120,3 @@ lies-through b c d inner outer = on (first_page b) (first_page b + page_count b)
         let c' : h ≤ g = grind (arith, nat_tests, two.0) in
         let d' : m ≤ k = grind (arith, nat_tests, two.1) in
         rw (le_true h f (omega (arith, a, c')), le_true n k (omega (arith, b', d'))) refl
-
--- ---- tests of notes
-
-any-item : (p : Note → Bool) (ns : List Note) → list_any p ns ≡ true → (q : Note) × ((list_any (eq_by_cmp note_order q) ns ≡ true) × (p q ≡ true))
-any-item p [] holds = absurd (cc)
-any-item p (n ∷ ns) holds = on (either (p n) (list_any p ns) holds) (any-item p ns)
-  where
-    on : (p n ≡ true) ⊎ (list_any p ns ≡ true) → (list_any p ns ≡ true → (q : Note) × ((list_any (eq_by_cmp note_order q) ns ≡ true) × (p q ≡ true))) → (q : Note) × ((list_any (eq_by_cmp note_order q) (n ∷ ns) ≡ true) × (p q ≡ true))
-    on (inl here) later = (n, (or_left (eq_by_cmp note_order n n) (list_any (eq_by_cmp note_order n) ns) (note_itself n), here))
-    on (inr there) later = let next = later there in (next.0, (or_right (eq_by_cmp note_order next.0 n) (list_any (eq_by_cmp note_order next.0) ns) next.1.0, next.1.1))
-
-item-any : (p : Note → Bool) (ns : List Note) (q : Note) → list_any (eq_by_cmp note_order q) ns ≡ true → p q ≡ true → list_any p ns ≡ true
-item-any p [] q there holds = absurd (cc)
-item-any p (n ∷ ns) q there holds = on (either (eq_by_cmp note_order q n) (list_any (eq_by_cmp note_order q) ns) there) (item-any p ns q)
-  where
-    on : (eq_by_cmp note_order q n ≡ true) ⊎ (list_any (eq_by_cmp note_order q) ns ≡ true) → (list_any (eq_by_cmp note_order q) ns ≡ true → p q ≡ true → list_any p ns ≡ true) → list_any p (n ∷ ns) ≡ true
-    on (inl here) later = or_left (p n) (list_any p ns) (ap p (sym (note_tells q n here)) ∙ holds)
-    on (inr there) later = or_right (p n) (list_any p ns) (later there holds)
-
--- a test of some note holds where it holds of some record's
-pub any-items : (p : Note → Bool) (keys : List Key) (ds : List Depend) → list_any p (items (notes_of keys ds)) ≡ list_any (λ d. p (note_of keys d)) ds
-any-items p keys ds = same_tests (list_any p (items (notes_of keys ds))) (list_any (λ d. p (note_of keys d)) ds)
-    (λ holds.
-    let found = any-item p (items (notes_of keys ds)) holds in
-    let record' = note-has keys ds found.0 (contains-items (notes_of keys ds) found.0 ∙ found.1.0) in
-    has_any (λ d. p (note_of keys d)) ds record'.0 record'.1.0 (ap p (sym record'.1.1) ∙ found.1.1))
-    (λ holds.
-    let found = any_has (λ d. p (note_of keys d)) ds holds in
-    item-any p (items (notes_of keys ds)) (note_of keys found.0) (sym (contains-items (notes_of keys ds) (note_of keys found.0)) ∙ has-note keys ds found.0 found.1.0) found.1.1)

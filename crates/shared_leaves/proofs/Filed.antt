@@ -20,10 +20,12 @@ use Rattle.shared_leaves.specs.Kept.{noted_all}
 use Rattle.shared_leaves.specs.Cache.{IsCache, SharedCache, cache_of, entry_in, frame_of, key_at, key_of_link, link_in, note_of, notes_of, root_at}
 use Rattle.shared_leaves.specs.Coherent.{IsCoherent, IsEntry, IsLink, IsRecorded}
 use Rattle.shared_leaves.specs.Effects.{HasFrame, NotesReads, SameEntriesFor, SameLinksFor, use_of}
-use Rattle.shared_leaves.proofs.Codes.{has-at, key_cases, notes_total}
-use Rattle.shared_leaves.proofs.Keyed.{frame_of-new, frame_of-other, frame_of-some, key_at-more, none-frame_of}
-use Rattle.shared_leaves.proofs.Notes.{contains-note, notes_of-added, notes_of-more}
+use Rattle.depend_table.proofs.Coded.{apart-more, frame_of-new, frame_of-other, frame_of-some, has-at, key_cases, none-frame_of}
+use Rattle.shared_leaves.proofs.Codes.{key_coding}
+use Rattle.shared_leaves.proofs.Keyed.{key_at-more}
+use Rattle.shared_leaves.proofs.Keyed.{notes_of-more}
 use Rattle.shared_leaves.proofs.Invariant.{alone, cache-frame, cache-note, entry_at-words, link_at-words, root_made}
+use Rattle.depend_table.proofs.Notes.{contains-note, notes_of-added, notes_total}
 
 -- both, where one was to be said of two
 pub record Made (t : SharedValue) (keys : List Key) (tlbs : List (List TlbEntry)) (ds : List Depend) (P : SharedCache → Type 0) : Type 0 where
@@ -42,8 +44,8 @@ module _ (t : SharedValue) (keys : List Key) (tlbs : List (List TlbEntry)) (ds :
   -- a key that has a frame
   pub frame-there : (k : Key) (frame : ℕ) → frame_of keys k ≡ Some frame → HasFrame (cache_of t keys tlbs ds) (cache_of t keys tlbs ds) k frame
   frame-there k frame is = record {
-    here = frame_of-some keys k frame is;
-    keys = sym (if-true (has_key keys k) keys (keys ++ k ∷ []) (has-at keys frame k (frame_of-some keys k frame is)));
+    here = frame_of-some key_coding keys k frame is;
+    keys = sym (if-true (has_key keys k) keys (keys ++ k ∷ []) (has-at key_coding keys frame k (frame_of-some key_coding keys k frame is)));
     notes = refl;
     tlbs = refl;
     links = λ s r low. refl;
@@ -54,12 +56,12 @@ module _ (t : SharedValue) (keys : List Key) (tlbs : List (List TlbEntry)) (ds :
   -- a key for which there is no frame
   pub frame-wanting : (k : Key) → frame_of keys k ≡ None → length t.uses ≡ 256 → 256 < length (with_key keys k)
   frame-wanting k none full =
-      let is = if-false (has_key keys k) keys (keys ++ k ∷ []) (none-frame_of keys k cache.apart none) in
+      let is = if-false (has_key keys k) keys (keys ++ k ∷ []) (none-frame_of key_coding keys k cache.apart none) in
       omega (arith, ap (λ (ks : List Key). length ks) is, length-append keys (k ∷ []), cache.frames, full)
 
   module _ (u : SharedValue) (frame : ℕ) (k : Key) (makes : MakesFrame t u (use_of k) frame) (none : frame_of keys k ≡ None) where
     new : has_key keys k ≡ false
-    new = none-frame_of keys k cache.apart none
+    new = none-frame_of key_coding keys k cache.apart none
 
     at_frame : length keys ≡ frame
     at_frame = cache.frames ∙ sym makes.number
@@ -73,28 +75,28 @@ module _ (t : SharedValue) (keys : List Key) (tlbs : List (List TlbEntry)) (ds :
     linked_less r i f made inside at = omega (arith, slice_get_within t.uses f LeafUse (cache.linked r i f made inside at), cache.frames)
 
     links : SameLinksFor (cache_of t keys tlbs ds) (cache_of u (keys ++ k ∷ []) tlbs ds)
-    links s r low = elim (key_cases k (root_key s)) [
+    links s r low = elim (key_cases key_coding k (root_key s)) [
       | inl same ↦
-          let there : root_at (keys ++ k ∷ []) s ≡ Some frame = ap (frame_of (keys ++ k ∷ [])) (sym same.1) ∙ frame_of-new keys k cache.apart new ∙ ap (λ (n : ℕ). Some n) at_frame in
+          let there : root_at (keys ++ k ∷ []) s ≡ Some frame = ap (frame_of (keys ++ k ∷ [])) (sym same.1) ∙ frame_of-new key_coding keys k (apart-more key_coding keys k cache.apart new) ∙ ap (λ (n : ℕ). Some n) at_frame in
           let gone : root_at keys s ≡ None = ap (frame_of keys) (sym same.1) ∙ none in
           ap (link_in u (keys ++ k ∷ []) r) there ∙ ap (key_of_link (keys ++ k ∷ [])) (makes.bare_root r low) ∙ sym (ap (link_in t keys r) gone)
-      | inr other ↦ ap (link_in u (keys ++ k ∷ []) r) (frame_of-other keys k (root_key s) cache.apart new other.1) ∙ on (root_at keys s) refl
+      | inr other ↦ ap (link_in u (keys ++ k ∷ []) r) (frame_of-other key_coding keys k (root_key s) (apart-more key_coding keys k cache.apart new) other.1) ∙ on (root_at keys s) refl
     ]
       where
         on : (q : Option ℕ) → root_at keys s ≡ q → link_in u (keys ++ k ∷ []) r q ≡ link_in t keys r q
         on None is = refl
         on (Some root) is =
-            let made = root_made t keys tlbs ds cache root s (frame_of-some keys (root_key s) root is) in
+            let made = root_made t keys tlbs ds cache root s (frame_of-some key_coding keys (root_key s) root is) in
             ap (key_of_link (keys ++ k ∷ [])) (link_at-words t u root r makes.words)
             ∙ link_same (link_at t root r) (λ f at. linked_less root r f made low at)
 
     entries : SameEntriesFor (cache_of t keys tlbs ds) (cache_of u (keys ++ k ∷ []) tlbs ds)
-    entries x j low = ap (λ (e : Option Entry). if is_leaf x then e else None) (elim (key_cases k x) [
+    entries x j low = ap (λ (e : Option Entry). if is_leaf x then e else None) (elim (key_cases key_coding k x) [
       | inl same ↦
-          let there : frame_of (keys ++ k ∷ []) x ≡ Some frame = ap (frame_of (keys ++ k ∷ [])) (sym same.1) ∙ frame_of-new keys k cache.apart new ∙ ap (λ (n : ℕ). Some n) at_frame in
+          let there : frame_of (keys ++ k ∷ []) x ≡ Some frame = ap (frame_of (keys ++ k ∷ [])) (sym same.1) ∙ frame_of-new key_coding keys k (apart-more key_coding keys k cache.apart new) ∙ ap (λ (n : ℕ). Some n) at_frame in
           let gone : frame_of keys x ≡ None = ap (frame_of keys) (sym same.1) ∙ none in
           ap (entry_in u j) there ∙ makes.bare_leaf j low ∙ sym (ap (entry_in t j) gone)
-      | inr other ↦ ap (entry_in u j) (frame_of-other keys k x cache.apart new other.1) ∙ words (frame_of keys x)
+      | inr other ↦ ap (entry_in u j) (frame_of-other key_coding keys k x (apart-more key_coding keys k cache.apart new) other.1) ∙ words (frame_of keys x)
     ])
       where
         words : (q : Option ℕ) → entry_in u j q ≡ entry_in t j q
@@ -152,7 +154,7 @@ module _ (t : SharedValue) (keys : List Key) (tlbs : List (List TlbEntry)) (ds :
       tables = refl;
       keys = refl;
       tlbs = refl;
-      notes = notes_of-added keys ds new d adds;
+      notes = notes_of-added key_coding (key_at keys) ds new d adds;
       stay = λ e there. has-added ds new d e adds there;
       there = (has-added_itself ds new d adds, tt);
     };
@@ -170,6 +172,6 @@ module _ (t : SharedValue) (keys : List Key) (tlbs : List (List TlbEntry)) (ds :
       → 16384 < len (noted_all (notes_of keys ds) (key_at keys frame) (read ∷ []))
   note-wanting frame read less none full =
       let d : Depend = depend read.item frame read.block in
-      let more = len-insert notes_total (notes_of keys ds) (note_of keys d)
-      ∙ ap (λ (b : Bool). cond b (len (notes_of keys ds)) (len (notes_of keys ds) + 1)) (contains-note keys ds d (alone t keys tlbs ds cache d less) ∙ none) in
+      let more = len-insert (notes_total key_coding) (notes_of keys ds) (note_of keys d)
+      ∙ ap (λ (b : Bool). cond b (len (notes_of keys ds)) (len (notes_of keys ds) + 1)) (contains-note key_coding (key_at keys) ds d (alone t keys tlbs ds cache d less) ∙ none) in
       omega (arith, more, cache.noted, full)

@@ -10,16 +10,16 @@ use Rattle.guard_math.specs.Block.{BlockValue, holds}
 use Rattle.sv32_tables.specs.declared.leaf.Leaf.{Leaf as Entry}
 use Rattle.depend_table.specs.Depend.{Depend, depend, has, lies_in, same_item}
 use Rattle.depend_table.proofs.Members.{same_item_tells}
-use Rattle.map_cache.proofs.Codes.{both}
-use Rattle.map_cache.proofs.Records.{any_has}
 use Rattle.shared_leaves.specs.declared.key.Key.{Key}
 use Rattle.shared_leaves.specs.Key.{is_leaf, root_key, same_key}
 use Rattle.shared_leaves.specs.Kept.{Note, covers_note, is_on, kept_without}
 use Rattle.shared_leaves.specs.Cache.{SharedCache, entry_for, kept_of, key_at, link_for, note_of, notes_of}
 use Rattle.shared_leaves.specs.Effects.{Forgets}
-use Rattle.shared_leaves.proofs.Dropped.{any-items}
-use Rattle.shared_leaves.proofs.Notes.{notes_of-kept}
 use Rattle.shared_leaves.proofs.Taking.{none_left}
+use Rattle.depend_table.proofs.Notes.{any-items, notes_of-kept}
+use Rattle.depend_table.proofs.Records.{any_has}
+use Rattle.depend_table.proofs.Tests.{both}
+use Rattle.shared_leaves.proofs.Codes.{key_coding}
 
 -- ---- all records of an item
 
@@ -61,7 +61,7 @@ module _ (v w : SharedCache) (item : Item) (forgets : Forgets v w item) (none : 
   link s r true is =
       let low : r < 1024 = grind (arith, nat_tests, is) in
       sym (ap (λ (b : Bool). if b then None else link_for w s r) (no_hits (λ d. is_on (root_key s) (r * 1024) item (note_of w.keys d)) (first_of (root_key s) (r * 1024))))
-      ∙ (forgets.links s r low ∙ ap (λ (b : Bool). if b then None else link_for v s r) (sym (any-items (is_on (root_key s) (r * 1024) item) v.keys v.records)))
+      ∙ (forgets.links s r low ∙ ap (λ (b : Bool). if b then None else link_for v s r) (sym (any-items key_coding (key_at v.keys) (is_on (root_key s) (r * 1024) item) v.records)))
   link s r false is = none_left false (list_any (is_on (root_key s) (r * 1024) item) (items (notes_of v.keys v.records)))
 
   test : (b : Bool) (x : Option Entry) → is_some (if b then None else x) ≡ (is_some x && not b)
@@ -75,7 +75,7 @@ module _ (v w : SharedCache) (item : Item) (forgets : Forgets v w item) (none : 
       let low : j < 1024 = grind (arith, nat_tests, is) in
       ap is_some (sym (ap (λ (b : Bool). if b then None else entry_for w k j) (no_hits (λ d. is_on k j item (note_of w.keys d)) (first_of k j))) ∙ forgets.entries k j low)
       ∙ (test (list_any (λ d. is_on k j item (note_of v.keys d)) v.records) (entry_for v k j)
-      ∙ ap (λ (b : Bool). is_some (entry_for v k j) && not b) (sym (any-items (is_on k j item) v.keys v.records)))
+      ∙ ap (λ (b : Bool). is_some (entry_for v k j) && not b) (sym (any-items key_coding (key_at v.keys) (is_on k j item) v.records)))
   held k j false is = refl
 
   abbrev stays : Note → Bool
@@ -84,7 +84,7 @@ module _ (v w : SharedCache) (item : Item) (forgets : Forgets v w item) (none : 
   left_records : (e : Depend) → has w.records e ≡ (has v.records e && stays (note_of v.keys e))
   left_records e =
       on (has w.records e) refl ∙ (forgets.records e
-      ∙ ap (λ (b : Bool). has v.records e && (not (same_item e.item item) && not (is_leaf (key_at v.keys e.root) && b))) (sym (any-items (covers_note item (note_of v.keys e)) v.keys v.records)))
+      ∙ ap (λ (b : Bool). has v.records e && (not (same_item e.item item) && not (is_leaf (key_at v.keys e.root) && b))) (sym (any-items key_coding (key_at v.keys) (covers_note item (note_of v.keys e)) v.records)))
     where
       none_covers : list_any (λ x. covers_note item (note_of w.keys e) (note_of w.keys x)) w.records ≡ false
       none_covers = no_hits (λ x. covers_note item (note_of w.keys e) (note_of w.keys x)) (λ x h. (both (same_item x.item item) (same_key (key_at w.keys e.root) (key_at w.keys x.root) && lies_in e.block x.block) h).0)
@@ -112,5 +112,5 @@ module _ (v w : SharedCache) (item : Item) (forgets : Forgets v w item) (none : 
     keys = forgets.keys i;
     links = fun_ext {f = λ s r. if nat_lt r 1024 then link_for w s r else None} {g = λ s r. if list_any (is_on (root_key s) (r * 1024) item) (items (notes_of v.keys v.records)) then None else (if nat_lt r 1024 then link_for v s r else None)} (λ s. fun_ext (λ r. link s r (nat_lt r 1024) refl)) i;
     held = fun_ext {f = λ k j. nat_lt j 1024 && is_some (entry_for w k j)} {g = λ k j. (nat_lt j 1024 && is_some (entry_for v k j)) && not (list_any (is_on k j item) (items (notes_of v.keys v.records)))} (λ k. fun_ext (λ j. held k j (nat_lt j 1024) refl)) i;
-    notes = (ap (λ (ks : List Key). notes_of ks w.records) forgets.keys ∙ notes_of-kept v.keys v.records w.records stays left_records) i;
+    notes = (ap (λ (ks : List Key). notes_of ks w.records) forgets.keys ∙ notes_of-kept key_coding (key_at v.keys) v.records w.records stays left_records) i;
   }

@@ -17,7 +17,6 @@ use Rattle.tlb_model.specs.Laws.{FillLaw}
 use Rattle.depend_table.specs.Depend.{Adds, Depend, has}
 use Rattle.depend_table.proofs.Members.{has-added_cases}
 use Rattle.map_cache.specs.Cache.{tlb_at}
-use Rattle.map_cache.proofs.Codes.{one_or_not}
 use Rattle.shared_leaves.specs.declared.key.Key.{Key}
 use Rattle.shared_leaves.specs.declared.key.Table.{Table}
 use Rattle.shared_leaves.specs.declared.key.Table.TheVariants.{Producer, Region, Root}
@@ -25,8 +24,12 @@ use Rattle.shared_leaves.specs.Key.{has_entries, has_key, is_leaf, no_key, root_
 use Rattle.shared_leaves.specs.Kept.{Note}
 use Rattle.shared_leaves.specs.Cache.{HasUse, IsBacked, IsCache, key_at}
 use Rattle.shared_leaves.specs.Effects.{use_of}
-use Rattle.shared_leaves.proofs.Keyed.{HasUse-more, apart-more, key_at-at, one_key}
-use Rattle.shared_leaves.proofs.Notes.{IsAlone, noted-added, notes_of-more}
+use Rattle.shared_leaves.proofs.Keyed.{HasUse-more, key_at-at}
+use Rattle.shared_leaves.proofs.Keyed.{notes_of-more}
+use Rattle.depend_table.proofs.Coded.{apart-more, one_key}
+use Rattle.depend_table.proofs.Notes.{IsAlone, noted-added}
+use Rattle.depend_table.proofs.Tests.{one_or_not}
+use Rattle.shared_leaves.proofs.Codes.{key_coding}
 
 -- links, entries and leaves go by the words alone
 pub link_at-words : (t u : SharedValue) (r i : ℕ) → u.words ≡ t.words → link_at u r i ≡ link_at t r i
@@ -113,7 +116,7 @@ module _ (t : SharedValue) (keys : List Key) (tlbs : List (List TlbEntry)) (ds :
   standing f less = slice_get-get_or keys f no_key less
 
   -- each record of a frame has a note of its own
-  pub alone : (d : Depend) → d.root < length keys → IsAlone keys ds d
+  pub alone : (d : Depend) → d.root < length keys → IsAlone (key_at keys) ds d
   alone d less e there same =
       let keyed : key_at keys e.root ≡ key_at keys d.root = ap (λ (n : Note). n.key) same in
       let roots = cache.apart e.root d.root (key_at keys d.root) (standing e.root (cache.within e there) ∙ ap (λ (k : Key). Some k) keyed) (standing d.root less) in
@@ -131,7 +134,7 @@ module _ (t : SharedValue) (keys : List Key) (tlbs : List (List TlbEntry)) (ds :
           let here : f ≡ length keys = last.0 ∙ sym cache.frames in
           subst (λ (v : SharedUse). HasUse (keys ++ k ∷ []) f v) last.1 (HasUse-at (keys ++ k ∷ []) k f (ap (slice_get (keys ++ k ∷ [])) here ∙ slice_get-push_new keys k))
     ];
-    apart = apart-more keys k cache.apart new;
+    apart = apart-more key_coding keys k cache.apart new;
     linked = λ r i f made inside at. elim (slice_get-push t.uses (use_of k) r RootUse (sym (ap (λ (us : List SharedUse). slice_get us r) makes.uses) ∙ made)) [
       | inl old ↦ more f LeafUse (cache.linked r i f old inside (sym (link_at-words t u r i makes.words) ∙ at))
       | inr last ↦
@@ -162,7 +165,7 @@ module _ (t : SharedValue) (keys : List Key) (tlbs : List (List TlbEntry)) (ds :
       | inl was ↦ cache.within e was
       | inr is ↦ subst (λ (x : Depend). x.root < length keys) (sym is) less
     ];
-    noted = noted-added keys ds new d adds (alone d less) cache.noted;
+    noted = noted-added key_coding (key_at keys) ds new d adds (alone d less) cache.noted;
     most_records = room;
   }
 

@@ -1,6 +1,5 @@
 pub mod Codes
 mod Keyed
-mod Notes
 mod Invariant
 pub mod Economy
 mod Filed

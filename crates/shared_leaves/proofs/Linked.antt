@@ -11,9 +11,9 @@ use Rattle.shared_leaves.specs.declared.key.Key.{Key}
 use Rattle.shared_leaves.specs.Key.{has_key, root_key}
 use Rattle.shared_leaves.specs.Kept.{holds_page, is_held}
 use Rattle.shared_leaves.specs.Cache.{IsCache, SharedCache, entry_for, entry_in, frame_of, key_at, key_of_link, kept_of, leaf_for, leaf_in, link_for, link_in, root_at}
-use Rattle.shared_leaves.proofs.Codes.{has-at}
 use Rattle.shared_leaves.proofs.Invariant.{leaf_by, leaf_keyed, leaf_none, root_made}
-use Rattle.shared_leaves.proofs.Keyed.{frame_of-is, frame_of-some, none-frame_of}
+use Rattle.depend_table.proofs.Coded.{frame_of-is, frame_of-some, has-at, none-frame_of}
+use Rattle.shared_leaves.proofs.Codes.{key_coding}
 
 -- where a leaf of a page of a space stands
 pub record Stands (v : SharedCache) (space : Capability) (page : ℕ) (leaf : Entry) : Type 0 where
@@ -37,7 +37,7 @@ module _ (v : SharedCache) (cache : IsCache v.tables v.keys v.tlbs v.records) wh
       on (Some root) is found = linked (link_at v.tables root (page / 1024)) refl
         where
           at : slice_get v.keys root ≡ Some (root_key space)
-          at = frame_of-some v.keys (root_key space) root is
+          at = frame_of-some key_coding v.keys (root_key space) root is
 
           made : IsSharedRoot v.tables root
           made = root_made v.tables v.keys v.tlbs v.records cache root space at
@@ -76,22 +76,22 @@ module _ (v : SharedCache) (cache : IsCache v.tables v.keys v.tlbs v.records) wh
           let keyed = leaf_keyed v.tables v.keys v.tlbs v.records cache frame (cache.linked root (page / 1024) frame made inside here) in
           ap (λ (b : Bool). b && is_some (entry_for v (key_at v.keys frame) (page % 1024))) place_inside
           ∙ (ap (λ (b : Bool). is_some (if b then entry_in v.tables (page % 1024) (frame_of v.keys (key_at v.keys frame)) else None)) keyed.1
-          ∙ ap (λ (f : Option ℕ). is_some (entry_in v.tables (page % 1024) f)) (frame_of-is v.keys (key_at v.keys frame) frame cache.apart keyed.0))
+          ∙ ap (λ (f : Option ℕ). is_some (entry_in v.tables (page % 1024) f)) (frame_of-is key_coding v.keys (key_at v.keys frame) frame cache.apart keyed.0))
 
       on : (r : Option ℕ) → root_at v.keys space ≡ r → holds_page (kept_of v) (page % 1024) (link_in v.tables v.keys (page / 1024) r) ≡ is_some (leaf_in v.tables page r)
       on None is = refl
       on (Some root) is =
-          linked root (root_made v.tables v.keys v.tlbs v.records cache root space (frame_of-some v.keys (root_key space) root is)) (link_at v.tables root (page / 1024)) refl
+          linked root (root_made v.tables v.keys v.tlbs v.records cache root space (frame_of-some key_coding v.keys (root_key space) root is)) (link_at v.tables root (page / 1024)) refl
 
   -- the root that was found is one
   pub root-found : (space : Capability) (r : Option ℕ) → r ≡ root_at v.keys space → IfSome r (λ (root : ℕ). IsSharedRoot v.tables root)
   root-found space None is = tt
-  root-found space (Some root) is = root_made v.tables v.keys v.tlbs v.records cache root space (frame_of-some v.keys (root_key space) root (sym is))
+  root-found space (Some root) is = root_made v.tables v.keys v.tlbs v.records cache root space (frame_of-some key_coding v.keys (root_key space) root (sym is))
 
   -- a key has a frame exactly where it is among the keys
   pub frame-kept : (k : Key) → is_some (frame_of v.keys k) ≡ has_key v.keys k
   frame-kept k = on (frame_of v.keys k) refl
     where
       on : (r : Option ℕ) → frame_of v.keys k ≡ r → is_some r ≡ has_key v.keys k
-      on None is = sym (none-frame_of v.keys k cache.apart is)
-      on (Some f) is = sym (has-at v.keys f k (frame_of-some v.keys k f is))
+      on None is = sym (none-frame_of key_coding v.keys k cache.apart is)
+      on (Some f) is = sym (has-at key_coding v.keys f k (frame_of-some key_coding v.keys k f is))

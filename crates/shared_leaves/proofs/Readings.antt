@@ -19,7 +19,8 @@ use Rattle.shared_leaves.specs.Kept.{background_reads, note_order, noted_all}
 use Rattle.shared_leaves.specs.Cache.{SharedCache, key_at, notes_of}
 use Rattle.shared_leaves.specs.Coherent.{IsEntry, IsEntryIn, IsLink, IsLinkTo, IsRecorded}
 use Rattle.shared_leaves.specs.Effects.{IsAmong, IsDue, NotesReads}
-use Rattle.shared_leaves.proofs.Economy.{noted_all-append, noted_all-grows}
+use Rattle.depend_table.proofs.Notes.{noted_all-append, noted_all-grows}
+use Rattle.shared_leaves.proofs.Codes.{key_coding}
 
 -- ---- each of some reads
 
@@ -96,7 +97,7 @@ reads-append v w x key frame xs ys first second = record {
   tables = second.tables ∙ first.tables;
   keys = second.keys ∙ first.keys;
   tlbs = second.tlbs ∙ first.tlbs;
-  notes = second.notes ∙ ap (λ (s : FinSet note_order). noted_all s key ys) first.notes ∙ sym (noted_all-append (notes_of v.keys v.records) key xs ys);
+  notes = second.notes ∙ ap (λ (s : FinSet note_order). noted_all s key ys) first.notes ∙ sym (noted_all-append key_coding (notes_of v.keys v.records) key xs ys);
   stay = λ d there. second.stay d (first.stay d there);
   there = each_append (λ n. has x.records (depend n.item frame n.block) ≡ true) xs ys
       (each_map (λ n. has w.records (depend n.item frame n.block) ≡ true) (λ n. has x.records (depend n.item frame n.block) ≡ true) (λ n there. second.stay (depend n.item frame n.block) there) xs first.there) second.there;
@@ -110,8 +111,8 @@ reads-none v key frame = record { tables = refl; keys = refl; tlbs = refl; notes
 reads-wanting : (v w : SharedCache) (key : Key) (frame : ℕ) (xs ys zs : List Noted) → NotesReads v w key frame xs → 16384 < len (noted_all (notes_of w.keys w.records) key ys)
     → 16384 < len (noted_all (notes_of v.keys v.records) key (xs ++ (ys ++ zs)))
 reads-wanting v w key frame xs ys zs first more =
-    let all = noted_all-append (notes_of v.keys v.records) key xs (ys ++ zs) ∙ ap (λ (s : FinSet note_order). noted_all s key (ys ++ zs)) (sym first.notes) ∙ noted_all-append (notes_of w.keys w.records) key ys zs in
-    omega (arith, more, ap (λ (s : FinSet note_order). len s) all, noted_all-grows (noted_all (notes_of w.keys w.records) key ys) key zs)
+    let all = noted_all-append key_coding (notes_of v.keys v.records) key xs (ys ++ zs) ∙ ap (λ (s : FinSet note_order). noted_all s key (ys ++ zs)) (sym first.notes) ∙ noted_all-append key_coding (notes_of w.keys w.records) key ys zs in
+    omega (arith, more, ap (λ (s : FinSet note_order). len s) all, noted_all-grows key_coding (noted_all (notes_of w.keys w.records) key ys) key zs)
 
 -- a list of reads with one more, and that it is a front of all
 module _ (v w x : SharedCache) (frame : ℕ) (reads : List Noted) (i : ℕ) (read : Noted) (less : i < length reads) (at : read ≡ get_or reads i read)

@@ -38,10 +38,12 @@ use Rattle.shared_leaves.specs.Coherent.{IsCoherent, IsEntry, IsRecorded}
 use Rattle.shared_leaves.specs.Effects.{Agrees, ChangesHart, IsDue, IsWalked, addition_for}
 use Rattle.shared_leaves.proofs.Adding.{coherent-more}
 use Rattle.shared_leaves.proofs.Invariant.{leaf_made}
-use Rattle.shared_leaves.proofs.Keyed.{frame_of-some, key_at-at}
+use Rattle.shared_leaves.proofs.Keyed.{key_at-at}
 use Rattle.shared_leaves.proofs.Linked.{held-leaf}
 use Rattle.shared_leaves.proofs.Parted.{addition-told, background-by, walked-by, within-by}
 use Rattle.shared_leaves.proofs.Regional.{Any, entry-same, leaf-fresh}
+use Rattle.depend_table.proofs.Coded.{frame_of-some}
+use Rattle.shared_leaves.proofs.Codes.{key_coding}
 
 -- ---- what an access costs, and what is kept after it
 
@@ -185,7 +187,7 @@ module _ (page_law : PageLaw) (kind_law : KindLaw) (region_law : RegionLaw) (ite
       on false unlike f at found = absurd (none-some e found)
       on true like None at found = absurd (none-some e found)
       on true like (Some f) at found =
-          let there = frame_of-some v.keys k f at in
+          let there = frame_of-some key_coding v.keys k f at in
           let was = coherent.entries f place e (leaf_made v.tables v.keys v.tlbs v.records cache f k there like) less found in
           entry-same (map_of items) k place e leaf (IsRecorded v.records f place) P
           (subst (λ (x : Key). IsEntry (map_of items) x place e (IsRecorded v.records f place)) (key_at-at v.keys f k there) was) entry

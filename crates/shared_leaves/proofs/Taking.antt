@@ -9,14 +9,14 @@ use Rattle.sv32_tables.specs.Shared.{IsSharedRoot, SharedValue}
 use Rattle.tlb_model.specs.declared.entry.Entry.{Entry as TlbEntry}
 use Rattle.depend_table.specs.Depend.{Depend, has, lies_in, same_block, same_item}
 use Rattle.depend_table.proofs.Members.{same_itself}
-use Rattle.map_cache.proofs.Codes.{both, number_itself, same_numbers, same_tests}
 use Rattle.shared_leaves.specs.declared.key.Key.{Key}
 use Rattle.shared_leaves.specs.Key.{is_leaf, same_key}
 use Rattle.shared_leaves.specs.Kept.{is_on}
 use Rattle.shared_leaves.specs.Cache.{IsCache, key_at, note_of}
-use Rattle.shared_leaves.proofs.Codes.{same_key_itself, same_key_tells}
 use Rattle.shared_leaves.proofs.Invariant.{leaf_keyed, standing, used}
-use Rattle.shared_leaves.proofs.Keyed.{one_key}
+use Rattle.depend_table.proofs.Coded.{key_itself, key_tells, one_key}
+use Rattle.depend_table.proofs.Tests.{both, number_itself, same_numbers, same_tests}
+use Rattle.shared_leaves.proofs.Codes.{key_coding}
 
 -- an item passes the test with itself
 pub item_itself : (d : Depend) → same_item d.item d.item ≡ true
@@ -74,8 +74,8 @@ module _ (t : SharedValue) (keys : List Key) (tlbs : List (List TlbEntry)) (ds :
   -- frames and keys are one by the same tests
   pub frame_test : (f : ℕ) (k : Key) → slice_get keys f ≡ Some k → (f == d.root) ≡ same_key k K
   frame_test f k at = same_tests (f == d.root) (same_key k K)
-      (λ e. let one = one_key keys d.root k K (ap (slice_get keys) (sym (same_numbers f d.root e)) ∙ at) own in ap (same_key k) (sym one) ∙ same_key_itself k)
-      (λ e. let one = same_key_tells k K e in ap (λ (n : ℕ). n == d.root) (cache.apart f d.root k at (own ∙ ap (λ (x : Key). Some x) (sym one))) ∙ number_itself d.root)
+      (λ e. let one = one_key keys d.root k K (ap (slice_get keys) (sym (same_numbers f d.root e)) ∙ at) own in ap (same_key k) (sym one) ∙ key_itself key_coding k)
+      (λ e. let one = key_tells key_coding k K e in ap (λ (n : ℕ). n == d.root) (cache.apart f d.root k at (own ∙ ap (λ (x : Key). Some x) (sym one))) ∙ number_itself d.root)
 
   -- whether it takes out a page of a key
   pub hit : (k : Key) (page : ℕ) → is_on k page d.item (note_of keys d) ≡ (same_key k K && holds d.block page)
@@ -86,7 +86,7 @@ module _ (t : SharedValue) (keys : List Key) (tlbs : List (List TlbEntry)) (ds :
     where
       on : (b : Bool) → same_key k K ≡ b → b ≡ false
       on false e = refl
-      on true e = absurd (differs (ap is_leaf (same_key_tells k K e)))
+      on true e = absurd (differs (ap is_leaf (key_tells key_coding k K e)))
 
   -- the frame of a record that is no leaf table's is a root
   pub rooted : is_leaf K ≡ false → IsSharedRoot t d.root

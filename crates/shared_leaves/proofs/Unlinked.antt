@@ -17,8 +17,6 @@ use Rattle.tlb_model.specs.Tlb.{look}
 use Rattle.depend_table.specs.Depend.{Depend, Takes, depend, has, lies_in, same, same_item}
 use Rattle.depend_table.proofs.Members.{has-taken, has-taken_cases, same_tells}
 use Rattle.map_cache.specs.Cache.{tlb_at}
-use Rattle.map_cache.proofs.Codes.{number_itself}
-use Rattle.map_cache.proofs.Records.{adds-taken, any-added}
 use Rattle.shared_leaves.specs.declared.key.Key.{Key}
 use Rattle.shared_leaves.specs.Key.{is_leaf, root_key, same_key}
 use Rattle.shared_leaves.specs.Kept.{covers_note, is_on}
@@ -27,10 +25,13 @@ use Rattle.shared_leaves.specs.Coherent.{IsCoherent, IsLink, IsRecorded}
 use Rattle.shared_leaves.specs.Effects.{Forgets, entry_left, is_left, link_left}
 use Rattle.shared_leaves.proofs.Filed.{Made}
 use Rattle.shared_leaves.proofs.Invariant.{alone, leaf_made, root_made}
-use Rattle.shared_leaves.proofs.Keyed.{frame_of-some}
-use Rattle.shared_leaves.proofs.Notes.{noted-taken}
 use Rattle.shared_leaves.proofs.Readings.{entry-map, link-map}
 use Rattle.shared_leaves.proofs.Taking.{frame_test, hit, unlike, rooted, item_itself, join, none_left, together, gone}
+use Rattle.depend_table.proofs.Coded.{frame_of-some}
+use Rattle.depend_table.proofs.Notes.{noted-taken}
+use Rattle.depend_table.proofs.Records.{adds-taken, any-added}
+use Rattle.depend_table.proofs.Tests.{number_itself}
+use Rattle.shared_leaves.proofs.Codes.{key_coding}
 
 module _ (t : SharedValue) (keys : List Key) (tlbs : List (List TlbEntry)) (ds : List Depend) (cache : IsCache t keys tlbs ds) (d : Depend) (there : has ds d ≡ true) where
   abbrev K : Key
@@ -61,7 +62,7 @@ module _ (t : SharedValue) (keys : List Key) (tlbs : List (List TlbEntry)) (ds :
         on : (q : Option ℕ) → root_at keys s ≡ q → (if later then None else link_in u keys r q) ≡ (if is_on (root_key s) (r * 1024) d.item (note_of keys d) || later then None else link_in t keys r q)
         on None is = none_left later (is_on (root_key s) (r * 1024) d.item (note_of keys d) || later)
         on (Some q) is =
-            let at = frame_of-some keys (root_key s) q is in
+            let at = frame_of-some key_coding keys (root_key s) q is in
             let hits : ((q == d.root) && holds d.block (r * 1024)) ≡ is_on (root_key s) (r * 1024) d.item (note_of keys d) = ap (λ (b : Bool). b && holds d.block (r * 1024)) (frame_test t keys tlbs ds cache d there q (root_key s) at) ∙ sym (hit t keys tlbs ds cache d there (root_key s) (r * 1024)) in
             ap (λ (x : Option Key). if later then None else x)
             (ap (key_of_link keys) (unlinks q r (root_made t keys tlbs ds cache q s at) low ∙ ap (λ (b : Bool). if b then None else link_at t q r) hits) ∙ choice (is_on (root_key s) (r * 1024) d.item (note_of keys d)) (link_at t q r))
@@ -73,7 +74,7 @@ module _ (t : SharedValue) (keys : List Key) (tlbs : List (List TlbEntry)) (ds :
         on : (b : Bool) → is_leaf k ≡ b → (f : Option ℕ) → frame_of keys k ≡ f → (if b then entry_in u j f else None) ≡ (if b then entry_in t j f else None)
         on false is f at = refl
         on true is None at = refl
-        on true is (Some f) at = entries_same f j (leaf_made t keys tlbs ds cache f k (frame_of-some keys k f at) is) low
+        on true is (Some f) at = entries_same f j (leaf_made t keys tlbs ds cache f k (frame_of-some key_coding keys k f at) is) low
 
     entries : (k : Key) (j : ℕ) → j < 1024 → entry_left (cache_of u keys to new) d.item k j ≡ entry_left (cache_of t keys tlbs ds) d.item k j
     entries k j low = on (is_leaf k) refl
@@ -171,7 +172,7 @@ module _ (t : SharedValue) (keys : List Key) (tlbs : List (List TlbEntry)) (ds :
             ∙ was_linked r i f (more r RootUse made) low ((r == d.root) && holds d.block (i * 1024)) (sym (unlinks r i (more r RootUse made) low) ∙ at);
         backed = λ hart r p l found. absurd (none-some l (ap (λ (es : List TlbEntry). look es r p) (sym (dropped hart)) ∙ found));
         within = λ e had. cache.within e (has-taken ds new d e takes had);
-        noted = noted-taken keys ds new d takes (λ e had same'. alone t keys tlbs ds cache d (cache.within d there) e (has-taken ds new d e takes had) same') cache.noted;
+        noted = noted-taken key_coding (key_at keys) ds new d takes (λ e had same'. alone t keys tlbs ds cache d (cache.within d there) e (has-taken ds new d e takes had) same') cache.noted;
         most_records = let fewer = takes.count in omega (arith, fewer, cache.most_records);
       };
       done = record { keys = refl; links = links; entries = entries; records = records; coherent = coherent; harts = harts };

@@ -1,7 +1,6 @@
 -- Shared leaf tables by their parts: tables, keys, the harts' caches and records; and what is kept by them (this project's own).
-use Rattle.std.specs.Prelude.{ℕ, true, ◌&&◌, ◌≡◌, ◌<◌, ◌≤◌, ◌^◌, nat_lt, if◌then◌else◌, List, length, map, slice_get, slice_index_or, is_some, Option, Some, None}
-use Rattle.std.specs.List.{position}
-use Rattle.std.specs.FinSet.{FinSet, from_list, len}
+use Rattle.std.specs.Prelude.{ℕ, true, ◌&&◌, ◌≡◌, ◌<◌, ◌≤◌, ◌^◌, nat_lt, if◌then◌else◌, List, length, slice_get, slice_index_or, is_some, Option, Some, None}
+use Rattle.std.specs.FinSet.{FinSet, len}
 use Rattle.cap_format.specs.Capability.{Capability}
 use Rattle.sv32_tables.specs.declared.leaf.Leaf.{Leaf as Entry}
 use Rattle.sv32_tables.specs.declared.shared_use.SharedUse.{SharedUse}
@@ -10,10 +9,12 @@ use Rattle.sv32_tables.specs.Shared.{IsLeafTable, IsSharedRoot, SharedValue, ent
 use Rattle.tlb_model.specs.declared.entry.Entry.{Entry as TlbEntry}
 use Rattle.tlb_model.specs.Tlb.{look}
 use Rattle.depend_table.specs.Depend.{Depend, has}
+use Rattle.depend_table.specs.Keyed.{AreApart, frame_by}
+use Rattle.depend_table.specs.Notes.{note_by, notes_by}
 use Rattle.map_cache.specs.Cache.{tlb_at}
 use Rattle.shared_leaves.specs.declared.key.Key.{Key}
-use Rattle.shared_leaves.specs.Key.{is_leaf, no_key, root_key, same_key}
-use Rattle.shared_leaves.specs.Kept.{Note, SharedKept, note, note_order}
+use Rattle.shared_leaves.specs.Key.{is_leaf, key_code, no_key, root_key}
+use Rattle.shared_leaves.specs.Kept.{Note, SharedKept, note_order}
 
 -- the tables; what each frame in use is for, by the frames' numbers; what each hart holds; and what walks read
 pub record SharedCache : Type 0 where
@@ -28,7 +29,7 @@ cache_of tables keys tlbs records = record { tables = tables; keys = keys; tlbs 
 
 -- the frame that has a key
 abbrev pub frame_of : List Key → Key → Option ℕ
-frame_of keys k = position (same_key k) keys
+frame_of = frame_by key_code
 
 -- the root of a space
 abbrev pub root_at : List Key → Capability → Option ℕ
@@ -72,11 +73,11 @@ leaf_for v space page = leaf_in v.tables page (root_at v.keys space)
 
 -- the note of a record, whose frame stands for its key
 abbrev pub note_of : List Key → Depend → Note
-note_of keys d = note (key_at keys d.root) d.item d.block
+note_of keys = note_by (key_at keys)
 
 -- the notes of all records
 abbrev pub notes_of : List Key → List Depend → FinSet note_order
-notes_of keys records = from_list (map (note_of keys) records)
+notes_of keys = notes_by key_code (key_at keys)
 
 -- What is kept: the keys of the frames in use, the links and the entries of the tables, and the notes of all records.
 abbrev pub kept_of : SharedCache → SharedKept
@@ -93,10 +94,6 @@ kept_of v = record {
 abbrev pub HasUse : List Key → ℕ → SharedUse → Type 0
 HasUse keys frame RootUse = (space : Capability) × (slice_get keys frame ≡ Some (root_key space))
 HasUse keys frame LeafUse = (key : Key) × (slice_get keys frame ≡ Some key) × (is_leaf key ≡ true)
-
--- no key stands at two places
-abbrev pub AreApart : List Key → Type 0
-AreApart keys = (f g : ℕ) (k : Key) → slice_get keys f ≡ Some k → slice_get keys g ≡ Some k → f ≡ g
 
 -- a hart's leaf is the tables'
 pub record IsBacked (tables : SharedValue) (root page : ℕ) (leaf : Entry) : Type 0 where

@@ -2,15 +2,13 @@
 -- capability with its count.
 use Rattle.std.specs.Prelude.{ℕ, Bool, false, not, ◌&&◌, ◌||◌, ◌==◌, nat_le, if◌then◌else◌, ◌+◌, ◌*◌, ◌/◌, ◌%◌, List, [], ◌∷◌, ◌++◌, length, map, take, drop, Option, Some, None}
 use Rattle.std.specs.List.{list_any}
-use Rattle.std.specs.Ordering.{nat_cmp, on}
 use Rattle.std.specs.declared.cmp.Ordering.{Ordering}
-use Rattle.std.specs.Cmp.Lexicographic.{slice_cmp}
-use Rattle.std.specs.FinSet.{FinSet, empty, insert, items, len, retain}
+use Rattle.std.specs.FinSet.{FinSet, empty, items, len, retain}
 use Rattle.cap_format.specs.Capability.{Capability}
 use Rattle.cap_format.specs.declared.item.Item.{Item}
 use Rattle.cap_format.specs.declared.item.Item.TheVariants.{Header}
 use Rattle.cap_format.specs.declared.kind.CapKind.TheVariants.{Gpt}
-use Rattle.guard_math.specs.Block.{BlockValue, around, holds}
+use Rattle.guard_math.specs.Block.{around, holds}
 use Rattle.object_store.specs.Store.{Items}
 use Rattle.walk_meaning.specs.declared.kind.Kind.{Kind}
 use Rattle.walk_meaning.specs.declared.noted.Noted.{Noted}
@@ -20,8 +18,9 @@ use Rattle.producers.specs.declared.producer.Background.{Background}
 use Rattle.producers.specs.Producer.{Point, cut, join_of, key_of}
 use Rattle.tlb_model.specs.declared.entry.Entry.{Entry}
 use Rattle.depend_table.specs.Depend.{lies_in, same_item}
+use Rattle.depend_table.specs.Notes.{Note as NoteFor, noted_by, order_by}
 use Rattle.map_cache.specs.Key.{same_space}
-use Rattle.map_cache.specs.Kept.{counted, is_reached, item_code}
+use Rattle.map_cache.specs.Kept.{counted, is_reached}
 use Rattle.shared_leaves.specs.declared.key.Key.{Key}
 use Rattle.shared_leaves.specs.Key.{is_leaf, key_code, own_key, producer_key, root_key, same_key, with_key}
 
@@ -29,22 +28,12 @@ use Rattle.shared_leaves.specs.Key.{is_leaf, key_code, own_key, producer_key, ro
 
 -- what the walks behind a frame read: an item, for the addresses of a block. A root's notes are those of its links, a leaf
 -- table's those of its entries, and the blocks of these count from the region's first address.
-pub record Note : Type 0 where
-  pub key : Key
-  pub item : Item
-  pub block : BlockValue
-
--- a note by its parts
-abbrev pub note : Key → Item → BlockValue → Note
-note key item block = record { key = key; item = item; block = block }
-
--- a note as numbers
-abbrev pub note_code : Note → List ℕ
-note_code n = n.block.base ∷ n.block.l2 ∷ (item_code n.item ++ key_code n.key)
+abbrev pub Note : Type 0
+Note = NoteFor Key
 
 -- an order of notes, by their numbers; notes that tie are one
 abbrev pub note_order : Note → Note → Ordering
-note_order = on note_code (slice_cmp nat_cmp)
+note_order = order_by key_code
 
 -- What is kept: the spaces and the leaf tables that have a frame; to which leaf table each region of 1,024 pages of a space is
 -- linked; which pages, by their places in the region, each leaf table holds; and what the walks behind them read.
@@ -62,8 +51,7 @@ nothing = record { keys = []; links = λ space region. None; held = λ key place
 
 -- the notes with those of some reads
 abbrev pub noted_all : FinSet note_order → Key → List Noted → FinSet note_order
-noted_all notes key [] = notes
-noted_all notes key (n ∷ rest) = noted_all (insert notes (note key n.item n.block)) key rest
+noted_all = noted_by key_code
 
 -- what an access adds: its leaf table's key, and what the link and the entry depend on
 pub record Addition : Type 0 where

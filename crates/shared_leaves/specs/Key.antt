@@ -1,8 +1,7 @@
 -- What takes a frame of the tables (this project's own).
-use Rattle.std.specs.Prelude.{ℕ, Bool, true, false, if◌then◌else◌, List, [], ◌∷◌, ◌++◌, Option, Some, None, nat_eq}
-use Rattle.std.specs.List.{list_any}
-use Rattle.std.specs.Cmp.Lexicographic.{pointwise}
+use Rattle.std.specs.Prelude.{ℕ, Bool, true, false, List, [], ◌∷◌, ◌++◌, Option, Some, None}
 use Rattle.cap_format.specs.Capability.{Capability, null}
+use Rattle.depend_table.specs.Keyed.{has_by, same_by, with_by}
 use Rattle.map_cache.specs.Key.{code_of}
 use Rattle.producers.specs.declared.producer.Background.{Background}
 use Rattle.producers.specs.declared.producer.Producer.{Producer as ProducerValue}
@@ -57,12 +56,12 @@ key_code k = code_of k.space ++ table_code k.table
 
 -- whether two keys are one
 abbrev pub same_key : Key → Key → Bool
-same_key j k = pointwise nat_eq (key_code j) (key_code k)
+same_key = same_by key_code
 
 -- whether a key is among some
 abbrev pub has_key : List Key → Key → Bool
-has_key keys k = list_any (same_key k) keys
+has_key = has_by key_code
 
 -- the keys with one more, unless it is there
 abbrev pub with_key : List Key → Key → List Key
-with_key keys k = if has_key keys k then keys else keys ++ k ∷ []
+with_key = with_by key_code

@@ -1,4 +1,4 @@
-use Rattle.std.proofs.Common.{refl, sym, ◌∙◌}
+use Rattle.std.proofs.Common.{sym, ◌∙◌}
 use Rattle.map_cache.proofs.Listed.{zero-none}
 use Rattle.map_cache.proofs.mapping.next_in_region.Goals as goal
 

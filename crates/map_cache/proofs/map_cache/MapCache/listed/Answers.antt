@@ -1,5 +1,4 @@
 use Rattle.std.proofs.Common.{◌≡◌, subst}
-use Rattle.object_store.specs.Store.{Items}
 use Rattle.map_cache.specs.Cache.{CacheValue, kept_of}
 use Rattle.map_cache.specs.Coherent.{IsCoherent}
 use Rattle.map_cache.specs.Effects.{value_of}

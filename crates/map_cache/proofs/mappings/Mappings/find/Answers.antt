@@ -1,4 +1,4 @@
-use Rattle.std.proofs.Common.{◌≡◌, ◌/◌, ◌<◌, ◌^◌, List, Some, sym, ◌∙◌, subst, arith}
+use Rattle.std.proofs.Common.{◌/◌, ◌<◌, ◌^◌, List, sym, ◌∙◌, subst, arith}
 use Rattle.tlb_model.specs.declared.entry.Entry.{Entry}
 use Rattle.map_cache.specs.Cache.{IsCache}
 use Rattle.map_cache.proofs.Keyed.{root_at-some}

@@ -1,7 +1,5 @@
-use Rattle.std.proofs.Common.{ℕ, ◌≡◌, false, rules}
-use Rattle.guard_math.specs.Block.{BlockValue}
-use Rattle.depend_table.specs.Depend.{depend, has}
-use Rattle.map_cache.specs.Effects.{Forgets, value_of}
+use Rattle.std.proofs.Common.{rules}
+use Rattle.map_cache.specs.Effects.{value_of}
 use Rattle.map_cache.proofs.Coherence.{coherent-differs}
 use Rattle.map_cache.proofs.Forgotten.{forgets-more, forgotten}
 use Rattle.map_cache.proofs.mappings.Mappings.forget_item.Goals as goal

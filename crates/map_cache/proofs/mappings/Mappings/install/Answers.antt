@@ -1,4 +1,4 @@
-use Rattle.std.proofs.Common.{◌≡◌, ◌≤◌, ◌<◌, ◌/◌, ◌^◌, ◌++◌, ℕ, [], ◌∷◌, length, nat_lt, if◌then◌else◌, refl, ap, ◌∙◌, arith}
+use Rattle.std.proofs.Common.{◌≤◌, ◌<◌, ◌/◌, ◌^◌, ◌++◌, ℕ, [], ◌∷◌, length, nat_lt, if◌then◌else◌, refl, ap, ◌∙◌, arith}
 use Rattle.map_cache.specs.Key.{region_key}
 use Rattle.map_cache.specs.Effects.{SetsPage, value_of}
 use Rattle.map_cache.proofs.Invariant.{root_made}

@@ -1,7 +1,4 @@
-use Rattle.std.proofs.Common.{◌≡◌, ◌<◌, ◌+◌, List, ◌∷◌, None, Some, length, refl, sym, ap, ◌∙◌, arith}
-use Rattle.std.specs.Prelude.{slice_get}
-use Rattle.std.proofs.lemmas.Option.{slice_get_read}
-use Rattle.map_cache.specs.declared.key.Key.{Key}
+use Rattle.std.proofs.Common.{◌+◌, ◌∷◌, Some, refl, sym, ap, ◌∙◌}
 use Rattle.map_cache.specs.Key.{key}
 use Rattle.map_cache.specs.declared.mapping.Mapping.{Mapping}
 use Rattle.map_cache.specs.Mappings.{mappings_left, place_at}

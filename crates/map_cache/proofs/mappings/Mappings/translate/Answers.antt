@@ -1,6 +1,5 @@
-use Rattle.std.proofs.Common.{◌≡◌, ◌+◌, ◌/◌, ◌<◌, ◌^◌, List, refl, sym, ap, ◌∙◌, arith}
+use Rattle.std.proofs.Common.{◌≡◌, ◌+◌, ◌/◌, ◌<◌, ◌^◌, refl, sym, ap, ◌∙◌, arith}
 use Rattle.object_store.specs.Meaning.{map_of, meaning}
-use Rattle.tlb_model.specs.declared.entry.Entry.{Entry}
 use Rattle.map_cache.specs.Kept.{KeptValue, cost_of, kept_after, tlb_after}
 use Rattle.map_cache.specs.Cache.{kept_of, tlb_at}
 use Rattle.map_cache.specs.Effects.{value_of}

@@ -1,14 +1,12 @@
-use Rattle.std.proofs.Common.{◌≡◌, ◌/◌, ◌<◌, ◌^◌, List, None, refl, sym, ap, ◌∙◌, subst, arith, if◌then◌else◌, []}
+use Rattle.std.proofs.Common.{◌/◌, ◌<◌, ◌^◌, List, sym, ap, ◌∙◌, subst, arith, if◌then◌else◌, []}
 use Rattle.object_store.specs.Meaning.{map_of, meaning}
 use Rattle.sv32_tables.specs.declared.leaf.Leaf.{Leaf}
 use Rattle.walk_meaning.specs.declared.noted.Noted.{Noted}
-use Rattle.walk_meaning.specs.Trail.{trail}
-use Rattle.walk_meaning.specs.Walk.{access}
 use Rattle.map_cache.specs.Kept.{added, added_to, fits}
-use Rattle.map_cache.specs.Cache.{kept_of, leaf_for, tlb_at}
+use Rattle.map_cache.specs.Cache.{kept_of, tlb_at}
 use Rattle.map_cache.specs.Effects.{IsWalked, Remembers, value_of}
-use Rattle.map_cache.proofs.Accesses.{IsAdded, changes-coherent, changes-kept, changes-leaf}
-use Rattle.map_cache.proofs.Translated.{Served, reached-new, reached-walked, remembers-over, served, unserved, walk-items}
+use Rattle.map_cache.proofs.Accesses.{IsAdded}
+use Rattle.map_cache.proofs.Translated.{reached-new, reached-walked, unserved, walk-items}
 use Rattle.map_cache.proofs.mappings.Mappings.walk_anew.Given as given
 use Rattle.map_cache.proofs.mappings.Mappings.walk_anew.Goals as goal
 

@@ -1,9 +1,9 @@
 -- Tests of records, settled by which records are there.
-use Rattle.std.proofs.Common.{◌≡◌, ◌⊎◌, inl, inr, ℕ, ◌+◌, Bool, true, false, not, ◌&&◌, ◌||◌, if◌then◌else◌, List, [], ◌∷◌, length, refl, sym, ap, ◌∙◌, arith}
+use Rattle.std.proofs.Common.{◌≡◌, ◌⊎◌, inl, inr, ◌+◌, Bool, true, false, not, ◌&&◌, ◌||◌, if◌then◌else◌, List, [], ◌∷◌, length, refl, sym, ap, ◌∙◌}
 use Rattle.std.specs.List.{list_any}
 use Rattle.depend_table.specs.Depend.{Adds, Depend, Takes, has, same}
 use Rattle.depend_table.proofs.Members.{has-added, has-added_cases, has-added_itself, has-taken_itself, same_itself, same_tells}
-use Rattle.map_cache.proofs.Codes.{both, either, or_left, or_right, same_tests}
+use Rattle.depend_table.proofs.Tests.{either, or_left, or_right, same_tests}
 
 -- a record that is there and passes the test
 pub has_any : (p : Depend → Bool) (ds : List Depend) (d : Depend) → has ds d ≡ true → p d ≡ true → list_any p ds ≡ true
