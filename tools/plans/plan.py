@@ -1,0 +1,331 @@
+"""What the lines of a plan say."""
+import re
+
+from plans.program import MOST_PAGES, Program
+from plans.words import (AREA, PAGE, TOP, Wrong, is_domain_name, is_name, letters, need, number, page_address,
+                         pages_for, restricted)
+
+LIMITS = {"pages": 4096, "capability pages": 256, "GPTs": 1024, "processes": 256, "endpoints": 1024}
+
+
+class Endpoint:
+    kind = "endpoint"
+
+    def __init__(self, name, number, recipient, ident, flag):
+        self.name, self.number, self.recipient, self.ident, self.flag = name, number, recipient, ident, flag
+
+
+class Memory:
+    """Pages by themselves, or a capability page. Behind a group's name stands which of it, as in `table.3`."""
+
+    def __init__(self, name, kind, first, count, group):
+        self.name, self.kind, self.first, self.count, self.group = name, kind, first, count, group
+
+    def capabilities(self):
+        return [f"{self.kind}:{self.first + i}" for i in range(self.count)]
+
+
+class Domain:
+    def __init__(self, name):
+        self.name, self.members = name, []
+
+
+class Plan:
+    """A plan as it is read. Its lines are gone through at once, and what rests on other lines waits for its turn:
+    places that are said, places that are chosen, and then all that names something."""
+
+    TURNS = ("said places", "chosen places", "names")
+
+    def __init__(self, folder, directory):
+        self.folder, self.directory = folder, directory
+        self.at, self.harts, self.gpts, self.cappages = 0, 1, 0, 0
+        self.things, self.lines, self.domains, self.reads = {}, {}, {}, []
+        self.pages, self.named_pages, self.schedule, self.mapped = [], [], [], []
+        self.waiting = {turn: [] for turn in self.TURNS}
+
+    # -- things and their names
+
+    def add(self, thing):
+        """Gives a thing its name, which nothing else has."""
+        need(is_name(thing.name), f"a name is a letter and letters, digits, _ or -: {thing.name}")
+        other = self.things.get(thing.name)
+        need(other is None, f"line {self.lines.get(thing.name)} has {other and other.kind} {thing.name}")
+        self.things[thing.name], self.lines[thing.name] = thing, self.at
+
+    def all(self, kind):
+        return [thing for thing in self.things.values() if thing.kind == kind]
+
+    def thing(self, name, kind):
+        found = self.things.get(name)
+        need(found and found.kind == kind, f"no {kind} was named {name}")
+        return found
+
+    def program(self, name):
+        return self.thing(name, "program")
+
+    def memory(self, word, kinds=("page", "cappage"), alone=False):
+        """What a word names: pages by themselves, one of a group, or a capability page."""
+        name, dot, index = word.partition(".")
+        found = self.things.get(name)
+        need(found and found.kind in kinds, f"no {kinds[0]} was named {name}")
+        if dot:
+            need(found.group, f"{name} is a page and no group of pages")
+            which = number(index, f"which page of {name}", found.count - 1)
+            return Memory(word, found.kind, found.first + which, 1, False)
+        need(not (alone and found.group), f"{name} has {found.count} pages: say which, from {name}.0 on")
+        return found
+
+    def entry(self, words):
+        need(len(words) == 2, "an entry is an endpoint and a payload")
+        return f"entry:{self.thing(words[0], 'endpoint').number}:{number(words[1], 'a payload', TOP - 1, 16):08x}"
+
+    def wait(self, turn, function):
+        self.waiting[turn].append((self.at, function))
+
+    def new_gpt(self):
+        self.gpts += 1
+        return self.gpts - 1
+
+    def new_pages(self, contents, about):
+        """Numbers pages with these contents and this name; the first number."""
+        self.pages.extend(contents)
+        self.named_pages.extend([about] * len(contents))
+        return len(self.pages) - len(contents)
+
+    # -- programs
+
+    def program_line(self, words):
+        made = Program(len(self.all("program")), words)
+        self.add(made)
+        made.load(self)
+        self.wait("said places", made.place_said)
+        self.wait("chosen places", made.place_chosen)
+        self.wait("chosen places", lambda: made.begin(self))
+
+    def write(self, first, offset, block):
+        """Writes bytes into pages, from an offset of the first of them on."""
+        for i in range(offset // PAGE, pages_for(offset + len(block))):
+            start = offset - i * PAGE
+            self.pages[first + i] = (bytes(max(0, start)) + block[max(0, -start):])[:PAGE]
+
+    # -- other things
+
+    def endpoint_line(self, words):
+        need(len(words) in (5, 6) and words[1] == "to" and words[3] == "id", "endpoint NAME to PROGRAM id ID [match]")
+        need(words[5:] in ([], ["match"]), f"unknown: {' '.join(words[5:])}")
+        made = Endpoint(words[0], len(self.all("endpoint")), None, number(words[4], "an id", TOP - 1, 16),
+                        "match" if words[5:] else "plain")
+        self.add(made)
+
+        def recipient():
+            made.recipient = self.program(words[2])
+        self.wait("names", recipient)
+
+    def page_line(self, words):
+        need(words and words[1:2] in ([], ["from"]) and len(words) != 2, "page NAME [from FILE [OFFSET]]")
+        contents = self.contents(words[2:], 1)
+        self.add(Memory(words[0], "page", self.new_pages(contents, words[0]), 1, False))
+
+    def pages_line(self, words):
+        need(len(words) >= 2 and words[2:3] in ([], ["from"]) and len(words) != 3, "pages NAME N [from FILE [OFFSET]]")
+        count = number(words[1], "the number of pages", MOST_PAGES)
+        need(count > 0, "there is at least one page")
+        contents = self.contents(words[3:], count)
+        self.add(Memory(words[0], "page", self.new_pages(contents, words[0]), count, True))
+
+    def contents(self, words, count):
+        """What pages have from a file, which stands beside the plan."""
+        if not words:
+            return [b""] * count
+        need(len(words) <= 2, f"too many words behind {words[0]}")
+        offset = number(words[1], "an offset", TOP - 1, 16) if words[1:] else 0
+        try:
+            found = (self.folder / words[0]).read_bytes()
+        except OSError as error:
+            raise Wrong(f"{words[0]}: {error.strerror}")
+        need(offset < len(found), f"{words[0]} has {len(found):x} bytes (hexadecimal), and none at {offset:x}")
+        return [found[offset + i * PAGE:offset + (i + 1) * PAGE] for i in range(count)]
+
+    def cappage_line(self, words):
+        need(len(words) == 1, "cappage NAME")
+        self.add(Memory(words[0], "cappage", self.cappages, 1, False))
+        self.cappages += 1
+
+    # -- places
+
+    def area_line(self, words):
+        need(len(words) in (2, 5) and words[2:3] in ([], ["handler"]),
+             "area PROGRAM ADDRESS [handler ENDPOINT PAYLOAD]")
+        address = page_address(words[1])
+        need(address % AREA == 0, f"an area begins at a multiple of 10000: {words[1]}")
+
+        def place():
+            made = self.program(words[0])
+            made.space.claim(address, AREA, "---", "area", ("page ", "cappage "))
+            made.space.area(address).empty = True
+            self.mapped.append((made, address // AREA))
+            if words[2:]:
+                made.space.area(address).handler = self.entry(words[3:])
+        self.wait("said places", place)
+        self.wait("names", lambda: self.keep_handler(words, address))
+
+    def keep_handler(self, words, address):
+        slots = self.program(words[0]).space.area(address).slots
+        need(not (words[2:] and 15 in slots),
+             f"the area of {words[1]} keeps its last page for its handler, and there stands a page")
+
+    def map_line(self, words):
+        need(len(words) in (3, 4), "map PROGRAM ADDRESS PAGE [LETTERS]")
+        address, limits = page_address(words[1]), letters(words[3:])
+
+        def place():
+            made, found = self.program(words[0]), self.memory(words[2])
+            rights = "---" if found.kind == "cappage" else "r--" if "r" in limits else "rw-"
+            made.space.claim(address, found.count * PAGE, rights, f"{found.kind} {words[2]}", ("area",))
+            for i, capability in enumerate(found.capabilities()):
+                made.space.put(address // PAGE + i, capability, "x", limits)
+                self.mapped.append((made, (address + i * PAGE) // AREA))
+        self.wait("said places", place)
+
+    # -- who holds what
+
+    def handler_line(self, words):
+        need(len(words) == 3, "handler PROGRAM ENDPOINT PAYLOAD")
+
+        def name():
+            self.program(words[0]).handler = self.entry(words[1:])
+        self.wait("names", name)
+
+    def hold_line(self, words):
+        need(len(words) >= 3, "hold PROGRAM REGISTER WHAT")
+        register = number(words[1], "a capability register", 31)
+        need(register > 0, "capability register 0 is always null")
+
+        def name():
+            made = self.program(words[0])
+            _, other = made.held.get(register, (None, ""))
+            need(not other, f"{made.name} holds {other} in register {register}")
+            made.held[register] = self.capability(words[2], words[3:]), " ".join(words[2:])
+        self.wait("names", name)
+
+    def capability(self, kind, words):
+        """What the words of a `hold` line name, as a capability word."""
+        if kind in ("range", "discrim", "kernlog", "sysctl"):
+            need(not words, f"unknown behind {kind}: {' '.join(words)}")
+            return kind
+        need(words, f"{kind} of what?")
+        if kind == "entry":
+            return self.entry(words)
+        if kind in ("page", "cappage"):
+            found = self.memory(words[0], (kind,), alone=True)
+            return f"{found.capabilities()[0]}@12/0{restricted(letters(words[1:]))}"
+        if kind == "area":
+            return self.area_capability(words)
+        if kind == "space":
+            return self.program(words[0]).space.capability(letters(words[1:]))
+        need(len(words) == 1, f"one word behind {kind}")
+        if kind == "endpoint":
+            return f"endpoint:{self.thing(words[0], 'endpoint').number}"
+        if kind == "process":
+            return f"process:{self.program(words[0]).number}"
+        if kind == "schedule":
+            return f"schedule:{number(words[0], 'a priority', 7)}"
+        raise Wrong(f"no capability is called {kind}")
+
+    def area_capability(self, words):
+        need(len(words) >= 2, "area PROGRAM ADDRESS [LETTERS]")
+        space, place = self.program(words[0]).space, page_address(words[1]) // AREA
+        need(place in space.areas, f"{words[0]} has no area at {words[1]}")
+        return f"gpt:{space.areas[place].gpt}@16/0{restricted(letters(words[2:]))}"
+
+    # -- domains
+
+    def domain_line(self, words):
+        need(len(words) >= 2, "domain NAME PROGRAM ..")
+        need(is_domain_name(words[0]),
+             f"a domain is named by a small letter and up to 15 small letters, digits or _: {words[0]}")
+        made = self.domains.setdefault(words[0], Domain(words[0]))
+        need(len(self.domains.keys() | {"rest"}) <= 64, "there are at most 64 domains, rest among them")
+
+        def name():
+            for word in words[1:]:
+                found = self.things.get(word)
+                need(found, f"nothing was named {word}")
+                other = next((one.name for one in self.domains.values() if found in one.members), None)
+                need(other is None, f"{found.kind} {word} is of domain {other}")
+                made.members.append(found)
+        self.wait("names", name)
+
+    def reads_line(self, words):
+        need(len(words) == 2, "reads A B")
+
+        def name():
+            for word in words:
+                need(word in self.domains or word == "rest", f"no domain was named {word}")
+            self.reads.append(words)
+        self.wait("names", name)
+
+    # -- the machine and its schedule
+
+    def harts_line(self, words):
+        need(len(words) == 1, "harts N")
+        self.harts = number(words[0], "the number of harts", TOP - 1)
+        need(self.harts > 0, "there is at least one hart")
+        need(self.harts <= 8, f"the plan asks for {self.harts:,} harts, a machine has 8")
+
+    def schedule_line(self, words):
+        lengths = {"step": 3, "tick": 2, "round": 2}
+        need(words and lengths.get(words[0]) == len(words), "a line of the schedule is step H N, tick H or round N")
+        if words[0] != "tick":
+            times = number(words[-1], f"the times of a {words[0]}", 1_000_000)
+            need(times > 0, f"a {words[0]} is done at least once")
+
+        def name():
+            if words[0] != "round":
+                hart = number(words[1], "a hart", TOP - 1)
+                need(hart < self.harts, f"there is no hart {hart}: the machine has {self.harts}, from 0 on")
+            self.schedule.append(" ".join(words))
+        self.wait("names", name)
+
+    # -- the whole
+
+    def read(self, text):
+        for self.at, line in enumerate(text.splitlines(), 1):
+            words = line.split("#")[0].split()
+            if words:
+                method = getattr(self, words[0] + "_line", None) if re.fullmatch("[a-z]+", words[0]) else None
+                need(method, f"no line of a plan begins with {words[0]}")
+                method(words[1:])
+        for turn in ("said places", "chosen places"):
+            self.take(turn)
+        self.number_gpts()
+        self.take("names")
+        self.at = 0
+        need(self.all("program"), "the plan has no program")
+        self.within_limits()
+
+    def take(self, turn):
+        for self.at, function in self.waiting[turn]:
+            function()
+
+    def number_gpts(self):
+        """Numbers the GPTs of spaces: first the areas of programs, then those of plan lines, then those above areas."""
+        for made in self.all("program"):
+            made.space.root = self.new_gpt()
+            made.space.number_areas(made.space.own_places(), self.new_gpt)
+        for made, place in self.mapped:
+            made.space.number_areas([place], self.new_gpt)
+        for made in self.all("program"):
+            made.space.build(self.new_gpt)
+
+    def within_limits(self):
+        for what, count in (("pages", len(self.pages)), ("capability pages", self.cappages), ("GPTs", self.gpts),
+                            ("processes", len(self.all("program"))), ("endpoints", len(self.all("endpoint")))):
+            need(count <= LIMITS[what], f"the system needs {count:,} {what}, a machine has {LIMITS[what]:,}")
+
+
+def programs_of(text):
+    """The ELF files of a plan, each once, with `libc` behind those that are linked with it."""
+    lines = [line.split("#")[0].split() for line in text.splitlines()]
+    return list(dict.fromkeys(words[2] + (" libc" if words[3:4] == ["libc"] else "")
+                              for words in lines if words[:1] == ["program"] and len(words) > 2))
