@@ -3,7 +3,8 @@
    the operations are the rows of `operations/specs/Memory` and `Control`. Nothing of this file is proved.
 
    A capability is named by the number of the register that holds it, 0 to 31; register 0 is always null. A function
-   that replies a capability puts it into the register named last. */
+   that replies a capability puts it into the register named last. A number over 31 is refused: by the compiler where it
+   sees the number, else by the kernel, as the fault MalformedSyscall. */
 #ifndef COYOTOS_H
 #define COYOTOS_H
 
@@ -107,14 +108,34 @@ struct coy_answer {
     coy_word endpoint; /* the id of the endpoint at which a message came */
 };
 
-/* The registers of capabilities, one a byte. */
+enum { COY_LAST_REGISTER = 31, COY_MOST_CAPS = 4 };
+#define COY_MALFORMED 0xffffffffu /* no x10 of an invocation: the kernel refuses it */
+
+/* The registers of capabilities, one a byte. One over 31 makes the invocation malformed that names them. */
 static inline coy_word coy_caps(coy_cap first, coy_cap second, coy_cap third, coy_cap fourth) {
-    return first | second << 8 | third << 16 | fourth << 24;
+    return (first | second | third | fourth) > COY_LAST_REGISTER ? COY_MALFORMED
+                                                                 : first | second << 8 | third << 16 | fourth << 24;
+}
+
+/* Where the compiler sees that a call can't be right, it says so. */
+void coy_malformed(void)
+    __attribute__((error("a capability register is 0 to 31, phases are COY_SEND, COY_RECEIVE, COY_NO_WAIT and "
+                         "COY_CLOSED, and at most 4 capabilities are sent or accepted")));
+
+/* Register x10 of an invocation. What doesn't fit its place there would change another part, so it is refused: the
+   program faults with MalformedSyscall at this call. */
+static inline __attribute__((always_inline)) coy_word coy_head(struct coy_call call) {
+    int wrong = call.target > COY_LAST_REGISTER || call.sent > COY_MOST_CAPS || call.accepted > COY_MOST_CAPS
+                || (call.phases & ~(coy_word)(COY_SEND | COY_RECEIVE | COY_NO_WAIT | COY_CLOSED)) != 0;
+    if (__builtin_constant_p(wrong) && wrong) {
+        coy_malformed();
+    }
+    return wrong ? COY_MALFORMED
+                 : call.target | call.phases | call.sent << COY_SENT_SHIFT | call.accepted << COY_ACCEPTED_SHIFT;
 }
 
 static inline __attribute__((always_inline)) struct coy_answer coy_invoke(struct coy_call call) {
-    register coy_word x10 __asm__("a0") = call.target | call.phases | call.sent << COY_SENT_SHIFT
-                                          | call.accepted << COY_ACCEPTED_SHIFT;
+    register coy_word x10 __asm__("a0") = coy_head(call);
     register coy_word x11 __asm__("a1") = call.words[0];
     register coy_word x12 __asm__("a2") = call.words[1];
     register coy_word x13 __asm__("a3") = call.words[2];
@@ -146,7 +167,8 @@ static inline struct coy_answer coy_send(coy_cap entry, coy_word w1, const void 
 /* Waits for a message at any endpoint, with a string into the buffer and up to one capability into a register. */
 static inline struct coy_answer coy_receive(void *buffer, coy_word bound, coy_cap into) {
     return coy_invoke((struct coy_call){
-        .phases = COY_RECEIVE, .accepted = into != 0, .accepted_caps = into, .buffer = buffer, .bound = bound});
+        .phases = COY_RECEIVE, .accepted = into != 0, .accepted_caps = coy_caps(into, 0, 0, 0), .buffer = buffer,
+        .bound = bound});
 }
 
 /* ---- the other system calls */
@@ -187,13 +209,13 @@ static inline struct coy_answer coy_ask(coy_cap c, coy_word request, coy_word w2
 /* One that replies a capability. */
 static inline coy_word coy_get(coy_cap c, coy_word request, coy_word w2, coy_word w3, coy_cap into) {
     return coy_invoke((struct coy_call){.target = c, .phases = COY_SEND, .words = {request, w2, w3},
-                                        .accepted = 1, .accepted_caps = into}).words[0];
+                                        .accepted = 1, .accepted_caps = coy_caps(into, 0, 0, 0)}).words[0];
 }
 
 /* One to which a capability is sent. */
 static inline struct coy_answer coy_give(coy_cap c, coy_word request, coy_word w2, coy_cap sent) {
     return coy_invoke((struct coy_call){.target = c, .phases = COY_SEND, .words = {request, w2},
-                                        .sent = 1, .sent_caps = sent});
+                                        .sent = 1, .sent_caps = coy_caps(sent, 0, 0, 0)});
 }
 
 /* Puts the first result where it is wanted; the code. */

@@ -3,7 +3,7 @@
 ENTRY(_start)
 SECTIONS {
     . = 0;
-    .text : { *(.start) *(.text*) *(.rodata*) *(.srodata*) }
+    .text : { KEEP(*(.start)) *(.text*) *(.rodata*) *(.srodata*) }
     . = 0x10000;
     .data : { *(.data*) *(.sdata*) }
     .bss : { *(.sbss*) *(.bss*) *(COMMON) }
