@@ -1,6 +1,7 @@
 /* Sends scripts to the interpreter and prints the answers. With each goes an entry for the answer, and the number of
    steps that the script may take. */
 #include <stdio.h>
+#include <string.h>
 
 #include "libc.h"
 
@@ -46,15 +47,11 @@ static char answer[ROOM];
 
 /* Sends a script with its number, and waits at the endpoint of answers alone. */
 static struct coy_answer ask(coy_word number, const struct script *script) {
-    coy_word length = 0;
-    while (script->text[length] != 0) {
-        length++;
-    }
     return coy_invoke((struct coy_call){.target = SCRIPTS,
                                         .phases = COY_SEND | COY_RECEIVE | COY_CLOSED,
                                         .words = {number, script->steps},
                                         .string = script->text,
-                                        .length = length,
+                                        .length = strlen(script->text),
                                         .sent = 1,
                                         .sent_caps = ANSWER_ENTRY,
                                         .buffer = answer,

@@ -3,7 +3,7 @@ import itertools
 import re
 import struct
 
-from plans.words import PAGE, TOP, Wrong, need, pages_for, span
+from plans.words import PAGE, TOP, Wrong, need, span
 
 LOAD, DYNAMIC, INTERPRETER, ATTRIBUTES = 1, 2, 3, 0x70000003
 

@@ -1,5 +1,5 @@
 """A plan as a listing, with the names of the plan as remarks."""
-from plans.words import AREA, PAGE, need, span
+from plans.words import AREA, need, span
 
 MOST_BYTES, MOST_REMARK = 16_777_216, 500
 

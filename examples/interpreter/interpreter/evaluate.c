@@ -2,6 +2,8 @@
    call does. Each expression is a step, and a script has as many as its client gives it. */
 #include "lisp.h"
 
+#include <string.h>
+
 unsigned long steps_left, steps_given;
 
 static lisp QUOTE, IF, COND, ELSE, DEFINE, LAMBDA, LET, BEGIN, AND, OR, SET, WHILE, TRY;
@@ -110,11 +112,7 @@ static lisp try_form(lisp rest, lisp scope) {
         return value;
     }
     handler = outer;
-    size_t length = 0;
-    while (message[length] != 0) {
-        length++;
-    }
-    lisp text = string(message, length);
+    lisp text = string(message, strlen(message));
     return apply(evaluate(item(rest, 1), scope), pair(text, NIL_LISP));
 }
 
@@ -268,11 +266,7 @@ lisp apply(lisp what, lisp arguments) {
 }
 
 void define(const char *name, builtin *call, int least, int most) {
-    size_t length = 0;
-    while (name[length] != 0) {
-        length++;
-    }
-    lisp found = symbol(name, length);
+    lisp found = symbol(name, strlen(name));
     found->global = builtin_value(found->name, call, least, most);
 }
 

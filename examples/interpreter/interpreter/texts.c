@@ -56,10 +56,10 @@ static lisp read_list(const char **at) {
 
 static lisp read_word(const char **at) {
     size_t length = strcspn(*at, " \t\r\n()\";'");
+    bool has_digit = strcspn(*at, "0123456789") < length;
     char *end;
     double value = strtod(*at, &end);
-    lisp made = end == *at + length && length > 0 && strpbrk(*at, "0123456789") < end ? number(value)
-                                                                                     : symbol(*at, length);
+    lisp made = has_digit && end == *at + length ? number(value) : symbol(*at, length);
     *at += length;
     return made;
 }
