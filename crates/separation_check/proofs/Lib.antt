@@ -1,0 +1,5 @@
+pub mod Gathered
+pub mod Most
+pub mod Allowed
+pub mod Exactly
+pub mod Meant

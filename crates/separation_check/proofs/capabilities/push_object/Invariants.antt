@@ -1,0 +1,10 @@
+use Rattle.std.proofs.Common.{◌≡◌, ◌+◌, ◌*◌, ◌++◌}
+use Rattle.confine_check.specs.Breach.{reads_in}
+use Rattle.separation_check.specs.Crossings.{all_below, listed, crossing_by, stored_cap}
+use Rattle.separation_check.proofs.capabilities.push_object.Given as goal
+
+abbrev pub invariant-each : goal.invariant-each
+invariant-each g l = record {
+  found : l.found.items ≡ l.fn.found.items ++ all_below (λ i. listed (crossing_by l.policy l.kind l.n i (stored_cap l.objects l.kind l.n i))) l.i;
+  fetches : l.fetches ≡ l.fn.fetches + reads_in l.kind * l.i;
+}

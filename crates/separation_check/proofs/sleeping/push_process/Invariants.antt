@@ -1,0 +1,6 @@
+use Rattle.std.proofs.Common.{◌≡◌, ◌++◌}
+use Rattle.separation_check.specs.Crossings.{all_below, listed, sleeper_on}
+use Rattle.separation_check.proofs.sleeping.push_process.Given as goal
+
+abbrev pub invariant-each : goal.invariant-each
+invariant-each l = l.found.items ≡ l.fn.found.items ++ all_below (λ on. listed (sleeper_on l.policy l.queues l.p on)) l.on

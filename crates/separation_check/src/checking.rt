@@ -1,0 +1,79 @@
+//! All that a policy doesn't allow in a machine.
+ghost use Rattle.std.specs.Prelude.{◌≡◌, ◌≤◌, ◌+◌, ◌*◌, ◌↔◌, [], map, IfOk};
+ghost use Rattle.cap_format.specs.declared.kind.CapKind.TheVariants.{Gpt};
+ghost use Rattle.object_store.specs.Store.{size_of};
+ghost use Rattle.machine_state.specs.State.{state_of};
+ghost use Rattle.confinement.specs.Acts.{system_of};
+ghost use Rattle.separation_policy.specs.Policy.{PolicyHolds, Integrity, Noninterference};
+ghost use Rattle.separation_check.specs.Crossings.{crossings_of, crossings_in, meant_crossing};
+
+use crate::capabilities::push_capabilities;
+use crate::crossing::Crossing;
+use crate::sleeping::push_sleepers;
+use cap_format::OutOfMemory;
+use confine_check::tell_full;
+use machine_state::Machine;
+use separation_policy::{Closure, Policy, integrity, noninterference};
+use std::alloc::Global;
+use std::sync::ledger::Ledger;
+use steps::Steps;
+use walk_engine::Translator;
+
+/// All that a policy doesn't allow in a machine: capabilities in the order in which objects are printed and their places
+/// have their numbers, and then processes that sleep. Each slot of a GPT is read once, and at most once where memory is
+/// wanting.
+///
+/// Where nothing is found the policy holds. Then whatever events follow, one that a process of a domain performs leaves
+/// all other domains as they are, and what a domain is told and has depends on no domain that it doesn't read, but for when
+/// turns come.
+pub fn crossings<T: Translator, L: Ledger>(
+    alloc: Global,
+    machine: &Machine<T>,
+    policy: &Policy,
+    fetches: &mut Steps<L>,
+) -> Result<Vec<Crossing>, OutOfMemory>
+    ensures value { IfOk result (λ found. found.items ≡
+        crossings_of policy.now machine.now.objects machine.now.queues) }
+    ensures means { IfOk result (λ found. map meant_crossing found.items ≡
+        crossings_in policy.now (state_of machine.now)) }
+    ensures exactly { IfOk result (λ found. (found.items ≡ []) ↔
+        PolicyHolds policy.now (system_of (state_of machine.now))) }
+    ensures integrity { IfOk result (λ found. found.items ≡ [] →
+        Integrity policy.now (state_of machine.now)) }
+    ensures noninterference { IfOk result (λ found. found.items ≡ [] →
+        Noninterference policy.now (state_of machine.now)) }
+    ensures counted { IfOk result (λ found. fetches.new ≡
+        fetches.old + 16 * size_of machine.now.objects.items Gpt) }
+    ensures most { fetches.new ≤ fetches.old + 16 * size_of machine.now.objects.items Gpt }
+{
+    tell_full(machine.objects());
+    integrity();
+    noninterference();
+    all_crossings(alloc, machine, policy, fetches)
+}
+
+/// The same, by the objects as they are stored.
+fn all_crossings<T: Translator, L: Ledger>(
+    alloc: Global,
+    machine: &Machine<T>,
+    policy: &Policy,
+    fetches: &mut Steps<L>,
+) -> Result<Vec<Crossing>, OutOfMemory>
+    ensures value { IfOk result (λ found. found.items ≡
+        crossings_of policy.now machine.now.objects machine.now.queues) }
+    ensures counted { IfOk result (λ found. fetches.new ≡
+        fetches.old + 16 * size_of machine.now.objects.items Gpt) }
+    ensures most { fetches.new ≤ fetches.old + 16 * size_of machine.now.objects.items Gpt }
+{
+    let closure = Closure::new(alloc, policy)?;
+    let objects = machine.objects();
+    let mut found = Vec::new(alloc);
+    push_capabilities(objects, policy, &closure, &mut found, fetches)?;
+    push_sleepers(
+        machine.queues(),
+        objects.sizes().processes,
+        policy,
+        &mut found,
+    )?;
+    Ok(found)
+}

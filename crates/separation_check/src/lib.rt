@@ -1,0 +1,13 @@
+//! The finding of all that crosses the domains of a policy in a machine: each capability that may not stand where it does,
+//! each Range, and each process that sleeps on one of another domain.
+//!
+//! Nothing here reads lines, runs a machine or prints.
+#![tactic(auto)]
+
+mod capabilities;
+mod checking;
+mod crossing;
+mod sleeping;
+
+pub use checking::crossings;
+pub use crossing::Crossing;
