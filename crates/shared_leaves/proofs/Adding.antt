@@ -19,7 +19,7 @@ use Rattle.map_cache.specs.Key.{same_space}
 use Rattle.map_cache.specs.Cache.{tlb_at}
 use Rattle.shared_leaves.specs.declared.key.Key.{Key}
 use Rattle.shared_leaves.specs.Key.{has_key, is_leaf, root_key, same_key, with_key}
-use Rattle.shared_leaves.specs.Kept.{Addition, SharedKept, added, fits, leads_to, note_order, noted_all, nothing}
+use Rattle.shared_leaves.specs.Kept.{Addition, SharedKept, added, fits, has_no_other, note_order, noted_all, nothing}
 use Rattle.shared_leaves.specs.Cache.{IsCache, SharedCache, cache_of, entry_for, entry_in, frame_of, kept_of, key_at, link_for, notes_of}
 use Rattle.shared_leaves.specs.Coherent.{IsCoherent, IsEntry, IsLink, IsRecorded}
 use Rattle.shared_leaves.specs.Effects.{Agrees, Connects, HasFrame, IsBlank, IsDue, IsWalked, Keeps, NotesReads, Remembers, SameEntriesFor, SetsPlace}
@@ -154,10 +154,10 @@ module _ (v0 v1 v2 v3 v4 v5 v6 : SharedCache) (space : Capability) (page root ta
       (entry-map o add.key (page % 1024) leaf (IsDue add.entry_reads (page % 1024)) (IsRecorded v5.records table (page % 1024)) entry_there walked.entry)) five
 
   -- what the other harts hold
-  others : (k : ℕ) → tlb_at v6.tlbs k ≡ (if leads_to (if nat_lt (page / 1024) 1024 then link_for v0 space (page / 1024) else None) add.key then tlb_at v0.tlbs k else [])
+  others : (k : ℕ) → tlb_at v6.tlbs k ≡ (if has_no_other (if nat_lt (page / 1024) 1024 then link_for v0 space (page / 1024) else None) add.key then tlb_at v0.tlbs k else [])
   others k =
       ap (λ (ts : List (List TlbEntry)). tlb_at ts k) steps.places.tlbs
-      ∙ (steps.connects.others k ∙ (λ i. if leads_to (linked i) (table_key_is v4.keys keys4 i) then tlb_at (tlbs4 i) k else []))
+      ∙ (steps.connects.others k ∙ (λ i. if has_no_other (linked i) (table_key_is v4.keys keys4 i) then tlb_at (tlbs4 i) k else []))
     where
       tlbs4 : v4.tlbs ≡ v0.tlbs
       tlbs4 = steps.entries_noted.tlbs ∙ (steps.links_noted.tlbs ∙ (steps.table_has.tlbs ∙ steps.root_has.tlbs))
@@ -285,7 +285,7 @@ remembers-kept v w hart page space leaf add cache keeps = record {
   others = λ k differs.
       keeps.others k differs
       ∙ ap (λ (b : Bool). if b then tlb_at v.tlbs k else [])
-      (sym (and-true (leads_to ((kept_of v).links space (page / 1024)) add.key) (fits (added (kept_of v) space page add)) (ap fits (sym keeps.kept) ∙ fits-kept w cache)));
+      (sym (and-true (has_no_other ((kept_of v).links space (page / 1024)) add.key) (fits (added (kept_of v) space page add)) (ap fits (sym keeps.kept) ∙ fits-kept w cache)));
   harts = keeps.harts;
 }
 
@@ -298,9 +298,10 @@ remembers-anew v b w hart page space leaf add full blank harts keeps = record {
   held = keeps.held;
   others = λ k differs.
       keeps.others k differs
-      ∙ (ap (λ (x : SharedKept). if leads_to (x.links space (page / 1024)) add.key then tlb_at b.tlbs k else []) (kept-blank b blank)
+      ∙ (ap (λ (x : SharedKept). if has_no_other (x.links space (page / 1024)) add.key then tlb_at b.tlbs k else []) (kept-blank b blank)
+      ∙ (blank.tlbs k
       ∙ ap (λ (y : Bool). if y then tlb_at v.tlbs k else [])
-      (sym (and-false (leads_to ((kept_of v).links space (page / 1024)) add.key) (fits (added (kept_of v) space page add)) full)));
+      (sym (and-false (has_no_other ((kept_of v).links space (page / 1024)) add.key) (fits (added (kept_of v) space page add)) full))));
   harts = keeps.harts ∙ harts;
 }
 

@@ -19,16 +19,14 @@ use Rattle.producers.specs.declared.producer.Producer.{Producer}
 use Rattle.producers.specs.Producer.{at_join, background_number, cut, gpt_cap, joined_trail}
 use Rattle.producers.specs.Meets.{Meets}
 use Rattle.producers.proofs.Staying.{meets-stays, space-stays, unread-append}
-use Rattle.depend_table.specs.Depend.{Depend, depend, has}
+use Rattle.depend_table.specs.Depend.{depend, has}
 use Rattle.map_cache.specs.Coherent.{IsFresh}
 use Rattle.map_cache.proofs.Coherence.{each_map}
 use Rattle.shared_leaves.specs.declared.key.Table.{Table}
 use Rattle.shared_leaves.specs.declared.key.Table.TheVariants.{Region, Root, Producer as Joins}
 use Rattle.shared_leaves.specs.Kept.{background_reads}
-use Rattle.shared_leaves.specs.Cache.{SharedCache, cache_of, key_at}
-use Rattle.shared_leaves.specs.Effects.{DropsHarts, Forgets, entry_left, is_left, link_left}
+use Rattle.shared_leaves.specs.Cache.{SharedCache, key_at}
 use Rattle.shared_leaves.specs.Coherent.{IsCoherent, IsEntryIn, IsJoined, IsLinkTo, IsMet, IsRecorded}
-use Rattle.shared_leaves.proofs.Adding.{coherent-more}
 
 -- reads that are not of the item, before they are cut to a region
 unread-cut : (x : Item) (ns : List Noted) → Unread x (map cut ns) → Unread x ns
@@ -111,17 +109,3 @@ coherent-differs v x o q differ none coherent = record {
         let there : has v.records (depend x f n.block) ≡ true = ap (λ (i : Item). has v.records (depend i f n.block)) (sym same') ∙ rec.there in
         let not_there = none f n.block in
         absurd (cc)
-
--- what the harts hold is no matter to what is left
-pub forgets-harts : (v w : SharedCache) (item : Item) → DropsHarts v w → Forgets v w item
-forgets-harts v w item drops = record {
-  keys = drops.keys;
-  links = λ s r low. λ i. link_left (at i) item s r;
-  entries = λ k j low. λ i. entry_left (at i) item k j;
-  records = λ d. λ i. is_left (at i) item d;
-  coherent = λ o was. coherent-more v w o drops.tables drops.keys (λ d there. ap (λ (ds : List Depend). has ds d) drops.records ∙ there) was;
-  harts = drops.harts;
-}
-  where
-    at : cache_of w.tables w.keys [] w.records ≡ cache_of v.tables v.keys [] v.records
-    at = λ i. cache_of (drops.tables i) (drops.keys i) [] (drops.records i)

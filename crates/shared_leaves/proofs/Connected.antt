@@ -1,13 +1,13 @@
 -- A region is linked to a leaf table, and a place of one gets an entry.
-use Rattle.std.proofs.Common.{◌≡◌, ◌⊎◌, inl, inr, ℕ, ◌*◌, ◌/◌, ◌%◌, ◌<◌, Bool, true, false, ◌&&◌, ◌==◌, eqb, if◌then◌else◌, List, [], length, Option, Some, None, refl, sym, ap, ◌∙◌, subst, arith}
+use Rattle.std.proofs.Common.{◌≡◌, ◌≢◌, ◌⊎◌, inl, inr, ℕ, ◌*◌, ◌/◌, ◌%◌, ◌<◌, Bool, true, false, ◌&&◌, ◌==◌, if◌then◌else◌, List, [], length, Option, Some, None, refl, sym, ap, ◌∙◌, subst, arith}
 use Rattle.std.specs.Prelude.{slice_get}
-use Rattle.std.specs.Option.{option_eq}
 use Rattle.std.proofs.lemmas.Option.{none-some}
 use Rattle.cap_format.specs.Capability.{Capability}
 use Rattle.object_store.specs.Store.{Items}
 use Rattle.sv32_tables.specs.declared.leaf.Leaf.{Leaf as Entry}
 use Rattle.sv32_tables.specs.declared.shared_use.SharedUse.{SharedUse}
 use Rattle.sv32_tables.specs.declared.shared_use.SharedUse.TheVariants.{Root as RootUse, Leaf as LeafUse}
+use Rattle.sv32_tables.specs.Pool.{leaf_below}
 use Rattle.sv32_tables.specs.Shared.{IsLeafTable, IsSharedRoot, SharedValue, entry_at, link_at}
 use Rattle.sv32_tables.specs.SharedHistory.{SetsEntry, SetsLink}
 use Rattle.tlb_model.specs.declared.entry.Entry.{Entry as TlbEntry}
@@ -17,25 +17,16 @@ use Rattle.map_cache.specs.Key.{same_space}
 use Rattle.map_cache.specs.Cache.{tlb_at}
 use Rattle.shared_leaves.specs.declared.key.Key.{Key}
 use Rattle.shared_leaves.specs.Key.{is_leaf, root_key, same_key}
-use Rattle.shared_leaves.specs.Kept.{leads_to}
+use Rattle.shared_leaves.specs.Kept.{has_no_other}
 use Rattle.shared_leaves.specs.Cache.{IsBacked, IsCache, cache_of, entry_for, entry_in, frame_of, key_at, key_of_link, link_for, link_in, root_at}
 use Rattle.shared_leaves.specs.Coherent.{IsCoherent, IsEntry, IsLink, IsRecorded}
 use Rattle.shared_leaves.specs.Effects.{Connects, SameEntriesFor, SetsPlace}
 use Rattle.shared_leaves.proofs.Filed.{Made}
 use Rattle.shared_leaves.proofs.Invariant.{leaf_by, leaf_keyed, leaf_made, leaf_none, root_made, root_space}
 use Rattle.depend_table.proofs.Coded.{frame_of-is, frame_of-some, key_itself, key_tells, one_key}
-use Rattle.depend_table.proofs.Tests.{number_itself, same_numbers, same_tests}
+use Rattle.depend_table.proofs.Tests.{both, number_itself, same_numbers, same_tests}
 use Rattle.map_cache.proofs.Codes.{space_coding}
 use Rattle.shared_leaves.proofs.Codes.{key_coding}
-
--- a link that passes the test for one is that one
-pub linked_tells : (x : Option ℕ) (y : ℕ) → option_eq eqb x (Some y) ≡ true → x ≡ Some y
-linked_tells None y holds = absurd (cc)
-linked_tells (Some a) y holds = ap (λ (n : ℕ). Some n) (same_numbers a y holds)
-
-both : (a b : Bool) → (a && b) ≡ true → (a ≡ true) × (b ≡ true)
-both true b holds = (refl, holds)
-both false b holds = absurd (cc)
 
 -- a choice of links, by their keys
 key_choice : (keys : List Key) (b : Bool) (f : ℕ) (l : Option ℕ) → key_of_link keys (if b then Some f else l) ≡ (if b then Some (key_at keys f) else key_of_link keys l)
@@ -69,32 +60,33 @@ module _ (t : SharedValue) (keys : List Key) (tlbs : List (List TlbEntry)) (ds :
 
   -- a region of a root is linked to the key of the leaf table to which the words lead
   leads-there : (root region table : ℕ) → IsSharedRoot t root → link_at t root region ≡ Some table
-      → leads_to (link_for (cache_of t keys tlbs ds) (key_at keys root).space region) (key_at keys table) ≡ true
+      → has_no_other (link_for (cache_of t keys tlbs ds) (key_at keys root).space region) (key_at keys table) ≡ true
   leads-there root region table made at =
-      ap (λ (r : Option ℕ). leads_to (link_in t keys region r) (key_at keys table)) (frame_of-is key_coding keys (root_key (key_at keys root).space) root cache.apart (root_space t keys tlbs ds cache root made))
-      ∙ (ap (λ (l : Option ℕ). leads_to (key_of_link keys l) (key_at keys table)) at ∙ key_itself key_coding (key_at keys table))
+      ap (λ (r : Option ℕ). has_no_other (link_in t keys region r) (key_at keys table)) (frame_of-is key_coding keys (root_key (key_at keys root).space) root cache.apart (root_space t keys tlbs ds cache root made))
+      ∙ (ap (λ (l : Option ℕ). has_no_other (key_of_link keys l) (key_at keys table)) at ∙ key_itself key_coding (key_at keys table))
 
-  -- and to no other's
-  leads-elsewhere : (root region table : ℕ) → IsSharedRoot t root → IsLeafTable t table → region < 1024 → option_eq eqb (link_at t root region) (Some table) ≡ false
-      → leads_to (link_for (cache_of t keys tlbs ds) (key_at keys root).space region) (key_at keys table) ≡ false
-  leads-elsewhere root region table made leaf inside differs =
-      ap (λ (r : Option ℕ). leads_to (link_in t keys region r) (key_at keys table)) (frame_of-is key_coding keys (root_key (key_at keys root).space) root cache.apart (root_space t keys tlbs ds cache root made))
-      ∙ on (link_at t root region) refl differs
+  -- one that has no link has no other
+  leads-nowhere : (root region : ℕ) (key : Key) → IsSharedRoot t root → link_at t root region ≡ None
+      → has_no_other (link_for (cache_of t keys tlbs ds) (key_at keys root).space region) key ≡ true
+  leads-nowhere root region key made at =
+      ap (λ (r : Option ℕ). has_no_other (link_in t keys region r) key) (frame_of-is key_coding keys (root_key (key_at keys root).space) root cache.apart (root_space t keys tlbs ds cache root made))
+      ∙ ap (λ (l : Option ℕ). has_no_other (key_of_link keys l) key) at
+
+  -- and one that leads to another table has another
+  leads-elsewhere : (root region table f : ℕ) → IsSharedRoot t root → IsLeafTable t table → region < 1024 → link_at t root region ≡ Some f → f ≢ table
+      → has_no_other (link_for (cache_of t keys tlbs ds) (key_at keys root).space region) (key_at keys table) ≡ false
+  leads-elsewhere root region table f made leaf inside at differs =
+      ap (λ (r : Option ℕ). has_no_other (link_in t keys region r) (key_at keys table)) (frame_of-is key_coding keys (root_key (key_at keys root).space) root cache.apart (root_space t keys tlbs ds cache root made))
+      ∙ (ap (λ (l : Option ℕ). has_no_other (key_of_link keys l) (key_at keys table)) at ∙ case (same_key (key_at keys f) (key_at keys table)) refl)
     where
-      on : (l : Option ℕ) → link_at t root region ≡ l → option_eq eqb l (Some table) ≡ false → leads_to (key_of_link keys l) (key_at keys table) ≡ false
-      on None at differs = refl
-      on (Some f) at differs = case (same_key (key_at keys f) (key_at keys table)) refl
-        where
-          case : (b : Bool) → same_key (key_at keys f) (key_at keys table) ≡ b → b ≡ false
-          case false e = refl
-          case true e =
-              let same = key_tells key_coding (key_at keys f) (key_at keys table) e in
-              let here = (leaf_keyed t keys tlbs ds cache f (cache.linked root region f made inside at)).0 in
-              let there = (leaf_keyed t keys tlbs ds cache table leaf).0 in
-              let one = cache.apart f table (key_at keys table) (here ∙ ap (λ (k : Key). Some k) same) there in
-              let yes : (f == table) ≡ true = ap (λ (n : ℕ). n == table) one ∙ number_itself table in
-              let no : (f == table) ≡ false = differs in
-              absurd (cc)
+      case : (b : Bool) → same_key (key_at keys f) (key_at keys table) ≡ b → b ≡ false
+      case false e = refl
+      case true e =
+          let same = key_tells key_coding (key_at keys f) (key_at keys table) e in
+          let here = (leaf_keyed t keys tlbs ds cache f (cache.linked root region f made inside at)).0 in
+          let there = (leaf_keyed t keys tlbs ds cache table leaf).0 in
+          let one = cache.apart f table (key_at keys table) (here ∙ ap (λ (k : Key). Some k) same) there in
+          absurd (differs one)
 
   module _ (u : SharedValue) (to : List (List TlbEntry)) (root region table : ℕ) (made : IsSharedRoot t root) (leaf : IsLeafTable t table) (inside : region < 1024)
       (sets : SetsLink t u root region (Some table)) where
@@ -138,10 +130,11 @@ module _ (t : SharedValue) (keys : List Key) (tlbs : List (List TlbEntry)) (ds :
             (subst (λ (n : ℕ). IsLink o (key_at keys r).space n (key_at keys table) (IsRecorded ds r (n * 1024))) i_is
             (subst (λ (n : ℕ). IsLink o (key_at keys n).space region (key_at keys table) (IsRecorded ds n (region * 1024))) r_is link))
 
-    -- a region that gets a link, where no hart holds anything
-    pub connected : ((hart : ℕ) → tlb_at to hart ≡ []) → length to ≡ length tlbs → option_eq eqb (link_at t root region) (Some table) ≡ false
-        → Made u keys to ds (λ v. Connects (cache_of t keys tlbs ds) v (key_at keys root).space root region (key_at keys table) table)
-    connected dropped harts differs = record {
+    -- a region that gets a link, where what the harts hold stands in the tables still
+    connects : ((hart r p : ℕ) (l : Entry) → look (tlb_at to hart) r p ≡ Some l → IsBacked u r p l)
+        → ((k : ℕ) → tlb_at to k ≡ (if has_no_other (link_for (cache_of t keys tlbs ds) (key_at keys root).space region) (key_at keys table) then tlb_at tlbs k else []))
+        → length to ≡ length tlbs → Made u keys to ds (λ v. Connects (cache_of t keys tlbs ds) v (key_at keys root).space root region (key_at keys table) table)
+    connects backed others harts = record {
       cache = record {
         frames = cache.frames ∙ sym (ap (λ (us : List SharedUse). length us) sets.uses);
         most_keys = cache.most_keys;
@@ -150,7 +143,7 @@ module _ (t : SharedValue) (keys : List Key) (tlbs : List (List TlbEntry)) (ds :
         linked = λ r i f there low at.
             ap (λ (us : List SharedUse). slice_get us f) sets.uses
             ∙ on r i f (more r RootUse there) low ((r == root) && (i == region)) (sym (sets.links r i (more r RootUse there) low) ∙ at);
-        backed = λ hart r p l found. absurd (none-some l (ap (λ (es : List TlbEntry). look es r p) (sym (dropped hart)) ∙ found));
+        backed = backed;
         within = cache.within;
         noted = cache.noted;
         most_records = cache.most_records;
@@ -162,7 +155,7 @@ module _ (t : SharedValue) (keys : List Key) (tlbs : List (List TlbEntry)) (ds :
         links = links;
         entries = entries;
         coherent = coherent;
-        others = λ k. dropped k ∙ sym (ap (λ (b : Bool). if b then tlb_at tlbs k else []) (leads-elsewhere root region table made leaf inside differs));
+        others = others;
         harts = harts;
       };
     }
@@ -173,6 +166,45 @@ module _ (t : SharedValue) (keys : List Key) (tlbs : List (List TlbEntry)) (ds :
         on : (r i f : ℕ) → IsSharedRoot t r → i < 1024 → (b : Bool) → (if b then Some table else link_at t r i) ≡ Some f → IsLeafTable t f
         on r i f there low true at = let same : table ≡ f = cc in subst (λ (n : ℕ). IsLeafTable t n) same leaf
         on r i f there low false at = cache.linked r i f there low at
+
+    -- one that had another link, where no hart holds anything
+    pub connected : ((hart : ℕ) → tlb_at to hart ≡ []) → length to ≡ length tlbs → (f : ℕ) → link_at t root region ≡ Some f → f ≢ table
+        → Made u keys to ds (λ v. Connects (cache_of t keys tlbs ds) v (key_at keys root).space root region (key_at keys table) table)
+    connected dropped harts f at differs = connects
+        (λ hart r p l found. absurd (none-some l (ap (λ (es : List TlbEntry). look es r p) (sym (dropped hart)) ∙ found)))
+        (λ k. dropped k ∙ sym (ap (λ (b : Bool). if b then tlb_at tlbs k else []) (leads-elsewhere root region table f made leaf inside at differs)))
+        harts
+
+    -- one that had none: no hart holds a page of it
+    pub connected-first : to ≡ tlbs → link_at t root region ≡ None
+        → Made u keys to ds (λ v. Connects (cache_of t keys tlbs ds) v (key_at keys root).space root region (key_at keys table) table)
+    connected-first same bare = connects
+        (λ hart r p l found. still r p l (cache.backed hart r p l (ap (λ (ts : List (List TlbEntry)). look (tlb_at ts hart) r p) (sym same) ∙ found)))
+        (λ k. ap (λ (ts : List (List TlbEntry)). tlb_at ts k) same ∙ sym (ap (λ (b : Bool). if b then tlb_at tlbs k else []) (leads-nowhere root region (key_at keys table) made bare)))
+        (ap (λ (ts : List (List TlbEntry)). length ts) same)
+      where
+        still : (r p : ℕ) (l : Entry) → IsBacked t r p l → IsBacked u r p l
+        still r p l was =
+            let low : p / 1024 < 1024 = let inside' = was.inside in omega (arith, inside') in
+            record {
+              made = ap (λ (us : List SharedUse). slice_get us r) sets.uses ∙ was.made;
+              inside = was.inside;
+              there = ap (λ (k : Option ℕ). leaf_below u.words (p % 1024) k) (sets.links r (p / 1024) was.made low)
+                  ∙ on low ((r == root) && (p / 1024 == region)) refl (link_at t r (p / 1024)) refl was.there;
+            }
+          where
+            on : p / 1024 < 1024 → (b : Bool) → ((r == root) && (p / 1024 == region)) ≡ b → (k : Option ℕ) → link_at t r (p / 1024) ≡ k → leaf_below t.words (p % 1024) (link_at t r (p / 1024)) ≡ Some l
+                → leaf_below u.words (p % 1024) (if b then Some table else link_at t r (p / 1024)) ≡ Some l
+            on low true e k is there =
+                let parts = both (r == root) (p / 1024 == region) e in
+                let none : link_at t r (p / 1024) ≡ None =
+                ap (λ (n : ℕ). link_at t n (p / 1024)) (same_numbers r root parts.0) ∙ (ap (λ (n : ℕ). link_at t root n) (same_numbers (p / 1024) region parts.1) ∙ bare) in
+                absurd (none-some l (sym (ap (λ (k : Option ℕ). leaf_below t.words (p % 1024) k) none) ∙ there))
+            on low false e None is there = absurd (none-some l (sym (ap (λ (k : Option ℕ). leaf_below t.words (p % 1024) k) is) ∙ there))
+            on low false e (Some f) is there =
+                ap (λ (k : Option ℕ). leaf_below u.words (p % 1024) k) is
+                ∙ (sets.entries f (p % 1024) (cache.linked r (p / 1024) f was.made low is) (omega arith)
+                ∙ (sym (ap (λ (k : Option ℕ). leaf_below t.words (p % 1024) k) is) ∙ there))
 
   -- a region that has the link
   pub connected-there : (root region table : ℕ) → IsSharedRoot t root → region < 1024 → link_at t root region ≡ Some table

@@ -21,7 +21,7 @@ use Rattle.shared_leaves.specs.declared.leaves.Leaves.{Leaves}
 use Rattle.producers.specs.declared.producer.Produced.{Produced}
 use Rattle.producers.specs.Producer.{cut}
 use Rattle.shared_leaves.specs.Key.{is_leaf, own_key, producer_key, root_key, same_key, with_key}
-use Rattle.shared_leaves.specs.Kept.{Addition, added, added_to, background_reads, covers_note, is_on, leads_to, noted_all, spares_harts}
+use Rattle.shared_leaves.specs.Kept.{Addition, added, added_to, background_reads, covers_note, is_on, has_no_other, noted_all, spares_harts}
 use Rattle.shared_leaves.specs.Cache.{IsCache, SharedCache, entry_for, kept_of, link_for, note_of, notes_of, root_at, key_at}
 use Rattle.shared_leaves.specs.Coherent.{IsCoherent, IsEntry, IsLink, IsRecorded}
 
@@ -88,7 +88,7 @@ pub record Connects (old new : SharedCache) (space : Capability) (root region : 
   pub links : (s : Capability) (r : ℕ) → r < 1024 → link_for new s r ≡ (if same_space s space && (r == region) then Some key else link_for old s r)
   pub entries : SameEntriesFor old new
   pub coherent : (o : Items) → IsLink o space region key (IsRecorded old.records root (region * 1024)) → IsCoherent old o → IsCoherent new o
-  pub others : (k : ℕ) → tlb_at new.tlbs k ≡ (if leads_to (link_for old space region) key then tlb_at old.tlbs k else [])
+  pub others : (k : ℕ) → tlb_at new.tlbs k ≡ (if has_no_other (link_for old space region) key then tlb_at old.tlbs k else [])
   pub harts : length new.tlbs ≡ length old.tlbs
 
 -- a place of a key's leaf table has an entry
@@ -129,7 +129,7 @@ pub record Keeps (old new : SharedCache) (hart : ℕ) (space : Capability) (page
   pub kept : kept_of new ≡ added (kept_of old) space page add
   pub coherent : (o : Items) → IsWalked o space page leaf add → IsCoherent old o → IsCoherent new o
   pub held : IsHeld new hart space page leaf
-  pub others : (k : ℕ) → k ≢ hart → tlb_at new.tlbs k ≡ (if leads_to ((kept_of old).links space (page / 1024)) add.key then tlb_at old.tlbs k else [])
+  pub others : (k : ℕ) → k ≢ hart → tlb_at new.tlbs k ≡ (if has_no_other ((kept_of old).links space (page / 1024)) add.key then tlb_at old.tlbs k else [])
   pub harts : length new.tlbs ≡ length old.tlbs
 
 -- the same, after all was forgotten where there would be too much
@@ -188,16 +188,4 @@ pub record Forgets (old new : SharedCache) (item : Item) : Type 0 where
   pub entries : (k : Key) (j : ℕ) → j < 1024 → entry_left new item k j ≡ entry_left old item k j
   pub records : (d : Depend) → is_left new item d ≡ is_left old item d
   pub coherent : StaysCoherent old new
-  pub harts : length new.tlbs ≡ length old.tlbs
-
--- no hart holds anything
-abbrev pub AreDropped : SharedCache → Type 0
-AreDropped v = (hart : ℕ) → tlb_at v.tlbs hart ≡ []
-
--- no hart holds anything, and nothing else changes
-pub record DropsHarts (old new : SharedCache) : Type 0 where
-  pub tables : new.tables ≡ old.tables
-  pub keys : new.keys ≡ old.keys
-  pub records : new.records ≡ old.records
-  pub dropped : AreDropped new
   pub harts : length new.tlbs ≡ length old.tlbs

@@ -1,6 +1,6 @@
 -- What is kept by shared leaf tables, what that spares, and what a change takes out of it (this project's own). A space is a
 -- capability with its count.
-use Rattle.std.specs.Prelude.{ℕ, Bool, false, not, ◌&&◌, ◌||◌, ◌==◌, nat_le, if◌then◌else◌, ◌+◌, ◌*◌, ◌/◌, ◌%◌, List, [], ◌∷◌, ◌++◌, length, map, take, drop, Option, Some, None}
+use Rattle.std.specs.Prelude.{ℕ, Bool, true, false, not, ◌&&◌, ◌||◌, ◌==◌, nat_le, if◌then◌else◌, ◌+◌, ◌*◌, ◌/◌, ◌%◌, List, [], ◌∷◌, ◌++◌, length, map, take, drop, Option, Some, None}
 use Rattle.std.specs.List.{list_any}
 use Rattle.std.specs.declared.cmp.Ordering.{Ordering}
 use Rattle.std.specs.FinSet.{FinSet, empty, items, len, retain}
@@ -128,21 +128,21 @@ abbrev pub kept_after : SharedKept → Items → Capability → ℕ → Kind →
 kept_after k o c address kind =
     if is_new k o c address kind then added_to k (counted o c) (address / 4096) (addition_of o c address kind) else k
 
--- whether a link leads to a key
-abbrev pub leads_to : Option Key → Key → Bool
-leads_to None key = false
-leads_to (Some k) key = same_key k key
+-- whether a region has no link, or the one to a key
+abbrev pub has_no_other : Option Key → Key → Bool
+has_no_other None key = true
+has_no_other (Some k) key = same_key k key
 
--- whether an addition leaves what the harts hold: the region was linked to the key before, and there is not too much
+-- whether an addition leaves what the harts hold: the region had no link to another key before, and there is not too much
 abbrev pub spares_harts : SharedKept → Capability → ℕ → Addition → Bool
-spares_harts k space page add = leads_to (k.links space (page / 1024)) add.key && fits (added k space page add)
+spares_harts k space page add = has_no_other (k.links space (page / 1024)) add.key && fits (added k space page add)
 
 -- whether an access adds a page, and leaves no hart what it holds
 abbrev pub drops_harts : SharedKept → Items → Capability → ℕ → Kind → Bool
 drops_harts k o c address kind =
     is_new k o c address kind && not (spares_harts k (counted o c) (address / 4096) (addition_of o c address kind))
 
--- what an access on one hart makes of another hart's cache: it is empty where the region was linked anew, or all was forgotten
+-- what an access on one hart makes of another hart's cache: it is empty where the region lost another link, or all was forgotten
 abbrev pub tlb_after : SharedKept → Items → Capability → ℕ → Kind → List Entry → List Entry
 tlb_after k o c address kind entries = if drops_harts k o c address kind then [] else entries
 

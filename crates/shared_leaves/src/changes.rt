@@ -11,7 +11,7 @@ ghost use Rattle.shared_leaves.specs.Key.{is_leaf};
 ghost use Rattle.shared_leaves.specs.Kept.{kept_without};
 ghost use Rattle.shared_leaves.specs.Cache.{key_at, kept_of};
 ghost use Rattle.shared_leaves.specs.Coherent.{IsCoherent};
-ghost use Rattle.shared_leaves.specs.Effects.{AreDropped, DropsHarts, Forgets, IsKept, value_of};
+ghost use Rattle.shared_leaves.specs.Effects.{Forgets, IsKept, value_of};
 
 use crate::key::Table;
 use crate::leaves::Leaves;
@@ -31,26 +31,14 @@ impl Leaves {
             → IsCoherent (value_of self.old) o → IsCoherent (value_of self.new) p }
         ensures harts { length self.new.tlbs.items ≡ length self.old.tlbs.items }
     {
-        self.drop_harts();
         'records: while self.clear_one(item) {}
     }
 
-    /// Drops all that the harts hold.
-    fn drop_harts(&mut self)
+    /// Takes out a record of an item, with the entries or the links of its block; no hart holds anything
+    /// then. False where the item has none.
+    fn clear_one(&mut self, item: Item) -> bool
         requires { IsKept self.old }
         ensures kept { IsKept self.new }
-        ensures done { DropsHarts (value_of self.old) (value_of self.new) }
-    {
-        drop_all(&mut self.tlbs);
-    }
-
-    /// Takes out a record of an item, with the entries or the links of its block. False where the item
-    /// has none.
-    fn clear_one(&mut self, item: Item) -> bool
-        requires kept { IsKept self.old }
-        requires dropped { AreDropped (value_of self.old) }
-        ensures kept { IsKept self.new }
-        ensures dropped { AreDropped (value_of self.new) }
         ensures forgets { Forgets (value_of self.old) (value_of self.new) item }
         ensures none { result ≡ false → (root : ℕ) (block : BlockValue)
             → has self.new.records (depend item root block) ≡ false }
@@ -61,6 +49,7 @@ impl Leaves {
         };
         let frame = taken.0;
         let block = taken.1;
+        drop_all(&mut self.tlbs);
         if self.is_root(frame) {
             unlink_block(&mut self.tables, frame, block);
             return true;

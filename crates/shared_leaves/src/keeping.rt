@@ -156,7 +156,11 @@ impl Leaves {
             Connects (value_of self.old) (value_of self.new) (key_at keys root).space root (va / 4096 / 1024) (key_at keys table) table }
         ensures kept { IsKept self.new }
     {
-        if self.tables.link_of(root, va) == Some(table) {
+        let Some(linked) = self.tables.link_of(root, va) else {
+            self.tables.link(root, va, table);
+            return;
+        };
+        if linked == table {
             return;
         }
         drop_all(&mut self.tlbs);

@@ -1,15 +1,13 @@
 use Rattle.std.proofs.Common.{rules}
 use Rattle.shared_leaves.specs.Effects.{Forgets, value_of}
-use Rattle.shared_leaves.proofs.Changed.{coherent-differs, forgets-harts}
+use Rattle.shared_leaves.proofs.Changed.{coherent-differs}
 use Rattle.shared_leaves.proofs.Forgotten.{forgets-more, forgotten}
 use Rattle.shared_leaves.proofs.leaves.Leaves.forget_item.Goals as goal
 
--- all that was done to the records, and the harts before that
+-- all that was done to the records
 all_done : (c : goal.After-records) → Forgets (value_of c.args.self.now) (value_of c.clear_one.new.self) c.args.item
 all_done c =
-    let start = value_of c.drop_harts.new.self in
-    forgets-more (value_of c.args.self.now) start (value_of c.clear_one.new.self) c.args.item (forgets-harts (value_of c.args.self.now) start c.args.item c.drop_harts.ensures.done)
-    (forgets-more start (value_of c.records.self) (value_of c.clear_one.new.self) c.args.item c.records.invariant.forgets c.clear_one.ensures.forgets)
+    forgets-more (value_of c.args.self.now) (value_of c.records.self) (value_of c.clear_one.new.self) c.args.item c.records.invariant.forgets c.clear_one.ensures.forgets
 
 pub returns-clause-without : goal.returns-clause-without
 returns-clause-without c =

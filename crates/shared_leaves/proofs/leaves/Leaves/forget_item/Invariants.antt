@@ -1,11 +1,10 @@
 use Rattle.std.proofs.Common.{length}
-use Rattle.shared_leaves.specs.Effects.{AreDropped, Forgets, IsKept, value_of}
+use Rattle.shared_leaves.specs.Effects.{Forgets, IsKept, value_of}
 use Rattle.shared_leaves.proofs.leaves.Leaves.forget_item.Given as goal
 
 abbrev pub invariant-records : goal.invariant-records
 invariant-records l = record {
   kept : IsKept l.self;
-  dropped : AreDropped (value_of l.self);
   forgets : Forgets (value_of l.initial.self) (value_of l.self) l.item;
 }
 
