@@ -1,13 +1,17 @@
 -- What is known of the exit that a flush leaves, and of what went out.
-use Rattle.std.proofs.Common.{◌≡◌, ℕ, List, [], ◌++◌, take, drop, Option, None, Some, Result, Ok, Err, IfSome, OnOk, refl, sym, ap, ◌∙◌, append_assoc, append-nil, take-append-drop, arith}
+use Rattle.std.proofs.Common.{◌≡◌, ℕ, List, [], ◌++◌, take, drop, Option, None, Some, Result, Ok, Err, IfSome, OnOk, refl, sym, ap, subst, ◌∙◌, inl, inr, append_assoc, append-nil, take-append-drop, arith}
+use Rattle.std.specs.Prelude.{◌≢◌}
 use Rattle.std.specs.Io.KnownBytes.{Appends, Keeps, append_known}
 use Rattle.std.proofs.KnownBytes.{Appends-kept, Keeps-trans}
+use Rattle.coy_io.specs.Causes.{HasCause}
 use Rattle.coy_io.specs.Pieces.{AppendsSome}
+use Rattle.courses.specs.Course.{Course}
+use Rattle.courses.specs.Sure.{WritesSure}
 use Rattle.courses.specs.declared.exit.Exit.{Exit}
 use Rattle.courses.specs.declared.exit.Exit.TheVariants.{ReadFault, WriteFault, OutOfMemory}
 use Rattle.courses.specs.Exit.{status_of}
 use Rattle.courses.specs.Ending.{Output, IsGiven, Outputs}
-use Rattle.coyotos.specs.Flush.{exit_after, AreFront, GoesOut}
+use Rattle.coyotos.specs.Flush.{exit_after, AreFront, GoesOut, GoesOutSure, Reaches}
 
 -- what a sink took, of which some is still in its buffer
 front_of : (old mid sent : Option (List ℕ)) (buffer front behind text : List ℕ) → Appends old mid front → text ≡ front ++ behind → Keeps mid (append_known sent buffer)
@@ -71,3 +75,32 @@ pub goes_out : (T E : Type 0) (old mid sent : Option (List ℕ)) (buffer : List 
     → IfSome held (λ bytes. GoesOut old sent (exit_after exit flushed) (output bytes))
 goes_out T E old mid sent buffer output None exit flushed told out kept = tt
 goes_out T E old mid sent buffer output (Some bytes) exit flushed told out kept = flushed_out old mid sent buffer (output bytes) kept T E exit flushed told out
+
+-- a flush hides no fault of reading, and makes none
+read_before : (T E : Type 0) (exit : Exit) (flushed : Result T E) → exit_after exit flushed ≡ ReadFault → exit ≡ ReadFault
+read_before T E exit (Ok done) same = same
+read_before T E ReadFault (Err fault) same = refl
+read_before T E other (Err fault) same = let bad : 5 ≡ 4 = ap status_of same in absurd (omega (arith, bad))
+
+reaches : (T E : Type 0) (old mid sent : Option (List ℕ)) (buffer text : List ℕ) (faults faults' : ℕ) (flushed : Result T E) → Appends old mid text
+    → OnOk flushed (Keeps mid sent) → Keeps mid (append_known sent buffer) → HasCause faults faults' flushed → Reaches old sent faults faults' text
+reaches T E old mid sent buffer text faults faults' (Ok done) took out kept cause = inl (cause.quiet, Appends-kept old mid sent text took out)
+reaches T E old mid sent buffer text faults faults' (Err fault) took out kept cause =
+    inr (cause.rose, front_of old mid sent buffer text [] text took (sym (append-nil text)) kept)
+
+-- where reading failed, what went out are the records that are sure, or a front of them
+pub sure_out : (T E : Type 0) (held held' old mid sent : Option (List ℕ)) (buffer : List ℕ) (course : List ℕ → Course) (before faults faults' : ℕ) (exit : Exit) (flushed : Result T E)
+    → (exit ≡ ReadFault → WritesSure held held' old mid course) → (exit ≢ WriteFault → faults ≡ before)
+    → OnOk flushed (Keeps mid sent) → Keeps mid (append_known sent buffer) → HasCause faults faults' flushed
+    → exit_after exit flushed ≡ ReadFault → GoesOutSure held held' old sent before faults' course
+sure_out T E held held' old mid sent buffer course before faults faults' exit flushed sure quiet out kept cause same =
+    let failed = read_before T E exit flushed same in
+    let writes = sure failed in
+    let since = quiet (λ wrote. let bad : 4 ≡ 5 = ap status_of (sym failed ∙ wrote) in absurd (omega (arith, bad))) in
+    record {
+      bytes = writes.bytes;
+      read = writes.read;
+      goes_on = writes.goes_on;
+      got = subst (λ n. Reaches old sent n faults' (course writes.bytes).records) since
+          (reaches T E old mid sent buffer (course writes.bytes).records faults faults' flushed writes.written out kept cause);
+    }

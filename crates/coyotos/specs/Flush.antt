@@ -1,7 +1,10 @@
 -- How the program ends after a flush of its output, and what the writer behind the buffer got then.
-use Rattle.std.specs.Prelude.{◌≡◌, ℕ, List, ◌++◌, ⊤, Option, Some, None, Result, Ok, Err}
-use Rattle.std.specs.Io.KnownBytes.{Appends, Keeps}
-use Rattle.courses.specs.Ending.{Output, IsGiven}
+use Rattle.std.specs.Prelude.{◌≡◌, ◌⊎◌, ℕ, List, [], ◌++◌, length, ⊤, Option, Some, None, Result, Ok, Err}
+use Rattle.std.specs.Io.KnownBytes.{Appends, Consumes, Keeps}
+use Rattle.coy_io.specs.Causes.{Rose}
+use Rattle.coy_io.specs.Lines.{whole_lines}
+use Rattle.courses.specs.Course.{Course}
+use Rattle.courses.specs.Ending.{Output, EndsNothing, IsGiven}
 use Rattle.courses.specs.declared.exit.Exit.{Exit}
 use Rattle.courses.specs.declared.exit.Exit.TheVariants as exits
 
@@ -23,3 +26,15 @@ pub record GoesOut (old new : Option (List ℕ)) (exit : Exit) (o : Output) : Ty
   pub whole : IsGiven exit → (exit ≡ o.exit) × Appends old new o.text
   pub part : exit ≡ exits.WriteFault → AreFront old new o.text
   pub nothing : exit ≡ exits.OutOfMemory → Keeps old new
+
+-- the writer got this text, or where the sink's count of faults rose, a front of it
+abbrev pub Reaches : Option (List ℕ) → Option (List ℕ) → ℕ → ℕ → List ℕ → Type 0
+Reaches old new faults faults' text = ((faults' ≡ faults) × Appends old new text) ⊎ (Rose faults faults' × AreFront old new text)
+
+-- reading failed behind these bytes, no whole line of which ended the call: the writer got the records that they make sure, no
+-- more and no less, or where the flush failed too, a front of them
+pub record GoesOutSure (held held' old new : Option (List ℕ)) (faults faults' : ℕ) (course : List ℕ → Course) : Type 0 where
+  pub bytes : List ℕ
+  pub read : Consumes held held' bytes
+  pub goes_on : EndsNothing (length (whole_lines [] bytes)) (course bytes).last.exit
+  pub got : Reaches old new faults faults' (course bytes).records

@@ -9,7 +9,7 @@ ghost use Rattle.courses.specs.Ending.{HasCauses};
 ghost use Rattle.courses.specs.Sure.{WritesSure};
 ghost use Rattle.coyotos_cli.specs.Program.{out, sure};
 ghost use Rattle.coyotos_cli.specs.Contract.{bytes_for, Answers, HasForm, ReadsInput};
-ghost use Rattle.coyotos.specs.Flush.{exit_after, GoesOut};
+ghost use Rattle.coyotos.specs.Flush.{exit_after, GoesOut, GoesOutSure};
 ghost use Rattle.steps.specs.Permit.{permit_for};
 
 use coy_io::{ReadSource, Sink, Source, WriteFault, WriteSink};
@@ -62,6 +62,12 @@ fn run_and_flush<S: Source, W: Write + Drop, L: Ledger>(
         IfSome (bytes_for (command_for words) (S.held input.old)) (λ bytes.
         let old = taken_in W.contents output.old in let new = gone_out W.contents output.new in
         GoesOut old new result (out words bytes)) }
+
+    // What the writer gets where reading failed: the records of the whole lines that were read.
+    ensures sure { let course = sure (map string_bytes words.now) in
+        let old = taken_in W.contents output.old in let new = gone_out W.contents output.new in
+        result ≡ Exit.ReadFault →
+        GoesOutSure (S.held input.old) (S.held input.new) old new output.old.faults output.new.faults course }
 
     // How much of the input is read.
     ensures reads { ReadsInput S.held (map string_bytes words.now) input.old input.new result }
