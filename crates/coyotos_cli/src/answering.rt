@@ -1,7 +1,8 @@
 //! A command, with the input or without.
 ghost use Rattle.std.specs.Prelude.{◌≡◌, ◌≢◌, true, false, IfSome, Some};
 ghost use Rattle.std.specs.Io.KnownBytes.{IsAtEnd};
-ghost use Rattle.coyotos_words.specs.declared.command.Command.TheVariants.{Help, Migrate, Pack, Share};
+ghost use Rattle.coyotos_words.specs.declared.command.Command.TheVariants.{Confine, Help, Migrate, Pack, Share};
+ghost use Rattle.confine_command.specs.Decided.{IsDecided};
 ghost use Rattle.coyotos_cli.specs.Command.{asks_input, asks_run, has_cache, summary_number};
 ghost use Rattle.coyotos_cli.specs.Contract.{ComesFor, StandsFor, bytes_for};
 ghost use Rattle.coyotos_cli.specs.Input.{no_input, read_input, whole_input};
@@ -60,6 +61,10 @@ pub(crate) fn answer<S: Source, K: Sink, L: Ledger>(
     ensures packed { command ≡ Pack → result ≡ Exit.Done → IfSome (S.held input.old) (λ bytes.
         IsImageOf bytes (course_output (command_course command (whole_input bytes))).text) }
 
+    // What `confine` tells of a cut.
+    ensures decided { command ≡ Confine → result ≡ Exit.Done → IfSome (S.held input.old) (λ bytes.
+        IsDecided bytes (course_output (command_course command (whole_input bytes))).text) }
+
     // How few frames `share` tells, and how few slots it fetches.
     ensures fewer { command ≡ Share → result ≡ Exit.Done →
         IfSome (bytes_for (Some command) (S.held input.old)) (λ bytes.
@@ -109,6 +114,8 @@ fn answer_input<S: Source, K: Sink, L: Ledger>(
         IsMigrated bytes (course_output (input_course command (whole_input bytes))).text) }
     ensures packed { command ≡ Pack → result ≡ Exit.Done → IfSome (S.held input.old) (λ bytes.
         IsImageOf bytes (course_output (input_course command (whole_input bytes))).text) }
+    ensures decided { command ≡ Confine → result ≡ Exit.Done → IfSome (S.held input.old) (λ bytes.
+        IsDecided bytes (course_output (input_course command (whole_input bytes))).text) }
     ensures fewer { command ≡ Share → result ≡ Exit.Done → IfSome (S.held input.old) (λ bytes.
         TellsFew (input_course command (whole_input bytes))) }
     ensures bounded { command ≡ Share → IfSome (S.held input.old) (λ bytes.

@@ -1,7 +1,8 @@
 //! The top call.
 ghost use Rattle.std.specs.Prelude.{◌≡◌, map, string_bytes, true, IfSome, Some};
 ghost use Rattle.coy_io.specs.Causes.{Rose};
-ghost use Rattle.coyotos_words.specs.declared.command.Command.TheVariants.{Migrate, Pack};
+ghost use Rattle.coyotos_words.specs.declared.command.Command.TheVariants.{Confine, Migrate, Pack};
+ghost use Rattle.confine_command.specs.Decided.{IsDecided};
 ghost use Rattle.image_commands.specs.Same.{IsImageOf};
 ghost use Rattle.migrate_command.specs.Same.{IsMigrated};
 ghost use Rattle.coyotos_cli.specs.Command.{command_for, has_cache};
@@ -66,6 +67,12 @@ pub fn coyotos<S: Source, K: Sink, L: Ledger>(
     ensures packed { let words = map string_bytes words.now in command_for words ≡ Some Pack →
         result ≡ Exit.Done → IfSome (S.held input.old) (λ bytes.
         IsImageOf bytes (out words bytes).text) }
+
+    // Where `confine` writes that a cut holds, it does at the start of the machine that the listing boots, and its sides are
+    // kept apart whatever events follow; where it writes a breach, the cut doesn't hold, and this is the first.
+    ensures decided { let words = map string_bytes words.now in command_for words ≡ Some Confine →
+        result ≡ Exit.Done → IfSome (S.held input.old) (λ bytes.
+        IsDecided bytes (out words bytes).text) }
 
     // How many slots are fetched.
     ensures fetches { FetchesFor (map string_bytes words.now) (S.held input.old)

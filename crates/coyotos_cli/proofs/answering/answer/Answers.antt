@@ -1,6 +1,7 @@
 use Rattle.std.proofs.Common.{◌∙◌, refl, sym}
 use Rattle.courses.specs.Course.{HasEntries}
-use Rattle.coyotos_words.specs.declared.command.Command.TheVariants.{Migrate, Pack, Share}
+use Rattle.coyotos_words.specs.declared.command.Command.TheVariants.{Confine, Migrate, Pack, Share}
+use Rattle.confine_command.specs.Decided.{IsDecided}
 use Rattle.image_commands.specs.Same.{IsImageOf}
 use Rattle.migrate_command.specs.Same.{IsMigrated}
 use Rattle.share_command.specs.Few.{IsSharedBounded, TellsFew}
@@ -64,3 +65,10 @@ returns-then-asks_input-clause-bounded g c =
 pub returns-clause-bounded : goal.returns-clause-bounded
 returns-clause-bounded g c =
     λ asked. text-other c.args.command Share asked refl (sym c.asks_input.ensures ∙ c.if-asks_input.false)
+
+pub returns-then-asks_input-clause-decided : goal.returns-then-asks_input-clause-decided
+returns-then-asks_input-clause-decided g c =
+    λ asked done. text-input IsDecided c.args.command _ (sym c.asks_input.ensures ∙ c.if-asks_input.true) (c.answer_input.ensures.decided asked done)
+
+pub returns-clause-decided : goal.returns-clause-decided
+returns-clause-decided g c = λ asked done. text-other c.args.command Confine asked refl (sym c.asks_input.ensures ∙ c.if-asks_input.false)

@@ -100,3 +100,6 @@ returns-in_default-clause-fewer g c = λ asked. absurd (c.in_default.not-Share a
 
 pub returns-in_default-clause-bounded : goal.returns-in_default-clause-bounded
 returns-in_default-clause-bounded g c = λ asked. absurd (c.in_default.not-Share asked)
+
+pub returns-in_default-clause-decided : goal.returns-in_default-clause-decided
+returns-in_default-clause-decided g c = λ asked. absurd (c.in_default.not-Confine asked)

@@ -1,7 +1,8 @@
 use Rattle.std.proofs.Common.{◌∙◌, sym, ap, map, string_bytes}
 use Rattle.courses.specs.Course.{HasEntries}
 use Rattle.coyotos_cli.specs.Command.{has_cache}
-use Rattle.coyotos_words.specs.declared.command.Command.TheVariants.{Migrate, Pack}
+use Rattle.coyotos_words.specs.declared.command.Command.TheVariants.{Confine, Migrate, Pack}
+use Rattle.confine_command.specs.Decided.{IsDecided}
 use Rattle.image_commands.specs.Same.{IsImageOf}
 use Rattle.migrate_command.specs.Same.{IsMigrated}
 use Rattle.coyotos_cli.proofs.Words.{answers-words, completes-words, known-words, fetches-words, shares-words, sure-words, form-words, form-memory, text-words}
@@ -55,3 +56,8 @@ pub returns-clause-packed : goal.returns-clause-packed
 returns-clause-packed g c =
     let asked = sym c.in-Ok-Some.ensures.asked ∙ c.in-Ok-Some.field-0-is in
     λ is done. text-words (map string_bytes c.args.words.now) _ asked IsImageOf Pack is _ (λ same. c.answer.ensures.packed same done)
+
+pub returns-clause-decided : goal.returns-clause-decided
+returns-clause-decided g c =
+    let asked = sym c.in-Ok-Some.ensures.asked ∙ c.in-Ok-Some.field-0-is in
+    λ is done. text-words (map string_bytes c.args.words.now) _ asked IsDecided Confine is _ (λ same. c.answer.ensures.decided same done)
