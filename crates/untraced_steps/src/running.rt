@@ -17,6 +17,9 @@ use walk_engine::Translator;
 /// Performs so many steps of a hart, one at least. It stops early behind a step that is more than an instruction of which
 /// a trace alone would tell, and answers how many it performed. What the last of them told is left in the list, but for
 /// records of accesses and instructions, some of which may be missing.
+///
+/// It is not inlined, so that its loop has the registers of the processor to itself.
+#[inline(never)]
 pub fn run_untraced<T: Translator, L: Ledger>(
     machine: &mut Machine<T>,
     hart: u8,
