@@ -1,8 +1,8 @@
 -- What commands ask for. The forms of the words are those of `coyotos_words`.
-use Rattle.std.specs.Prelude.{ℕ, Bool, true, false, List, Option, Some, None}
+use Rattle.std.specs.Prelude.{ℕ, Bool, true, false, if◌then◌else◌, List, Option, Some, None}
 use Rattle.coyotos_words.specs.Command.{command_of}
 use Rattle.coyotos_words.specs.declared.command.Command.{Command}
-use Rattle.coyotos_words.specs.declared.command.Command.TheVariants.{Help, Check, Make, Pack, Unpack, Migrate, Confine, Share, Back}
+use Rattle.coyotos_words.specs.declared.command.Command.TheVariants.{Help, Check, Run, Trace, Tables, Walk, Make, Pack, Unpack, Migrate, Confine, Share, Back}
 use Rattle.kernel_core.specs.Outcome.{Touch}
 use Rattle.courses.specs.Course.{cached}
 use Rattle.share_command.specs.Share.{shared_fetched}
@@ -11,11 +11,38 @@ use Rattle.share_command.specs.Share.{shared_fetched}
 abbrev pub command_for : List (List ℕ) → Option Command
 command_for words = command_of words
 
--- whether a command asks for input; `--help` and `make` do not
+-- What a command asks for: the input; a run, or a look at all GPTs, without which nothing is fetched; and a schedule, whose
+-- events are run or counted. Whether the number of slots that it fetches is told, and whether it runs over a mapping cache
+-- where it runs. And the number of which it runs the generated text.
+pub record Asks : Type 0 where
+  pub input : Bool
+  pub run : Bool
+  pub schedule : Bool
+  pub tells : Bool
+  pub cache : Bool
+  pub generated : Option ℕ
+
+-- each command by what it asks for. `--help` and `make` read no input; `back` walks ahead of each event as well, and the
+-- number of slots that it fetches isn't told; `share` runs over shared leaf tables
+abbrev pub asks_for : Command → Asks
+asks_for Help = record { input = false; run = false; schedule = false; tells = true; cache = true; generated = None }
+asks_for Check = record { input = true; run = false; schedule = true; tells = true; cache = true; generated = None }
+asks_for Run = record { input = true; run = true; schedule = true; tells = true; cache = true; generated = None }
+asks_for Trace = record { input = true; run = true; schedule = true; tells = true; cache = true; generated = None }
+asks_for Tables = record { input = true; run = true; schedule = true; tells = true; cache = true; generated = None }
+asks_for (Walk process kind address) = record { input = true; run = true; schedule = true; tells = true; cache = true; generated = None }
+asks_for (Make number summary) =
+    record { input = false; run = summary; schedule = true; tells = true; cache = true; generated = if summary then Some number else None }
+asks_for Pack = record { input = true; run = false; schedule = false; tells = true; cache = true; generated = None }
+asks_for Unpack = record { input = true; run = false; schedule = false; tells = true; cache = true; generated = None }
+asks_for Migrate = record { input = true; run = false; schedule = false; tells = true; cache = true; generated = None }
+asks_for Confine = record { input = true; run = true; schedule = false; tells = true; cache = true; generated = None }
+asks_for Share = record { input = true; run = true; schedule = true; tells = true; cache = false; generated = None }
+asks_for (Back number) = record { input = true; run = true; schedule = true; tells = false; cache = true; generated = None }
+
+-- whether a command asks for input
 abbrev pub asks_input : Command → Bool
-asks_input Help = false
-asks_input (Make number summary) = false
-asks_input _ = true
+asks_input command = (asks_for command).input
 
 -- whether the input is read for these words; for words of no form it is not
 abbrev pub reads_input : Option Command → Bool
@@ -25,38 +52,26 @@ reads_input (Some command) = asks_input command
 -- whether words ask for a run or for a look at all GPTs; others fetch nothing
 abbrev pub asks_run : Option Command → Bool
 asks_run None = false
-asks_run (Some Help) = false
-asks_run (Some Check) = false
-asks_run (Some Pack) = false
-asks_run (Some Unpack) = false
-asks_run (Some Migrate) = false
-asks_run (Some (Make number summary)) = summary
-asks_run (Some command) = true
+asks_run (Some command) = (asks_for command).run
 
--- whether the number of slots that are fetched is told: of all words but `back`, which walks ahead of each event as well
+-- whether the number of slots that are fetched is told
 abbrev pub tells_fetches : Option Command → Bool
-tells_fetches (Some (Back number)) = false
-tells_fetches _ = true
+tells_fetches None = true
+tells_fetches (Some command) = (asks_for command).tells
 
--- whether words run over a mapping cache where they run; `share` runs over shared leaf tables
+-- whether words run over a mapping cache where they run
 abbrev pub has_cache : Option Command → Bool
-has_cache (Some Share) = false
-has_cache _ = true
+has_cache None = true
+has_cache (Some command) = (asks_for command).cache
 
 -- how many slots touches fetch over the translator of words
 abbrev pub count_of : Option Command → List Touch → ℕ
-count_of (Some Share) = shared_fetched
-count_of _ = cached
+count_of asked = if has_cache asked then cached else shared_fetched
 
 -- whether a command reads a schedule, and runs its events or counts them
 abbrev pub asks_schedule : Command → Bool
-asks_schedule Pack = false
-asks_schedule Unpack = false
-asks_schedule Migrate = false
-asks_schedule Confine = false
-asks_schedule _ = true
+asks_schedule command = (asks_for command).schedule
 
 -- the number whose generated text a command runs
 abbrev pub summary_number : Command → Option ℕ
-summary_number (Make number true) = Some number
-summary_number _ = None
+summary_number command = (asks_for command).generated
