@@ -1,5 +1,6 @@
 -- Walks that come to a point: made and taken apart.
 use Rattle.std.proofs.Common.{◌≡◌, ◌⊎◌, inl, inr, ℕ, zero, suc, ◌≤◌, Bool, true, false, ◌&&◌, if◌then◌else◌, nat_le, List, [], ◌∷◌, ◌++◌, Option, Some, None, refl, sym, ap, subst, ◌∙◌, append_assoc, append-nil, arith}
+use Rattle.std.specs.Option.{option_or}
 use Rattle.std.proofs.Math.Nat.{le_refl, le_trans}
 use Rattle.std.proofs.lemmas.Bool.Decides.{nat_tests}
 use Rattle.cap_format.specs.Capability.{Capability}
@@ -20,7 +21,7 @@ use Rattle.walk_meaning.specs.After.{walk_after, trail_after}
 use Rattle.walk_meaning.proofs.Walked.{walk-suc, trail_from-suc}
 use Rattle.walk_meaning.proofs.Along.{goes_shrinks}
 use Rattle.producers.specs.declared.producer.Produced.{Produced}
-use Rattle.producers.specs.Producer.{Point, here, is_gpt, joins, last_join, or_point, or_produced, point, produced_by}
+use Rattle.producers.specs.Producer.{Point, here, is_gpt, joins, last_join, point, produced_by}
 use Rattle.producers.specs.Meets.{GoesOn, IsHere, Meets, PassesAt}
 
 module _ (o : Items) (kind : Kind) (a : ℕ) (p : Point) where
@@ -48,7 +49,7 @@ module _ (o : Items) (kind : Kind) (a : ℕ) where
   join_after n c w reads (Reach place) = None
   join_after n c w reads (Fault code handler) = None
   join_after n c w reads (Go next g i) =
-      or_point (last_join o kind a n (slot_at o g i) next ((reads ++ header_noted c a w.l2) ++ noted (Slot g i) a next.l2 ∷ [])) (here n c w reads)
+      option_or (last_join o kind a n (slot_at o g i) next ((reads ++ header_noted c a w.l2) ++ noted (Slot g i) a next.l2 ∷ [])) (here n c w reads)
 
   pub last_join-suc : (n : ℕ) (c : Capability) (w : At) (reads : List Noted) → last_join o kind a (suc n) c w reads ≡ join_after n c w reads (step o kind c w)
   unfolding last_join
@@ -57,7 +58,7 @@ module _ (o : Items) (kind : Kind) (a : ℕ) where
       on : (s : Step) → ◌≡◌ {A = Option Point} (elim s [
         | Reach place ↦ None
         | Fault code handler ↦ None
-        | Go next g i ↦ or_point (last_join o kind a n (slot_at o g i) next ((reads ++ header_noted c a w.l2) ++ noted (Slot g i) a next.l2 ∷ [])) (here n c w reads)
+        | Go next g i ↦ option_or (last_join o kind a n (slot_at o g i) next ((reads ++ header_noted c a w.l2) ++ noted (Slot g i) a next.l2 ∷ [])) (here n c w reads)
       ]) (join_after n c w reads s)
       on (Reach place) = refl
       on (Fault code handler) = refl
@@ -81,7 +82,7 @@ module _ (o : Items) (kind : Kind) (a : ℕ) where
       on true is e = (is, cc)
       on false is e = absurd (cc)
 
-  or_tells : (x y : Option Point) (p : Point) → or_point x y ≡ Some p → (x ≡ Some p) ⊎ (y ≡ Some p)
+  or_tells : (x y : Option Point) (p : Point) → option_or x y ≡ Some p → (x ≡ Some p) ⊎ (y ≡ Some p)
   or_tells None y p e = inr e
   or_tells (Some q) y p e = inl e
 
@@ -143,7 +144,7 @@ module _ (o : Items) (kind : Kind) (a : ℕ) where
   -- one that goes on joins others later, or here
   pub join-goes : (n k : ℕ) (c : Capability) (w : At) (reads : List Noted) (next : At) (g i : ℕ) → n ≡ suc k → step o kind c w ≡ Go next g i
       → last_join o kind a n c w reads
-      ≡ or_point (last_join o kind a k (slot_at o g i) next ((reads ++ header_noted c a w.l2) ++ noted (Slot g i) a next.l2 ∷ [])) (here k c w reads)
+      ≡ option_or (last_join o kind a k (slot_at o g i) next ((reads ++ header_noted c a w.l2) ++ noted (Slot g i) a next.l2 ∷ [])) (here k c w reads)
   join-goes n k c w reads next g i fewer steps =
       ap (λ (m : ℕ). last_join o kind a m c w reads) fewer ∙ (last_join-suc o kind a k c w reads ∙ ap (λ (s : Step). join_after o kind a k c w reads s) steps)
 
@@ -155,7 +156,7 @@ module _ (o : Items) (kind : Kind) (a : ℕ) where
 
 -- the later of points, and then an earlier producer
 pub or-produced : (o : Items) (x y : Option Point) (z : Option Produced)
-    → or_produced (produced_by o (or_point x y)) z ≡ or_produced (produced_by o x) (or_produced (produced_by o y) z)
+    → option_or (produced_by o (option_or x y)) z ≡ option_or (produced_by o x) (option_or (produced_by o y) z)
 or-produced o None y z = refl
 or-produced o (Some p) y z = refl
 

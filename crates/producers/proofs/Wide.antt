@@ -1,6 +1,7 @@
 -- The last producer of a walk, as far as sizes of a region or more are passed: all addresses of a region and all kinds have
 -- the same, whether they reach or not.
 use Rattle.std.proofs.Common.{◌≡◌, ◌≢◌, inl, inr, ℕ, zero, suc, ◌+◌, ◌/◌, ◌%◌, ◌^◌, ◌<◌, ◌≤◌, min, Bool, true, false, ◌&&◌, ◌==◌, nat_le, if◌then◌else◌, List, [], ◌∷◌, ◌++◌, length, length-append, append-nil, Option, Some, None, Result, Ok, Err, refl, sym, ap, subst, ◌∙◌, arith}
+use Rattle.std.specs.Option.{option_or}
 use Rattle.std.proofs.lemmas.Bool.{cases_lt}
 use Rattle.std.proofs.lemmas.Bool.Decides.{nat_tests}
 use Rattle.cap_format.specs.Capability.{Capability, IsCapability}
@@ -34,7 +35,7 @@ use Rattle.walk_meaning.proofs.Along.{at, goes_along}
 use Rattle.walk_meaning.proofs.FrameLaw.{Agree, Apart, NamesAnother, NamesItem, GoesApart, goes_apart, header_unread, null_stops}
 use Rattle.producers.specs.declared.producer.Produced.{Produced}
 use Rattle.producers.specs.declared.producer.Producer.{Producer}
-use Rattle.producers.specs.Producer.{Point, aged, here, joins, is_gpt, last_join, or_point, or_produced, produced_by, producer_at}
+use Rattle.producers.specs.Producer.{Point, aged, here, joins, is_gpt, last_join, produced_by, producer_at}
 use Rattle.producers.specs.Meets.{Meets, PassesAt}
 use Rattle.producers.proofs.Points.{Meets-suc, Meets-zero, Onward, join-ends, join-goes, last_join-zero, or-produced}
 use Rattle.producers.proofs.Staying.{unread-append}
@@ -54,7 +55,7 @@ wide_from o kind zero c w m = None
 wide_from o kind (suc n) c w m = elim (step o kind c w) [
   | Reach place ↦ produced_here o n c w m
   | Fault code handler ↦ produced_here o n c w m
-  | Go next g i ↦ or_produced (wide_from o kind n (slot_at o g i) next (m + header_count c + 1)) (produced_here o n c w m)
+  | Go next g i ↦ option_or (wide_from o kind n (slot_at o g i) next (m + header_count c + 1)) (produced_here o n c w m)
 ]
 
 -- the same by the first step
@@ -62,7 +63,7 @@ abbrev pub wide_after : Items → Kind → ℕ → Capability → At → ℕ →
 wide_after o kind n c w m (Reach place) = produced_here o n c w m
 wide_after o kind n c w m (Fault code handler) = produced_here o n c w m
 wide_after o kind n c w m (Go next g i) =
-    or_produced (wide_from o kind n (slot_at o g i) next (m + header_count c + 1)) (produced_here o n c w m)
+    option_or (wide_from o kind n (slot_at o g i) next (m + header_count c + 1)) (produced_here o n c w m)
 
 pub wide-suc : (o : Items) (kind : Kind) (n : ℕ) (c : Capability) (w : At) (m : ℕ) → wide_from o kind (suc n) c w m ≡ wide_after o kind n c w m (step o kind c w)
 unfolding wide_from
@@ -71,7 +72,7 @@ wide-suc o kind n c w m = on (step o kind c w)
     on : (s : Step) → ◌≡◌ {A = Option Produced} (elim s [
       | Reach place ↦ produced_here o n c w m
       | Fault code handler ↦ produced_here o n c w m
-      | Go next g i ↦ or_produced (wide_from o kind n (slot_at o g i) next (m + header_count c + 1)) (produced_here o n c w m)
+      | Go next g i ↦ option_or (wide_from o kind n (slot_at o g i) next (m + header_count c + 1)) (produced_here o n c w m)
     ]) (wide_after o kind n c w m s)
     on (Reach place) = refl
     on (Fault code handler) = refl
@@ -105,7 +106,7 @@ way-past o c w next g i (ByLocal k hold index free through) = subst (λ (t : At)
 goes-past : (o : Items) (kind : Kind) (c : Capability) (w next : At) (g i : ℕ) → step o kind c w ≡ Go next g i → next.l2 ≤ (past c w).l2
 goes-past o kind c w next g i steps = way-past o c w next g i (gone o next g i c kind w steps).way
 
-or-none : (x y : Option Produced) → x ≡ None → or_produced x y ≡ y
+or-none : (x y : Option Produced) → x ≡ None → option_or x y ≡ y
 or-none None y e = refl
 or-none (Some d) y e = absurd (cc)
 
@@ -172,8 +173,8 @@ module _ (o : Items) (ranged : IsRanged o) (j k : Kind) where
       let rest = ih (slot_at o g i) next z (m + header_count c + 1) (IsCapability-slot_at o ranged g i) further in
       wide-suc o j n c w m
       ∙ (ap (wide_after o j n c w m) steps
-      ∙ (ap (λ (d : Option Produced). or_produced d (produced_here o n c w m)) rest
-      ∙ (ap (or_produced (wide_from o k n (slot_at o g i) (at next z) (m + header_count c + 1))) (here-alike o n c w y m wide alike)
+      ∙ (ap (λ (d : Option Produced). option_or d (produced_here o n c w m)) rest
+      ∙ (ap (option_or (wide_from o k n (slot_at o g i) (at next z) (m + header_count c + 1))) (here-alike o n c w y m wide alike)
       ∙ (sym (ap (wide_after o k n c (at w y) m) along) ∙ sym (wide-suc o k n c (at w y) m)))))
 
   region_wide : (n : ℕ) → Rest n → (c : Capability) (w : At) (y m : ℕ) → IsCapability c → Alike 22 w.address y → 22 ≤ (past c w).l2
@@ -234,9 +235,9 @@ module _ (o : Items) (kind : Kind) where
       let slots : i ≡ j = cc (e) in
       let rest = ih (slot_at o g i) next other (m + header_count c + 1) states in
       let there : slot_at o g i ≡ slot_at o f j = ap (λ (x : ℕ). slot_at o x i) gpts ∙ ap (λ (x : ℕ). slot_at o f x) slots in
-      ap (λ (x : Option Produced). or_produced x (produced_here o n c w m))
+      ap (λ (x : Option Produced). option_or x (produced_here o n c w m))
       (rest ∙ (ap (λ (b : Capability). wide_from o kind n b other (m + header_count c + 1)) there ∙ ap (λ (x : ℕ). wide_from o kind n (slot_at o f j) other (m + x + 1)) counts))
-      ∙ ap (or_produced (wide_from o kind n (slot_at o f j) other (m + header_count d + 1))) heres
+      ∙ ap (option_or (wide_from o kind n (slot_at o f j) other (m + header_count d + 1))) heres
   after-stripped n ih c d w v m heres counts (Reach p) (Go other f j) e = absurd (cc (e))
   after-stripped n ih c d w v m heres counts (Fault x h) (Go other f j) e = absurd (cc (e))
   after-stripped n ih c d w v m heres counts (Go next g i) (Reach q) e = absurd (cc (e))
@@ -263,7 +264,7 @@ abbrev pub behind_more : ℕ → Option Produced → Option Produced
 behind_more t None = None
 behind_more t (Some d) = Some (record { producer = d.producer; before = d.before + t })
 
-or-more : (t : ℕ) (x y : Option Produced) → behind_more t (or_produced x y) ≡ or_produced (behind_more t x) (behind_more t y)
+or-more : (t : ℕ) (x y : Option Produced) → behind_more t (option_or x y) ≡ option_or (behind_more t x) (behind_more t y)
 or-more t None y = refl
 or-more t (Some d) y = refl
 
@@ -285,14 +286,14 @@ wide-more o kind (suc n) c w m t =
     on (Fault code handler) ih = here-more o n c w m t
     on (Go next g i) ih =
         let order : m + t + header_count c + 1 ≡ m + header_count c + 1 + t = omega arith in
-        ap (λ (x : ℕ). or_produced (wide_from o kind n (slot_at o g i) next x) (produced_here o n c w (m + t))) order
-        ∙ (ap (λ (x : Option Produced). or_produced x (produced_here o n c w (m + t))) (ih (slot_at o g i) next (m + header_count c + 1) t)
-        ∙ (ap (or_produced (behind_more t (wide_from o kind n (slot_at o g i) next (m + header_count c + 1)))) (here-more o n c w m t)
+        ap (λ (x : ℕ). option_or (wide_from o kind n (slot_at o g i) next x) (produced_here o n c w (m + t))) order
+        ∙ (ap (λ (x : Option Produced). option_or x (produced_here o n c w (m + t))) (ih (slot_at o g i) next (m + header_count c + 1) t)
+        ∙ (ap (option_or (behind_more t (wide_from o kind n (slot_at o g i) next (m + header_count c + 1)))) (here-more o n c w m t)
         ∙ sym (or-more t (wide_from o kind n (slot_at o g i) next (m + header_count c + 1)) (produced_here o n c w m))))
 
 -- ---- where the walk reaches, it is the last point's
 
-or-whole : (x : Option Produced) → or_produced x None ≡ x
+or-whole : (x : Option Produced) → option_or x None ≡ x
 or-whole None = refl
 or-whole (Some d) = refl
 
@@ -331,11 +332,11 @@ module _ (o : Items) (kind : Kind) (a : ℕ) (place : Place) where
       on (Fault code handler) steps reach ih = absurd (cc (reach))
       on (Go next g i) steps reach ih =
           let made : List Noted = (reads ++ header_noted c a w.l2) ++ noted (Slot g i) a next.l2 ∷ [] in
-          ap (λ (x : ℕ). or_produced (wide_from o kind n (slot_at o g i) next x) (produced_here o n c w (length reads))) (sym (length-made c w.l2 reads (noted (Slot g i) a next.l2)))
-          ∙ (ap (λ (x : Option Produced). or_produced x (produced_here o n c w (length reads))) (ih (slot_at o g i) next made reach)
-          ∙ (ap (or_produced (produced_by o (last_join o kind a n (slot_at o g i) next made))) (sym (of-here n c w reads) ∙ sym (or-whole (produced_by o (here n c w reads))))
+          ap (λ (x : ℕ). option_or (wide_from o kind n (slot_at o g i) next x) (produced_here o n c w (length reads))) (sym (length-made c w.l2 reads (noted (Slot g i) a next.l2)))
+          ∙ (ap (λ (x : Option Produced). option_or x (produced_here o n c w (length reads))) (ih (slot_at o g i) next made reach)
+          ∙ (ap (option_or (produced_by o (last_join o kind a n (slot_at o g i) next made))) (sym (of-here n c w reads) ∙ sym (or-whole (produced_by o (here n c w reads))))
           ∙ (sym (or-produced o (last_join o kind a n (slot_at o g i) next made) (here n c w reads) None)
-          ∙ (or-whole (produced_by o (or_point (last_join o kind a n (slot_at o g i) next made) (here n c w reads)))
+          ∙ (or-whole (produced_by o (option_or (last_join o kind a n (slot_at o g i) next made) (here n c w reads)))
           ∙ sym (ap (produced_by o) (join-goes o kind a (suc n) n c w reads next g i refl steps))))))
 
 -- ---- from a point on
@@ -360,7 +361,7 @@ module _ (o : Items) (kind : Kind) (a : ℕ) (p : Point) where
           let order : m + header_count c + 1 + length go.rest ≡ m + length reads = omega (arith, count) in
           let rest = ih (slot_at o go.gpt go.slot) go.next (m + header_count c + 1) go.rest d go.further (ap (wide_from o kind (suc p.left) p.cap p.at) order ∙ last) in
           wide-suc o kind n c w m
-          ∙ (ap (wide_after o kind n c w m) go.steps ∙ ap (λ (x : Option Produced). or_produced x (produced_here o n c w m)) rest)
+          ∙ (ap (wide_after o kind n c w m) go.steps ∙ ap (λ (x : Option Produced). option_or x (produced_here o n c w m)) rest)
         where
           counts : (b : Bool) (rest : List Noted) (one : Noted) → length ((if b then noted (Header (object_kind c.kind) c.object) a w.l2 ∷ [] else []) ++ one ∷ rest) ≡ (if b then 1 else 0) + 1 + length rest
           counts true rest one = omega arith
@@ -376,7 +377,7 @@ module _ (o : Items) (kind : Kind) (a : ℕ) (p : Point) where
       here_is : produced_here o p.left p.cap p.at m ≡ Some own
       here_is = ap (λ (b : Bool). if b then Some (record { producer = producer_at o p.left p.cap p.at; before = m }) else None) is
 
-      or-some : (x y : Option Produced) (e : Produced) → y ≡ Some e → (d : Produced) × (or_produced x y ≡ Some d)
+      or-some : (x y : Option Produced) (e : Produced) → y ≡ Some e → (d : Produced) × (option_or x y ≡ Some d)
       or-some None y e is = (e, is)
       or-some (Some d) y e is = (d, refl)
 
@@ -481,5 +482,5 @@ module _ (x : Item) (o q : Items) (same : Agree x o q) (kind : Kind) (a : ℕ) (
       on (Reach p) apart reach unread ih = here_is
       on (Fault code handler) apart reach unread ih = here_is
       on (Go next g i) apart reach unread ih =
-          ap (λ (d : Option Produced). or_produced d (produced_here q n c w m)) (framed_go n ih c w next g i (m + header_count c + 1) apart.0 apart.1 apart.2 reach unread.0 unread.1)
-          ∙ ap (or_produced (wide_from o kind n (slot_at o g i) next (m + header_count c + 1))) here_is
+          ap (λ (d : Option Produced). option_or d (produced_here q n c w m)) (framed_go n ih c w next g i (m + header_count c + 1) apart.0 apart.1 apart.2 reach unread.0 unread.1)
+          ∙ ap (option_or (wide_from o kind n (slot_at o g i) next (m + header_count c + 1))) here_is

@@ -1,6 +1,7 @@
 -- Producers: the last GPT of a walk up to which only sizes of a region of 2^22 bytes or more were passed. From there on all
 -- walks with one key go alike, whatever their spaces (this project's own).
 use Rattle.std.specs.Prelude.{ℕ, zero, suc, ◌+◌, ◌*◌, ◌/◌, ◌%◌, ◌^◌, min, nat_le, Bool, true, false, ◌&&◌, if◌then◌else◌, Option, Some, None, List, [], ◌∷◌, ◌++◌, length, map, Result, Ok, Err}
+use Rattle.std.specs.Option.{option_or}
 use Rattle.cap_format.specs.Capability.{Capability, to_object}
 use Rattle.cap_format.specs.declared.kind.CapKind.{CapKind}
 use Rattle.cap_format.specs.declared.kind.CapKind.TheVariants.{Gpt}
@@ -61,11 +62,6 @@ pub record Point : Type 0 where
 abbrev pub point : ℕ → Capability → At → List Noted → Point
 point left cap at before = record { left = left; cap = cap; at = at; before = before }
 
--- the first of two points, if there is one, and else the second
-abbrev pub or_point : Option Point → Option Point → Option Point
-or_point (Some p) q = Some p
-or_point None q = q
-
 -- the point here, if walks join here
 abbrev pub here : ℕ → Capability → At → List Noted → Option Point
 here n c w reads = if joins c w then Some (point n c w reads) else None
@@ -78,7 +74,7 @@ last_join o kind address (suc n) c w reads = elim (step o kind c w) [
   | Reach place ↦ None
   | Fault code handler ↦ None
   | Go next g i ↦
-      or_point (last_join o kind address n (slot_at o g i) next ((reads ++ header_noted c address w.l2) ++ noted (Slot g i) address next.l2 ∷ []))
+      option_or (last_join o kind address n (slot_at o g i) next ((reads ++ header_noted c address w.l2) ++ noted (Slot g i) address next.l2 ∷ []))
       (here n c w reads)
 ]
 
@@ -89,11 +85,6 @@ join_of o space address kind = last_join o kind address 32 space (start_at addre
 -- the key of a point
 abbrev pub key_of : Items → Point → Producer
 key_of o p = producer_at o p.left p.cap p.at
-
--- the first of two producers, if there is one, and else the second
-abbrev pub or_produced : Option Produced → Option Produced → Option Produced
-or_produced (Some p) q = Some p
-or_produced None q = q
 
 -- the producer of a point, and how many reads lie before it
 abbrev pub produced_by : Items → Option Point → Option Produced

@@ -9,7 +9,7 @@ ghost use Rattle.walk_meaning.specs.Walk.{access};
 ghost use Rattle.walk_meaning.specs.Trail.{slots, trail as trail_of};
 ghost use Rattle.walk_meaning.specs.Laws.{IsReached};
 ghost use Rattle.walk_engine.specs.Answer.{HandlerLives, answer_meaning};
-ghost use Rattle.producers.specs.Producer.{aged, here, join_of, or_produced, place_of, produced_by};
+ghost use Rattle.producers.specs.Producer.{aged, here, join_of, place_of, produced_by};
 
 use crate::producer::{Background, Produced, Producer};
 use bitflags::Flags;
@@ -78,7 +78,7 @@ pub fn walk<L: Ledger>(
                 note_slot(gpt, slot, address, next.l2, trail);
                 cap = read_next(objects, gpt, slot, left, fetches);
                 at = next;
-                produced = or_else(joined, produced);
+                produced = joined.or(produced);
             }
         }
     }
@@ -125,10 +125,4 @@ fn aged(objects: &Objects, background: Option<u16>) -> Option<Background>
         gpt,
         age: cap.count(),
     })
-}
-
-fn or_else(first: Option<Produced>, second: Option<Produced>) -> Option<Produced>
-    ensures { result ≡ or_produced first second }
-{
-    if first.is_some() { first } else { second }
 }

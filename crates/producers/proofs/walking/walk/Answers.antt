@@ -1,4 +1,5 @@
 use Rattle.std.proofs.Common.{◌≡◌, ◌+◌, ◌-◌, ◌++◌, [], ◌∷◌, zero, suc, List, Option, inl, inr, Result, Err, refl, ◌∙◌, sym, ap, arith, ℕ, ◌<◌, ◌≤◌}
+use Rattle.std.specs.Option.{option_or}
 use Rattle.std.proofs.lemmas.Bool.{cases_lt}
 use Rattle.cap_format.specs.Capability.{Capability, bare}
 use Rattle.cap_format.specs.declared.fault.FaultCode.{FaultCode}
@@ -22,7 +23,7 @@ use Rattle.walk_meaning.proofs.SlotsLaw.{slots_law}
 use Rattle.walk_engine.specs.OnWay.{WalkEndsAt, WalkEndsIn, IsOnWay}
 use Rattle.walk_engine.proofs.Onward.{on_way-go, on_way-reach, on_way-fault, on_way-end, on_way-unread}
 use Rattle.producers.specs.declared.producer.Produced.{Produced}
-use Rattle.producers.specs.Producer.{Point, here, join_of, last_join, or_produced, produced_by}
+use Rattle.producers.specs.Producer.{Point, here, join_of, last_join, produced_by}
 use Rattle.producers.proofs.Points.{join-ends, join-goes, join-unread, or-produced}
 use Rattle.producers.proofs.walking.walk.Goals as goal
 
@@ -59,7 +60,7 @@ pub returns-in-Reach-clause-produced : goal.returns-in-Reach-clause-produced
 returns-in-Reach-clause-produced g c =
     let o = c.args.objects.now.items in
     let none = join-ends (map_of o) c.args.kind c.args.address c.way.left (c.way.left - 1) (bare c.way.cap) c.way.at c.way.trail.items c.in-Reach.place (omega arith) (step-map_of o c.args.kind c.way.cap c.way.at ∙ sym c.in-Reach.ensures.value) in
-    sym (ap (λ (p : Option Produced). or_produced p c.way.produced) (ap (produced_by (map_of o)) none)) ∙ c.way.invariant.joins
+    sym (ap (λ (p : Option Produced). option_or p c.way.produced) (ap (produced_by (map_of o)) none)) ∙ c.way.invariant.joins
 
 pub returns-in-Reach-clause-noted : goal.returns-in-Reach-clause-noted
 returns-in-Reach-clause-noted g c = c.note_header.ensures.value ∙ (ends c.args.objects.now.items c.args.space c.way.cap c.args.address c.args.kind c.way.left c.way.at c.way.trail.items c.args.fetches.now c.way.fetches c.in-Reach.place (omega arith) c.in-Reach.ensures.value c.way.invariant.way).noted
@@ -116,12 +117,12 @@ way-preserved g c =
       way = rw (c.note_slot.ensures.value, c.note_header.ensures.value, c.read_next-cap.ensures.counted) read;
       joins =
           let rest : Option Produced = produced_by (map_of o) (last_join (map_of o) c.args.kind c.args.address left next c.in-Go.next reads) in
-          let whole : or_produced rest (or_produced c.here-joined.result c.way.produced)
+          let whole : option_or rest (option_or c.here-joined.result c.way.produced)
           ≡ produced_by (map_of o) (join_of (map_of o) (meaning o c.args.space) c.args.address c.args.kind) =
-          ap (λ (x : Option Produced). or_produced rest (or_produced x c.way.produced)) now
-          ∙ (sym joins ∙ (sym (ap (λ (x : Option Point). or_produced (produced_by (map_of o) x) c.way.produced) goes) ∙ c.way.invariant.joins)) in
-          let there = ap (λ (x : Option Point). or_produced (produced_by (map_of o) x) (or_produced c.here-joined.result c.way.produced)) same in
-          rw (c.note_slot.ensures.value, c.note_header.ensures.value, c.or_else-produced.ensures) (there ∙ whole);
+          ap (λ (x : Option Produced). option_or rest (option_or x c.way.produced)) now
+          ∙ (sym joins ∙ (sym (ap (λ (x : Option Point). option_or (produced_by (map_of o) x) c.way.produced) goes) ∙ c.way.invariant.joins)) in
+          let there = ap (λ (x : Option Point). option_or (produced_by (map_of o) x) (option_or c.here-joined.result c.way.produced)) same in
+          rw (c.note_slot.ensures.value, c.note_header.ensures.value, c.or-produced.ensures) (there ∙ whole);
       live = c.read_next-cap.ensures.is_live;
       at = c.in-Go.ensures.below.0;
       room = omega (arith, c.note_slot.ensures.room, c.note_header.ensures.room, c.way.invariant.room);
