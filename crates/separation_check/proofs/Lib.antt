@@ -3,3 +3,4 @@ pub mod Most
 pub mod Allowed
 pub mod Exactly
 pub mod Meant
+pub mod Marking

@@ -1,12 +1,14 @@
 //! Capabilities that may not stand where they do.
-ghost use Rattle.std.specs.Prelude.{ℕ, ◌≡◌, ◌<◌, ◌≤◌, ◌+◌, ◌*◌, ◌++◌, OnOk};
+ghost use Rattle.std.specs.Prelude.{ℕ, ◌≡◌, ◌<◌, ◌≤◌, ◌+◌, ◌*◌, ◌++◌, IfOk, OnOk};
 ghost use Rattle.cap_format.specs.declared.kind.CapKind.TheVariants.{Gpt};
 ghost use Rattle.object_store.specs.Store.{size_of};
 ghost use Rattle.confine_check.specs.Breach.{places_in, reads_in, object_reads};
 ghost use Rattle.separation_policy.specs.Closure.{IsClosure};
+ghost use Rattle.separation_check.specs.Marks.{object_marks, kind_marks, all_marks};
 ghost use Rattle.separation_check.specs.Crossings.{stored_cap, may_name, crossing_by, listed, object_crossings, kind_crossings, capability_crossings};
 
 use crate::crossing::Crossing;
+use crate::marks::{Marks, marks_by};
 use cap_format::{Cap, CapKind, OutOfMemory, is_harmless};
 use confine_check::{cap_in, places, size};
 use object_store::Objects;
@@ -83,7 +85,7 @@ pub(crate) fn push(found: &mut Vec<Crossing>, crossing: Option<Crossing>) -> Res
     Ok(())
 }
 
-/// Puts down the crossings of an object.
+/// Puts down the crossings of an object, and tells what its domain holds that is shared by all.
 fn push_object<L: Ledger>(
     objects: &Objects,
     policy: &Policy,
@@ -92,22 +94,26 @@ fn push_object<L: Ledger>(
     n: u16,
     found: &mut Vec<Crossing>,
     fetches: &mut Steps<L>,
-) -> Result<(), OutOfMemory>
+) -> Result<Marks, OutOfMemory>
     requires closure { IsClosure policy.now closure.now }
     requires there { n < size_of objects.now.items kind }
     ensures value { OnOk result (found.new.items ≡ found.old.items
         ++ object_crossings policy.now (stored_cap objects.now) kind n) }
+    ensures marks { IfOk result (λ marks. marks ≡ object_marks policy.now (stored_cap objects.now) kind n) }
     ensures counted { OnOk result (fetches.new ≡ fetches.old + object_reads kind) }
     ensures most { fetches.new ≤ fetches.old + object_reads kind }
 {
+    let domain = policy.domain_of(kind, n as u32);
+    let mut marks = Marks::none();
     'each: for i in 0..places(kind) {
         let cap = stored_cap(objects, kind, n, i, fetches);
         push(found, crossing_by(policy, closure, kind, n, i, cap))?;
+        marks = marks.and(marks_by(domain, cap));
     }
-    Ok(())
+    Ok(marks)
 }
 
-/// Puts down the crossings of the objects of a kind.
+/// The same of the objects of a kind.
 fn push_kind<L: Ledger>(
     objects: &Objects,
     policy: &Policy,
@@ -115,36 +121,40 @@ fn push_kind<L: Ledger>(
     kind: CapKind,
     found: &mut Vec<Crossing>,
     fetches: &mut Steps<L>,
-) -> Result<(), OutOfMemory>
+) -> Result<Marks, OutOfMemory>
     requires { IsClosure policy.now closure.now }
     ensures value { OnOk result (found.new.items ≡ found.old.items
         ++ kind_crossings policy.now (stored_cap objects.now) kind (size_of objects.now.items kind)) }
+    ensures marks { IfOk result (λ marks. marks ≡ kind_marks policy.now (stored_cap objects.now) objects.now kind) }
     ensures counted { OnOk result (fetches.new ≡
         fetches.old + object_reads kind * size_of objects.now.items kind) }
     ensures most { fetches.new ≤ fetches.old + object_reads kind * size_of objects.now.items kind }
 {
+    let mut marks = Marks::none();
     'each: for n in 0..size(objects, kind) {
-        push_object(objects, policy, closure, kind, n, found, fetches)?;
+        marks = marks.and(push_object(objects, policy, closure, kind, n, found, fetches)?);
     }
-    Ok(())
+    Ok(marks)
 }
 
-/// Puts down the crossings of all capabilities. Each slot of a GPT is read at most once.
+/// The same of all objects. Each slot of a GPT is read at most once.
 pub(crate) fn push_capabilities<L: Ledger>(
     objects: &Objects,
     policy: &Policy,
     closure: &Closure,
     found: &mut Vec<Crossing>,
     fetches: &mut Steps<L>,
-) -> Result<(), OutOfMemory>
+) -> Result<Marks, OutOfMemory>
     requires { IsClosure policy.now closure.now }
     ensures value { OnOk result (found.new.items ≡ found.old.items
         ++ capability_crossings policy.now (stored_cap objects.now) objects.now) }
+    ensures marks { IfOk result (λ marks. marks ≡ all_marks policy.now (stored_cap objects.now) objects.now) }
     ensures counted { OnOk result (fetches.new ≡ fetches.old + 16 * size_of objects.now.items Gpt) }
     ensures most { fetches.new ≤ fetches.old + 16 * size_of objects.now.items Gpt }
 {
-    push_kind(objects, policy, closure, CapKind::CapPage, found, fetches)?;
-    push_kind(objects, policy, closure, CapKind::Gpt, found, fetches)?;
-    push_kind(objects, policy, closure, CapKind::Endpoint, found, fetches)?;
-    push_kind(objects, policy, closure, CapKind::Process, found, fetches)
+    let pages = push_kind(objects, policy, closure, CapKind::CapPage, found, fetches)?;
+    let gpts = push_kind(objects, policy, closure, CapKind::Gpt, found, fetches)?;
+    let endpoints = push_kind(objects, policy, closure, CapKind::Endpoint, found, fetches)?;
+    let processes = push_kind(objects, policy, closure, CapKind::Process, found, fetches)?;
+    Ok(pages.and(gpts.and(endpoints.and(processes))))
 }

@@ -5,10 +5,11 @@ ghost use Rattle.object_store.specs.Store.{size_of};
 ghost use Rattle.machine_state.specs.State.{state_of};
 ghost use Rattle.confinement.specs.Acts.{system_of};
 ghost use Rattle.separation_policy.specs.Policy.{PolicyHolds, Integrity, Noninterference};
-ghost use Rattle.separation_check.specs.Crossings.{crossings_of, crossings_in, meant_crossing};
+ghost use Rattle.separation_check.specs.Crossings.{stored_cap, crossings_of, crossings_in, meant_crossing};
+ghost use Rattle.separation_check.specs.Marks.{all_marks, marks_in};
 
 use crate::capabilities::push_capabilities;
-use crate::crossing::Crossing;
+use crate::found::Found;
 use crate::sleeping::push_sleepers;
 use cap_format::OutOfMemory;
 use confine_check::tell_full;
@@ -20,8 +21,8 @@ use steps::Steps;
 use walk_engine::Translator;
 
 /// All that a policy doesn't allow in a machine: capabilities in the order in which objects are printed and their places
-/// have their numbers, and then processes that sleep. Each slot of a GPT is read once, and at most once where memory is
-/// wanting.
+/// have their numbers, and then processes that sleep. By the same passage, which domains hold SysCtl or KernLog. Each slot
+/// of a GPT is read once, and at most once where memory is wanting.
 ///
 /// Where nothing is found the policy holds. Then whatever events follow, one that a process of a domain performs leaves
 /// all other domains as they are, and what a domain is told and has depends on no domain that it doesn't read, but for when
@@ -31,16 +32,18 @@ pub fn crossings<T: Translator, L: Ledger>(
     machine: &Machine<T>,
     policy: &Policy,
     fetches: &mut Steps<L>,
-) -> Result<Vec<Crossing>, OutOfMemory>
-    ensures value { IfOk result (λ found. found.items ≡
+) -> Result<Found, OutOfMemory>
+    ensures value { IfOk result (λ found. found.crossings.items ≡
         crossings_of policy.now machine.now.objects machine.now.queues) }
-    ensures means { IfOk result (λ found. map meant_crossing found.items ≡
+    ensures means { IfOk result (λ found. map meant_crossing found.crossings.items ≡
         crossings_in policy.now (state_of machine.now)) }
-    ensures exactly { IfOk result (λ found. (found.items ≡ []) ↔
+    ensures marks { IfOk result (λ found. found.marks ≡
+        marks_in policy.now (state_of machine.now)) }
+    ensures exactly { IfOk result (λ found. (found.crossings.items ≡ []) ↔
         PolicyHolds policy.now (system_of (state_of machine.now))) }
-    ensures integrity { IfOk result (λ found. found.items ≡ [] →
+    ensures integrity { IfOk result (λ found. found.crossings.items ≡ [] →
         Integrity policy.now (state_of machine.now)) }
-    ensures noninterference { IfOk result (λ found. found.items ≡ [] →
+    ensures noninterference { IfOk result (λ found. found.crossings.items ≡ [] →
         Noninterference policy.now (state_of machine.now)) }
     ensures counted { IfOk result (λ found. fetches.new ≡
         fetches.old + 16 * size_of machine.now.objects.items Gpt) }
@@ -58,22 +61,24 @@ fn all_crossings<T: Translator, L: Ledger>(
     machine: &Machine<T>,
     policy: &Policy,
     fetches: &mut Steps<L>,
-) -> Result<Vec<Crossing>, OutOfMemory>
-    ensures value { IfOk result (λ found. found.items ≡
+) -> Result<Found, OutOfMemory>
+    ensures value { IfOk result (λ found. found.crossings.items ≡
         crossings_of policy.now machine.now.objects machine.now.queues) }
+    ensures marks { IfOk result (λ found. found.marks ≡
+        all_marks policy.now (stored_cap machine.now.objects) machine.now.objects) }
     ensures counted { IfOk result (λ found. fetches.new ≡
         fetches.old + 16 * size_of machine.now.objects.items Gpt) }
     ensures most { fetches.new ≤ fetches.old + 16 * size_of machine.now.objects.items Gpt }
 {
     let closure = Closure::new(alloc, policy)?;
     let objects = machine.objects();
-    let mut found = Vec::new(alloc);
-    push_capabilities(objects, policy, &closure, &mut found, fetches)?;
+    let mut crossings = Vec::new(alloc);
+    let marks = push_capabilities(objects, policy, &closure, &mut crossings, fetches)?;
     push_sleepers(
         machine.queues(),
         objects.sizes().processes,
         policy,
-        &mut found,
+        &mut crossings,
     )?;
-    Ok(found)
+    Ok(Found { crossings, marks })
 }

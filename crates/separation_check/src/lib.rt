@@ -1,5 +1,6 @@
 //! The finding of all that crosses the domains of a policy in a machine: each capability that may not stand where it does,
-//! each Range, and each process that sleeps on one of another domain.
+//! each Range, and each process that sleeps on one of another domain. By the same passage, which domains hold what is
+//! shared by all.
 //!
 //! Nothing here reads lines, runs a machine or prints.
 #![tactic(auto)]
@@ -7,7 +8,11 @@
 mod capabilities;
 mod checking;
 mod crossing;
+mod found;
+mod marks;
 mod sleeping;
 
 pub use checking::crossings;
 pub use crossing::Crossing;
+pub use found::Found;
+pub use marks::Marks;

@@ -5,6 +5,7 @@ use Rattle.separation_check.specs.declared.crossing.Crossing.{Crossing}
 use Rattle.separation_check.specs.Crossings.{meant_crossing}
 use Rattle.separation_check.proofs.Exactly.{crossings-exactly}
 use Rattle.separation_check.proofs.Meant.{all-meant, none-meant}
+use Rattle.separation_check.proofs.Marking.{marks-meant}
 use Rattle.separation_check.proofs.checking.crossings.Goals as goal
 
 -- what follows for each answer follows where there is one
@@ -17,6 +18,11 @@ returns-clause-means g c =
     let policy = c.args.policy.now in
     let m = c.args.machine.now in
     if_ok c.all_crossings.result _ _ (λ found is. ap (λ (xs : List Crossing). map meant_crossing xs) is ∙ sym (all-meant policy m.objects m.queues)) c.all_crossings.ensures.value
+
+pub returns-clause-marks : goal.returns-clause-marks
+returns-clause-marks g c =
+    let m = c.args.machine.now in
+    if_ok c.all_crossings.result _ _ (λ found is. is ∙ sym (marks-meant c.args.policy.now m.objects)) c.all_crossings.ensures.marks
 
 pub returns-clause-exactly : goal.returns-clause-exactly
 returns-clause-exactly g c =
