@@ -176,3 +176,16 @@ def items(text):
 def sources(crate):
     """The files of a crate's code, in the order of their names."""
     return sorted((CRATES / crate / "src").rglob("*.rt"))
+
+
+def lines_of(files, sign):
+    """How many lines are neither blank nor a comment."""
+    texts = (line.strip() for file in files for line in file.read_text().splitlines())
+    return sum(1 for line in texts if line and not line.startswith(sign))
+
+
+def sizes(crate):
+    """The lines of a crate's code, definitions and proofs, and how many edits it has."""
+    folder = CRATES / crate
+    return (lines_of(folder.glob("src/**/*.rt"), "//"), lines_of(folder.glob("specs/**/*.antt"), "--"),
+            lines_of(folder.glob("proofs/**/*.antt"), "--"), len(list(folder.glob("must-fail/*.edit"))))
