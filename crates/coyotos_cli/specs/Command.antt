@@ -11,9 +11,9 @@ use Rattle.share_command.specs.Share.{shared_fetched}
 abbrev pub command_for : List (List ℕ) → Option Command
 command_for words = command_of words
 
--- What a command asks for: the input; a run, or a look at all GPTs, without which nothing is fetched; and a schedule, whose
--- events are run or counted. Whether the number of slots that it fetches is told, and whether it runs over a mapping cache
--- where it runs. And the number of which it runs the generated text.
+-- What a command asks for: the input; a run, or a look at all GPTs, without which nothing is fetched; and whether the lines
+-- behind a listing are a schedule to it, or nothing, since it reads no input. Whether the number of slots that it fetches is
+-- told, and whether it runs over a mapping cache where it runs. And the number of which it runs the generated text.
 pub record Asks : Type 0 where
   pub input : Bool
   pub run : Bool
@@ -25,7 +25,7 @@ pub record Asks : Type 0 where
 -- each command by what it asks for. `--help` and `make` read no input; `back` walks ahead of each event as well, and the
 -- number of slots that it fetches isn't told; `share` runs over shared leaf tables
 abbrev pub asks_for : Command → Asks
-asks_for Help = record { input = false; run = false; schedule = false; tells = true; cache = true; generated = None }
+asks_for Help = record { input = false; run = false; schedule = true; tells = true; cache = true; generated = None }
 asks_for Check = record { input = true; run = false; schedule = true; tells = true; cache = true; generated = None }
 asks_for Run = record { input = true; run = true; schedule = true; tells = true; cache = true; generated = None }
 asks_for Trace = record { input = true; run = true; schedule = true; tells = true; cache = true; generated = None }
@@ -68,7 +68,7 @@ has_cache (Some command) = (asks_for command).cache
 abbrev pub count_of : Option Command → List Touch → ℕ
 count_of asked = if has_cache asked then cached else shared_fetched
 
--- whether a command reads a schedule, and runs its events or counts them
+-- whether the lines behind a listing are a schedule to a command, or nothing
 abbrev pub asks_schedule : Command → Bool
 asks_schedule command = (asks_for command).schedule
 
