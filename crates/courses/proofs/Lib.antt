@@ -4,3 +4,4 @@ pub mod Sound
 pub mod Bytes
 pub mod Unlisted
 pub mod Running
+pub mod Flushed

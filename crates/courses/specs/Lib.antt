@@ -8,3 +8,4 @@ pub mod Listed
 pub mod Running
 pub mod Sure
 pub mod Head
+pub mod Flush

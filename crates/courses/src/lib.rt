@@ -5,10 +5,12 @@
 
 mod ending;
 mod exit;
+mod flushing;
 mod head;
 
 pub use ending::{
     end_past_limit, end_with, refuse_cut, refuse_image, refuse_listing, refuse_schedule,
 };
 pub use exit::Exit;
+pub use flushing::flush_after;
 pub use head::read_head;

@@ -6,13 +6,14 @@ ghost use Rattle.coy_io.specs.Buffered.{taken_in, gone_out};
 ghost use Rattle.coy_io.specs.Causes.{Rose};
 ghost use Rattle.coyotos_cli.specs.Command.{command_for};
 ghost use Rattle.courses.specs.Ending.{HasCauses};
+ghost use Rattle.courses.specs.Flush.{GoesOut, GoesOutSure};
 ghost use Rattle.courses.specs.Sure.{WritesSure};
 ghost use Rattle.coyotos_cli.specs.Program.{out, sure};
 ghost use Rattle.coyotos_cli.specs.Contract.{bytes_for, Answers, HasForm, ReadsInput};
-ghost use Rattle.coyotos.specs.Flush.{exit_after, GoesOut, GoesOutSure};
 ghost use Rattle.steps.specs.Permit.{permit_for};
 
-use coy_io::{ReadSource, Sink, Source, WriteFault, WriteSink};
+use courses::flush_after;
+use coy_io::{ReadSource, Sink, Source, WriteSink};
 use coyotos_cli::{Exit, coyotos};
 use std::alloc::{AllocError, Global};
 use std::io::{BufWriter, ErrorKind, Write};
@@ -81,19 +82,7 @@ fn run_and_flush<S: Source, W: Write + Drop, L: Ledger>(
         output.new.faults ≡ output.old.faults }
 {
     let exit = counted::<_, _, L>(alloc, words, input, output, permit);
-    let flushed = output.flush();
-    exit_after(exit, flushed)
-}
-
-/// How the program ends after a flush.
-fn exit_after(exit: Exit, flushed: Result<(), WriteFault>) -> Exit
-    ensures { result ≡ exit_after exit flushed }
-{
-    match (exit, flushed) {
-        (exit, Ok(())) => exit,
-        (Exit::ReadFault, Err(_)) => Exit::ReadFault,
-        (_, Err(_)) => Exit::WriteFault,
-    }
+    flush_after(exit, output)
 }
 
 /// Calls the program with a counter that nobody reads.

@@ -11,7 +11,7 @@ use Rattle.courses.specs.declared.exit.Exit.{Exit}
 use Rattle.courses.specs.declared.exit.Exit.TheVariants.{ReadFault, WriteFault, OutOfMemory}
 use Rattle.courses.specs.Exit.{status_of}
 use Rattle.courses.specs.Ending.{Output, IsGiven, Outputs}
-use Rattle.coyotos.specs.Flush.{exit_after, AreFront, GoesOut, GoesOutSure, Reaches}
+use Rattle.courses.specs.Flush.{exit_after, AreFront, GoesOut, GoesOutSure, Reaches}
 
 -- what a sink took, of which some is still in its buffer
 front_of : (old mid sent : Option (List ℕ)) (buffer front behind text : List ℕ) → Appends old mid front → text ≡ front ++ behind → Keeps mid (append_known sent buffer)

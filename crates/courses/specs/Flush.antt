@@ -1,8 +1,9 @@
 -- How the program ends after a flush of its output, and what the writer behind the buffer got then.
-use Rattle.std.specs.Prelude.{◌≡◌, ◌⊎◌, ℕ, List, [], ◌++◌, length, ⊤, Option, Some, None, Result, Ok, Err}
+use Rattle.std.specs.Prelude.{◌≡◌, ◌⊎◌, ℕ, List, [], ◌++◌, length, ⊤, Option, Some, None, OnOk, Result, Ok, Err}
 use Rattle.std.specs.Io.KnownBytes.{Appends, Consumes, Keeps}
-use Rattle.coy_io.specs.Causes.{Rose}
+use Rattle.coy_io.specs.Causes.{HasCause, Rose}
 use Rattle.coy_io.specs.Lines.{whole_lines}
+use Rattle.coy_io.specs.declared.writing.WriteFault.{WriteFault}
 use Rattle.courses.specs.Course.{Course}
 use Rattle.courses.specs.Ending.{Output, EndsNothing, IsGiven}
 use Rattle.courses.specs.declared.exit.Exit.{Exit}
@@ -13,6 +14,15 @@ abbrev pub exit_after : {T E : Type 0} → Exit → Result T E → Exit
 exit_after exit (Ok done) = exit
 exit_after exits.ReadFault (Err fault) = exits.ReadFault
 exit_after _ (Err fault) = exits.WriteFault
+
+-- the output was flushed behind a call that ended so: where that was Ok the writer got all that the sink had taken, and
+-- otherwise a fault was counted; no byte was lost
+pub record EndsFlushed (taken taken' gone' : Option (List ℕ)) (faults faults' : ℕ) (exit exit' : Exit) : Type 0 where
+  pub flushed : Result ⊤ WriteFault
+  pub ends : exit' ≡ exit_after exit flushed
+  pub out : OnOk flushed (Keeps taken gone')
+  pub kept : Keeps taken taken'
+  pub cause : HasCause faults faults' flushed
 
 -- the known bytes are a front of those that there were with this text behind them
 abbrev pub AreFront : Option (List ℕ) → Option (List ℕ) → List ℕ → Type 0
