@@ -1,6 +1,6 @@
 -- The first of some events, performed and counted.
-use Rattle.std.proofs.Common.{◌≡◌, ◌≢◌, ◌<◌, ◌≤◌, ◌+◌, ◌-◌, ◌*◌, ◌∙◌, ◌∷◌, ◌++◌, [], ℕ, zero, suc, List, length, replicate, refl, sym, ap, subst, append_assoc, append-nil, arith}
-use Rattle.std.proofs.lemmas.List.{length-append, length-replicate, replicate_more, replicate-append-replicate}
+use Rattle.std.proofs.Common.{◌≡◌, ◌≢◌, ◌≤◌, ◌+◌, ◌-◌, ◌*◌, ◌∙◌, ◌∷◌, ◌++◌, [], ℕ, List, length, replicate, refl, sym, ap, subst, append_assoc, arith}
+use Rattle.std.proofs.lemmas.List.{length-replicate, replicate_more, replicate-append-replicate}
 use Rattle.cap_format.specs.Capability.{Capability}
 use Rattle.cap_format.specs.declared.item.Item.{Item}
 use Rattle.object_store.specs.Store.{Items}
@@ -11,7 +11,7 @@ use Rattle.kernel_core.specs.Event.{event_of}
 use Rattle.kernel_core.specs.Machine.{MachineValue}
 use Rattle.kernel_core.specs.Run.{run_records}
 use Rattle.kernel_core.specs.State.{state_of}
-use Rattle.untraced_steps.specs.Untraced.{RanUntraced, TellsNothing, untraced}
+use Rattle.untraced_steps.specs.Untraced.{RanUntraced, TellsNothing}
 use Rattle.schedule_replay.specs.Counts.{AreAtMost, and_more}
 use Rattle.schedule_replay.specs.First.{RunsFirst}
 use Rattle.schedule_replay.specs.Replay.{Ran}

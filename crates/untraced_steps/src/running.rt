@@ -1,11 +1,9 @@
 //! Steps of one hart, one after the other.
-ghost use Rattle.std.specs.Prelude.{◌≡◌, ◌<◌, ◌≤◌, ◌-◌, ◌∷◌, [], IsTrue, replicate};
-ghost use Rattle.cap_format.specs.declared.kind.CapKind.TheVariants.{Process};
-ghost use Rattle.object_store.specs.Store.{size_of};
+ghost use Rattle.std.specs.Prelude.{◌≡◌, ◌<◌, ◌≤◌, ◌-◌, [], IsTrue, replicate};
 ghost use Rattle.machine_state.specs.declared.event.Event.TheVariants.{Step};
 ghost use Rattle.machine_state.specs.State.{state_of};
 ghost use Rattle.kernel_core.specs.Event.{event_of, event_by};
-ghost use Rattle.untraced_steps.specs.Untraced.{CameUntraced, RanUntraced, TellsNothing, untraced};
+ghost use Rattle.untraced_steps.specs.Untraced.{CameUntraced, RanUntraced, TellsNothing};
 
 use crate::instructions::untraced_instruction;
 use decoded_words::Decoder;
