@@ -50,22 +50,30 @@ module _ (behind : Behind) (held held' taken taken' : Option (List ℕ)) (fetche
       (subst (Stands (length front.given)) (sym front.ends_early)
       (record { goes_on = ap (λ n. n + 1) number; written = written; fetched = omega (arith, same, none) }))
 
-  -- reading failed behind it
+  -- reading failed behind it, in whole lines that end nothing, however many they are
+  pub sure-going : (mid : Option (List ℕ)) (first middle reader : Reader) (listing : ListingValue) (given : List Part) → first ≡ new_reader
+      → GivesListing first middle held mid listing → reader.ended ≡ false → IsUnfinished reader.rest
+      → GivesLines (bytes_ahead middle mid) (bytes_ahead reader held') given
+      → ((lines : ℕ) → EndsNothing lines (behind listing middle.number given).last.exit)
+      → Appends taken taken' (behind listing middle.number given).records
+      → fetches' ≡ fetches + count (behind listing middle.number given).touches
+      → StandsSure held held' taken taken' fetches fetches' count whole
+  sure-going mid first middle reader listing given new listed going unfinished gives goes_on written fetched =
+      let front = subst (λ r. GivesListing r middle held mid listing) new listed in
+      let lines : ℕ = length (front.given ++ given) in
+      let stands : IsDone lines (behind listing middle.number given) = record { goes_on = goes_on lines; written = written; fetched = fetched } in
+      stands-given reader (front.given ++ given) going unfinished
+      (GivesLines-trans _ _ _ front.given given front.gives gives)
+      (subst (Stands lines) (sym (front.makes given)) stands)
+
+  -- the same where they come to all that was asked for
   pub sure-behind : (mid : Option (List ℕ)) (first middle reader : Reader) (listing : ListingValue) → first ≡ new_reader
       → (middle.ended ≡ false → GivesListing first middle held mid listing)
       → StandsOn middle reader mid held' taken taken' fetches fetches' count (behind listing middle.number)
       → StandsSure held held' taken taken' fetches fetches' count whole
   sure-behind mid first middle reader listing new listed s =
-      let front = subst (λ r. GivesListing r middle held mid listing) new (listed s.before) in
-      let lines : ℕ = length (front.given ++ s.given) in
-      let stands : IsDone lines (behind listing middle.number s.given) = record {
-        goes_on = subst (EndsNothing lines) (sym s.goes_on) tt;
-        written = s.written;
-        fetched = s.fetched;
-      } in
-      stands-given reader (front.given ++ s.given) s.going s.unfinished
-      (GivesLines-trans _ _ _ front.given s.given front.gives s.gives)
-      (subst (Stands lines) (sym (front.makes s.given)) stands)
+      sure-going mid first middle reader listing s.given new (listed s.before) s.going s.unfinished s.gives
+      (λ lines. subst (EndsNothing lines) (sym s.goes_on) tt) s.written s.fetched
 
 -- what is so of the known lines behind a listing is so of the known bytes
 pub on_listed : (held : Option (List ℕ)) (left : Option (List Part)) (listing : ListingValue) (last : ℕ) (P : Listed → Type 0) → IsListed Header 1 (ahead new_reader held) listing last left

@@ -6,11 +6,12 @@ use Rattle.coy_io.specs.Pieces.{AppendsSome}
 use Rattle.confine_check.specs.declared.fault.CutFault.{CutFault}
 use Rattle.image_binary.specs.declared.fault.ImageWord.{ImageWord}
 use Rattle.image_binary.specs.declared.fault.ImageWord.TheVariants.{Cut}
+use Rattle.separation_lines.specs.declared.fault.PolicyFault.{PolicyFault}
 use Rattle.listing_read.specs.declared.fault.Fault.{Fault}
 use Rattle.listing_read.specs.declared.fault.ScheduleFault.{ScheduleFault}
-use Rattle.courses.specs.Names.{fault_name, schedule_fault_name, image_word_name, cut_fault_name}
+use Rattle.courses.specs.Names.{fault_name, schedule_fault_name, image_word_name, cut_fault_name, policy_fault_name}
 use Rattle.courses.specs.declared.exit.Exit.{Exit}
-use Rattle.courses.specs.declared.exit.Exit.TheVariants.{Done, ListingRefused, ScheduleRefused, ReadFault, WriteFault, OutOfMemory, TooLong, ImageRefused, CutRefused}
+use Rattle.courses.specs.declared.exit.Exit.TheVariants.{Done, ListingRefused, ScheduleRefused, ReadFault, WriteFault, OutOfMemory, TooLong, ImageRefused, CutRefused, PolicyRefused, Crossings}
 
 -- a text and an exit
 pub record Output : Type 0 where
@@ -46,6 +47,10 @@ refused_image offset fault = record { text = offset_text offset (image_word_name
 abbrev pub refused_cut : ℕ → CutFault → Output
 refused_cut line fault = record { text = refusal_text line (cut_fault_name fault); exit = CutRefused line fault }
 
+-- a line of a policy is refused
+abbrev pub refused_policy : ℕ → PolicyFault → Output
+refused_policy line fault = record { text = refusal_text line (policy_fault_name fault); exit = PolicyRefused line fault }
+
 -- the input goes on behind the last byte that is read
 abbrev pub too_long : Output
 too_long = record { text = codes "too long" ++ codes "\n"; exit = TooLong }
@@ -54,6 +59,7 @@ too_long = record { text = codes "too long" ++ codes "\n"; exit = TooLong }
 -- are no lines but bytes of an image, which lacks those behind them all
 abbrev pub EndsNothing : ℕ → Exit → Type 0
 EndsNothing n Done = ⊤
+EndsNothing n Crossings = ⊤
 EndsNothing n (ListingRefused line fault) = line ≡ n + 1
 EndsNothing n (ImageRefused offset fault) = fault ≡ Cut
 EndsNothing n _ = ⊥

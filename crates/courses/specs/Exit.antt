@@ -1,7 +1,7 @@
 -- The program's exits as numbers.
 use Rattle.std.specs.Prelude.{ℕ}
 use Rattle.courses.specs.declared.exit.Exit.{Exit}
-use Rattle.courses.specs.declared.exit.Exit.TheVariants.{Done, Usage, ListingRefused, ScheduleRefused, ReadFault, WriteFault, OutOfMemory, TooLong, ImageRefused, CutRefused}
+use Rattle.courses.specs.declared.exit.Exit.TheVariants.{Done, Usage, ListingRefused, ScheduleRefused, ReadFault, WriteFault, OutOfMemory, TooLong, ImageRefused, CutRefused, PolicyRefused, Crossings}
 
 -- the status with which the program ends
 abbrev pub status_of : Exit → ℕ
@@ -15,3 +15,5 @@ status_of OutOfMemory = 6
 status_of TooLong = 7
 status_of (ImageRefused offset fault) = 8
 status_of (CutRefused line fault) = 9
+status_of (PolicyRefused line fault) = 9
+status_of Crossings = 10

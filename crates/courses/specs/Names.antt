@@ -2,6 +2,8 @@
 use Rattle.std.specs.Prelude.{ℕ, List, codes}
 use Rattle.confine_check.specs.declared.fault.CutFault.{CutFault}
 use Rattle.confine_check.specs.declared.fault.CutFault.TheVariants as cuts
+use Rattle.separation_lines.specs.declared.fault.PolicyFault.{PolicyFault}
+use Rattle.separation_lines.specs.declared.fault.PolicyFault.TheVariants as policies
 use Rattle.image_binary.specs.declared.fault.ImageWord.{ImageWord}
 use Rattle.image_binary.specs.declared.fault.ImageWord.TheVariants as images
 use Rattle.listing_read.specs.declared.fault.Fault.{Fault}
@@ -19,6 +21,21 @@ cut_fault_name cuts.BadValue = codes "BadValue"
 cut_fault_name cuts.BadNumber = codes "BadNumber"
 cut_fault_name cuts.NoObject = codes "NoObject"
 cut_fault_name cuts.BadOrder = codes "BadOrder"
+
+-- a fault of a line of a policy
+abbrev pub policy_fault_name : PolicyFault → List ℕ
+policy_fault_name policies.LineTooLong = codes "LineTooLong"
+policy_fault_name policies.BadByte = codes "BadByte"
+policy_fault_name policies.UnknownPolicy = codes "UnknownPolicy"
+policy_fault_name policies.WrongWords = codes "WrongWords"
+policy_fault_name policies.BadName = codes "BadName"
+policy_fault_name policies.TooManyDomains = codes "TooManyDomains"
+policy_fault_name policies.BadValue = codes "BadValue"
+policy_fault_name policies.BadNumber = codes "BadNumber"
+policy_fault_name policies.NoObject = codes "NoObject"
+policy_fault_name policies.BadOrder = codes "BadOrder"
+policy_fault_name policies.Taken = codes "Taken"
+policy_fault_name policies.NoDomain = codes "NoDomain"
 
 -- a fault of a listing
 abbrev pub fault_name : Fault → List ℕ

@@ -1,7 +1,7 @@
 //! The last lines of the program.
 ghost use Rattle.std.specs.Prelude.{◌≡◌, ◌≤◌, [], length};
-ghost use Rattle.courses.specs.Names.{fault_name, schedule_fault_name, image_word_name, cut_fault_name};
-ghost use Rattle.courses.specs.Ending.{IsGiven, EndsIn, refusal_text, offset_text, refused_listing, refused_schedule, refused_image, refused_cut, too_long};
+ghost use Rattle.courses.specs.Names.{fault_name, schedule_fault_name, image_word_name, cut_fault_name, policy_fault_name};
+ghost use Rattle.courses.specs.Ending.{IsGiven, EndsIn, refusal_text, offset_text, refused_listing, refused_schedule, refused_image, refused_cut, refused_policy, too_long};
 
 use crate::exit::Exit;
 use confine_check::CutFault;
@@ -9,6 +9,7 @@ use coy_io::{Sink, put_all};
 use coy_text::LineBuf;
 use image_binary::ImageWord;
 use listing_read::{Fault, ScheduleFault};
+use separation_lines::PolicyFault;
 
 /// Writes the last bytes of the program.
 pub fn end_with<K: Sink>(bytes: &[u8], exit: Exit, output: &mut K) -> Exit
@@ -47,6 +48,15 @@ pub fn refuse_cut<K: Sink>(line: u32, fault: CutFault, output: &mut K) -> Exit
 {
     let exit = Exit::CutRefused { line, fault };
     refuse(line, cut_fault_name(fault), exit, output)
+}
+
+/// Tells the fault of a line of a policy.
+pub fn refuse_policy<K: Sink>(line: u32, fault: PolicyFault, output: &mut K) -> Exit
+    ensures { EndsIn K.taken K.faults output.old output.new result
+        (refused_policy line fault) }
+{
+    let exit = Exit::PolicyRefused { line, fault };
+    refuse(line, policy_fault_name(fault), exit, output)
 }
 
 /// Tells the fault of an image and the offset of the field that has it.
@@ -177,5 +187,25 @@ fn cut_fault_name(fault: CutFault) -> &'static str
         CutFault::BadNumber => "BadNumber",
         CutFault::NoObject => "NoObject",
         CutFault::BadOrder => "BadOrder",
+    }
+}
+
+fn policy_fault_name(fault: PolicyFault) -> &'static str
+    ensures name { result.now ≡ policy_fault_name fault }
+    ensures short { length result.now ≤ 20 }
+{
+    match fault {
+        PolicyFault::LineTooLong => "LineTooLong",
+        PolicyFault::BadByte => "BadByte",
+        PolicyFault::UnknownPolicy => "UnknownPolicy",
+        PolicyFault::WrongWords => "WrongWords",
+        PolicyFault::BadName => "BadName",
+        PolicyFault::TooManyDomains => "TooManyDomains",
+        PolicyFault::BadValue => "BadValue",
+        PolicyFault::BadNumber => "BadNumber",
+        PolicyFault::NoObject => "NoObject",
+        PolicyFault::BadOrder => "BadOrder",
+        PolicyFault::Taken => "Taken",
+        PolicyFault::NoDomain => "NoDomain",
     }
 }

@@ -5,6 +5,7 @@ ghost use Rattle.courses.specs.Exit.{status_of};
 use confine_check::CutFault;
 use image_binary::ImageWord;
 use listing_read::{Fault, ScheduleFault};
+use separation_lines::PolicyFault;
 
 /// How the program ends.
 #[derive(Clone, Copy)]
@@ -29,6 +30,10 @@ pub enum Exit {
     ImageRefused { offset: u32, fault: ImageWord },
     /// A line of the cut was refused, the first that has a fault.
     CutRefused { line: u32, fault: CutFault },
+    /// A line of the policy was refused, the first that has a fault. `separation` alone ends so.
+    PolicyRefused { line: u32, fault: PolicyFault },
+    /// All was done, and crossings were told that the policy doesn't allow. `separation` alone ends so.
+    Crossings,
 }
 
 impl Exit {
@@ -47,6 +52,8 @@ impl Exit {
             Exit::TooLong => 7,
             Exit::ImageRefused { .. } => 8,
             Exit::CutRefused { .. } => 9,
+            Exit::PolicyRefused { .. } => 9,
+            Exit::Crossings => 10,
         }
     }
 }

@@ -9,7 +9,8 @@ mod flushing;
 mod head;
 
 pub use ending::{
-    end_past_limit, end_with, refuse_cut, refuse_image, refuse_listing, refuse_schedule,
+    end_past_limit, end_with, refuse_cut, refuse_image, refuse_listing, refuse_policy,
+    refuse_schedule,
 };
 pub use exit::Exit;
 pub use flushing::flush_after;

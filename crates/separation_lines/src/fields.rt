@@ -1,0 +1,134 @@
+//! The fields of a line of a policy.
+ghost use Rattle.std.specs.Prelude.{◌≡◌, ◌<◌, ◌≤◌, length, IfOk};
+ghost use Rattle.coy_text.specs.Words.{words_of};
+ghost use Rattle.separation_policy.specs.Policy.{assigned_of};
+ghost use Rattle.separation_lines.specs.Fields.{block_from, domain_from, domain_numbered, kind_from, last_from, name_from, object_from, objects_from};
+
+use crate::block::Block;
+use crate::fault::PolicyFault;
+use cap_format::CapKind;
+use cap_words::{Name, read_name};
+use coy_text::{read_dec, word, word_count};
+use separation_policy::{DOMAIN_LIMIT, Policy};
+
+/// The name that a word is.
+pub(crate) fn name(word: &[u8]) -> Result<Name, PolicyFault>
+    ensures { result ≡ name_from word.now }
+{
+    match read_name(word) {
+        Some(name) => Ok(name),
+        None => Err(PolicyFault::BadName),
+    }
+}
+
+/// The number of the domain of this name, or of the next one to be made.
+pub(crate) fn numbered(name: &[u8], policy: &Policy) -> Result<u8, PolicyFault>
+    ensures value { result ≡ domain_numbered policy.now name.now }
+    ensures few { IfOk result (λ domain. domain < 64) }
+    ensures next { IfOk result (λ domain. domain ≤ length policy.now.domains) }
+{
+    let count = policy.len();
+    match policy.domain_called(name) {
+        Some(domain) => Ok(domain),
+        None if count < DOMAIN_LIMIT => Ok(count as u8),
+        None => Err(PolicyFault::TooManyDomains),
+    }
+}
+
+/// A domain that was made.
+#[tactic(auto, unfolding(crate::specs::Fields::domain_from))]
+pub(crate) fn made(word: &[u8], policy: &Policy) -> Result<u8, PolicyFault>
+    ensures value { result ≡ domain_from policy.now word.now }
+    ensures there { IfOk result (λ domain. domain < length policy.now.domains) }
+{
+    let name = name(word)?;
+    match policy.domain_called(name.as_slice()) {
+        Some(domain) => Ok(domain),
+        None => Err(PolicyFault::NoDomain),
+    }
+}
+
+/// The objects that a line names, none of which is another domain's.
+#[tactic(auto, unfolding(crate::specs::Fields::objects_from))]
+pub(crate) fn objects(line: &[u8], domain: u8, policy: &Policy) -> Result<Block, PolicyFault>
+    ensures value { result ≡ objects_from policy.now domain (words_of line.now) }
+    ensures order { IfOk result (λ block. block.from ≤ block.to) }
+    ensures there { IfOk result (λ block.
+        block.to < length (assigned_of policy.now.assigned block.kind)) }
+{
+    let block = block(line, policy)?;
+    if policy.is_assigned_other(block.kind, block.from, block.to, domain) {
+        return Err(PolicyFault::Taken);
+    }
+    Ok(block)
+}
+
+/// The objects that a line names.
+#[tactic(auto, unfolding(crate::specs::Fields::block_from))]
+fn block(line: &[u8], policy: &Policy) -> Result<Block, PolicyFault>
+    ensures value { result ≡ block_from policy.now (words_of line.now) }
+    ensures order { IfOk result (λ block. block.from ≤ block.to) }
+    ensures there { IfOk result (λ block.
+        block.to < length (assigned_of policy.now.assigned block.kind)) }
+{
+    let kind = object_kind(word(line, 2))?;
+    let from = object(policy.size(kind), word(line, 3))?;
+    let to = last(policy.size(kind), from, line)?;
+    if to < from {
+        return Err(PolicyFault::BadOrder);
+    }
+    Ok(Block { kind, from, to })
+}
+
+#[tactic(auto, unfolding(crate::specs::Fields::kind_from))]
+fn object_kind(word: &[u8]) -> Result<CapKind, PolicyFault>
+    ensures { result ≡ kind_from word.now }
+{
+    if word == b"page".as_slice() {
+        return Ok(CapKind::Page);
+    }
+    if word == b"cappage".as_slice() {
+        return Ok(CapKind::CapPage);
+    }
+    if word == b"gpt".as_slice() {
+        return Ok(CapKind::Gpt);
+    }
+    if word == b"endpoint".as_slice() {
+        return Ok(CapKind::Endpoint);
+    }
+    if word == b"process".as_slice() {
+        return Ok(CapKind::Process);
+    }
+    Err(PolicyFault::BadValue)
+}
+
+/// The number of an object of which there are `size`.
+#[tactic(auto, unfolding(crate::specs::Fields::object_from))]
+fn object(size: usize, word: &[u8]) -> Result<u16, PolicyFault>
+    requires { size < 65536 }
+    ensures value { result ≡ object_from size word.now }
+    ensures there { IfOk result (λ n. n < size) }
+{
+    let number = match read_dec(word) {
+        Ok(value) => value,
+        Err(_) => return Err(PolicyFault::BadNumber),
+    };
+    if number as usize >= size {
+        return Err(PolicyFault::NoObject);
+    }
+    Ok(number as u16)
+}
+
+/// The last object: the fifth word, where there is one, and otherwise the first object.
+#[tactic(auto, unfolding(crate::specs::Fields::last_from))]
+fn last(size: usize, from: u16, line: &[u8]) -> Result<u16, PolicyFault>
+    requires small { size < 65536 }
+    requires there { from < size }
+    ensures value { result ≡ last_from size from (words_of line.now) }
+    ensures there { IfOk result (λ n. n < size) }
+{
+    if word_count(line) == 5 {
+        return object(size, word(line, 4));
+    }
+    Ok(from)
+}

@@ -1,0 +1,14 @@
+//! The lines of a policy: which domain each object has, and who may read whom.
+//!
+//! A policy is read a line at a time, and a line `end` ends it. Nothing here knows of machines, or when a policy holds.
+#![tactic(auto)]
+
+mod block;
+mod fault;
+mod fields;
+mod line;
+mod said;
+
+pub use fault::{PolicyFault, Untaken};
+pub use line::read_policy;
+pub use said::Next;

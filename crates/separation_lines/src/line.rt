@@ -1,0 +1,164 @@
+//! Lines of a policy.
+ghost use Rattle.std.specs.Prelude.{◌≡◌, ◌≢◌, ◌<◌, ◌≤◌, length, IfOk, OnOk, OnErr};
+ghost use Rattle.coy_text.specs.Words.{words_of};
+ghost use Rattle.listing_read.specs.Line.{is_visible_line, is_skipped};
+ghost use Rattle.separation_lines.specs.PolicyLine.{after_line, after_said, answered, as_untaken, domain_line, end_line, next_of, policy_line, reads_line, said_by, IsSaid};
+
+use crate::block::Block;
+use crate::fault::{PolicyFault, Untaken};
+use crate::fields::{made, name, numbered, objects};
+use crate::said::{Next, Said};
+use cap_format::OutOfMemory;
+use cap_words::Name;
+use coy_io::LINE_LIMIT;
+use coy_text::{word, word_count};
+use separation_policy::Policy;
+
+/// Takes a line in, and answers what the next line belongs to. After a fault, and where memory is wanting, the policy is as
+/// before; so it is after a line that is skipped.
+pub fn read_policy(line: &[u8], policy: &mut Policy) -> Result<Next, Untaken>
+    ensures answer { result ≢ Err Untaken.OutOfMemory →
+        result ≡ as_untaken (answered (policy_line policy.old line.now)) }
+    ensures after { result ≢ Err Untaken.OutOfMemory →
+        policy.new ≡ after_line policy.old (policy_line policy.old line.now) }
+    ensures before { result ≡ Err Untaken.OutOfMemory → policy.new ≡ policy.old }
+{
+    match said(line, policy) {
+        Ok(said) => take_in(said, policy),
+        Err(fault) => Err(Untaken::Refused(fault)),
+    }
+}
+
+/// Does with a policy what a line says.
+fn take_in(said: Said, policy: &mut Policy) -> Result<Next, Untaken>
+    requires { IsSaid policy.old said }
+    ensures answer { result ≢ Err Untaken.OutOfMemory → result ≡ Ok (next_of said) }
+    ensures after { result ≢ Err Untaken.OutOfMemory → policy.new ≡ after_said policy.old said }
+    ensures before { result ≡ Err Untaken.OutOfMemory → policy.new ≡ policy.old }
+{
+    match said {
+        Said::Nothing => Ok(Next::Policy),
+        Said::Objects {
+            domain,
+            name,
+            block,
+        } => match assign(domain, name, block, policy) {
+            Ok(()) => Ok(Next::Policy),
+            Err(_) => Err(Untaken::OutOfMemory),
+        },
+        Said::Reads { reader, read } => {
+            policy.allow(reader, read);
+            Ok(Next::Policy)
+        }
+        Said::Ends => Ok(Next::Schedule),
+    }
+}
+
+/// Assigns objects to a domain, which is made where there is none of its number yet.
+fn assign(domain: u8, name: Name, block: Block, policy: &mut Policy) -> Result<(), OutOfMemory>
+    requires { IsSaid policy.old (Said.Objects domain name block) }
+    ensures ok { OnOk result (policy.new ≡ after_said policy.old (Said.Objects domain name block)) }
+    ensures err { OnErr result (policy.new ≡ policy.old) }
+{
+    if domain as usize >= policy.len() {
+        policy.make(name)?;
+    }
+    policy.assign(block.kind, block.from, block.to, domain);
+    Ok(())
+}
+
+/// What a line says.
+#[tactic(auto, unfolding(crate::specs::PolicyLine::policy_line))]
+fn said(line: &[u8], policy: &Policy) -> Result<Said, PolicyFault>
+    ensures value { result ≡ policy_line policy.now line.now }
+    ensures said { IfOk result (IsSaid policy.now) }
+{
+    if line.len() > LINE_LIMIT {
+        return Err(PolicyFault::LineTooLong);
+    }
+    if !is_visible(line) {
+        return Err(PolicyFault::BadByte);
+    }
+    if is_skipped(line) {
+        return Ok(Said::Nothing);
+    }
+    by_first_word(line, policy)
+}
+
+#[tactic(auto, unfolding(crate::specs::PolicyLine::said_by))]
+fn by_first_word(line: &[u8], policy: &Policy) -> Result<Said, PolicyFault>
+    ensures value { result ≡ said_by policy.now (words_of line.now) }
+    ensures said { IfOk result (IsSaid policy.now) }
+{
+    let first = word(line, 0);
+    if first == b"domain".as_slice() {
+        return domain(line, policy);
+    }
+    if first == b"reads".as_slice() {
+        return reads(line, policy);
+    }
+    if first == b"end".as_slice() {
+        return end(line);
+    }
+    Err(PolicyFault::UnknownPolicy)
+}
+
+#[tactic(auto, unfolding(crate::specs::PolicyLine::domain_line))]
+fn domain(line: &[u8], policy: &Policy) -> Result<Said, PolicyFault>
+    ensures value { result ≡ domain_line policy.now (words_of line.now) }
+    ensures said { IfOk result (IsSaid policy.now) }
+{
+    let count = word_count(line);
+    if count != 4 && count != 5 {
+        return Err(PolicyFault::WrongWords);
+    }
+    let name = name(word(line, 1))?;
+    let domain = numbered(name.as_slice(), policy)?;
+    let block = objects(line, domain, policy)?;
+    Ok(Said::Objects {
+        domain,
+        name,
+        block,
+    })
+}
+
+#[tactic(auto, unfolding(crate::specs::PolicyLine::reads_line))]
+fn reads(line: &[u8], policy: &Policy) -> Result<Said, PolicyFault>
+    ensures value { result ≡ reads_line policy.now (words_of line.now) }
+    ensures said { IfOk result (IsSaid policy.now) }
+{
+    if word_count(line) != 3 {
+        return Err(PolicyFault::WrongWords);
+    }
+    let reader = made(word(line, 1), policy)?;
+    let read = made(word(line, 2), policy)?;
+    Ok(Said::Reads { reader, read })
+}
+
+#[tactic(auto, unfolding(crate::specs::PolicyLine::end_line))]
+fn end(line: &[u8]) -> Result<Said, PolicyFault>
+    ensures value { result ≡ end_line (words_of line.now) }
+    ensures ends { IfOk result (λ said. said ≡ Said.Ends) }
+{
+    if word_count(line) != 1 {
+        return Err(PolicyFault::WrongWords);
+    }
+    Ok(Said::Ends)
+}
+
+/// Whether all bytes of a line are spaces or visible characters of ASCII.
+fn is_visible(line: &[u8]) -> bool
+    ensures { result ≡ is_visible_line line.now }
+{
+    line.iter().all(|byte| 32 <= *byte && *byte <= 126)
+}
+
+/// Whether a line has nothing to say: no word, or a first word that begins with `#`.
+fn is_skipped(line: &[u8]) -> bool
+    ensures { result ≡ is_skipped (words_of line.now) }
+{
+    match word(line, 0) {
+        [] => true,
+        [first, ..] => *first == b'#',
+    }
+}
