@@ -12,7 +12,7 @@ use Rattle.courses.specs.Course.{ComesTo, HasEntries, ends_in}
 use Rattle.courses.specs.Ending.{Output, Ends, HasCauses, refused_listing, too_long}
 use Rattle.courses.specs.Exit.{status_of}
 use Rattle.courses.specs.declared.exit.Exit.{Exit}
-use Rattle.courses.specs.declared.exit.Exit.TheVariants.{Done, Usage, ReadFault, WriteFault, OutOfMemory}
+use Rattle.courses.specs.declared.exit.Exit.TheVariants.{Done, Crossings, Usage, ReadFault, WriteFault, OutOfMemory}
 use Rattle.courses.proofs.Endings.{ends-memory}
 
 -- exits with other numbers are others
@@ -46,6 +46,12 @@ module _ (old new : Option (List ℕ)) (faults faults' : ℕ) (exit : Exit) (o :
   pub last-done : exit ≡ Done → o.exit ≡ Done
   last-done same =
       let given : exit ≢ WriteFault = λ cut. exits-differ Done WriteFault (λ n. let bad : 0 ≡ 5 = n in omega (arith, bad)) (sym same ∙ cut) in
+      sym (e.given given) ∙ same
+
+  -- and so where crossings were told
+  pub last-crossed : exit ≡ Crossings → o.exit ≡ Crossings
+  last-crossed same =
+      let given : exit ≢ WriteFault = λ cut. exits-differ Crossings WriteFault (λ n. let bad : 10 ≡ 5 = n in omega (arith, bad)) (sym same ∙ cut) in
       sym (e.given given) ∙ same
 
   -- a fault is the sink's

@@ -16,10 +16,10 @@ use Rattle.courses.specs.Ending.{Output, Outputs, IsGiven, Ends, refused_listing
 use Rattle.courses.specs.Head.{EndsUnlisted, TellsFault}
 use Rattle.courses.specs.Listed.{Behind, listed_course, lines_course}
 use Rattle.courses.specs.declared.exit.Exit.{Exit}
-use Rattle.courses.specs.declared.exit.Exit.TheVariants.{Done, Usage, ReadFault, WriteFault, OutOfMemory}
+use Rattle.courses.specs.declared.exit.Exit.TheVariants.{Done, Crossings, Usage, ReadFault, WriteFault, OutOfMemory}
 use Rattle.courses.proofs.Bytes.{sure-listing}
 use Rattle.courses.proofs.Endings.{outputs_none}
-use Rattle.courses.proofs.Lasts.{IsLast, comes-last, last-causes, last-done, last-memory, last-read, last-usage}
+use Rattle.courses.proofs.Lasts.{IsLast, comes-last, last-causes, last-crossed, last-done, last-memory, last-read, last-usage}
 
 -- memory was wanting, and nothing was written
 pub outputs_memory : (now new : Option (List ℕ)) (o : Output) → new ≡ now → Outputs now new OutOfMemory o
@@ -56,13 +56,14 @@ module _ {K : Type 0} (taken : K → Option (List ℕ)) (faults : K → ℕ) (ol
       (comes-last (taken old) (taken new) (faults old) (faults new) fetches fetches exit count o e refl none)
 
   -- a refusal was told
-  told : (listed : Listed) (o : Output) → ((behind : Behind) → listed_course behind listed ≡ ends_in o) → IsLast o → (o.exit ≡ Done → ⊥)
+  told : (listed : Listed) (o : Output) → ((behind : Behind) → listed_course behind listed ≡ ends_in o) → IsLast o → (o.exit ≡ Done → ⊥) → (o.exit ≡ Crossings → ⊥)
       → IfSome held (λ bytes. listing_of Header 1 (parts_of bytes) ≡ listed) → Ends (taken old) (taken new) (faults old) (faults new) exit o
       → unread' ≡ unread → Ends_here
-  told listed o is last never cause e quiet = record {
+  told listed o is last never uncrossed cause e quiet = record {
     comes = by_listing listed o is held cause e;
     sure = λ read behind count none fetches. absurd (last-read _ _ _ _ _ _ last e read);
     done = λ done. never (last-done _ _ _ _ _ _ last e done);
+    crossings = λ crossed. uncrossed (last-crossed _ _ _ _ _ _ last e crossed);
     usage = last-usage _ _ _ _ _ _ last e;
     causes = last-causes _ _ _ _ _ _ last e unread unread' (faults old) quiet refl;
     nothing = λ memory. absurd (last-memory _ _ _ _ _ _ last e memory);
@@ -74,14 +75,14 @@ module _ {K : Type 0} (taken : K → Option (List ℕ)) (faults : K → ℕ) (ol
       → (fault ≡ no_listing.ReadFault → Rose unread unread') → (fault ≢ no_listing.ReadFault → unread' ≡ unread) → Ends_here
   ends-unlisted (no_listing.Refused line fault) cause e front rose quiet =
       told (Refused line fault) (refused_listing line fault) (λ behind. refl) (record { usage = λ e. omega (arith, e); read = λ e. omega (arith, e); memory = λ e. omega (arith, e) })
-      (λ done. cc) (refused held (subst (λ reader. IsCause (no_listing.Refused line fault) Header (reader.number + 1) (ahead reader held)) starts cause)) e (quiet (λ same. cc))
+      (λ done. cc) (λ crossed. cc) (refused held (subst (λ reader. IsCause (no_listing.Refused line fault) Header (reader.number + 1) (ahead reader held)) starts cause)) e (quiet (λ same. cc))
     where
       refused : (known : Option (List ℕ)) → IsCause (no_listing.Refused line fault) Header 1 (ahead new_reader known) → IfSome known (λ bytes. listing_of Header 1 (parts_of bytes) ≡ Refused line fault)
       refused None cause = tt
       refused (Some bytes) cause = cause
   ends-unlisted no_listing.TooLong cause e front rose quiet =
       told Past too_long (λ behind. refl) (record { usage = λ e. omega (arith, e); read = λ e. omega (arith, e); memory = λ e. omega (arith, e) })
-      (λ done. cc) (past held (subst (λ reader. IsCause no_listing.TooLong Header (reader.number + 1) (ahead reader held)) starts cause)) e (quiet (λ same. cc))
+      (λ done. cc) (λ crossed. cc) (past held (subst (λ reader. IsCause no_listing.TooLong Header (reader.number + 1) (ahead reader held)) starts cause)) e (quiet (λ same. cc))
     where
       past : (known : Option (List ℕ)) → IsCause no_listing.TooLong Header 1 (ahead new_reader known) → IfSome known (λ bytes. listing_of Header 1 (parts_of bytes) ≡ Past)
       past None cause = tt
@@ -92,6 +93,7 @@ module _ {K : Type 0} (taken : K → Option (List ℕ)) (faults : K → ℕ) (ol
         sure-listing behind held held' (taken old) (taken new) fetches fetches count first reader starts (front refl)
         (subst (λ k. Appends (taken old) (taken k) []) (sym e.1) (Appends-nil (taken old))) refl none;
     done = λ done. let same : ReadFault ≡ Done = sym e.0 ∙ done in cc;
+    crossings = λ crossed. let same : ReadFault ≡ Crossings = sym e.0 ∙ crossed in cc;
     usage = λ usage. let same : ReadFault ≡ Usage = sym e.0 ∙ usage in cc;
     causes = record {
       read = λ same. rose refl;
@@ -106,6 +108,7 @@ module _ {K : Type 0} (taken : K → Option (List ℕ)) (faults : K → ℕ) (ol
         (λ o. subst (λ x. Outputs (taken old) (taken new) x o) (sym e.0) (outputs_memory (taken old) (taken new) o (ap taken e.1)));
     sure = λ read behind count none fetches. let bad : OutOfMemory ≡ ReadFault = sym e.0 ∙ read in cc;
     done = λ done. let same : OutOfMemory ≡ Done = sym e.0 ∙ done in cc;
+    crossings = λ crossed. let same : OutOfMemory ≡ Crossings = sym e.0 ∙ crossed in cc;
     usage = λ usage. let same : OutOfMemory ≡ Usage = sym e.0 ∙ usage in cc;
     causes = record {
       read = λ same. let bad : OutOfMemory ≡ ReadFault = sym e.0 ∙ same in cc;

@@ -9,7 +9,7 @@ use Rattle.courses.specs.Ending.{EndsIn, HasCauses, refused_listing, too_long}
 use Rattle.courses.specs.Listed.{Behind, lines_course}
 use Rattle.courses.specs.Sure.{StandsSure}
 use Rattle.courses.specs.declared.exit.Exit.{Exit}
-use Rattle.courses.specs.declared.exit.Exit.TheVariants.{Done, Usage, ReadFault, OutOfMemory}
+use Rattle.courses.specs.declared.exit.Exit.TheVariants.{Done, Crossings, Usage, ReadFault, OutOfMemory}
 
 -- what is told of a listing that could not be read, and the exit that is given
 abbrev pub TellsFault : {K : Type 0} → (K → Option (List ℕ)) → (K → ℕ) → ListingFault → K → K → Exit → Type 0
@@ -26,6 +26,7 @@ pub record EndsUnlisted (held held' taken taken' : Option (List ℕ)) (unread un
   pub sure : exit ≡ ReadFault → (behind : Behind) (count : List Touch → ℕ) → count [] ≡ 0 → (fetches : ℕ)
       → StandsSure held held' taken taken' fetches fetches count (λ bytes. lines_course behind (whole_lines [] bytes))
   pub done : exit ≢ Done
+  pub crossings : exit ≢ Crossings
   pub usage : exit ≢ Usage
   pub causes : HasCauses unread unread' unwritten unwritten' exit
   pub nothing : exit ≡ OutOfMemory → taken' ≡ taken

@@ -1,0 +1,8 @@
+mod Stating
+mod Verdicts
+mod Concluding
+mod Judges
+mod Called
+mod Exact
+mod Lists
+mod ReadBelow

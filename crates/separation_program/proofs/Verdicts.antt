@@ -1,0 +1,82 @@
+-- What is told of a state, by what was found.
+use Rattle.std.proofs.Common.{◌≡◌, ◌≢◌, ◌++◌, ◌∙◌, ◌∷◌, [], ℕ, List, suc, length, map, flat_map, Result, Ok, refl, ap, ap₂, arith}
+use Rattle.kernel_core.specs.State.{State}
+use Rattle.separation_policy.specs.Policy.{PolicyValue}
+use Rattle.separation_check.specs.Crossings.{crossings_in, meant_crossing}
+use Rattle.separation_check.specs.Marks.{marks_in}
+use Rattle.separation_check.specs.declared.marks.Marks.{Marks}
+use Rattle.separation_check.specs.declared.crossing.Crossing.{Crossing}
+use Rattle.separation_check.specs.declared.crossing.Crossing.TheVariants as crossings
+use Rattle.separation_lines.specs.declared.fault.PolicyFault.{PolicyFault}
+use Rattle.courses.specs.Ending.{EndsNothing, refused_policy}
+use Rattle.courses.specs.declared.exit.Exit.{Exit}
+use Rattle.courses.specs.declared.exit.Exit.TheVariants.{Done, Crossings}
+use Rattle.courses.proofs.Lasts.{IsLast, exits-differ}
+use Rattle.separation_program.specs.Text.{crossing_text, crossings_text, head_text, told, told_by, total_text}
+
+-- a refused line of a policy has an exit of its own
+pub policy-last : (line : ℕ) (fault : PolicyFault) → IsLast (refused_policy line fault)
+policy-last line fault = record { usage = λ e. omega (arith, e); read = λ e. omega (arith, e); memory = λ e. omega (arith, e) }
+
+-- the exit of a part that wanted no memory
+pub ok-exit : {E : Type 0} (a b : Exit) (result : Result Exit E) → result ≡ Ok a → result ≡ Ok b → a ≡ b
+ok-exit a b result is same = cc
+
+module _ (policy : PolicyValue) (s : State) where
+  -- what is told has an exit of its own
+  pub told-last : IsLast (told policy s)
+  told-last = by (crossings_in policy s)
+    where
+      by : (found : List Crossing) → IsLast (told_by policy (marks_in policy s) found)
+      by [] = record { usage = λ e. omega (arith, e); read = λ e. omega (arith, e); memory = λ e. omega (arith, e) }
+      by (first ∷ rest) = record { usage = λ e. omega (arith, e); read = λ e. omega (arith, e); memory = λ e. omega (arith, e) }
+
+  -- and ends nothing that was asked for
+  pub told-nothing : (lines : ℕ) → EndsNothing lines (told policy s).exit
+  told-nothing lines = by (crossings_in policy s)
+    where
+      by : (found : List Crossing) → EndsNothing lines (told_by policy (marks_in policy s) found).exit
+      by [] = tt
+      by (first ∷ rest) = tt
+
+  -- the same is told of a crossing and of what it means
+  text-meant : (crossing : Crossing) → crossing_text policy crossing ≡ crossing_text policy (meant_crossing crossing)
+  unfolding crossing_text head_text
+  text-meant (crossings.Capability kind n place cap from to) = refl
+  text-meant (crossings.Range kind n place domain) = refl
+  text-meant (crossings.Sleeper process from to) = refl
+
+  texts-meant : (found : List Crossing) → flat_map (crossing_text policy) found ≡ flat_map (crossing_text policy) (map meant_crossing found)
+  texts-meant [] = refl
+  texts-meant (first ∷ rest) = ap₂ (λ (x y : List ℕ). x ++ y) (text-meant first) (texts-meant rest)
+
+  length-meant : (found : List Crossing) → length found ≡ length (map meant_crossing found)
+  length-meant [] = refl
+  length-meant (first ∷ rest) = ap (λ n. suc n) (length-meant rest)
+
+  all-meant : (found : List Crossing) → crossings_text policy found ≡ crossings_text policy (map meant_crossing found)
+  unfolding crossings_text
+  all-meant found = ap₂ (λ (x : List ℕ) (n : ℕ). x ++ total_text n) (texts-meant found) (length-meant found)
+
+  -- what is told of what was found is what is told of the state
+  pub told-found : (marks : Marks) (found all : List Crossing) → marks ≡ marks_in policy s → map meant_crossing found ≡ all
+      → told_by policy marks found ≡ told_by policy (marks_in policy s) all
+  told-found marks [] all same means =
+      ap (λ (m : Marks). told_by policy m []) same ∙ ap (told_by policy (marks_in policy s)) means
+  told-found marks (first ∷ rest) all same means =
+      ap (λ text. record { text = text; exit = Crossings }) (all-meant (first ∷ rest)) ∙ ap (told_by policy (marks_in policy s)) means
+
+  -- it is told that the policy holds where nothing was found
+  pub found-none : (marks : Marks) (found : List Crossing) → (told_by policy marks found).exit ≡ Done → found ≡ []
+  found-none marks [] done = refl
+  found-none marks (first ∷ rest) done = absurd (exits-differ Crossings Done (λ n. let bad : 10 ≡ 0 = n in omega (arith, bad)) done)
+
+  -- and crossings where something was
+  pub found-some : (marks : Marks) (found : List Crossing) → (told_by policy marks found).exit ≡ Crossings → found ≢ []
+  found-some marks [] crossed none = exits-differ Done Crossings (λ n. let bad : 0 ≡ 10 = n in omega (arith, bad)) crossed
+  found-some marks (first ∷ rest) crossed none = cc
+
+  -- an exit of what was told of what was found is its own
+  pub by-last : (marks : Marks) (found : List Crossing) → IsLast (told_by policy marks found)
+  by-last marks [] = record { usage = λ e. omega (arith, e); read = λ e. omega (arith, e); memory = λ e. omega (arith, e) }
+  by-last marks (first ∷ rest) = record { usage = λ e. omega (arith, e); read = λ e. omega (arith, e); memory = λ e. omega (arith, e) }

@@ -1,0 +1,8 @@
+use Rattle.run_text.proofs.Texts.{go_on, stop}
+use Rattle.separation_program.proofs.names.put_one_further.Goals as goal
+
+pub returns-in_err-put_text : goal.returns-in_err-put_text
+returns-in_err-put_text g c = stop _ _ _ _ _ _ _ _ c.from_residual.ensures.0 c.in_err-put_text.ensures
+
+pub returns : goal.returns
+returns g c = go_on _ _ _ _ _ _ _ _ _ _ c.in_ok-put_text.ensures c.put_name.ensures

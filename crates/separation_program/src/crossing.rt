@@ -1,0 +1,155 @@
+//! What is told of crossings.
+ghost use Rattle.std.specs.Prelude.{◌≡◌, ◌≤◌, ◌<◌, ◌+◌, ◌++◌, [], length, flat_map, slice_index_or};
+ghost use Rattle.run_text.specs.Written.{WroteTo};
+ghost use Rattle.separation_program.specs.Text.{capability_text, crossing_text, crossings_text, head_text, place_text, tail_text, total_text};
+
+use crate::names::{put_line, put_own, put_pair};
+use cap_format::{Cap, CapKind};
+use cap_words::push_capability;
+use coy_io::{Sink, WriteFault};
+use coy_text::LineBuf;
+use separation_check::Crossing;
+use separation_policy::Policy;
+use statement_text::kind_word;
+
+/// Writes each crossing, and how many they are.
+#[tactic(auto, unfolding(crate::specs::Text::crossings_text))]
+pub(crate) fn put_crossings<K: Sink>(
+    policy: &Policy,
+    found: &[Crossing],
+    output: &mut K,
+) -> Result<(), WriteFault>
+    ensures { WroteTo K.taken K.faults output.old output.new result
+        (crossings_text policy.now found.now) }
+{
+    put_each(policy, found, output)?;
+    put_total(found.len(), output)
+}
+
+/// Writes the line of each crossing.
+fn put_each<K: Sink>(policy: &Policy, found: &[Crossing], output: &mut K) -> Result<(), WriteFault>
+    ensures { WroteTo K.taken K.faults output.old output.new result
+        (flat_map (crossing_text policy.now) found.now) }
+{
+    'each: for place in 0..found.len() {
+        put_crossing(policy, crossing_at(found, place), output)?;
+    }
+    Ok(())
+}
+
+/// The crossing at a place of a list.
+fn crossing_at(found: &[Crossing], place: usize) -> &Crossing
+    requires { place < length found.now }
+    ensures { result.now ≡ slice_index_or found.now place result.now }
+{
+    &found[place]
+}
+
+/// Writes the line of a crossing.
+#[tactic(auto, unfolding(crate::specs::Text::crossing_text))]
+fn put_crossing<K: Sink>(
+    policy: &Policy,
+    crossing: &Crossing,
+    output: &mut K,
+) -> Result<(), WriteFault>
+    ensures { WroteTo K.taken K.faults output.old output.new result
+        (crossing_text policy.now crossing.now) }
+{
+    put_head(crossing, output)?;
+    put_tail(policy, crossing, output)
+}
+
+/// Writes a crossing but for the names of domains.
+fn put_head<K: Sink>(crossing: &Crossing, output: &mut K) -> Result<(), WriteFault>
+    ensures { WroteTo K.taken K.faults output.old output.new result (head_text crossing.now) }
+{
+    let mut line = LineBuf::new();
+    push_head(crossing, &mut line);
+    put_line(&line, output)
+}
+
+#[tactic(auto, unfolding(crate::specs::Text::head_text), using(coy_text::proofs::NumeralLaws::length_decimal))]
+fn push_head(crossing: &Crossing, line: &mut LineBuf)
+    requires { line.old ≡ [] }
+    ensures { line.new ≡ head_text crossing.now }
+{
+    match crossing {
+        Crossing::Capability {
+            kind,
+            number,
+            place,
+            cap,
+            ..
+        } => push_capability_at(*kind, *number, *place, *cap, line),
+        Crossing::Range {
+            kind,
+            number,
+            place,
+            ..
+        } => {
+            line.push_word("range ");
+            push_place(*kind, *number, *place, line);
+        }
+        Crossing::Sleeper { process, .. } => {
+            line.push_word("sleeper ");
+            line.push_dec(*process as u64);
+            line.push_word(" ");
+        }
+    }
+}
+
+fn push_capability_at(kind: CapKind, number: u16, place: u16, cap: Cap, line: &mut LineBuf)
+    requires { line.old ≡ [] }
+    ensures { line.new ≡ capability_text kind number place cap }
+{
+    line.push_word("crossing ");
+    push_place(kind, number, place, line);
+    push_capability(line, cap);
+    line.push_word(" ");
+}
+
+/// Appends the object and the place in which something stands.
+#[tactic(auto, using(coy_text::proofs::NumeralLaws::length_decimal))]
+fn push_place(kind: CapKind, number: u16, place: u16, line: &mut LineBuf)
+    requires room { length line.old ≤ 100 }
+    ensures text { line.new ≡ line.old ++ place_text kind number place }
+    ensures len { length line.new ≤ length line.old + 60 }
+{
+    line.push_word(kind_word(kind));
+    line.push_word(" ");
+    line.push_dec(number as u64);
+    line.push_word(" ");
+    line.push_dec(place as u64);
+    line.push_word(" ");
+}
+
+/// Writes the names of the domains of a crossing, and ends the line.
+fn put_tail<K: Sink>(policy: &Policy, crossing: &Crossing, output: &mut K) -> Result<(), WriteFault>
+    ensures { WroteTo K.taken K.faults output.old output.new result
+        (tail_text policy.now crossing.now) }
+{
+    match crossing {
+        Crossing::Capability { from, to, .. } => put_pair(policy, *from, *to, output),
+        Crossing::Range { domain, .. } => put_own(policy, *domain, output),
+        Crossing::Sleeper { from, to, .. } => put_pair(policy, *from, *to, output),
+    }
+}
+
+/// Writes how many crossings there are.
+fn put_total<K: Sink>(count: usize, output: &mut K) -> Result<(), WriteFault>
+    ensures { WroteTo K.taken K.faults output.old output.new result (total_text count) }
+{
+    let mut line = LineBuf::new();
+    push_total(count, &mut line);
+    put_line(&line, output)
+}
+
+#[tactic(auto, unfolding(crate::specs::Text::total_text), using(coy_text::proofs::NumeralLaws::length_decimal))]
+fn push_total(count: usize, line: &mut LineBuf)
+    requires { line.old ≡ [] }
+    ensures { line.new ≡ total_text count }
+{
+    line.push_word("crossings ");
+    line.push_dec(count as u64);
+    line.push_word("\n");
+}

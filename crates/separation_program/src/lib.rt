@@ -1,0 +1,17 @@
+//! The program `separation` as one call, over any source, any sink and any counter: whether a policy holds of the machine of
+//! a listing, set up by a schedule.
+//!
+//! Nothing here knows of files, or how it is found out whether a policy holds.
+#![tactic(auto)]
+
+mod crossing;
+mod input;
+mod judging;
+mod lines;
+mod names;
+mod program;
+mod telling;
+mod words;
+
+pub use courses::Exit;
+pub use program::separation;

@@ -1,0 +1,158 @@
+//! The names of domains, as they are written.
+ghost use Rattle.std.specs.Prelude.{◌≡◌, ◌<◌, ◌≤◌, ◌+◌, ◌++◌, ◌∷◌, length, flat_map, slice_index_or};
+ghost use Rattle.run_text.specs.Written.{WroteTo};
+ghost use Rattle.separation_policy.specs.Closure.{IsClosure};
+ghost use Rattle.separation_program.specs.Text.{further_text, name_of, names_text, one_if, own_text, pair_text, read_below, reads_other};
+
+use arrayvec::ArrayVec;
+use coy_io::{Sink, WriteFault, put_all};
+use coy_text::LineBuf;
+use separation_policy::{Closure, Policy};
+
+/// Writes a text as it is.
+pub(crate) fn put_text<K: Sink>(text: &str, output: &mut K) -> Result<(), WriteFault>
+    ensures { WroteTo K.taken K.faults output.old output.new result text.now }
+{
+    put_all(output, text.as_bytes())
+}
+
+/// Writes a line, or a part of one, that was made.
+pub(crate) fn put_line<K: Sink>(line: &LineBuf, output: &mut K) -> Result<(), WriteFault>
+    ensures { WroteTo K.taken K.faults output.old output.new result line.now }
+{
+    put_all(output, line.as_bytes())
+}
+
+/// Writes the name of a domain.
+pub(crate) fn put_name<K: Sink>(
+    policy: &Policy,
+    domain: u8,
+    output: &mut K,
+) -> Result<(), WriteFault>
+    ensures { WroteTo K.taken K.faults output.old output.new result (name_of policy.now domain) }
+{
+    put_all(output, policy.name(domain))
+}
+
+/// Writes from which domain to which something leads, and ends the line.
+pub(crate) fn put_pair<K: Sink>(
+    policy: &Policy,
+    from: u8,
+    to: u8,
+    output: &mut K,
+) -> Result<(), WriteFault>
+    ensures { WroteTo K.taken K.faults output.old output.new result (pair_text policy.now from to) }
+{
+    put_name(policy, from, output)?;
+    put_text(" -> ", output)?;
+    put_name(policy, to, output)?;
+    put_text("\n", output)
+}
+
+/// Writes a domain, and ends the line.
+pub(crate) fn put_own<K: Sink>(
+    policy: &Policy,
+    domain: u8,
+    output: &mut K,
+) -> Result<(), WriteFault>
+    ensures { WroteTo K.taken K.faults output.old output.new result (own_text policy.now domain) }
+{
+    put_name(policy, domain, output)?;
+    put_text("\n", output)
+}
+
+/// Writes the names of the domains that a domain reads, itself left out.
+pub(crate) fn put_read<K: Sink>(
+    policy: &Policy,
+    closure: &Closure,
+    domain: u8,
+    output: &mut K,
+) -> Result<(), WriteFault>
+    requires { IsClosure policy.now closure.now }
+    ensures { WroteTo K.taken K.faults output.old output.new result
+        (names_text policy.now (read_below policy.now domain (length policy.now.domains))) }
+{
+    let mut read: ArrayVec<u8, 64> = ArrayVec::new();
+    'each: for other in 0..policy.len() as u8 {
+        push_if_read(policy, closure, domain, other, &mut read);
+    }
+    put_names(policy, read.as_slice(), output)
+}
+
+/// Puts a domain down, where another reads it that is not the same.
+fn push_if_read(
+    policy: &Policy,
+    closure: &Closure,
+    domain: u8,
+    other: u8,
+    read: &mut ArrayVec<u8, 64>,
+)
+    requires closure { IsClosure policy.now closure.now }
+    requires room { length read.old.items < 64 }
+    ensures items { read.new.items ≡ read.old.items ++ one_if (reads_other policy.now domain other) other }
+    ensures few { length read.new.items ≤ length read.old.items + 1 }
+{
+    if reads_other(policy, closure, domain, other) {
+        read.push(other);
+    }
+}
+
+/// Whether a domain reads another that is not the same.
+fn reads_other(policy: &Policy, closure: &Closure, domain: u8, other: u8) -> bool
+    requires { IsClosure policy.now closure.now }
+    ensures { result ≡ reads_other policy.now domain other }
+{
+    domain != other && closure.sees(domain, other)
+}
+
+/// Writes the names of domains, with commas between them.
+fn put_names<K: Sink>(policy: &Policy, domains: &[u8], output: &mut K) -> Result<(), WriteFault>
+    ensures { WroteTo K.taken K.faults output.old output.new result
+        (names_text policy.now domains.now) }
+{
+    match domains {
+        [] => put_text("-", output),
+        [first, rest @ ..] => put_list(policy, *first, rest, output),
+    }
+}
+
+/// Writes the name of a domain and, behind commas, those of others.
+fn put_list<K: Sink>(
+    policy: &Policy,
+    first: u8,
+    rest: &[u8],
+    output: &mut K,
+) -> Result<(), WriteFault>
+    ensures { WroteTo K.taken K.faults output.old output.new result
+        (names_text policy.now (first ∷ rest.now)) }
+{
+    put_name(policy, first, output)?;
+    put_further(policy, rest, output)
+}
+
+/// Writes further names.
+fn put_further<K: Sink>(policy: &Policy, domains: &[u8], output: &mut K) -> Result<(), WriteFault>
+    ensures { WroteTo K.taken K.faults output.old output.new result
+        (flat_map (further_text policy.now) domains.now) }
+{
+    'each: for place in 0..domains.len() {
+        put_one_further(policy, domain_at(domains, place), output)?;
+    }
+    Ok(())
+}
+
+/// The domain at a place of a list.
+fn domain_at(domains: &[u8], place: usize) -> u8
+    requires { place < length domains.now }
+    ensures { result ≡ slice_index_or domains.now place result }
+{
+    domains[place]
+}
+
+fn put_one_further<K: Sink>(policy: &Policy, domain: u8, output: &mut K) -> Result<(), WriteFault>
+    ensures { WroteTo K.taken K.faults output.old output.new result
+        (further_text policy.now domain) }
+{
+    put_text(",", output)?;
+    put_name(policy, domain, output)
+}
