@@ -15,6 +15,8 @@ mod kernel_table;
 #[cfg(test)]
 mod rows;
 #[cfg(test)]
+mod separation_rows;
+#[cfg(test)]
 mod starts;
 #[cfg(test)]
 mod translators;

@@ -1,0 +1,587 @@
+//! Rows of the program `separation`.
+ghost use Rattle.std.specs.Prelude.{◌≡◌};
+ghost use Rattle.steps.specs.Permit.{permit_for};
+
+use crate::rows::{Calls, Row, WHOLE, check, row_of, source_of, words_of};
+use coy_io::MemSink;
+use separation_program::separation;
+use std::alloc::Global;
+use std::marker::Brand;
+use std::process::Abort;
+use std::sync::ledger::Ledger;
+use std::test::Fail;
+use steps::{Permit, Steps};
+
+/// The rows, whose expected outputs are worked out by hand; in the place of no words stands `none`.
+const SEPARATION_ROWS: &str = "\
+0 none: an object that no line names is of rest
+coyotos 1
+machine 1 2 1 1 2 1
+end
+=>
+separated domains=1
+domain rest objects=7 processes=2 reads=-
+==
+0 none: who reads, reads what those read whom he reads
+coyotos 1
+machine 1 4 0 0 2 0
+capreg 0 1 page:3@12/0+r
+end
+domain a process 0
+domain b page 1
+domain c page 2
+domain d page 3
+reads a b
+reads b c
+reads c d
+=>
+separated domains=5
+domain rest objects=2 processes=1 reads=-
+domain a objects=1 processes=1 reads=b,c,d
+domain b objects=1 processes=0 reads=c,d
+domain c objects=1 processes=0 reads=d
+domain d objects=1 processes=0 reads=-
+==
+10 none: each kind of place
+coyotos 1
+machine 1 2 1 1 2 1
+cap 0 5 page:1@12/0
+slot 0 3 page:1@12/0+r
+endpoint 0 process:1 0 0 plain
+process 0 0 page:1@12/0 schedule:3 entry:0:7 stop
+capreg 0 31 process:1
+capreg 1 2 range
+end
+domain a cappage 0
+domain a gpt 0
+domain a process 0
+domain a endpoint 0
+=>
+crossing cappage 0 5 page:1@12/00000 a -> rest
+crossing gpt 0 3 page:1@12/00000+r a -> rest
+crossing endpoint 0 0 process:1 a -> rest
+crossing process 0 0 page:1@12/00000 a -> rest
+crossing process 0 34 process:1 a -> rest
+range process 1 5 rest
+crossings 6
+==
+0 none: a page that one writes and another reads
+coyotos 1
+machine 1 1 0 2 2 0
+slot 0 0 page:0@12/0
+slot 1 0 page:0@12/0+r
+end
+domain sensor gpt 0
+domain sensor page 0
+domain monitor gpt 1
+reads monitor sensor
+=>
+separated domains=3
+domain rest objects=2 processes=2 reads=-
+domain sensor objects=2 processes=0 reads=-
+domain monitor objects=1 processes=0 reads=sensor
+==
+10 none: to be read is not to read
+coyotos 1
+machine 1 1 0 2 2 0
+slot 0 0 page:0@12/0
+slot 1 0 page:0@12/0+r
+end
+domain sensor gpt 0
+domain sensor page 0
+domain monitor gpt 1
+reads sensor monitor
+=>
+crossing gpt 1 0 page:0@12/00000+r monitor -> sensor
+crossings 1
+==
+0 none: two domains over one GPT
+coyotos 1
+machine 1 1 0 1 2 0
+slot 0 0 page:0@12/0+r
+process 0 0 gpt:0@16/0+rwn schedule:3 null stop
+process 1 0 gpt:0@16/0+rwn schedule:3 null stop
+end
+domain code gpt 0
+domain code page 0
+domain a process 0
+domain b process 1
+reads a code
+reads b code
+=>
+separated domains=4
+domain rest objects=0 processes=0 reads=-
+domain code objects=2 processes=0 reads=-
+domain a objects=1 processes=1 reads=code
+domain b objects=1 processes=1 reads=code
+==
+10 none: one of them might ask its handlers
+coyotos 1
+machine 1 1 0 1 2 0
+slot 0 0 page:0@12/0+r
+process 0 0 gpt:0@16/0+rwn schedule:3 null stop
+process 1 0 gpt:0@16/0+rw schedule:3 null stop
+end
+domain code gpt 0
+domain code page 0
+domain a process 0
+domain b process 1
+reads a code
+reads b code
+=>
+crossing process 1 0 gpt:0@16/00000+rw b -> code
+crossings 1
+==
+10 none: an entry is a crossing, whoever reads
+coyotos 1
+machine 1 0 0 0 2 1
+endpoint 0 process:1 0 0 plain
+capreg 0 1 entry:0:1f
+end
+domain a process 0
+domain b process 1
+domain b endpoint 0
+reads a b
+=>
+crossing process 0 4 entry:0:0000001f a -> b
+crossings 1
+==
+0 none: who halts and who logs
+coyotos 1
+machine 1 0 0 1 2 0
+slot 0 2 kernlog
+capreg 0 1 sysctl
+capreg 1 1 kernlog
+capreg 1 2 sysctl
+end
+domain a process 0
+domain b gpt 0
+=>
+separated domains=3
+domain rest objects=1 processes=1 reads=- halts logs
+domain a objects=1 processes=1 reads=- halts
+domain b objects=1 processes=0 reads=- logs
+==
+10 none: an initialiser as the machine starts
+coyotos 1
+machine 1 2 0 2 2 0
+code 0 000 ecall
+slot 0 0 page:0@12/0
+process 0 0 gpt:0@16/0 schedule:3 null run
+reg 0 10 00010021
+reg 0 11 00000009
+reg 0 18 00000002
+capreg 0 1 range
+capreg 0 2 process:0
+capreg 1 1 process:0
+end
+domain init process 0
+domain init gpt 0
+domain init page 0
+domain b process 1
+=>
+range process 0 4 init
+crossing process 1 4 process:0 b -> init
+crossings 2
+==
+0 none: it destroyed itself, with its Range, and what named it is dead
+coyotos 1
+machine 1 2 0 2 2 0
+code 0 000 ecall
+slot 0 0 page:0@12/0
+process 0 0 gpt:0@16/0 schedule:3 null run
+reg 0 10 00010021
+reg 0 11 00000009
+reg 0 18 00000002
+capreg 0 1 range
+capreg 0 2 process:0
+capreg 1 1 process:0
+end
+domain init process 0
+domain init gpt 0
+domain init page 0
+domain b process 1
+end
+step 0 1
+=>
+separated domains=3
+domain rest objects=2 processes=0 reads=-
+domain init objects=3 processes=1 reads=-
+domain b objects=1 processes=1 reads=-
+==
+10 none: a schedule of no event changes nothing
+coyotos 1
+machine 1 1 0 1 2 0
+code 0 000 ecall
+slot 0 0 page:0@12/0
+process 0 0 gpt:0@16/0 schedule:3 null run
+reg 0 10 0
+reg 0 11 1
+reg 0 17 3
+capreg 0 1 range
+end
+domain init process 0
+domain init gpt 0
+domain init page 0
+end
+=>
+range process 0 4 init
+crossings 1
+==
+0 none: an initialiser puts Null in the place of its Range
+coyotos 1
+machine 1 1 0 1 2 0
+code 0 000 ecall
+slot 0 0 page:0@12/0
+process 0 0 gpt:0@16/0 schedule:3 null run
+reg 0 10 0
+reg 0 11 1
+reg 0 17 3
+capreg 0 1 range
+end
+domain init process 0
+domain init gpt 0
+domain init page 0
+end
+step 0 1
+=>
+separated domains=2
+domain rest objects=1 processes=1 reads=-
+domain init objects=3 processes=1 reads=-
+==
+10 none: a process that sleeps on another domain's
+coyotos 1
+machine 1 2 0 2 2 1
+code 1 000 ecall
+slot 1 0 page:1@12/0
+endpoint 0 process:0 0 0 plain
+process 0 0 gpt:0@16/0 schedule:3 null run
+process 1 0 gpt:1@16/0 schedule:5 null run
+reg 1 10 00000021
+capreg 1 1 entry:0:00000007
+end
+domain a process 0
+domain a gpt 0
+domain b process 1
+domain b gpt 1
+domain b page 1
+domain b endpoint 0
+end
+step 0 1
+=>
+crossing endpoint 0 0 process:0 b -> a
+sleeper 1 b -> a
+crossings 2
+==
+0 none: lines that say nothing, a name twice, and a listing of version 2
+coyotos 2
+machine 1 3 0 0 0 0
+name buffer page 2
+end
+
+# domain A
+domain a page 0
+domain a page 0 1
+reads a a
+  domain   rest  page  2
+=>
+separated domains=2
+domain rest objects=1 processes=0 reads=-
+domain a objects=2 processes=0 reads=-
+==
+9 none
+coyotos 1
+machine 1 2 0 0 0 0
+end
+#xxxxxxxxxxxxxxxxxxxxxxxxxxxxxxxxxxxxxxxxxxxxxxxxxxxxxxxxxxxxxxxxxxxxxxxxxxxxxxxx\
+xxxxxxxxxxxxxxxxxxxxxxxxxxxxxxxxxxxxxxxxxxxxxxxxxxxxxxxxxxxxxxxxxxxxxxxxxxxxxxxx\
+xxxxxxxxxxxxxxxxxxxxxxxxxxxxxxxxxxxxxxxxxxxxxxxxxxxxxxxxxxxxxxxxxxxxxxxxxxxxxxxx\
+xxxxxxxxxxxxxxxxxxxxxxxxxxxxxxxxxxxxxxxxxxxxxxxxxxxxxxxxxxxxxxxxxxxxxxxxxxxxxxxx\
+xxxxxxxxxxxxxxxxxxxxxxxxxxxxxxxxxxxxxxxxxxxxxxxxxxxxxxxxxxxxxxxxxxxxxxxxxxxxxxxx\
+xxxxxxxxxxxxxxxxxxxxxxxxxxxxxxxxxxxxxxxxxxxxxxxxxxxxxxxxxxxxxxxxxxxxxxxxxxxxxxxx\
+xxxxxxxxxxxxxxxxxxxxxxxxxxxxxxxx
+=>
+refused 4 LineTooLong
+==
+9 none
+coyotos 1
+machine 1 2 0 0 0 0
+end
+domain a\tpage 0
+=>
+refused 4 BadByte
+==
+9 none
+coyotos 1
+machine 1 2 0 0 0 0
+end
+left page 0
+=>
+refused 4 UnknownPolicy
+==
+9 none
+coyotos 1
+machine 1 2 0 0 0 0
+end
+domain a page
+=>
+refused 4 WrongWords
+==
+9 none
+coyotos 1
+machine 1 2 0 0 0 0
+end
+reads rest
+=>
+refused 4 WrongWords
+==
+9 none
+coyotos 1
+machine 1 2 0 0 0 0
+end
+end now
+=>
+refused 4 WrongWords
+==
+9 none: before the kind
+coyotos 1
+machine 1 2 0 0 0 0
+end
+domain A thing x
+=>
+refused 4 BadName
+==
+9 none
+coyotos 1
+machine 1 2 0 0 0 0
+end
+reads 1a nobody
+=>
+refused 4 BadName
+==
+9 none: before the number
+coyotos 1
+machine 1 2 0 0 0 0
+end
+domain a thing x
+=>
+refused 4 BadValue
+==
+9 none
+coyotos 1
+machine 1 2 0 0 0 0
+end
+domain a page x
+=>
+refused 4 BadNumber
+==
+9 none: before the last number
+coyotos 1
+machine 1 2 0 0 0 0
+end
+domain a page 2 x
+=>
+refused 4 NoObject
+==
+9 none
+coyotos 1
+machine 1 2 0 0 0 0
+end
+domain a page 0 x
+=>
+refused 4 BadNumber
+==
+9 none
+coyotos 1
+machine 1 2 0 0 0 0
+end
+domain a page 0 2
+=>
+refused 4 NoObject
+==
+9 none
+coyotos 1
+machine 1 2 0 0 0 0
+end
+domain a page 1 0
+=>
+refused 4 BadOrder
+==
+9 none: one of several objects
+coyotos 1
+machine 1 2 0 0 0 0
+end
+domain a page 1
+domain b page 0 1
+=>
+refused 5 Taken
+==
+9 none: rest has it by a line
+coyotos 1
+machine 1 2 0 0 0 0
+end
+domain rest page 0
+domain a page 0
+=>
+refused 5 Taken
+==
+9 none: before the second name
+coyotos 1
+machine 1 2 0 0 0 0
+end
+reads nobody B
+=>
+refused 4 NoDomain
+==
+9 none
+coyotos 1
+machine 1 2 0 0 0 0
+end
+reads rest nobody
+=>
+refused 4 NoDomain
+==
+9 none: there are 64, and a kind comes later
+coyotos 1
+machine 1 64 0 0 0 0
+end
+domain a page 0
+domain b page 1
+domain c page 2
+domain d page 3
+domain e page 4
+domain f page 5
+domain g page 6
+domain h page 7
+domain i page 8
+domain j page 9
+domain k page 10
+domain l page 11
+domain m page 12
+domain n page 13
+domain o page 14
+domain p page 15
+domain q page 16
+domain r page 17
+domain s page 18
+domain t page 19
+domain u page 20
+domain v page 21
+domain w page 22
+domain x page 23
+domain y page 24
+domain z page 25
+domain aa page 26
+domain ab page 27
+domain ac page 28
+domain ad page 29
+domain ae page 30
+domain af page 31
+domain ag page 32
+domain ah page 33
+domain ai page 34
+domain aj page 35
+domain ak page 36
+domain al page 37
+domain am page 38
+domain an page 39
+domain ao page 40
+domain ap page 41
+domain aq page 42
+domain ar page 43
+domain as page 44
+domain at page 45
+domain au page 46
+domain av page 47
+domain aw page 48
+domain ax page 49
+domain ay page 50
+domain az page 51
+domain ba page 52
+domain bb page 53
+domain bc page 54
+domain bd page 55
+domain be page 56
+domain bf page 57
+domain bg page 58
+domain bh page 59
+domain bi page 60
+domain bj page 61
+domain bk page 62
+domain more thing 0
+=>
+refused 67 TooManyDomains
+==
+2 none
+coyotos 3
+=>
+refused 1 BadHeader
+==
+3 none
+coyotos 1
+machine 1 2 0 0 0 0
+end
+end
+step 1 1
+=>
+refused 5 NoHart
+==
+0 --help
+=>
+usage: separation
+==
+1 now
+=>
+usage: separation
+==
+1 --help --help
+=>
+usage: separation
+";
+
+/// Whether the program answers what a row says, where a source and a sink answer their calls so.
+fn is_answered<L: Ledger>(
+    alloc: Global,
+    row: Row<'_>,
+    calls: Calls,
+    fetches: &mut Steps<L>,
+) -> Result<bool, Fail> {
+    let words = match row.words {
+        "none" => Vec::new(alloc),
+        line => words_of(alloc, line)?,
+    };
+    let mut source = source_of(alloc, row.input.as_bytes(), calls)?;
+    let failing = vec![in alloc; 0]?;
+    let Ok(mut sink) = MemSink::new(alloc, 65536, failing, calls.put_piece.max(1)) else {
+        return Err(Fail::from("no memory for the sink"));
+    };
+    let exit = separation(alloc, words.as_slice(), &mut source, &mut sink, fetches);
+    Ok(exit.status() == row.status && sink.bytes.as_slice() == row.output.as_bytes())
+}
+
+/// Tries the rows in pieces of several sizes.
+fn try_in_pieces<L: Ledger>(rt: &impl Abort, alloc: Global, permit: Permit) -> Result<(), Fail>
+    requires ledger { permit ≡ permit_for L.name L.parts }
+{
+    let mut fetches = Steps::<L>::new(permit);
+    for piece in [1, 513, 65536] {
+        let calls = Calls {
+            piece,
+            put_piece: piece,
+            ..WHOLE
+        };
+        for block in SEPARATION_ROWS.split("==\n") {
+            let holds = match row_of(block) {
+                Some(row) => is_answered(alloc, row, calls, &mut fetches)?,
+                None => false,
+            };
+            check(rt, holds, block);
+        }
+    }
+    Ok(())
+}
+
+#[test]
+fn rows_of_separation_give_what_is_written_down_for_them(rt: HostRuntime) -> Result<(), Fail> {
+    try_in_pieces::<Brand>(&rt, rt.alloc(), Permit::new(&rt))
+}
