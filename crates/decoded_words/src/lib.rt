@@ -1,7 +1,7 @@
 //! Instructions kept by their words, so that a word that comes again need not be decoded again.
 //!
-//! What is kept is never forgotten and never wrong: an instruction is a function of its word alone. Nothing here knows of
-//! machines, of pages, or of where a word was read.
+//! Of the words that have one place the last is kept. What is kept is never wrong, since an instruction is a function of its
+//! word alone. Nothing here knows of machines, of pages, or of where a word was read.
 #![tactic(auto)]
 
 mod decoder;

@@ -10,8 +10,8 @@ ghost use Rattle.image_builder.specs.Boot.{objects_of, is_running, made_ready, b
 
 use crate::statements::{assign, assign_count, note_running};
 use cap_format::OutOfMemory;
-use machine_state::Machine;
 use listing_read::Listing;
+use machine_state::Machine;
 use object_store::Objects;
 use std::alloc::{AllocError, Global};
 use walk_engine::Translator;
