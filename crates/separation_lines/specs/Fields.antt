@@ -5,7 +5,7 @@ use Rattle.cap_format.specs.declared.kind.CapKind.TheVariants as kinds
 use Rattle.cap_words.specs.Name.{name_of}
 use Rattle.coy_text.specs.Numeral.{dec_of}
 use Rattle.listing_read.specs.Faults.{◌>>=◌, ensured}
-use Rattle.listing_read.specs.Fields.{field}
+use Rattle.coy_text.specs.Words.{field}
 use Rattle.separation_policy.specs.Making.{domain_called, is_assigned_other}
 use Rattle.separation_policy.specs.Policy.{PolicyValue, assigned_of}
 use Rattle.separation_lines.specs.declared.block.Block.{Block}

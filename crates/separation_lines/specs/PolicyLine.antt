@@ -1,10 +1,9 @@
 -- A line of a policy: what it says, or its first fault, and the policy after it. (Own.)
 use Rattle.std.specs.Prelude.{ℕ, ◌<◌, ◌≤◌, ◌==◌, ◌||◌, nat_le, nat_lt, if◌then◌else◌, List, length, bytes_eq, codes, Result, Ok, Err}
 use Rattle.coy_io.specs.declared.TheConstants.{LINE_LIMIT}
-use Rattle.coy_text.specs.Words.{words_of}
+use Rattle.coy_text.specs.Line.{is_visible_line, is_skipped}
+use Rattle.coy_text.specs.Words.{words_of, field}
 use Rattle.listing_read.specs.Faults.{◌>>=◌, ensured}
-use Rattle.listing_read.specs.Fields.{field}
-use Rattle.listing_read.specs.Line.{is_visible_line, is_skipped}
 use Rattle.separation_policy.specs.Making.{with_assigned, with_made, with_reading}
 use Rattle.separation_policy.specs.Policy.{PolicyValue, assigned_of}
 use Rattle.separation_lines.specs.Fields.{domain_from, domain_numbered, name_from, objects_from}

@@ -1,7 +1,6 @@
 //! Lines of a policy.
 ghost use Rattle.std.specs.Prelude.{◌≡◌, ◌≢◌, ◌<◌, ◌≤◌, length, IfOk, OnOk, OnErr};
 ghost use Rattle.coy_text.specs.Words.{words_of};
-ghost use Rattle.listing_read.specs.Line.{is_visible_line, is_skipped};
 ghost use Rattle.separation_lines.specs.PolicyLine.{after_line, after_said, answered, as_untaken, domain_line, end_line, next_of, policy_line, reads_line, said_by, IsSaid};
 
 use crate::block::Block;
@@ -11,7 +10,7 @@ use crate::said::{Next, Said};
 use cap_format::OutOfMemory;
 use cap_words::Name;
 use coy_io::LINE_LIMIT;
-use coy_text::{word, word_count};
+use coy_text::{is_skipped, is_visible, word, word_count};
 use separation_policy::Policy;
 
 /// Takes a line in, and answers what the next line belongs to. After a fault, and where memory is wanting, the policy is as
@@ -144,21 +143,4 @@ fn end(line: &[u8]) -> Result<Said, PolicyFault>
         return Err(PolicyFault::WrongWords);
     }
     Ok(Said::Ends)
-}
-
-/// Whether all bytes of a line are spaces or visible characters of ASCII.
-fn is_visible(line: &[u8]) -> bool
-    ensures { result ≡ is_visible_line line.now }
-{
-    line.iter().all(|byte| 32 <= *byte && *byte <= 126)
-}
-
-/// Whether a line has nothing to say: no word, or a first word that begins with `#`.
-fn is_skipped(line: &[u8]) -> bool
-    ensures { result ≡ is_skipped (words_of line.now) }
-{
-    match word(line, 0) {
-        [] => true,
-        [first, ..] => *first == b'#',
-    }
 }
