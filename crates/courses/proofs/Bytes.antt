@@ -52,7 +52,7 @@ module _ (behind : Behind) (held held' taken taken' : Option (List ℕ)) (fetche
 
   -- reading failed behind it, in whole lines that end nothing, however many they are
   pub sure-going : (mid : Option (List ℕ)) (first middle reader : Reader) (listing : ListingValue) (given : List Part) → first ≡ new_reader
-      → GivesListing first middle held mid listing → reader.ended ≡ false → IsUnfinished reader.rest
+      → GivesListing first middle held mid listing → reader.ended ≡ false → IsFront reader.rest
       → GivesLines (bytes_ahead middle mid) (bytes_ahead reader held') given
       → ((lines : ℕ) → EndsNothing lines (behind listing middle.number given).last.exit)
       → Appends taken taken' (behind listing middle.number given).records

@@ -1,7 +1,7 @@
 -- What the program comes to with its input (this project's own).
 use Rattle.std.specs.Prelude.{◌≡◌, ◌≢◌, ℕ, true, false, Bool, List, Option, Some, None, Result, Ok, Err, IfOk, OnErr}
 use Rattle.std.specs.Io.KnownBytes.{IsAtEnd}
-use Rattle.coy_io.specs.Lines.{Part, IsUnfinished, parts_of}
+use Rattle.coy_io.specs.Lines.{Part, IsFront, parts_of}
 use Rattle.coy_io.specs.Reader.{Reader, GivesLines, ahead, bytes_ahead}
 use Rattle.kernel_core.specs.Run.{run_state}
 use Rattle.kernel_core.specs.State.{State}
@@ -120,7 +120,7 @@ exit_of (Err wanting) = OutOfMemory
 pub record FailsGoing (old new : Reader) (held held' : Option (List ℕ)) (output : List Part → Output) : Type 0 where
   pub before : old.ended ≡ false
   pub going : new.ended ≡ false
-  pub unfinished : IsUnfinished new.rest
+  pub unfinished : IsFront new.rest
   pub given : List Part
   pub gives : GivesLines (bytes_ahead old held) (bytes_ahead new held') given
   pub goes_on : (lines : ℕ) → EndsNothing lines (output given).exit

@@ -12,31 +12,33 @@ struct Scripted {
 }
 
 impl Scripted {
-    fn answer(&mut self, room: usize) -> io::Result<usize> {
+    fn answer(&mut self) -> io::Result<usize> {
         let Some((answer, behind)) = self.answers.split_first() else {
             return Ok(0);
         };
         self.answers = behind;
         match answer {
             b'!' => Err(io::ErrorKind::Other.into()),
-            digit => Ok(usize::from(digit.saturating_sub(b'0')).min(room)),
+            digit => Ok(usize::from(digit.saturating_sub(b'0'))),
         }
     }
 }
 
 impl Read for Scripted {
     fn read(&mut self, buf: &mut [u8]) -> io::Result<usize> {
-        self.answer(buf.len())
+        let count = self.answer()?;
+        Ok(count.min(buf.len()))
     }
 }
 
 impl Write for Scripted {
     fn write(&mut self, buf: &[u8]) -> io::Result<usize> {
-        self.answer(buf.len())
+        let count = self.answer()?;
+        Ok(count.min(buf.len()))
     }
 
     fn flush(&mut self) -> io::Result<()> {
-        self.answer(0)?;
+        self.answer()?;
         Ok(())
     }
 }
