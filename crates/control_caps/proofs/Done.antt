@@ -35,6 +35,11 @@ pub stop_done : (s : Store) (q : QueuesValue) (c : Capability) (t : Store) (n : 
 unfolding stop_row
 stop_done s q c t n running objects queues = rw (running, objects, queues) refl
 
+-- and is told no item
+pub stop_reply : (s : Store) (c : Capability) → is_faulted (process_at s c.object).state ≡ false → reply_of (settled (stop_row s c)) ≡ reply_of (granted nothing)
+unfolding stop_row
+stop_reply s c running = rw running refl
+
 -- a destruction is of the header of its object
 destruction_item : (s : Store) (kind : CapKind) (n : ℕ) → item_in (destruction_of s kind n) ≡ Some (Header kind n)
 unfolding destruction_of
@@ -49,6 +54,12 @@ pub destroy_reply : (s : Store) (sent : Capability) → is_object sent.kind ≡ 
     → reply_of (settled (destroy_row s sent)) ≡ record (reply_of (granted nothing)) { changed = Some (Header sent.kind sent.object) }
 unfolding destroy_row
 destroy_reply s sent object count = rw (object, count, destruction_item s sent.kind sent.object) refl
+
+-- and its changes are those of the object
+pub destroy_changes : (s : Store) (sent : Capability) → is_object sent.kind ≡ true → (count_of s.items sent.kind sent.object == 1048575) ≡ false
+    → (settled (destroy_row s sent)).answer.changes ≡ destruction_of s sent.kind sent.object
+unfolding destroy_row
+destroy_changes s sent object count = rw (object, count) refl
 
 -- a process that was stopped, whose sleepers were woken, and that is destroyed: states and places agree
 pub ended : (s : Store) (p : ℕ) (v : ProcessValue) (q : QueuesValue) (t : Store) (n : QueuesValue) → places_due v.state ≡ 0 → p < length s.contents.processes → p < length q.sleepers → p < length t.contents.processes

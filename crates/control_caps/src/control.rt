@@ -14,6 +14,7 @@ ghost use Rattle.operations.specs.Request.{w1, request_map};
 ghost use Rattle.operations.specs.Meaning.{reply_map};
 ghost use Rattle.operations.specs.Changed.{DifferBy, names_in};
 ghost use Rattle.operations.specs.Control.{own_table, control_operation, is_null};
+ghost use Rattle.operations.specs.Fulfils.{FulfilsAll};
 ghost use Rattle.control_caps.specs.Kinds.{is_control, Keeps};
 
 use crate::destruction::range;
@@ -73,10 +74,8 @@ fn answer(objects: &mut Objects, queues: &mut Queues, cap: Cap, request: Request
     requires none_ahead { NoneAhead objects.old }
     requires sizes { length queues.old.sleepers ≡ size_of objects.old.items Process }
     requires agrees { Agrees (runs_of objects.old queues.old) }
-    ensures reply { result ≡ reply_of (control_operation Stored objects.old cap request) }
-    ensures after { let settled = control_operation Stored objects.old cap request in
-        applied_all Stored (system objects.old queues.old) settled.answer.changes ≡
-        system objects.new queues.new }
+    ensures fulfils { let settled = control_operation Stored objects.old cap request in
+        FulfilsAll settled objects.old queues.old result objects.new queues.new }
     ensures agrees { Agrees (runs_of objects.new queues.new) }
 {
     if is_null(cap.kind()) {
@@ -103,13 +102,9 @@ fn own(objects: &mut Objects, queues: &mut Queues, cap: Cap, request: Request) -
     requires none_ahead { NoneAhead objects.old }
     requires sizes { length queues.old.sleepers ≡ size_of objects.old.items Process }
     requires agrees { Agrees (runs_of objects.old queues.old) }
-    ensures reply { let settled =
+    ensures fulfils { let settled =
         settled_row (own_table Stored objects.old cap request cap.kind (w1 request)) in
-        result ≡ reply_of settled }
-    ensures after { let settled =
-        settled_row (own_table Stored objects.old cap request cap.kind (w1 request)) in
-        applied_all Stored (system objects.old queues.old) settled.answer.changes ≡
-        system objects.new queues.new }
+        FulfilsAll settled objects.old queues.old result objects.new queues.new }
     ensures agrees { Agrees (runs_of objects.new queues.new) }
 {
     match cap.kind() {

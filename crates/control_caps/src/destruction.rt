@@ -8,9 +8,10 @@ ghost use Rattle.object_store.specs.Ahead.{NoneAhead};
 ghost use Rattle.schedules.specs.Ready.{Agrees, runs_of};
 ghost use Rattle.operations.specs.System.{system, Stored};
 ghost use Rattle.operations.specs.Change.{applied_all};
-ghost use Rattle.operations.specs.Row.{reply_of, settled, settled_row};
+ghost use Rattle.operations.specs.Row.{settled, settled_row};
 ghost use Rattle.operations.specs.Request.{w1};
 ghost use Rattle.operations.specs.Control.{range_table, destroy_row, destruction_of, is_process};
+ghost use Rattle.operations.specs.Fulfils.{FulfilsAll};
 
 use crate::processes::put_away;
 use crate::values::get_cap;
@@ -26,13 +27,9 @@ pub(crate) fn range(objects: &mut Objects, queues: &mut Queues, request: Request
     requires none_ahead { NoneAhead objects.old }
     requires sizes { length queues.old.sleepers ≡ size_of objects.old.items Process }
     requires agrees { Agrees (runs_of objects.old queues.old) }
-    ensures reply { let settled =
+    ensures fulfils { let settled =
         settled_row (range_table Stored objects.old request (w1 request)) in
-        result ≡ reply_of settled }
-    ensures after { let settled =
-        settled_row (range_table Stored objects.old request (w1 request)) in
-        applied_all Stored (system objects.old queues.old) settled.answer.changes ≡
-        system objects.new queues.new }
+        FulfilsAll settled objects.old queues.old result objects.new queues.new }
     ensures agrees { Agrees (runs_of objects.new queues.new) }
 {
     match request.words[0] {
@@ -49,9 +46,8 @@ fn destroy(objects: &mut Objects, queues: &mut Queues, sent: Cap) -> Reply
     requires none_ahead { NoneAhead objects.old }
     requires sizes { length queues.old.sleepers ≡ size_of objects.old.items Process }
     requires agrees { Agrees (runs_of objects.old queues.old) }
-    ensures reply { result ≡ reply_of (settled (destroy_row objects.old sent)) }
-    ensures after { let changes = (settled (destroy_row objects.old sent)).answer.changes in
-        applied_all Stored (system objects.old queues.old) changes ≡ system objects.new queues.new }
+    ensures fulfils { let settled = settled (destroy_row objects.old sent) in
+        FulfilsAll settled objects.old queues.old result objects.new queues.new }
     ensures agrees { Agrees (runs_of objects.new queues.new) }
 {
     let kind = sent.kind();

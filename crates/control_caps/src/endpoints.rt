@@ -2,12 +2,10 @@
 ghost use Rattle.std.specs.Prelude.{◌≡◌, [], true};
 ghost use Rattle.cap_format.specs.declared.kind.CapKind.TheVariants.{Endpoint};
 ghost use Rattle.object_store.specs.Meaning.{is_live};
-ghost use Rattle.schedules.specs.Queues.{QueuesValue};
-ghost use Rattle.operations.specs.System.{system, Stored};
-ghost use Rattle.operations.specs.Change.{applied_all};
 ghost use Rattle.operations.specs.Row.{reply_of, settled, settled_row};
 ghost use Rattle.operations.specs.Request.{w1};
 ghost use Rattle.operations.specs.Control.{endpoint_table, setrecipient_row, getid_row, setid_row, setmatch_row, makeentry_row, setpayload_row};
+ghost use Rattle.operations.specs.Fulfils.{Fulfils};
 
 use cap_format::{Cap, CapKind, Code, Reply, Request};
 use object_store::Objects;
@@ -18,13 +16,9 @@ use operations::{done, hand_over, refuse, tell};
 pub(crate) fn endpoint(objects: &mut Objects, cap: Cap, request: Request) -> Reply
     requires kind { cap.kind ≡ Endpoint }
     requires live { is_live objects.old.items cap ≡ true }
-    ensures reply { let settled =
+    ensures fulfils { let settled =
         settled_row (endpoint_table objects.old cap request (w1 request)) in
-        result ≡ reply_of settled }
-    ensures objects { let settled =
-        settled_row (endpoint_table objects.old cap request (w1 request)) in
-        (q : QueuesValue) → applied_all Stored (system objects.old q) settled.answer.changes ≡
-        system objects.new q }
+        Fulfils settled objects.old result objects.new }
     ensures processes { objects.new.contents.processes ≡ objects.old.contents.processes }
 {
     match request.words[0] {
@@ -43,10 +37,8 @@ pub(crate) fn endpoint(objects: &mut Objects, cap: Cap, request: Request) -> Rep
 fn set_recipient(objects: &mut Objects, cap: Cap, request: Request) -> Reply
     requires kind { cap.kind ≡ Endpoint }
     requires live { is_live objects.old.items cap ≡ true }
-    ensures reply { result ≡ reply_of (settled (setrecipient_row objects.old cap request)) }
-    ensures objects { let settled = settled (setrecipient_row objects.old cap request) in
-        (q : QueuesValue) → applied_all Stored (system objects.old q) settled.answer.changes ≡
-        system objects.new q }
+    ensures fulfils { let settled = settled (setrecipient_row objects.old cap request) in
+        Fulfils settled objects.old result objects.new }
     ensures processes { objects.new.contents.processes ≡ objects.old.contents.processes }
 {
     match request.sent.kind() {
@@ -75,10 +67,8 @@ fn get_id(objects: &Objects, cap: Cap) -> Reply
 fn set_id(objects: &mut Objects, cap: Cap, request: Request) -> Reply
     requires kind { cap.kind ≡ Endpoint }
     requires live { is_live objects.old.items cap ≡ true }
-    ensures reply { result ≡ reply_of (settled (setid_row objects.old cap request)) }
-    ensures objects { let settled = settled (setid_row objects.old cap request) in
-        (q : QueuesValue) → applied_all Stored (system objects.old q) settled.answer.changes ≡
-        system objects.new q }
+    ensures fulfils { let settled = settled (setid_row objects.old cap request) in
+        Fulfils settled objects.old result objects.new }
     ensures processes { objects.new.contents.processes ≡ objects.old.contents.processes }
 {
     objects.endpoint_mut(cap.object() as u16).id = request.words[1];
@@ -90,10 +80,8 @@ fn set_id(objects: &mut Objects, cap: Cap, request: Request) -> Reply
 fn set_match(objects: &mut Objects, cap: Cap, request: Request) -> Reply
     requires kind { cap.kind ≡ Endpoint }
     requires live { is_live objects.old.items cap ≡ true }
-    ensures reply { result ≡ reply_of (settled (setmatch_row objects.old cap request)) }
-    ensures objects { let settled = settled (setmatch_row objects.old cap request) in
-        (q : QueuesValue) → applied_all Stored (system objects.old q) settled.answer.changes ≡
-        system objects.new q }
+    ensures fulfils { let settled = settled (setmatch_row objects.old cap request) in
+        Fulfils settled objects.old result objects.new }
     ensures processes { objects.new.contents.processes ≡ objects.old.contents.processes }
 {
     let flag = request.words[1];
@@ -119,10 +107,8 @@ fn make_entry(cap: Cap, request: Request) -> Reply
 fn set_payload(objects: &mut Objects, cap: Cap, request: Request) -> Reply
     requires kind { cap.kind ≡ Endpoint }
     requires live { is_live objects.old.items cap ≡ true }
-    ensures reply { result ≡ reply_of (settled (setpayload_row objects.old cap request)) }
-    ensures objects { let settled = settled (setpayload_row objects.old cap request) in
-        (q : QueuesValue) → applied_all Stored (system objects.old q) settled.answer.changes ≡
-        system objects.new q }
+    ensures fulfils { let settled = settled (setpayload_row objects.old cap request) in
+        Fulfils settled objects.old result objects.new }
     ensures processes { objects.new.contents.processes ≡ objects.old.contents.processes }
 {
     objects.endpoint_mut(cap.object() as u16).payload = request.words[1];

@@ -7,11 +7,10 @@ ghost use Rattle.object_store.specs.Meaning.{is_live};
 ghost use Rattle.schedules.specs.Queues.{left};
 ghost use Rattle.schedules.specs.Standing.{standing};
 ghost use Rattle.schedules.specs.Ready.{Agrees, runs_of};
-ghost use Rattle.operations.specs.System.{system, Stored};
-ghost use Rattle.operations.specs.Change.{applied_all};
-ghost use Rattle.operations.specs.Row.{reply_of, settled, settled_row};
+ghost use Rattle.operations.specs.Row.{settled, settled_row};
 ghost use Rattle.operations.specs.Request.{w1};
 ghost use Rattle.operations.specs.Control.{process_table, resume_row, stop_row, is_faulted};
+ghost use Rattle.operations.specs.Fulfils.{FulfilsAll};
 
 use crate::registers::{get_capreg, get_reg, get_slot, get_state, set_capreg, set_reg, set_slot};
 use cap_format::{Cap, Code, FaultCode, Reply, Request};
@@ -32,13 +31,9 @@ pub(crate) fn process(
     requires live { is_live objects.old.items cap ≡ true }
     requires sizes { length queues.old.sleepers ≡ size_of objects.old.items Process }
     requires agrees { Agrees (runs_of objects.old queues.old) }
-    ensures reply { let settled =
+    ensures fulfils { let settled =
         settled_row (process_table objects.old cap request (w1 request)) in
-        result ≡ reply_of settled }
-    ensures after { let settled =
-        settled_row (process_table objects.old cap request (w1 request)) in
-        applied_all Stored (system objects.old queues.old) settled.answer.changes ≡
-        system objects.new queues.new }
+        FulfilsAll settled objects.old queues.old result objects.new queues.new }
     ensures agrees { Agrees (runs_of objects.new queues.new) }
 {
     match request.words[0] {
@@ -69,9 +64,8 @@ fn resume(objects: &mut Objects, queues: &mut Queues, cap: Cap) -> Reply
     requires live { is_live objects.old.items cap ≡ true }
     requires sizes { length queues.old.sleepers ≡ size_of objects.old.items Process }
     requires agrees { Agrees (runs_of objects.old queues.old) }
-    ensures reply { result ≡ reply_of (settled (resume_row objects.old cap)) }
-    ensures after { let changes = (settled (resume_row objects.old cap)).answer.changes in
-        applied_all Stored (system objects.old queues.old) changes ≡ system objects.new queues.new }
+    ensures fulfils { let settled = settled (resume_row objects.old cap) in
+        FulfilsAll settled objects.old queues.old result objects.new queues.new }
     ensures agrees { Agrees (runs_of objects.new queues.new) }
 {
     let p = cap.object() as u16;
@@ -89,9 +83,8 @@ fn stop(objects: &mut Objects, queues: &mut Queues, cap: Cap) -> Reply
     requires live { is_live objects.old.items cap ≡ true }
     requires sizes { length queues.old.sleepers ≡ size_of objects.old.items Process }
     requires agrees { Agrees (runs_of objects.old queues.old) }
-    ensures reply { result ≡ reply_of (settled (stop_row objects.old cap)) }
-    ensures after { let changes = (settled (stop_row objects.old cap)).answer.changes in
-        applied_all Stored (system objects.old queues.old) changes ≡ system objects.new queues.new }
+    ensures fulfils { let settled = settled (stop_row objects.old cap) in
+        FulfilsAll settled objects.old queues.old result objects.new queues.new }
     ensures agrees { Agrees (runs_of objects.new queues.new) }
 {
     let p = cap.object() as u16;

@@ -4,11 +4,10 @@ ghost use Rattle.cap_format.specs.declared.kind.CapKind.TheVariants.{Process};
 ghost use Rattle.object_store.specs.Meaning.{is_live};
 ghost use Rattle.schedules.specs.Queues.{QueuesValue};
 ghost use Rattle.schedules.specs.Ready.{Agrees, runs_of};
-ghost use Rattle.operations.specs.System.{system, Stored};
-ghost use Rattle.operations.specs.Change.{applied_all};
-ghost use Rattle.operations.specs.Row.{reply_of, settled, settled_row};
+ghost use Rattle.operations.specs.Row.{reply_of, settled};
 ghost use Rattle.operations.specs.Request.{w1};
 ghost use Rattle.operations.specs.Control.{getreg_row, setreg_row, getcapreg_row, setcapreg_row, getslot_row, setslot_row, getstate_row};
+ghost use Rattle.operations.specs.Fulfils.{Fulfils};
 
 use cap_format::{Cap, Code, Reply, Request};
 use object_store::Objects;
@@ -40,10 +39,8 @@ pub(crate) fn get_reg(objects: &Objects, cap: Cap, request: Request) -> Reply
 pub(crate) fn set_reg(objects: &mut Objects, cap: Cap, request: Request) -> Reply
     requires kind { cap.kind ≡ Process }
     requires live { is_live objects.old.items cap ≡ true }
-    ensures reply { result ≡ reply_of (settled (setreg_row objects.old cap request)) }
-    ensures objects { let settled = settled (setreg_row objects.old cap request) in
-        (q : QueuesValue) → applied_all Stored (system objects.old q) settled.answer.changes ≡
-        system objects.new q }
+    ensures fulfils { let settled = settled (setreg_row objects.old cap request) in
+        Fulfils settled objects.old result objects.new }
     ensures agrees { (q : QueuesValue) →
         Agrees (runs_of objects.old q) → Agrees (runs_of objects.new q) }
 {
@@ -81,10 +78,8 @@ pub(crate) fn get_capreg(objects: &Objects, cap: Cap, request: Request) -> Reply
 pub(crate) fn set_capreg(objects: &mut Objects, cap: Cap, request: Request) -> Reply
     requires kind { cap.kind ≡ Process }
     requires live { is_live objects.old.items cap ≡ true }
-    ensures reply { result ≡ reply_of (settled (setcapreg_row objects.old cap request)) }
-    ensures objects { let settled = settled (setcapreg_row objects.old cap request) in
-        (q : QueuesValue) → applied_all Stored (system objects.old q) settled.answer.changes ≡
-        system objects.new q }
+    ensures fulfils { let settled = settled (setcapreg_row objects.old cap request) in
+        Fulfils settled objects.old result objects.new }
     ensures agrees { (q : QueuesValue) →
         Agrees (runs_of objects.old q) → Agrees (runs_of objects.new q) }
 {
@@ -118,10 +113,8 @@ pub(crate) fn get_slot(objects: &Objects, cap: Cap, request: Request) -> Reply
 pub(crate) fn set_slot(objects: &mut Objects, cap: Cap, request: Request) -> Reply
     requires kind { cap.kind ≡ Process }
     requires live { is_live objects.old.items cap ≡ true }
-    ensures reply { result ≡ reply_of (settled (setslot_row objects.old cap request)) }
-    ensures objects { let settled = settled (setslot_row objects.old cap request) in
-        (q : QueuesValue) → applied_all Stored (system objects.old q) settled.answer.changes ≡
-        system objects.new q }
+    ensures fulfils { let settled = settled (setslot_row objects.old cap request) in
+        Fulfils settled objects.old result objects.new }
     ensures agrees { (q : QueuesValue) →
         Agrees (runs_of objects.old q) → Agrees (runs_of objects.new q) }
 {

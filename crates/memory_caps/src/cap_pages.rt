@@ -2,12 +2,10 @@
 ghost use Rattle.std.specs.Prelude.{◌≡◌, [], true};
 ghost use Rattle.cap_format.specs.declared.kind.CapKind.TheVariants.{CapPage};
 ghost use Rattle.object_store.specs.Meaning.{is_live};
-ghost use Rattle.schedules.specs.Queues.{QueuesValue};
-ghost use Rattle.operations.specs.System.{system, Stored};
-ghost use Rattle.operations.specs.Change.{applied_all};
 ghost use Rattle.operations.specs.Row.{reply_of, settled, settled_row};
 ghost use Rattle.operations.specs.Request.{w1};
 ghost use Rattle.operations.specs.Memory.{cappage_table, clear_cappage_row, get_row, set_row};
+ghost use Rattle.operations.specs.Fulfils.{Fulfils};
 
 use bitflags::Flags;
 use cap_format::{Cap, Code, Reply, Request, Restr};
@@ -19,13 +17,9 @@ use operations::{done, hand_over, read_through, refuse};
 pub(crate) fn cap_page(objects: &mut Objects, cap: Cap, request: Request) -> Reply
     requires kind { cap.kind ≡ CapPage }
     requires live { is_live objects.old.items cap ≡ true }
-    ensures reply { let settled =
+    ensures fulfils { let settled =
         settled_row (cappage_table objects.old cap request (w1 request)) in
-        result ≡ reply_of settled }
-    ensures objects { let settled =
-        settled_row (cappage_table objects.old cap request (w1 request)) in
-        (q : QueuesValue) → applied_all Stored (system objects.old q) settled.answer.changes ≡
-        system objects.new q }
+        Fulfils settled objects.old result objects.new }
 {
     match request.words[0] {
         8 => clear(objects, cap),
@@ -40,9 +34,7 @@ pub(crate) fn cap_page(objects: &mut Objects, cap: Cap, request: Request) -> Rep
 fn clear(objects: &mut Objects, cap: Cap) -> Reply
     requires kind { cap.kind ≡ CapPage }
     requires live { is_live objects.old.items cap ≡ true }
-    ensures reply { result ≡ reply_of (settled (clear_cappage_row cap)) }
-    ensures objects { let settled = settled (clear_cappage_row cap) in
-        (q : QueuesValue) → applied_all Stored (system objects.old q) settled.answer.changes ≡ system objects.new q }
+    ensures fulfils { Fulfils (settled (clear_cappage_row cap)) objects.old result objects.new }
 {
     if cap.restr().contains(Restr::RO) {
         return refuse(Code::NoAccess);
@@ -72,9 +64,8 @@ fn get(objects: &Objects, cap: Cap, request: Request) -> Reply
 fn set(objects: &mut Objects, cap: Cap, request: Request) -> Reply
     requires kind { cap.kind ≡ CapPage }
     requires live { is_live objects.old.items cap ≡ true }
-    ensures reply { result ≡ reply_of (settled (set_row objects.old cap request)) }
-    ensures objects { let settled = settled (set_row objects.old cap request) in
-        (q : QueuesValue) → applied_all Stored (system objects.old q) settled.answer.changes ≡ system objects.new q }
+    ensures fulfils { let settled = settled (set_row objects.old cap request) in
+        Fulfils settled objects.old result objects.new }
 {
     let slot = request.words[1];
     if cap.restr().contains(Restr::RO) {

@@ -2,12 +2,10 @@
 ghost use Rattle.std.specs.Prelude.{◌≡◌, ◌+◌, ◌||◌, [], true};
 ghost use Rattle.cap_format.specs.declared.kind.CapKind.TheVariants.{Gpt};
 ghost use Rattle.object_store.specs.Meaning.{is_live};
-ghost use Rattle.schedules.specs.Queues.{QueuesValue};
-ghost use Rattle.operations.specs.System.{system, Stored};
-ghost use Rattle.operations.specs.Change.{applied_all};
 ghost use Rattle.operations.specs.Row.{reply_of, settled, settled_row};
 ghost use Rattle.operations.specs.Request.{w1};
 ghost use Rattle.operations.specs.Memory.{gpt_table, getslot_row, setslot_row, getheader_row, setheader_row, setwindow_row, opaque, read_only, reads};
+ghost use Rattle.operations.specs.Fulfils.{Fulfils};
 
 use crate::windows::window_in;
 use bitflags::Flags;
@@ -28,10 +26,8 @@ pub(crate) fn gpt<L: Ledger>(
 ) -> Reply
     requires kind { cap.kind ≡ Gpt }
     requires live { is_live objects.old.items cap ≡ true }
-    ensures reply { let settled = settled_row (gpt_table objects.old cap request (w1 request)) in
-        result ≡ reply_of settled }
-    ensures objects { let settled = settled_row (gpt_table objects.old cap request (w1 request)) in
-        (q : QueuesValue) → applied_all Stored (system objects.old q) settled.answer.changes ≡ system objects.new q }
+    ensures fulfils { let settled = settled_row (gpt_table objects.old cap request (w1 request)) in
+        Fulfils settled objects.old result objects.new }
     ensures counted { fetches.new ≡ fetches.old + reads Gpt (w1 request) result.code }
 {
     match request.words[0] {
@@ -82,9 +78,7 @@ fn get_slot<L: Ledger>(
 fn set_slot(objects: &mut Objects, cap: Cap, request: Request) -> Reply
     requires kind { cap.kind ≡ Gpt }
     requires live { is_live objects.old.items cap ≡ true }
-    ensures reply { result ≡ reply_of (settled (setslot_row cap request)) }
-    ensures objects { let settled = settled (setslot_row cap request) in
-        (q : QueuesValue) → applied_all Stored (system objects.old q) settled.answer.changes ≡ system objects.new q }
+    ensures fulfils { Fulfils (settled (setslot_row cap request)) objects.old result objects.new }
 {
     let slot = request.words[1];
     if is_fixed(cap) {
@@ -117,9 +111,7 @@ fn get_header(objects: &Objects, cap: Cap) -> Reply
 fn set_header(objects: &mut Objects, cap: Cap, request: Request) -> Reply
     requires kind { cap.kind ≡ Gpt }
     requires live { is_live objects.old.items cap ≡ true }
-    ensures reply { result ≡ reply_of (settled (setheader_row cap request)) }
-    ensures objects { let settled = settled (setheader_row cap request) in
-        (q : QueuesValue) → applied_all Stored (system objects.old q) settled.answer.changes ≡ system objects.new q }
+    ensures fulfils { Fulfils (settled (setheader_row cap request)) objects.old result objects.new }
 {
     let l2v = request.words[1];
     let flags = request.words[2];
@@ -138,9 +130,7 @@ fn set_header(objects: &mut Objects, cap: Cap, request: Request) -> Reply
 fn set_window(objects: &mut Objects, cap: Cap, request: Request) -> Reply
     requires kind { cap.kind ≡ Gpt }
     requires live { is_live objects.old.items cap ≡ true }
-    ensures reply { result ≡ reply_of (settled (setwindow_row cap request)) }
-    ensures objects { let settled = settled (setwindow_row cap request) in
-        (q : QueuesValue) → applied_all Stored (system objects.old q) settled.answer.changes ≡ system objects.new q }
+    ensures fulfils { Fulfils (settled (setwindow_row cap request)) objects.old result objects.new }
 {
     if is_fixed(cap) {
         return refuse(Code::NoAccess);

@@ -13,6 +13,7 @@ ghost use Rattle.operations.specs.Request.{w1, request_map};
 ghost use Rattle.operations.specs.Meaning.{reply_map};
 ghost use Rattle.operations.specs.Changed.{DifferBy};
 ghost use Rattle.operations.specs.Memory.{own_table, reduce_row, setguard_row, memory_operation, reads};
+ghost use Rattle.operations.specs.Fulfils.{Fulfils};
 
 use crate::cap_pages::cap_page;
 use crate::gpts::gpt;
@@ -71,9 +72,8 @@ fn answer<L: Ledger>(
     requires kind { is_memory cap.kind ≡ true }
     requires live { is_live objects.old.items cap ≡ true }
     requires sent { is_live objects.old.items request.sent ≡ true }
-    ensures reply { result ≡ reply_of (memory_operation objects.old cap request) }
-    ensures objects { let settled = memory_operation objects.old cap request in
-        (q : QueuesValue) → applied_all Stored (system objects.old q) settled.answer.changes ≡ system objects.new q }
+    ensures fulfils { let settled = memory_operation objects.old cap request in
+        Fulfils settled objects.old result objects.new }
     ensures counted { fetches.new ≡ fetches.old + reads cap.kind (w1 request) result.code }
 {
     match request.words[0] {
@@ -96,13 +96,9 @@ fn own<L: Ledger>(
 ) -> Reply
     requires live { is_live objects.old.items cap ≡ true }
     requires sent { is_live objects.old.items request.sent ≡ true }
-    ensures reply { let settled =
+    ensures fulfils { let settled =
         settled_row (own_table objects.old cap request cap.kind (w1 request)) in
-        result ≡ reply_of settled }
-    ensures objects { let settled =
-        settled_row (own_table objects.old cap request cap.kind (w1 request)) in
-        (q : QueuesValue) → applied_all Stored (system objects.old q) settled.answer.changes ≡
-        system objects.new q }
+        Fulfils settled objects.old result objects.new }
     ensures counted { fetches.new ≡ fetches.old + reads cap.kind (w1 request) result.code }
 {
     match cap.kind() {

@@ -3,12 +3,10 @@ ghost use Rattle.std.specs.Prelude.{◌≡◌, ◌<◌, true};
 ghost use Rattle.cap_format.specs.declared.kind.CapKind.TheVariants.{Page};
 ghost use Rattle.object_store.specs.Store.{size_of, page_at, with_page};
 ghost use Rattle.object_store.specs.Meaning.{is_live};
-ghost use Rattle.schedules.specs.Queues.{QueuesValue};
-ghost use Rattle.operations.specs.System.{system, Stored};
-ghost use Rattle.operations.specs.Change.{applied_all};
-ghost use Rattle.operations.specs.Row.{reply_of, settled, settled_row};
+ghost use Rattle.operations.specs.Row.{settled, settled_row};
 ghost use Rattle.operations.specs.Request.{w1};
 ghost use Rattle.operations.specs.Memory.{page_table, clear_page_row, copy_row};
+ghost use Rattle.operations.specs.Fulfils.{Fulfils};
 
 use bitflags::Flags;
 use cap_format::{Cap, CapKind, Code, Reply, Request, Restr};
@@ -21,10 +19,8 @@ pub(crate) fn page(objects: &mut Objects, cap: Cap, request: Request) -> Reply
     requires kind { cap.kind ≡ Page }
     requires live { is_live objects.old.items cap ≡ true }
     requires sent { is_live objects.old.items request.sent ≡ true }
-    ensures reply { let settled = settled_row (page_table objects.old cap request (w1 request)) in
-        result ≡ reply_of settled }
-    ensures objects { let settled = settled_row (page_table objects.old cap request (w1 request)) in
-        (q : QueuesValue) → applied_all Stored (system objects.old q) settled.answer.changes ≡ system objects.new q }
+    ensures fulfils { let settled = settled_row (page_table objects.old cap request (w1 request)) in
+        Fulfils settled objects.old result objects.new }
 {
     match request.words[0] {
         8 => clear(objects, cap),
@@ -38,9 +34,7 @@ pub(crate) fn page(objects: &mut Objects, cap: Cap, request: Request) -> Reply
 fn clear(objects: &mut Objects, cap: Cap) -> Reply
     requires kind { cap.kind ≡ Page }
     requires live { is_live objects.old.items cap ≡ true }
-    ensures reply { result ≡ reply_of (settled (clear_page_row cap)) }
-    ensures objects { let settled = settled (clear_page_row cap) in
-        (q : QueuesValue) → applied_all Stored (system objects.old q) settled.answer.changes ≡ system objects.new q }
+    ensures fulfils { Fulfils (settled (clear_page_row cap)) objects.old result objects.new }
 {
     if cap.restr().contains(Restr::RO) {
         return refuse(Code::NoAccess);
@@ -55,9 +49,8 @@ fn copy(objects: &mut Objects, cap: Cap, request: Request) -> Reply
     requires kind { cap.kind ≡ Page }
     requires live { is_live objects.old.items cap ≡ true }
     requires sent { is_live objects.old.items request.sent ≡ true }
-    ensures reply { result ≡ reply_of (settled (copy_row objects.old cap request)) }
-    ensures objects { let settled = settled (copy_row objects.old cap request) in
-        (q : QueuesValue) → applied_all Stored (system objects.old q) settled.answer.changes ≡ system objects.new q }
+    ensures fulfils { let settled = settled (copy_row objects.old cap request) in
+        Fulfils settled objects.old result objects.new }
 {
     if cap.restr().contains(Restr::RO) {
         return refuse(Code::NoAccess);

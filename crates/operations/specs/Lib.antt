@@ -7,3 +7,4 @@ pub mod Memory
 pub mod Control
 pub mod Meaning
 pub mod Changed
+pub mod Fulfils
