@@ -11,13 +11,14 @@ use Rattle.object_store.specs.Ahead.{IsBehind, NoneAhead}
 use Rattle.object_store.specs.Object.{Stays}
 use Rattle.schedules.specs.Queues.{QueuesValue}
 use Rattle.schedules.specs.Ready.{runs_of, Agrees}
-use Rattle.operations.specs.System.{System, system, system_map, Stored, Meant}
+use Rattle.operations.specs.System.{System, system, Stored, Meant}
 use Rattle.operations.specs.Change.{Change, applied_all}
 use Rattle.operations.specs.Row.{Answer, Settled, nothing, reply_of}
 use Rattle.operations.specs.Request.{request_map}
 use Rattle.operations.specs.Control.{control_operation}
 use Rattle.operations.specs.Meaning.{reply_map}
 use Rattle.operations.specs.Changed.{DifferBy, names_in}
+use Rattle.operations.proofs.Mapped.{system_map}
 use Rattle.operations.proofs.Settled.{reply_of-map}
 use Rattle.operations.proofs.Applied.{applied_all_stays}
 use Rattle.operations.proofs.Sound.{SameSizes, applied_all_sizes}

@@ -7,7 +7,7 @@ use Rattle.schedules.proofs.Waking.{readied_all-cons, readied_all-nil, sleepers-
 use Rattle.operations.specs.System.{System, Reading, Stored, Meant, schedule_by}
 use Rattle.operations.specs.Change.{Change, PageIs, CapPageIs, SlotIs, HeaderIs, EndpointIs, ProcessIs, Left, Readied, Woken, Destroyed, applied}
 use Rattle.operations.specs.Changed.{names_of, names_in}
-use Rattle.operations.specs.Meaning.{change_map}
+use Rattle.operations.proofs.Mapped.{change_map}
 
 -- who is made ready sleeps on nobody before and afterwards
 sleepers_readied : (c : Capability) (p : ℕ) (r : Runs) → (readied c p r).queues.sleepers ≡ r.queues.sleepers

@@ -16,8 +16,9 @@ use Rattle.operations.specs.Change.{Change, PageIs, CapPageIs, SlotIs, HeaderIs,
 use Rattle.operations.specs.Row.{Answer, Settled, nothing, reply_of}
 use Rattle.operations.specs.Request.{request_map}
 use Rattle.operations.specs.Memory.{memory_operation}
-use Rattle.operations.specs.Meaning.{change_map, settled_map, reply_map}
+use Rattle.operations.specs.Meaning.{reply_map}
 use Rattle.operations.specs.Changed.{DifferBy, names_of}
+use Rattle.operations.proofs.Mapped.{change_map}
 use Rattle.operations.proofs.Settled.{reply_of-map}
 use Rattle.operations.proofs.Applied.{applied_means, applied_behind, applied_stays, applied_differ, WritesBehind}
 use Rattle.operations.proofs.Fits.{IsWrite, IsOwn, AtMostOne, Fits}

@@ -16,10 +16,10 @@ use Rattle.object_store.proofs.Writes.{put_gpt_slot, put_header}
 use Rattle.object_store.proofs.WritesBehind.{put_gpt_slot_behind, put_header_behind, put_page_behind, put_endpoint_behind}
 use Rattle.schedules.specs.Queues.{QueuesValue, sleepers_of}
 use Rattle.schedules.proofs.Meant.{readied-means, readied_queues-mean, woken-means, woken_queues-mean, ready_stays, ready_behind, woken-stays, woken-behind}
-use Rattle.operations.specs.System.{System, system, system_map, Stored, Meant}
+use Rattle.operations.specs.System.{System, system, Stored, Meant}
 use Rattle.operations.specs.Change.{Change, PageIs, CapPageIs, SlotIs, HeaderIs, EndpointIs, ProcessIs, Left, Readied, Woken, Destroyed, applied, applied_all, item_of}
-use Rattle.operations.specs.Meaning.{change_map}
 use Rattle.operations.specs.Changed.{names_of, names_in, DifferBy}
+use Rattle.operations.proofs.Mapped.{system_map, change_map}
 
 -- ---- the meaning
 

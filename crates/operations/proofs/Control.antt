@@ -30,7 +30,7 @@ use Rattle.operations.specs.Row.{Row, Answer, Settled, nothing, refused, granted
 use Rattle.operations.specs.Request.{w1, w2, w3, request_map}
 use Rattle.operations.specs.Memory.{kind_row, bit}
 use Rattle.operations.specs.Control.{setrecipient_row, getid_row, setid_row, setmatch_row, makeentry_row, setpayload_row, endpoint_table, getreg_row, setreg_row, getcapreg_row, setcapreg_row, getslot_row, setslot_row, getstate_row, resume_row, stop_row, process_table, priority_row, lower_row, schedule_table, obtained, getcap_row, destroy_row, destruction_of, range_table, classify_row, discrim_table, own_table, control_table, control_operation, number_in, with_number, tells_state, is_faulted, is_process, is_null}
-use Rattle.operations.specs.Meaning.{change_map, answer_map, settled_map}
+use Rattle.operations.proofs.Mapped.{change_map, answer_map, settled_map}
 use Rattle.operations.proofs.Settled.{by_row, settled-map, refused_row}
 use Rattle.operations.proofs.Fits.{table_row, table_fits}
 use Rattle.operations.proofs.Sound.{IsSound, sound_none, sound_one, sound_stopping, sound_ending, process_behind}

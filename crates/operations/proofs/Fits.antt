@@ -9,8 +9,8 @@ use Rattle.object_store.specs.Object.{object_name}
 use Rattle.schedules.specs.Queues.{QueuesValue}
 use Rattle.operations.specs.Change.{Change, PageIs, CapPageIs, SlotIs, HeaderIs, EndpointIs, ProcessIs, Left, Readied, Woken, Destroyed}
 use Rattle.operations.specs.Row.{Row, Answer, Settled, refused, tells, gives, does, settled, settled_row}
-use Rattle.operations.specs.Meaning.{settled_map}
 use Rattle.operations.specs.Changed.{names_of}
+use Rattle.operations.proofs.Mapped.{settled_map}
 use Rattle.operations.proofs.Applied.{WritesBehind}
 
 -- the change writes one object: nobody changes his place, and nothing is destroyed

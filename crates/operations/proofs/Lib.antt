@@ -1,4 +1,5 @@
 pub mod Tests
+pub mod Mapped
 pub mod Settled
 pub mod Applied
 pub mod Fits

@@ -28,7 +28,7 @@ use Rattle.operations.specs.Change.{PageIs, CapPageIs, SlotIs, HeaderIs}
 use Rattle.operations.specs.Row.{Row, Answer, Settled, nothing, refused, granted, tells, gives, does, settled, settled_row}
 use Rattle.operations.specs.Request.{w1, w2, w3, w4, request_map}
 use Rattle.operations.specs.Memory.{kind_row, reduce_row, getguard_row, setguard_row, getrestr_row, clear_page_row, copy_row, clear_cappage_row, get_row, set_row, getslot_row, setslot_row, getheader_row, setheader_row, setwindow_row, window_of, window_slot, window_is_local, window_local_slot, window_l2g, window_restr, may_have, window_error, bit, page_table, cappage_table, gpt_table, own_table, memory_table, memory_operation}
-use Rattle.operations.specs.Meaning.{settled_map}
+use Rattle.operations.proofs.Mapped.{settled_map}
 use Rattle.operations.proofs.Settled.{by_row, settled-map, refused_row}
 use Rattle.operations.proofs.Fits.{Fits, fits_refused, fits_words, fits_cap, fits_change, table_row, table_fits}
 

@@ -7,7 +7,8 @@ use Rattle.cap_format.specs.declared.item.Item.{Item}
 use Rattle.cap_format.specs.Capability.{Capability}
 use Rattle.operations.specs.Change.{Change, PageIs, CapPageIs, SlotIs, HeaderIs, EndpointIs, ProcessIs, Left, Readied, Woken, Destroyed, item_of, first_item, item_in}
 use Rattle.operations.specs.Row.{Row, Answer, Settled, nothing, refused, granted, settled, settled_row, reply_of}
-use Rattle.operations.specs.Meaning.{change_map, answer_map, settled_map, reply_map}
+use Rattle.operations.specs.Meaning.{reply_map}
+use Rattle.operations.proofs.Mapped.{change_map, answer_map, settled_map}
 
 -- what holds of every refusal and of the answer holds of the row
 pub by_row : (P : Settled → Type 0) → ((code : Code) → P (refused code)) → (row : Row) → P (granted row.answer) → P (settled row)

@@ -16,10 +16,10 @@ use Rattle.schedules.specs.Queues.{QueuesValue, left, without, hart_without}
 use Rattle.schedules.specs.Ready.{Runs, runs_of, readied, readied_queues, schedule_of}
 use Rattle.schedules.proofs.Waking.{sleepers-readied}
 use Rattle.schedules.proofs.Meant.{woken-sleepers, woken-harts}
-use Rattle.operations.specs.System.{System, system, system_map, Stored, Meant}
+use Rattle.operations.specs.System.{System, system, Stored, Meant}
 use Rattle.operations.specs.Change.{Change, PageIs, CapPageIs, SlotIs, HeaderIs, EndpointIs, ProcessIs, Left, Readied, Woken, Destroyed, applied, applied_all, item_of, first_item, item_in}
-use Rattle.operations.specs.Meaning.{change_map}
 use Rattle.operations.specs.Changed.{DifferBy}
+use Rattle.operations.proofs.Mapped.{system_map, change_map}
 use Rattle.operations.proofs.Applied.{CanApply, WritesBehind, applied_means, applied_behind, applied_differ}
 
 -- what the changes of a system come to

@@ -3,7 +3,6 @@ use Rattle.std.specs.Prelude.{ℕ}
 use Rattle.cap_format.specs.declared.kind.CapKind.{CapKind}
 use Rattle.cap_format.specs.Capability.{Capability}
 use Rattle.object_store.specs.Store.{Items, Store, count_of, emptied}
-use Rattle.object_store.specs.Meaning.{state_map}
 use Rattle.object_store.specs.Destruction.{destruction}
 use Rattle.schedules.specs.Queues.{QueuesValue}
 use Rattle.schedules.specs.Ready.{Runs, schedule_of, schedule_in, with_processes}
@@ -16,10 +15,6 @@ pub record System : Type 0 where
 -- these objects with these queues
 abbrev pub system : Store → QueuesValue → System
 system store queues = record { store = store; queues = queues }
-
--- the system as its capabilities mean
-abbrev pub system_map : System → System
-system_map w = system (state_map w.store) w.queues
 
 -- other objects, and everybody stands where he stood
 abbrev pub with_store : System → Store → System
