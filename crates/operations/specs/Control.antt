@@ -34,7 +34,9 @@ may_receive _ = false
 
 -- 8 setrecipient: the recipient becomes what was sent
 unfoldable pub setrecipient_row : Store → Capability → Request → Row
-setrecipient_row s c r = unless_error (not (may_receive r.sent.kind)) (does (EndpointIs c.object (record (endpoint_of s c) { recipient = r.sent }) ∷ []))
+setrecipient_row s c r =
+    unless_error (not (may_receive r.sent.kind))
+    (does (EndpointIs c.object (record (endpoint_of s c) { recipient = r.sent }) ∷ []))
 
 -- 9 getid: w2 = id, w3 = 1 where match, w4 = payload
 unfoldable pub getid_row : Store → Capability → Row
@@ -46,7 +48,9 @@ setid_row s c r = always (does (EndpointIs c.object (record (endpoint_of s c) { 
 
 -- 11 setmatch: w2 = 1 sets the flag, 0 clears it
 unfoldable pub setmatch_row : Store → Capability → Request → Row
-setmatch_row s c r = unless_error (nat_lt 1 (w2 r)) (does (EndpointIs c.object (record (endpoint_of s c) { matching = (w2 r == 1) }) ∷ []))
+setmatch_row s c r =
+    unless_error (nat_lt 1 (w2 r))
+    (does (EndpointIs c.object (record (endpoint_of s c) { matching = (w2 r == 1) }) ∷ []))
 
 -- 12 makeentry: an Entry to this endpoint with payload w2
 unfoldable pub makeentry_row : Capability → Request → Row
@@ -119,7 +123,9 @@ getslot_row s c r = unless_error (nat_lt 2 (w2 r)) (gives (slot_of (process_of s
 
 -- 13 setslot: slot w2 becomes what was sent
 unfoldable pub setslot_row : Store → Capability → Request → Row
-setslot_row s c r = unless_error (nat_lt 2 (w2 r)) (does (ProcessIs c.object (with_slot (process_of s c) (w2 r) r.sent) ∷ []))
+setslot_row s c r =
+    unless_error (nat_lt 2 (w2 r))
+    (does (ProcessIs c.object (with_slot (process_of s c) (w2 r) r.sent) ∷ []))
 
 -- 14 getstate: w2 = 0 Running, 1 Receiving, 2 Faulted, which has w3 = code and w4 = address
 unfoldable pub getstate_row : Store → Capability → Row
@@ -174,7 +180,8 @@ schedule_table c r number =
 unfoldable pub obtained : Reading → Store → Option CapKind → ℕ → Row
 obtained reading s None number = unless_error true nothing
 obtained reading s (Some kind) number =
-    unless_error (not (nat_lt number (size_of s.items kind))) (gives (to_object kind number (count_in reading s.items kind number)))
+    unless_error (not (nat_lt number (size_of s.items kind)))
+    (gives (to_object kind number (count_in reading s.items kind number)))
 
 -- 8 getcap: a capability to object w3 of the kind with type number w2
 unfoldable pub getcap_row : Reading → Store → Request → Row

@@ -69,7 +69,9 @@ getguard_row c = always (tells c.guard.l2g c.guard.matches 0)
 
 -- 3 setguard: this capability with the guard of w2 and w3
 unfoldable pub setguard_row : Capability → Request → Row
-setguard_row c r = with_access (opaque c) (not (may_have c (w2 r) (w3 r))) (gives (with_guard c (guard_of (w2 r) (w3 r))))
+setguard_row c r =
+    with_access (opaque c) (not (may_have c (w2 r) (w3 r)))
+    (gives (with_guard c (guard_of (w2 r) (w3 r))))
 
 -- 4 getrestr: w2 = the restrictions
 unfoldable pub getrestr_row : Capability → Row
@@ -83,7 +85,9 @@ clear_page_row c = with_access (read_only c) false (does (PageIs c.object empty_
 
 -- 9 copy: the bytes of the page that was sent
 unfoldable pub copy_row : Store → Capability → Request → Row
-copy_row s c r = with_access (read_only c) (not (is_page r.sent.kind)) (does (PageIs c.object (page_at s r.sent.object) ∷ []))
+copy_row s c r =
+    with_access (read_only c) (not (is_page r.sent.kind))
+    (does (PageIs c.object (page_at s r.sent.object) ∷ []))
 
 -- ---- CapPage
 
@@ -97,13 +101,17 @@ get_row s c r = unless_error (nat_lt 255 (w2 r)) (gives (read_through c.restr (c
 
 -- 10 set: slot w2 becomes what was sent
 unfoldable pub set_row : Store → Capability → Request → Row
-set_row s c r = with_access (read_only c) (nat_lt 255 (w2 r)) (does (CapPageIs c.object (with_cap (cappage_at s c.object) (w2 r) r.sent) ∷ []))
+set_row s c r =
+    with_access (read_only c) (nat_lt 255 (w2 r))
+    (does (CapPageIs c.object (with_cap (cappage_at s c.object) (w2 r) r.sent) ∷ []))
 
 -- ---- GPT
 
 -- 8 getslot: the capability of slot w2, weakened where WK
 unfoldable pub getslot_row : Store → Capability → Request → Row
-getslot_row s c r = with_access (opaque c) (nat_lt 15 (w2 r)) (gives (read_through c.restr (slot_at s.items c.object (w2 r))))
+getslot_row s c r =
+    with_access (opaque c) (nat_lt 15 (w2 r))
+    (gives (read_through c.restr (slot_at s.items c.object (w2 r))))
 
 -- 9 setslot: slot w2 becomes what was sent
 unfoldable pub setslot_row : Capability → Request → Row
@@ -158,7 +166,9 @@ window_of r =
 
 -- 12 setwindow: w3 = match, w4 = offset
 unfoldable pub setwindow_row : Capability → Request → Row
-setwindow_row c r = with_access (opaque c || read_only c) (window_error r) (does (SlotIs c.object (window_slot r) (window_of r) ∷ []))
+setwindow_row c r =
+    with_access (opaque c || read_only c) (window_error r)
+    (does (SlotIs c.object (window_slot r) (window_of r) ∷ []))
 
 -- ---- the tables: the row that has a number, if there is one
 

@@ -41,11 +41,21 @@ always answer = record { no_access = false; request_error = false; count_spent =
 
 -- a row with a request error alone
 abbrev pub unless_error : Bool → Answer → Row
-unless_error request_error answer = record { no_access = false; request_error = request_error; count_spent = false; answer = answer }
+unless_error request_error answer = record {
+  no_access = false;
+  request_error = request_error;
+  count_spent = false;
+  answer = answer;
+}
 
 -- a row that wants access as well
 abbrev pub with_access : Bool → Bool → Answer → Row
-with_access no_access request_error answer = record { no_access = no_access; request_error = request_error; count_spent = false; answer = answer }
+with_access no_access request_error answer = record {
+  no_access = no_access;
+  request_error = request_error;
+  count_spent = false;
+  answer = answer;
+}
 
 -- ---- the shape
 
@@ -77,4 +87,9 @@ settled_row (Some row) = settled row
 
 -- the reply: the code, and of what comes of it the words, the capability and the item that it changes
 abbrev pub reply_of : Settled → Reply
-reply_of settled = record { code = settled.code; words = settled.answer.words; cap = settled.answer.cap; changed = item_in settled.answer.changes }
+reply_of settled = record {
+  code = settled.code;
+  words = settled.answer.words;
+  cap = settled.answer.cap;
+  changed = item_in settled.answer.changes;
+}
