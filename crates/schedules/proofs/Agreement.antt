@@ -4,7 +4,7 @@ use Rattle.std.proofs.Math.ListN.{length-set}
 use Rattle.std.proofs.lemmas.List.{get_or-set_same, get_or-set_other}
 use Rattle.std.proofs.lemmas.Bool.Decides.{eqb_tells}
 use Rattle.process_objects.specs.Process.{ProcessValue, empty_process}
-use Rattle.schedules.specs.Queues.{QueuesValue, without, left, asleep, hart_of, taken_from}
+use Rattle.schedules.specs.Queues.{QueuesValue, priorities, without, left, asleep, hart_of, taken_from}
 use Rattle.schedules.specs.Standing.{standing, IsQueues}
 use Rattle.schedules.proofs.Standing.{standing-left, standing-left_other, standing-asleep, standing-taken}
 use Rattle.std.proofs.lemmas.List.{length-map}
@@ -70,8 +70,8 @@ agrees-asleep processes q p on within but runs_now = record {
         omega (arith, more, none, each)
 
 -- a hart that takes a process leaves each in as many places as before
-pub agrees-taken : (processes : List ProcessValue) (q : QueuesValue) (h k : ℕ) → IsQueues q → h < length q.harts → hart_of q h ≡ None → k < 8 → Agrees (runs processes q) → Agrees (runs processes (taken_from q h (Some k)))
+pub agrees-taken : (processes : List ProcessValue) (q : QueuesValue) (h k : ℕ) → IsQueues q → h < length q.harts → hart_of q h ≡ None → k < priorities → Agrees (runs processes q) → Agrees (runs processes (taken_from q h (Some k)))
 agrees-taken processes q h k queues within empty there agrees = record {
   sizes = agrees.sizes;
-  each = λ x g. standing-taken q h x (Some k) within empty (omega (arith, queues.eight, there)) ∙ agrees.each x g;
+  each = λ x g. standing-taken q h x (Some k) within empty (omega (arith, queues.ready, there)) ∙ agrees.each x g;
 }

@@ -3,7 +3,7 @@ use Rattle.std.proofs.Common.{◌≡◌, ◌≢◌, ◌⊎◌, inl, inr, ℕ, �
 use Rattle.std.proofs.lemmas.List.{length-map}
 use Rattle.std.proofs.Math.ListN.{length-set}
 use Rattle.std.proofs.lemmas.Bool.Decides.{nat_tests, eqb_tells}
-use Rattle.schedules.specs.Queues.{QueuesValue, without, hart_without, enqueued, asleep, left, sleepers_of, hart_of, taken_from}
+use Rattle.schedules.specs.Queues.{QueuesValue, priorities, without, hart_without, enqueued, asleep, left, sleepers_of, hart_of, taken_from}
 use Rattle.schedules.specs.Standing.{standing, times_in, IsQueues}
 use Rattle.schedules.specs.Ready.{unslept}
 use Rattle.schedules.proofs.Standing.{standing-enqueued, standing-asleep, standing-left, standing-left_other, standing-taken, sum-put}
@@ -27,11 +27,11 @@ none-more p x before after e less nowhere =
     let zero : ◌≡◌ {A = ℕ} (cond (p == x) 1 0) 0 = grind (arith, nat_tests, less) in
     omega (arith, e, zero, nowhere)
 
-pub kept_enqueued : (q : QueuesValue) (k p : ℕ) → IsQueues q → k < 8 → p < length q.sleepers → standing q p ≡ 0 → IsQueues (enqueued q k p)
+pub kept_enqueued : (q : QueuesValue) (k p : ℕ) → IsQueues q → k < priorities → p < length q.sleepers → standing q p ≡ 0 → IsQueues (enqueued q k p)
 kept_enqueued q k p queues within below nowhere =
-    let there : k < length q.ready = omega (arith, queues.eight, within) in
+    let there : k < length q.ready = omega (arith, queues.ready, within) in
     record {
-      eight = length-set _ _ _ ∙ queues.eight;
+      ready = length-set _ _ _ ∙ queues.ready;
       processes = queues.processes;
       harts = queues.harts;
       once = λ x. once-more p x _ _ (standing-enqueued q k p x there) (λ e. rw e nowhere) (queues.once x);
@@ -42,7 +42,7 @@ pub kept_asleep : (q : QueuesValue) (p on : ℕ) → IsQueues q → on < length 
 kept_asleep q p on queues within below nowhere =
     let long : length (slice_set q.sleepers on (sleepers_of q on ++ p ∷ [])) ≡ length q.sleepers = length-set _ _ _ in
     record {
-      eight = queues.eight;
+      ready = queues.ready;
       processes = omega (arith, long, queues.processes);
       harts = queues.harts;
       once = λ x. once-more p x _ _ (standing-asleep q p on x within) (λ e. rw e nowhere) (queues.once x);
@@ -51,7 +51,7 @@ kept_asleep q p on queues within below nowhere =
 
 pub kept_left : (q : QueuesValue) (p : ℕ) → IsQueues q → IsQueues (left q p)
 kept_left q p queues = record {
-  eight = length-map q.ready (without p) ∙ queues.eight;
+  ready = length-map q.ready (without p) ∙ queues.ready;
   processes = rw (length-map q.sleepers (without p)) queues.processes;
   harts = rw (length-map q.harts (hart_without p)) queues.harts;
   once = λ x. fewer x (eqb_tells p x);
@@ -65,11 +65,11 @@ kept_left q p queues = record {
     fewer : (x : ℕ) → ((eqb p x ≡ true) × (p ≡ x)) ⊎ ((eqb p x ≡ false) × (p ≢ x)) → standing (left q p) x ≤ 1
     fewer x d = let h = least x d in let once = queues.once x in omega (arith, h, once)
 
-pub kept_taken : (q : QueuesValue) (h k : ℕ) → IsQueues q → h < length q.harts → hart_of q h ≡ None → k < 8 → IsQueues (taken_from q h (Some k))
+pub kept_taken : (q : QueuesValue) (h k : ℕ) → IsQueues q → h < length q.harts → hart_of q h ≡ None → k < priorities → IsQueues (taken_from q h (Some k))
 kept_taken q h k queues within empty there =
-    let same : (x : ℕ) → standing (taken_from q h (Some k)) x ≡ standing q x = λ x. standing-taken q h x (Some k) within empty (omega (arith, queues.eight, there)) in
+    let same : (x : ℕ) → standing (taken_from q h (Some k)) x ≡ standing q x = λ x. standing-taken q h x (Some k) within empty (omega (arith, queues.ready, there)) in
     record {
-      eight = length-set _ _ _ ∙ queues.eight;
+      ready = length-set _ _ _ ∙ queues.ready;
       processes = queues.processes;
       harts = rw length-set queues.harts;
       once = λ x. rw (same x) (queues.once x);
@@ -84,7 +84,7 @@ pub kept_unslept : (q : QueuesValue) (on : ℕ) → IsQueues q → on < length q
 kept_unslept q on queues within =
     let long : length (slice_set q.sleepers on []) ≡ length q.sleepers = length-set _ _ _ in
     record {
-      eight = queues.eight;
+      ready = queues.ready;
       processes = omega (arith, long, queues.processes);
       harts = queues.harts;
       once = λ x. let split = standing-unslept q on x within in omega (arith, split, queues.once x);

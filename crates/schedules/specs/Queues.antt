@@ -1,8 +1,14 @@
 -- The queues of a machine: who waits where, as lists of processes. (Coyotos; the code has lists of fixed room.)
 use Rattle.std.specs.Prelude.{ℕ, zero, suc, ◌==◌, Bool, if◌then◌else◌, List, [], ◌∷◌, ◌++◌, map, length, Option, Some, None, slice_index_or, slice_set}
 use Rattle.std.specs.List.{list_any}
+use Rattle.cap_format.specs.declared.kind.CapKind.TheVariants.{Schedule}
+use Rattle.cap_format.specs.Kind.{object_limit}
 
--- eight ready queues by priority, the sleepers of each process, and each hart's process
+-- how many priorities there are: as many as schedules may have
+abbrev pub priorities : ℕ
+priorities = object_limit Schedule
+
+-- a ready queue for each priority, the sleepers of each process, and each hart's process
 pub record QueuesValue : Type 0 where
   pub ready : List (List ℕ)
   pub sleepers : List (List ℕ)
@@ -68,7 +74,7 @@ taken_from q hart (Some priority) = record { ready = slice_set q.ready priority 
 
 -- a hart that has a process keeps it
 abbrev pub dispatched_by : QueuesValue → ℕ → Option ℕ → QueuesValue
-dispatched_by q hart None = taken_from q hart (highest_below q.ready 8)
+dispatched_by q hart None = taken_from q hart (highest_below q.ready priorities)
 dispatched_by q hart (Some p) = q
 
 -- a hart without a process takes the first of the highest ready queue that is not empty

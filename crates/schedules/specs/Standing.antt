@@ -1,7 +1,7 @@
 -- In how many places a process stands: a process that runs in exactly one, any other in none. (Own.)
 use Rattle.std.specs.Prelude.{◌≡◌, ℕ, ◌+◌, ◌≤◌, ◌==◌, true, cond, List, [], ◌∷◌, length, replicate, Option, Some, None}
 use Rattle.std.specs.List.{sum_by}
-use Rattle.schedules.specs.Queues.{QueuesValue, ready_queue, sleepers_of, hart_of, stands_in}
+use Rattle.schedules.specs.Queues.{QueuesValue, priorities, ready_queue, sleepers_of, hart_of, stands_in}
 use Rattle.schedules.specs.declared.spot.Spot.{Spot}
 use Rattle.schedules.specs.declared.spot.Spot.TheVariants.{Nowhere, Hart, Ready, Sleeper}
 
@@ -21,7 +21,7 @@ standing q p = sum_by (times_in p) q.ready + sum_by (times_in p) q.sleepers + su
 
 -- what queues keep: their sizes, and that no process stands in two places or is one that the machine has not
 pub record IsQueues (q : QueuesValue) : Type 0 where
-  pub eight : length q.ready ≡ 8
+  pub ready : length q.ready ≡ priorities
   pub processes : length q.sleepers ≤ 256
   pub harts : length q.harts ≤ 8
   pub once : (p : ℕ) → standing q p ≤ 1
@@ -29,7 +29,11 @@ pub record IsQueues (q : QueuesValue) : Type 0 where
 
 -- no process stands anywhere
 abbrev pub empty_queues : ℕ → ℕ → QueuesValue
-empty_queues processes harts = record { ready = replicate 8 []; sleepers = replicate processes []; harts = replicate harts None }
+empty_queues processes harts = record {
+  ready = replicate priorities [];
+  sleepers = replicate processes [];
+  harts = replicate harts None;
+}
 
 -- the place where a process stands
 abbrev pub IsSpot : QueuesValue → ℕ → Spot → Type 0

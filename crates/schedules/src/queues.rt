@@ -1,6 +1,6 @@
 ghost use Rattle.std.specs.Prelude.{◌≡◌, ◌+◌, ◌==◌, ◌<◌, ◌≤◌, ℕ, List, cond, length, map, slice_index_or, slice_get, Some, None, IfSome, IfOk, IsTrue};
 ghost use Rattle.std.specs.List.{sum_by};
-ghost use Rattle.schedules.specs.Queues.{without, hart_without, enqueued, asleep, left, dispatched, hart_of, ready_queue, sleepers_of};
+ghost use Rattle.schedules.specs.Queues.{priorities, without, hart_without, enqueued, asleep, left, dispatched, hart_of, ready_queue, sleepers_of};
 ghost use Rattle.schedules.specs.Standing.{IsSpot, standing, times_in, times_on, empty_queues};
 ghost use Rattle.schedules.specs.Ready.{unslept, runs, places_due, Agrees, AgreesBut};
 ghost use Rattle.process_objects.specs.Process.{ProcessValue, empty_process};
@@ -13,6 +13,7 @@ use crate::lists::{
 };
 use crate::process_list::ProcessList;
 use crate::spot::Spot;
+use cap_format::PRIORITIES;
 use std::alloc::{AllocError, Global};
 use std::marker::Model;
 
@@ -44,7 +45,7 @@ impl Queues {
         requires harts { harts ≤ 8 }
         ensures { IfOk result (λ q. q ≡ empty_queues processes harts) }
     {
-        let ready = empty_lists(alloc, 8)?;
+        let ready = empty_lists(alloc, u16::from(PRIORITIES))?;
         let sleepers = empty_lists(alloc, processes)?;
         let harts = empty_harts(alloc, harts)?;
         Ok(Queues {
@@ -66,7 +67,7 @@ impl Queues {
 
     /// The process at place `n`, counted from 0, of the ready queue of this priority.
     pub fn ready_at(&self, priority: u8, n: u16) -> Option<u16>
-        requires { priority < 8 }
+        requires { priority < priorities }
         ensures value { result ≡ slice_get (ready_queue self.now priority) n }
         ensures bound { length (ready_queue self.now priority) ≤ 256 }
     {
@@ -148,7 +149,7 @@ impl Queues {
         if let Some(p) = self.harts[hart as usize] {
             return Some(p);
         }
-        let Some(priority) = highest(&self.ready, 8) else {
+        let Some(priority) = highest(&self.ready, PRIORITIES) else {
             return None;
         };
         let next = pop_at(&mut self.ready, priority as usize);
@@ -173,7 +174,7 @@ impl Queues {
     {
         match process_on(&self.harts, hart as usize) {
             Some(p) => Some(p),
-            None => match highest(&self.ready, 8) {
+            None => match highest(&self.ready, PRIORITIES) {
                 Some(priority) => first_at(&self.ready, priority as usize),
                 None => None,
             },
@@ -205,7 +206,7 @@ impl Queues {
     /// The process becomes the last of the ready queue of this priority, in constant time.
     pub(crate) fn enqueue(&mut self, p: u16, priority: u8)
         requires there { p < length self.old.sleepers }
-        requires priority { priority < 8 }
+        requires priority { priority < priorities }
         requires nowhere { standing self.old p ≡ 0 }
         ensures queues { self.new ≡ enqueued self.old priority p }
         ensures standing { (x : ℕ) → standing self.new x ≡ standing self.old x + cond (p == x) 1 0 }
