@@ -1,3 +1,4 @@
 pub mod Covering
 pub mod Walked
 pub mod Operations
+pub mod Alone
