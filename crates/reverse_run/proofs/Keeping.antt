@@ -1,6 +1,7 @@
 -- What is kept of a machine, one object after the other.
-use Rattle.std.proofs.Common.{◌≡◌, ◌≢◌, ℕ, ◌<◌, ◌⊎◌, inl, inr, List, [], ◌∷◌, ◌++◌, refl, sym, ap, ◌∙◌, subst, arith}
-use Rattle.std.proofs.lemmas.List.Elements.{All-push}
+use Rattle.std.proofs.Common.{◌≡◌, ◌≢◌, ℕ, ◌<◌, ◌⊎◌, inl, inr, List, [], ◌∷◌, ◌++◌, Option, Some, None, refl, sym, ap, ◌∙◌, subst, arith}
+use Rattle.std.specs.Prelude.{IfSome}
+use Rattle.std.proofs.lemmas.List.Elements.{All-cons, All-push}
 use Rattle.cap_format.specs.declared.kind.CapKind.{CapKind}
 use Rattle.cap_format.specs.declared.kind.CapKind.TheVariants.{Page, CapPage, Gpt, Endpoint, Process}
 use Rattle.object_store.specs.declared.sizes.Sizes.{Sizes}
@@ -8,12 +9,16 @@ use Rattle.object_store.specs.Sizes.{size_in}
 use Rattle.object_store.specs.Store.{Store, size_of, sizes_of}
 use Rattle.object_store.specs.Ranges.{IsStore}
 use Rattle.object_store.specs.Object.{ObjectName, object_name, IsAmong}
+use Rattle.object_store.specs.Saved.{AreThere}
 use Rattle.object_store.proofs.Stays.{among_front, among_back}
 use Rattle.object_store.proofs.Same.{size_in_store}
 use Rattle.machine_state.specs.declared.places.Place.{Place}
 use Rattle.machine_state.specs.Machine.{MachineValue}
+use Rattle.machine_state.specs.Outcome.{process_name, page_name}
 use Rattle.machine_state.specs.Past.{PastValue, names_in, used, same_kind, next_place, room_of, IsFor, Holds}
 use Rattle.event_reach.specs.Reach.{Covers}
+use Rattle.event_reach.specs.declared.plain.PlainInsn.{PlainInsn}
+use Rattle.event_reach.specs.Plain.{stored_names, plain_names, IsThere}
 use Rattle.reverse_run.specs.Remembered.{StandsFor, Remembers, HasPlace}
 
 -- ---- places
@@ -121,3 +126,28 @@ remembers_covered past s found changed all remembers covers = record { each = λ
         let Here : CapKind → Type 0 = λ k. IsAmong k n (names_in past) in
         subst Here (sym process) (all n (subst (λ (k : CapKind). n < size_of s.items k) process there))
     by kind n there (inr among) = remembers.each kind n there among
+
+-- ---- plain instructions
+
+-- what is named of a plain instruction is there
+there_plain : (s : Store) (i : PlainInsn) → IsThere s i → AreThere s (plain_names i)
+there_plain s i is = All-cons (λ (x : ObjectName). x.number < size_of s.items x.kind) (process_name i.process) (stored_names i.page) is.process (by i.page is.page)
+  where
+    by : (page : Option ℕ) → IfSome page (λ n. n < size_of s.items Page) → AreThere s (stored_names page)
+    by None there = λ i d within. absurd (omega (arith, within))
+    by (Some n) there = All-cons (λ (x : ObjectName). x.number < size_of s.items x.kind) (page_name n) [] there (λ i d within. absurd (omega (arith, within)))
+
+-- a past of these objects alone stands for the machine
+pub stands_plain : {T : Type 0} (past : PastValue) (m : MachineValue T) (i : PlainInsn) → IsThere m.objects i → IsFor past (sizes_of m.objects) → Holds past m.objects → names_in past ≡ plain_names i
+    → past.queues ≡ m.queues → past.halted ≡ m.halted → StandsFor past m
+stands_plain past m i is sizes holds names queues halted = record {
+  sizes = sizes;
+  holds = holds;
+  there = rw names (there_plain m.objects i is);
+  queues = queues;
+  halted = halted;
+}
+
+-- and remembers them
+pub remembers_names : (past : PastValue) (s : Store) (names : List ObjectName) → names_in past ≡ names → Remembers past s names
+remembers_names past s names is = record { each = λ kind n there among. rw is among }

@@ -89,13 +89,30 @@ impl<T: Translator> Reversible<T> {
         ensures depth { self.new.depth ≡ self.old.depth }
         ensures harts { self.new.machine.objects.harts ≡ self.old.machine.objects.harts }
     {
+        let mut records = Records::new();
+        self.event_into(e, &mut records, fetches);
+        records
+    }
+
+    /// Performs an event as `event` does, and leaves its records, and no others, in a list that is there already.
+    pub fn event_into<L: Ledger>(&mut self, e: Event, records: &mut Records, fetches: &mut Steps<L>)
+        requires { hart_in e < self.old.machine.objects.harts }
+        ensures records { records.new ≡ (event_of (state_of self.old.machine) e).records }
+        ensures history { history_of self.new ≡ after_event self.old.depth (history_of self.old) e }
+        ensures moments { moments_of self.new ≡
+            take self.old.depth (moment_of self.old.machine ∷ moments_of self.old) }
+        ensures kept { let touches = (event_of (state_of self.old.machine) e).touches in
+            let kept = T.kept self.old.machine.translator in
+            T.kept self.new.machine.translator ≡ kept_after T.cost T.after T.without kept touches }
+        ensures depth { self.new.depth ≡ self.old.depth }
+        ensures harts { self.new.machine.objects.harts ≡ self.old.machine.objects.harts }
+    {
         let mut past = take_past(&mut self.pasts, &mut self.spare);
         remember(&self.machine, e, &mut past, fetches);
         tell_machine(&self.machine);
-        let records = kernel_core::event(&mut self.machine, e, fetches);
+        kernel_core::event_into(&mut self.machine, e, records, fetches);
         tell_machine(&self.machine);
         self.pasts.push_front_reserved(past);
-        records
     }
 
     /// Undoes the last event that is remembered, and forgets it: all is stored as it was then. False where none is

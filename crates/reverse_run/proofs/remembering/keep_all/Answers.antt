@@ -3,7 +3,7 @@ use Rattle.machine_state.specs.State.{state_of}
 use Rattle.kernel_core.specs.Event.{event_of}
 use Rattle.event_reach.specs.Reach.{names_of}
 use Rattle.reverse_run.proofs.Keeping.{remembers_covered}
-use Rattle.reverse_run.proofs.remembering.remember.Goals as goal
+use Rattle.reverse_run.proofs.remembering.keep_all.Goals as goal
 
 pub returns-clause-remembers : goal.returns-clause-remembers
 returns-clause-remembers g c =
