@@ -8,6 +8,7 @@ ghost use Rattle.back_command.specs.Runs.{RunsLines};
 
 use crate::DEPTH;
 use coy_io::{LineReader, Source};
+use machine_state::Records;
 use reverse_run::Reversible;
 use schedule_replay::{Events, Stop, next_line};
 use std::sync::ledger::Ledger;
@@ -34,11 +35,12 @@ pub(crate) fn run_lines<T: Translator, S: Source, L: Ledger>(
     ensures quiet { result ≢ Stop.ReadFault → S.faults source.new ≡ S.faults source.old }
 {
     let harts = reversible.machine().objects().sizes().harts;
+    let mut records = Records::new();
     let mut left = Events::NoneLeft;
     'each: loop {
         match left.take() {
             Some(event) => {
-                reversible.event(event, fetches);
+                reversible.event_into(event, &mut records, fetches);
             }
             None => match next_line(lines, source, harts) {
                 Ok(asked) => left = Events::new(harts, asked),

@@ -24,10 +24,10 @@ each-preserved-in-Some g c =
     let few = i.few in
     let size = ap length split in
     record {
-      so_far = so_far-event _ _ _ _ _ _ _ _ _ c.in-Some.event _ _ i.depth split i.so_far c.event.ensures.history;
+      so_far = so_far-event _ _ _ _ _ _ _ _ _ c.in-Some.event _ _ i.depth split i.so_far c.event_into.ensures.history;
       harts = i.harts;
-      same = c.event.ensures.harts ∙ i.same;
-      depth = c.event.ensures.depth ∙ i.depth;
+      same = c.event_into.ensures.harts ∙ i.same;
+      depth = c.event_into.ensures.depth ∙ i.depth;
       there = (subst (OfHarts c.sizes-harts.result.harts) split i.there).1;
       few = omega (arith, few, size);
       going = i.going;
