@@ -1,10 +1,10 @@
 -- How the words of a line come one after the other: what the cuts of the readers make of them.
-use Rattle.std.proofs.Common.{ℕ, suc, ◌≡◌, ◌≢◌, ◌+◌, ◌≤◌, ◌==◌, Bool, true, false, not, List, [], ◌∷◌, ◌++◌, length, min, take, drop, slice_index, slice_index_or, inl, inr, refl, sym, ◌∙◌, ap, append_assoc, arith, cond}
+use Rattle.std.proofs.Common.{ℕ, suc, ◌≡◌, ◌≢◌, ◌+◌, ◌≤◌, ◌==◌, Bool, true, false, not, List, [], ◌∷◌, ◌++◌, length, length-append, min, take, drop, slice_index, slice_index_or, inl, inr, refl, sym, ◌∙◌, ap, append_assoc, arith, cond}
 use Rattle.std.specs.Prelude.{Option, Some, None, option_map, position, unwrap_or}
 use Rattle.std.specs.List.{position_or_len}
 use Rattle.std.proofs.lemmas.List.{append-nil}
 use Rattle.std.proofs.lemmas.Bool.{cases_Bool, cases_lt, eqb-false, ne_eqb, lt-ltb, le-ltb}
-use Rattle.coy_text.specs.Words.{ended, words_on, words_of, cut_at}
+use Rattle.coy_text.specs.Words.{ended, words_on, words_of, count_of, cut_at}
 
 -- where the first byte stands that is no space, and where the first space, or else where the line ends
 abbrev pub after_spaces : List ℕ → ℕ
@@ -109,6 +109,24 @@ more_words [] front = refl
 more_words (byte ∷ bytes) front =
     let letter : (byte == 32) ≡ false = ne_eqb byte 32 front in
     ap length (first_and_others byte bytes front) ∙ rw (letter, take-one) (omega arith)
+
+-- a word that ends here counts for no more than its bytes
+length-ended : (word : List ℕ) → length (ended word) ≤ length word
+length-ended [] = omega arith
+length-ended (byte ∷ bytes) = omega arith
+
+length-words_on : (word line : List ℕ) → length (words_on word line) ≤ length word + length line
+unfolding words_on
+length-words_on word [] = omega (arith, length-ended word)
+length-words_on word (byte ∷ bytes) =
+    elim (cases_Bool (byte == 32)) [
+      | inl space ↦ rw space (omega (arith, length-append (ended word) (words_of bytes), length-ended word, length-words_on [] bytes))
+      | inr letter ↦ rw letter (omega (arith, length-append word (byte ∷ []), length-words_on (word ++ byte ∷ []) bytes))
+    ]
+
+-- a line has no more words than bytes
+pub count_bound : (line : List ℕ) → count_of line ≤ length line
+count_bound line = omega (arith, length-words_on [] line)
 
 -- a word is cut at the place of the first mark
 cut_at-position : (mark : ℕ) (word : List ℕ) → cut_at mark word ≡ option_map (λ place. (take place word, drop (place + 1) word)) (position (λ byte. byte == mark) word)

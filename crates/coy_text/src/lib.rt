@@ -6,10 +6,12 @@
 
 mod line;
 mod line_buf;
+mod line_words;
 mod numeral;
 mod words;
 
 pub use line::{is_skipped, is_visible};
 pub use line_buf::LineBuf;
+pub use line_words::LineWords;
 pub use numeral::{BadNumber, hex_value, numbers_read_back, read_dec, read_hex};
 pub use words::{cut, word, word_count, words_from};

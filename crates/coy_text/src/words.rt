@@ -26,7 +26,7 @@ fn without_spaces(line: &[u8]) -> &[u8]
 }
 
 /// The first word, empty where there is none, and what follows it.
-fn next_word(line: &[u8]) -> (&[u8], &[u8])
+pub(crate) fn next_word(line: &[u8]) -> (&[u8], &[u8])
     ensures first { result.0.now ≡ slice_index_or (words_of line.now) 0 [] }
     ensures rest { words_of result.1.now ≡ drop 1 (words_of line.now) }
     ensures more { count_of line.now ≡ count_of result.1.now + min 1 (length result.0.now) }
