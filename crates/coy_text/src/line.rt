@@ -6,10 +6,17 @@ ghost use Rattle.coy_text.specs.Words.{words_of};
 use crate::word;
 
 /// Whether all bytes of a line are spaces or visible characters of ASCII.
+///
+/// It looks at each byte whatever the others were, so that the processor takes several at once.
+#[tactic(auto, using(std::proofs::lemmas::List::Folds::list_all_more))]
 pub fn is_visible(line: &[u8]) -> bool
     ensures { result ≡ is_visible_line line.now }
 {
-    line.iter().all(|byte| 32 <= *byte && *byte <= 126)
+    let mut visible = true;
+    for byte in line {
+        visible &= (32 <= *byte) & (*byte <= 126);
+    }
+    visible
 }
 
 /// Whether a line has nothing to say: no word, or a first word that begins with `#`.
