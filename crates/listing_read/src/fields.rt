@@ -1,6 +1,5 @@
 //! The fields of a line, each with its faults in their order.
-ghost use Rattle.std.specs.Prelude.{◌<◌, ◌≤◌, ◌%◌, ◌≡◌, ◌^◌, ◌==◌, ◌+◌, IfOk};
-ghost use Rattle.coy_text.specs.Words.{words_of, count_of};
+ghost use Rattle.std.specs.Prelude.{◌<◌, ◌≤◌, ◌%◌, ◌≡◌, ◌^◌, ◌==◌, ◌+◌, length, IfOk};
 ghost use Rattle.object_store.specs.Sizes.{size_in};
 ghost use Rattle.listing_read.specs.declared.fault.Fault.TheVariants.{WrongWords};
 ghost use Rattle.listing_read.specs.Faults.{ensured};
@@ -10,14 +9,14 @@ use crate::fault::Fault;
 use crate::terms::{Terms, size_of};
 use cap_format::CapKind;
 use cap_words::{called, read_name};
-use coy_text::{read_dec, read_hex, word_count};
+use coy_text::{LineWords, read_dec, read_hex};
 use object_store::Sizes;
 
 /// The line has so many words.
-pub(crate) fn has_words(line: &[u8], count: usize) -> Result<(), Fault>
-    ensures { result ≡ ensured (count_of line.now == count) WrongWords }
+pub(crate) fn has_words(words: &LineWords<'_>, count: usize) -> Result<(), Fault>
+    ensures { result ≡ ensured (length words.now == count) WrongWords }
 {
-    if word_count(line) != count {
+    if words.count() != count {
         return Err(Fault::WrongWords);
     }
     Ok(())

@@ -1,20 +1,19 @@
 //! The flags of a GPT's header.
 ghost use Rattle.std.specs.Prelude.{◌≡◌};
-ghost use Rattle.coy_text.specs.Words.{words_of};
 ghost use Rattle.listing_read.specs.StatementLines.{flags_of, one_flag, both_flags};
 
 use crate::fault::Fault;
-use coy_text::{word, word_count};
+use coy_text::LineWords;
 
 /// The flags of a GPT, behind its number and its size.
 #[tactic(auto, unfolding(crate::specs::StatementLines::flags_of))]
-pub(crate) fn flags(line: &[u8]) -> Result<(bool, bool), Fault>
-    ensures { result ≡ flags_of (words_of line.now) }
+pub(crate) fn flags(words: &LineWords<'_>) -> Result<(bool, bool), Fault>
+    ensures { result ≡ flags_of words.now }
 {
-    match word_count(line) {
+    match words.count() {
         3 => Ok((false, false)),
-        4 => one_flag(word(line, 3)),
-        _ => both_flags(word(line, 3), word(line, 4)),
+        4 => one_flag(words.word(3)),
+        _ => both_flags(words.word(3), words.word(4)),
     }
 }
 

@@ -1,6 +1,5 @@
 //! The statements of what memory is made of: pages, capability pages, GPTs and regions.
 ghost use Rattle.std.specs.Prelude.{◌≡◌, ◌≤◌, ◌<◌, ◌+◌, ◌-◌, nat_le, length, IfOk};
-ghost use Rattle.coy_text.specs.Words.{words_of};
 ghost use Rattle.object_store.specs.Ranges.{IsWithinLimits};
 ghost use Rattle.listing_read.specs.declared.fault.Fault.TheVariants.{BadValue};
 ghost use Rattle.listing_read.specs.Faults.{ensured};
@@ -18,19 +17,19 @@ use crate::terms::Terms;
 use bitflags::Flags;
 use cap_format::{CapKind, Restr};
 use cap_words::restrictions;
-use coy_text::{word, word_count, words_from};
+use coy_text::LineWords;
 use gpt_objects::GptHeader;
 use rv32_asm::assemble_insn;
 
 #[tactic(auto, unfolding(crate::specs::StatementLines::page_line))]
-pub(crate) fn page(terms: &Terms, line: &[u8]) -> Result<Statement, Fault>
-    ensures value { result ≡ page_line terms.now (words_of line.now) }
+pub(crate) fn page(terms: &Terms, words: &LineWords<'_>) -> Result<Statement, Fault>
+    ensures value { result ≡ page_line terms.now words.now }
     ensures range { IfOk result (IsStatement terms.now.sizes) }
 {
-    has_words(line, 4)?;
-    let number = object(terms, CapKind::Page, word(line, 1))?;
-    let at = hexadecimal_to(0xfff, word(line, 2))?;
-    let bytes = hex_bytes(word(line, 3))?;
+    has_words(words, 4)?;
+    let number = object(terms, CapKind::Page, words.word(1))?;
+    let at = hexadecimal_to(0xfff, words.word(2))?;
+    let bytes = hex_bytes(words.word(3))?;
     within_page(at, bytes.as_slice())?;
     Ok(Statement::Page {
         number,
@@ -51,16 +50,16 @@ fn within_page(at: u32, bytes: &[u8]) -> Result<(), Fault>
 }
 
 #[tactic(auto, unfolding(crate::specs::StatementLines::code_line))]
-pub(crate) fn code(terms: &Terms, line: &[u8]) -> Result<Statement, Fault>
-    ensures value { result ≡ code_line terms.now (words_of line.now) }
+pub(crate) fn code(terms: &Terms, words: &LineWords<'_>) -> Result<Statement, Fault>
+    ensures value { result ≡ code_line terms.now words.now }
     ensures range { IfOk result (IsStatement terms.now.sizes) }
 {
-    if word_count(line) < 4 {
+    if words.count() < 4 {
         return Err(Fault::WrongWords);
     }
-    let number = object(terms, CapKind::Page, word(line, 1))?;
-    let at = aligned(0xffc, word(line, 2))?;
-    match assemble_insn(words_from(line, 3)) {
+    let number = object(terms, CapKind::Page, words.word(1))?;
+    let at = aligned(0xffc, words.word(2))?;
+    match assemble_insn(words.behind(3)) {
         Ok(insn) => Ok(Statement::Code {
             number,
             at: at as u16,
@@ -71,15 +70,15 @@ pub(crate) fn code(terms: &Terms, line: &[u8]) -> Result<Statement, Fault>
 }
 
 #[tactic(auto, unfolding(crate::specs::StatementLines::cap_line))]
-pub(crate) fn cap_slot(terms: &Terms, line: &[u8]) -> Result<Statement, Fault>
+pub(crate) fn cap_slot(terms: &Terms, words: &LineWords<'_>) -> Result<Statement, Fault>
     requires { IsWithinLimits terms.now.sizes }
-    ensures value { result ≡ cap_line terms.now (words_of line.now) }
+    ensures value { result ≡ cap_line terms.now words.now }
     ensures range { IfOk result (IsStatement terms.now.sizes) }
 {
-    has_words(line, 4)?;
-    let number = object(terms, CapKind::CapPage, word(line, 1))?;
-    let slot = between(0, 255, word(line, 2))?;
-    let cap = capability(terms, word(line, 3))?;
+    has_words(words, 4)?;
+    let number = object(terms, CapKind::CapPage, words.word(1))?;
+    let slot = between(0, 255, words.word(2))?;
+    let cap = capability(terms, words.word(3))?;
     Ok(Statement::CapSlot {
         number,
         slot: slot as u8,
@@ -88,17 +87,17 @@ pub(crate) fn cap_slot(terms: &Terms, line: &[u8]) -> Result<Statement, Fault>
 }
 
 #[tactic(auto, unfolding(crate::specs::StatementLines::gpt_line))]
-pub(crate) fn gpt(terms: &Terms, line: &[u8]) -> Result<Statement, Fault>
-    ensures value { result ≡ gpt_line terms.now (words_of line.now) }
+pub(crate) fn gpt(terms: &Terms, words: &LineWords<'_>) -> Result<Statement, Fault>
+    ensures value { result ≡ gpt_line terms.now words.now }
     ensures range { IfOk result (IsStatement terms.now.sizes) }
 {
-    let words = word_count(line);
-    if words < 3 || words > 5 {
+    let total = words.count();
+    if total < 3 || total > 5 {
         return Err(Fault::WrongWords);
     }
-    let number = object(terms, CapKind::Gpt, word(line, 1))?;
-    let l2v = between(12, 31, word(line, 2))?;
-    let (ha, bg) = flags(line)?;
+    let number = object(terms, CapKind::Gpt, words.word(1))?;
+    let l2v = between(12, 31, words.word(2))?;
+    let (ha, bg) = flags(words)?;
     Ok(Statement::Gpt {
         number,
         header: GptHeader::new(l2v as u8, ha, bg),
@@ -106,15 +105,15 @@ pub(crate) fn gpt(terms: &Terms, line: &[u8]) -> Result<Statement, Fault>
 }
 
 #[tactic(auto, unfolding(crate::specs::StatementLines::slot_line))]
-pub(crate) fn gpt_slot(terms: &Terms, line: &[u8]) -> Result<Statement, Fault>
+pub(crate) fn gpt_slot(terms: &Terms, words: &LineWords<'_>) -> Result<Statement, Fault>
     requires { IsWithinLimits terms.now.sizes }
-    ensures value { result ≡ slot_line terms.now (words_of line.now) }
+    ensures value { result ≡ slot_line terms.now words.now }
     ensures range { IfOk result (IsStatement terms.now.sizes) }
 {
-    has_words(line, 4)?;
-    let number = object(terms, CapKind::Gpt, word(line, 1))?;
-    let slot = between(0, 15, word(line, 2))?;
-    let cap = capability(terms, word(line, 3))?;
+    has_words(words, 4)?;
+    let number = object(terms, CapKind::Gpt, words.word(1))?;
+    let slot = between(0, 15, words.word(2))?;
+    let cap = capability(terms, words.word(3))?;
     Ok(Statement::GptSlot {
         number,
         slot: slot as u8,
@@ -123,19 +122,19 @@ pub(crate) fn gpt_slot(terms: &Terms, line: &[u8]) -> Result<Statement, Fault>
 }
 
 #[tactic(auto, unfolding(crate::specs::StatementLines::region_line))]
-pub(crate) fn region(terms: &Terms, line: &[u8]) -> Result<Statement, Fault>
-    ensures value { result ≡ region_line terms.now (words_of line.now) }
+pub(crate) fn region(terms: &Terms, words: &LineWords<'_>) -> Result<Statement, Fault>
+    ensures value { result ≡ region_line terms.now words.now }
     ensures range { IfOk result (IsStatement terms.now.sizes) }
 {
-    let words = word_count(line);
-    if words < 5 || words > 6 {
+    let total = words.count();
+    if total < 5 || total > 6 {
         return Err(Fault::WrongWords);
     }
-    let gpt = object(terms, CapKind::Gpt, word(line, 1))?;
-    let slot = between(0, 15, word(line, 2))?;
-    let count = slots_from(slot, word(line, 3))?;
-    let page = first_page(terms, count, word(line, 4))?;
-    let restr = letters(line)?;
+    let gpt = object(terms, CapKind::Gpt, words.word(1))?;
+    let slot = between(0, 15, words.word(2))?;
+    let count = slots_from(slot, words.word(3))?;
+    let page = first_page(terms, count, words.word(4))?;
+    let restr = letters(words)?;
     Ok(Statement::Region {
         gpt,
         slot: slot as u8,
@@ -157,14 +156,14 @@ fn slots_from(slot: u32, word: &[u8]) -> Result<u32, Fault>
 
 /// The bits of a region's restrictions.
 #[tactic(auto, unfolding(crate::specs::StatementLines::letters_of))]
-fn letters(line: &[u8]) -> Result<u8, Fault>
-    ensures value { result ≡ letters_of (words_of line.now) }
+fn letters(words: &LineWords<'_>) -> Result<u8, Fault>
+    ensures value { result ≡ letters_of words.now }
     ensures range { IfOk result (λ restr. restr < 32) }
 {
-    if word_count(line) == 5 {
+    if words.count() == 5 {
         return Ok(0);
     }
-    match restrictions(word(line, 5)) {
+    match restrictions(words.word(5)) {
         Some(restr) => Ok(restr),
         None => Err(Fault::BadValue),
     }

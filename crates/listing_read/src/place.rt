@@ -13,7 +13,7 @@ use crate::statement::Statement;
 use crate::statements::{naming, statement};
 use crate::terms::{Terms, Version};
 use cap_words::number_to;
-use coy_text::{is_skipped, is_visible, word, word_count};
+use coy_text::{LineWords, is_skipped, is_visible};
 use object_store::Sizes;
 use std::alloc::{AllocFailed, Global};
 
@@ -80,20 +80,21 @@ pub(crate) fn judge(alloc: Global, place: &Place, line: &[u8]) -> Result<Said, F
     if is_skipped(line) {
         return Ok(Said::Nothing);
     }
+    let words = LineWords::of(line);
     match place {
-        Place::Header => header(line),
-        Place::Machine(version) => opened(alloc, *version, line),
-        Place::Statements(terms) => further(terms, line),
+        Place::Header => header(&words),
+        Place::Machine(version) => opened(alloc, *version, &words),
+        Place::Statements(terms) => further(terms, &words),
     }
 }
 
 #[tactic(auto, unfolding(crate::specs::Listing::header_line))]
-fn header(line: &[u8]) -> Result<Said, Fault>
-    ensures value { result ≡ header_line (words_of line.now) }
+fn header(words: &LineWords<'_>) -> Result<Said, Fault>
+    ensures value { result ≡ header_line words.now }
     ensures range { IfOk result (IsSaid Header) }
-    ensures end { EndsAt result (words_of line.now) }
+    ensures end { EndsAt result words.now }
 {
-    match version(line) {
+    match version(words) {
         Some(version) => Ok(Said::Opens(Place::Machine(version))),
         None => Err(Fault::BadHeader),
     }
@@ -101,13 +102,13 @@ fn header(line: &[u8]) -> Result<Said, Fault>
 
 /// The version that the first line names.
 #[tactic(auto, unfolding(crate::specs::Machine::version_of))]
-fn version(line: &[u8]) -> Option<Version>
-    ensures { result ≡ version_of (words_of line.now) }
+fn version(words: &LineWords<'_>) -> Option<Version>
+    ensures { result ≡ version_of words.now }
 {
-    if word_count(line) != 2 || word(line, 0) != b"coyotos".as_slice() {
+    if words.count() != 2 || words.word(0) != b"coyotos".as_slice() {
         return None;
     }
-    version_named(word(line, 1))
+    version_named(words.word(1))
 }
 
 fn version_named(word: &[u8]) -> Option<Version>
@@ -123,12 +124,12 @@ fn version_named(word: &[u8]) -> Option<Version>
 }
 
 #[tactic(auto, unfolding(crate::specs::Listing::machine_line))]
-fn opened(alloc: Global, version: Version, line: &[u8]) -> Result<Said, Fault>
-    ensures value { result ≡ machine_line version (words_of line.now) }
+fn opened(alloc: Global, version: Version, words: &LineWords<'_>) -> Result<Said, Fault>
+    ensures value { result ≡ machine_line version words.now }
     ensures range { IfOk result (IsSaid (Machine version)) }
-    ensures end { EndsAt result (words_of line.now) }
+    ensures end { EndsAt result words.now }
 {
-    match machine_sizes(line) {
+    match machine_sizes(words) {
         Some(sizes) => Ok(Said::Opens(Place::Statements(Terms {
             version,
             sizes,
@@ -140,79 +141,79 @@ fn opened(alloc: Global, version: Version, line: &[u8]) -> Result<Said, Fault>
 
 /// The sizes that the line `machine` gives, where they are within the limits.
 #[tactic(auto, unfolding(crate::specs::Machine::machine_of))]
-fn machine_sizes(line: &[u8]) -> Option<Sizes>
-    ensures value { result ≡ machine_of (words_of line.now) }
+fn machine_sizes(words: &LineWords<'_>) -> Option<Sizes>
+    ensures value { result ≡ machine_of words.now }
     ensures range { IfSome result IsWithinLimits }
 {
-    if word_count(line) != 7 || word(line, 0) != b"machine".as_slice() {
+    if words.count() != 7 || words.word(0) != b"machine".as_slice() {
         return None;
     }
-    let harts = number_to(8, word(line, 1))?;
+    let harts = number_to(8, words.word(1))?;
     if harts < 1 {
         return None;
     }
     Some(Sizes {
         harts: harts as u8,
-        pages: number_to(4096, word(line, 2))? as u16,
-        cappages: number_to(256, word(line, 3))? as u16,
-        gpts: number_to(1024, word(line, 4))? as u16,
-        processes: number_to(256, word(line, 5))? as u16,
-        endpoints: number_to(1024, word(line, 6))? as u16,
+        pages: number_to(4096, words.word(2))? as u16,
+        cappages: number_to(256, words.word(3))? as u16,
+        gpts: number_to(1024, words.word(4))? as u16,
+        processes: number_to(256, words.word(5))? as u16,
+        endpoints: number_to(1024, words.word(6))? as u16,
     })
 }
 
 #[tactic(auto, unfolding(crate::specs::Listing::further_line))]
-fn further(terms: &Terms, line: &[u8]) -> Result<Said, Fault>
+fn further(terms: &Terms, words: &LineWords<'_>) -> Result<Said, Fault>
     requires { IsWithinLimits terms.now.sizes }
-    ensures value { result ≡ further_line terms.now (words_of line.now) }
+    ensures value { result ≡ further_line terms.now words.now }
     ensures range { IfOk result (IsSaid (Statements terms.now)) }
-    ensures end { EndsAt result (words_of line.now) }
+    ensures end { EndsAt result words.now }
 {
-    if word(line, 0) == b"end".as_slice() {
-        return ended(terms, line);
+    if words.word(0) == b"end".as_slice() {
+        return ended(terms, words);
     }
-    stating(terms, line)
+    stating(terms, words)
 }
 
 #[tactic(auto, unfolding(crate::specs::Listing::stating_line))]
-fn stating(terms: &Terms, line: &[u8]) -> Result<Said, Fault>
+fn stating(terms: &Terms, words: &LineWords<'_>) -> Result<Said, Fault>
     requires { IsWithinLimits terms.now.sizes }
-    ensures value { result ≡ stating_line terms.now (words_of line.now) }
+    ensures value { result ≡ stating_line terms.now words.now }
     ensures range { IfOk result (IsSaid (Statements terms.now)) }
-    ensures end { EndsAt result (words_of line.now) }
+    ensures end { EndsAt result words.now }
 {
-    if terms.version.has_names() && word(line, 0) == b"name".as_slice() {
-        return naming_said(terms, line);
+    if terms.version.has_names() && words.word(0) == b"name".as_slice() {
+        return naming_said(terms, words);
     }
-    stated(terms, line)
+    stated(terms, words)
 }
 
 #[tactic(auto, unfolding(crate::specs::Listing::calls_line))]
-fn naming_said(terms: &Terms, line: &[u8]) -> Result<Said, Fault>
-    ensures value { result ≡ calls_line terms.now (words_of line.now) }
+fn naming_said(terms: &Terms, words: &LineWords<'_>) -> Result<Said, Fault>
+    ensures value { result ≡ calls_line terms.now words.now }
     ensures range { IfOk result (IsSaid (Statements terms.now)) }
-    ensures end { EndsAt result (words_of line.now) }
+    ensures end { EndsAt result words.now }
 {
-    Ok(Said::Calls(naming(terms, line)?))
+    Ok(Said::Calls(naming(terms, words)?))
 }
 
 #[tactic(auto, unfolding(crate::specs::Listing::end_line))]
-fn ended(terms: &Terms, line: &[u8]) -> Result<Said, Fault>
-    requires { bytes_eq (field (words_of line.now) 0) (codes "end") ≡ true }
-    ensures value { result ≡ end_line terms.now (words_of line.now) }
+fn ended(terms: &Terms, words: &LineWords<'_>) -> Result<Said, Fault>
+    requires { bytes_eq (field words.now 0) (codes "end") ≡ true }
+    ensures value { result ≡ end_line terms.now words.now }
     ensures range { IfOk result (IsSaid (Statements terms.now)) }
-    ensures end { EndsAt result (words_of line.now) }
+    ensures end { EndsAt result words.now }
 {
-    has_words(line, 1)?;
+    has_words(words, 1)?;
     Ok(Said::Ends(terms.sizes))
 }
 
 #[tactic(auto, unfolding(crate::specs::Listing::says_line))]
-fn stated(terms: &Terms, line: &[u8]) -> Result<Said, Fault>
+fn stated(terms: &Terms, words: &LineWords<'_>) -> Result<Said, Fault>
     requires { IsWithinLimits terms.now.sizes }
-    ensures value { result ≡ says_line terms.now (words_of line.now) }
+    ensures value { result ≡ says_line terms.now words.now }
     ensures range { IfOk result (IsSaid (Statements terms.now)) }
-    ensures end { EndsAt result (words_of line.now) }
+    ensures end { EndsAt result words.now }
 {
-    Ok(Said::Says(statement(terms, line)?))
+    Ok(Said::Says(statement(terms, words)?))
 }

@@ -1,6 +1,5 @@
 //! The statements of a listing, one function each. Those of memory stand apart.
 ghost use Rattle.std.specs.Prelude.{◌≡◌, true, IfOk};
-ghost use Rattle.coy_text.specs.Words.{words_of};
 ghost use Rattle.cap_format.specs.Kind.{is_object};
 ghost use Rattle.object_store.specs.Ranges.{IsWithinLimits};
 ghost use Rattle.listing_read.specs.Statement.{IsStatement};
@@ -15,76 +14,76 @@ use crate::statement::Statement;
 use crate::terms::Terms;
 use cap_format::CapKind;
 use cap_words::read_name;
-use coy_text::word;
+use coy_text::LineWords;
 
 /// What a line says, whose first word is not `end`.
 #[tactic(auto, unfolding(crate::specs::StatementLines::statement_of))]
-pub(crate) fn statement(terms: &Terms, line: &[u8]) -> Result<Statement, Fault>
+pub(crate) fn statement(terms: &Terms, words: &LineWords<'_>) -> Result<Statement, Fault>
     requires { IsWithinLimits terms.now.sizes }
-    ensures value { result ≡ statement_of terms.now (words_of line.now) }
+    ensures value { result ≡ statement_of terms.now words.now }
     ensures range { IfOk result (IsStatement terms.now.sizes) }
 {
-    let head = word(line, 0);
+    let head = words.word(0);
     if head == b"page".as_slice() {
-        return page(terms, line);
+        return page(terms, words);
     }
     if head == b"code".as_slice() {
-        return code(terms, line);
+        return code(terms, words);
     }
     if head == b"cap".as_slice() {
-        return cap_slot(terms, line);
+        return cap_slot(terms, words);
     }
     if head == b"gpt".as_slice() {
-        return gpt(terms, line);
+        return gpt(terms, words);
     }
     if head == b"slot".as_slice() {
-        return gpt_slot(terms, line);
+        return gpt_slot(terms, words);
     }
     if head == b"endpoint".as_slice() {
-        return endpoint(terms, line);
+        return endpoint(terms, words);
     }
     if head == b"process".as_slice() {
-        return process(terms, line);
+        return process(terms, words);
     }
     if head == b"reg".as_slice() {
-        return register(terms, line);
+        return register(terms, words);
     }
     if head == b"capreg".as_slice() {
-        return cap_register(terms, line);
+        return cap_register(terms, words);
     }
     if head == b"count".as_slice() {
-        return count(terms, line);
+        return count(terms, words);
     }
-    later_statement(terms, line)
+    later_statement(terms, words)
 }
 
 /// What a line says that is no statement of version 1.
 #[tactic(auto, unfolding(crate::specs::StatementLines::later_statement_of))]
-fn later_statement(terms: &Terms, line: &[u8]) -> Result<Statement, Fault>
-    ensures value { result ≡ later_statement_of terms.now (words_of line.now) }
+fn later_statement(terms: &Terms, words: &LineWords<'_>) -> Result<Statement, Fault>
+    ensures value { result ≡ later_statement_of terms.now words.now }
     ensures range { IfOk result (IsStatement terms.now.sizes) }
 {
-    if terms.version.has_names() && word(line, 0) == b"region".as_slice() {
-        return region(terms, line);
+    if terms.version.has_names() && words.word(0) == b"region".as_slice() {
+        return region(terms, words);
     }
     Err(Fault::UnknownStatement)
 }
 
 #[tactic(auto, unfolding(crate::specs::StatementLines::endpoint_line))]
-fn endpoint(terms: &Terms, line: &[u8]) -> Result<Statement, Fault>
+fn endpoint(terms: &Terms, words: &LineWords<'_>) -> Result<Statement, Fault>
     requires { IsWithinLimits terms.now.sizes }
-    ensures value { result ≡ endpoint_line terms.now (words_of line.now) }
+    ensures value { result ≡ endpoint_line terms.now words.now }
     ensures range { IfOk result (IsStatement terms.now.sizes) }
 {
-    has_words(line, 6)?;
-    let number = object(terms, CapKind::Endpoint, word(line, 1))?;
-    let recipient = capability(terms, word(line, 2))?;
+    has_words(words, 6)?;
+    let number = object(terms, CapKind::Endpoint, words.word(1))?;
+    let recipient = capability(terms, words.word(2))?;
     if !matches!(recipient.kind(), CapKind::Process | CapKind::Null) {
         return Err(Fault::BadValue);
     }
-    let id = hexadecimal(word(line, 3))?;
-    let payload = hexadecimal(word(line, 4))?;
-    let matching = either(b"match".as_slice(), b"plain".as_slice(), word(line, 5))?;
+    let id = hexadecimal(words.word(3))?;
+    let payload = hexadecimal(words.word(4))?;
+    let matching = either(b"match".as_slice(), b"plain".as_slice(), words.word(5))?;
     Ok(Statement::Endpoint {
         number,
         recipient,
@@ -95,18 +94,18 @@ fn endpoint(terms: &Terms, line: &[u8]) -> Result<Statement, Fault>
 }
 
 #[tactic(auto, unfolding(crate::specs::StatementLines::process_line))]
-fn process(terms: &Terms, line: &[u8]) -> Result<Statement, Fault>
+fn process(terms: &Terms, words: &LineWords<'_>) -> Result<Statement, Fault>
     requires { IsWithinLimits terms.now.sizes }
-    ensures value { result ≡ process_line terms.now (words_of line.now) }
+    ensures value { result ≡ process_line terms.now words.now }
     ensures range { IfOk result (IsStatement terms.now.sizes) }
 {
-    has_words(line, 7)?;
-    let number = object(terms, CapKind::Process, word(line, 1))?;
-    let pc = aligned(u32::MAX, word(line, 2))?;
-    let space = capability(terms, word(line, 3))?;
-    let schedule = capability(terms, word(line, 4))?;
-    let handler = capability(terms, word(line, 5))?;
-    let runs = either(b"run".as_slice(), b"stop".as_slice(), word(line, 6))?;
+    has_words(words, 7)?;
+    let number = object(terms, CapKind::Process, words.word(1))?;
+    let pc = aligned(u32::MAX, words.word(2))?;
+    let space = capability(terms, words.word(3))?;
+    let schedule = capability(terms, words.word(4))?;
+    let handler = capability(terms, words.word(5))?;
+    let runs = either(b"run".as_slice(), b"stop".as_slice(), words.word(6))?;
     Ok(Statement::Process {
         number,
         pc,
@@ -118,14 +117,14 @@ fn process(terms: &Terms, line: &[u8]) -> Result<Statement, Fault>
 }
 
 #[tactic(auto, unfolding(crate::specs::StatementLines::reg_line))]
-fn register(terms: &Terms, line: &[u8]) -> Result<Statement, Fault>
-    ensures value { result ≡ reg_line terms.now (words_of line.now) }
+fn register(terms: &Terms, words: &LineWords<'_>) -> Result<Statement, Fault>
+    ensures value { result ≡ reg_line terms.now words.now }
     ensures range { IfOk result (IsStatement terms.now.sizes) }
 {
-    has_words(line, 4)?;
-    let number = object(terms, CapKind::Process, word(line, 1))?;
-    let index = between(1, 31, word(line, 2))?;
-    let value = hexadecimal(word(line, 3))?;
+    has_words(words, 4)?;
+    let number = object(terms, CapKind::Process, words.word(1))?;
+    let index = between(1, 31, words.word(2))?;
+    let value = hexadecimal(words.word(3))?;
     Ok(Statement::Reg {
         number,
         index: index as u8,
@@ -134,15 +133,15 @@ fn register(terms: &Terms, line: &[u8]) -> Result<Statement, Fault>
 }
 
 #[tactic(auto, unfolding(crate::specs::StatementLines::capreg_line))]
-fn cap_register(terms: &Terms, line: &[u8]) -> Result<Statement, Fault>
+fn cap_register(terms: &Terms, words: &LineWords<'_>) -> Result<Statement, Fault>
     requires { IsWithinLimits terms.now.sizes }
-    ensures value { result ≡ capreg_line terms.now (words_of line.now) }
+    ensures value { result ≡ capreg_line terms.now words.now }
     ensures range { IfOk result (IsStatement terms.now.sizes) }
 {
-    has_words(line, 4)?;
-    let number = object(terms, CapKind::Process, word(line, 1))?;
-    let index = between(1, 31, word(line, 2))?;
-    let cap = capability(terms, word(line, 3))?;
+    has_words(words, 4)?;
+    let number = object(terms, CapKind::Process, words.word(1))?;
+    let index = between(1, 31, words.word(2))?;
+    let cap = capability(terms, words.word(3))?;
     Ok(Statement::CapReg {
         number,
         index: index as u8,
@@ -151,14 +150,14 @@ fn cap_register(terms: &Terms, line: &[u8]) -> Result<Statement, Fault>
 }
 
 #[tactic(auto, unfolding(crate::specs::StatementLines::count_line))]
-fn count(terms: &Terms, line: &[u8]) -> Result<Statement, Fault>
-    ensures value { result ≡ count_line terms.now (words_of line.now) }
+fn count(terms: &Terms, words: &LineWords<'_>) -> Result<Statement, Fault>
+    ensures value { result ≡ count_line terms.now words.now }
     ensures range { IfOk result (IsStatement terms.now.sizes) }
 {
-    has_words(line, 4)?;
-    let kind = object_kind(word(line, 1))?;
-    let number = object(terms, kind, word(line, 2))?;
-    let count = between(0, 1_048_575, word(line, 3))?;
+    has_words(words, 4)?;
+    let kind = object_kind(words.word(1))?;
+    let number = object(terms, kind, words.word(2))?;
+    let count = between(0, 1_048_575, words.word(3))?;
     Ok(Statement::Count {
         kind,
         number,
@@ -168,18 +167,18 @@ fn count(terms: &Terms, line: &[u8]) -> Result<Statement, Fault>
 
 /// What a line `name` says.
 #[tactic(auto, unfolding(crate::specs::StatementLines::naming_line))]
-pub(crate) fn naming(terms: &Terms, line: &[u8]) -> Result<Naming, Fault>
-    ensures { result ≡ naming_line terms.now (words_of line.now) }
+pub(crate) fn naming(terms: &Terms, words: &LineWords<'_>) -> Result<Naming, Fault>
+    ensures { result ≡ naming_line terms.now words.now }
 {
-    has_words(line, 4)?;
-    let Some(name) = read_name(word(line, 1)) else {
+    has_words(words, 4)?;
+    let Some(name) = read_name(words.word(1)) else {
         return Err(Fault::BadName);
     };
     if terms.names.is_taken(name.as_slice()) {
         return Err(Fault::NameTaken);
     }
-    let kind = object_kind(word(line, 2))?;
-    let number = plain_object(terms.sizes, kind, word(line, 3))?;
+    let kind = object_kind(words.word(2))?;
+    let number = plain_object(terms.sizes, kind, words.word(3))?;
     Ok(Naming { name, kind, number })
 }
 
