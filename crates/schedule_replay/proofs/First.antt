@@ -1,6 +1,6 @@
 -- The first of some events, performed and counted.
-use Rattle.std.proofs.Common.{◌≡◌, ◌≢◌, ◌≤◌, ◌+◌, ◌-◌, ◌*◌, ◌∙◌, ◌∷◌, ◌++◌, [], ℕ, List, length, replicate, refl, sym, ap, subst, append_assoc, arith}
-use Rattle.std.proofs.lemmas.List.{length-replicate, replicate_more, replicate-append-replicate}
+use Rattle.std.proofs.Common.{◌≡◌, ◌≢◌, ◌≤◌, ◌+◌, ◌-◌, ◌*◌, ◌∙◌, ◌∷◌, ◌++◌, [], ℕ, List, length, get_or, take, drop, refl, sym, ap, subst, arith}
+use Rattle.std.proofs.lemmas.List.{length-take-le, take-append-drop, take_more}
 use Rattle.cap_format.specs.Capability.{Capability}
 use Rattle.cap_format.specs.declared.item.Item.{Item}
 use Rattle.object_store.specs.Store.{Items}
@@ -49,35 +49,34 @@ module _ {T K : Type 0} (kept : T → K) (cost : K → Items → Capability → 
     pub counted : counts' ≡ and_more counts (length events) (run_records (state_of m) events)
     pub most : (most : ℕ) → AreAtMost most counts → AreAtMost (most + 65 * length events) counts'
 
-  -- so many steps of one hart, of which no trace is kept
-  pub first-steps : (mode : Mode) → mode ≢ Trace → (event : Event) (done times : ℕ) (all left left' : List Event) (m : MachineValue T) (fetches : ℕ) (n : MachineValue T) (fetches' : ℕ) (entries : List Record) (counts counts' : Counts)
-      → 1 ≤ done → done ≤ times → all ≡ replicate times event ++ left → left' ≡ replicate (times - done) event ++ left → RanUntraced kept cost after without (replicate done event) m fetches n entries fetches'
-      → TellsNothing (state_of m) (replicate (done - 1) event) → counts' ≡ and_more counts done entries → ((most : ℕ) → AreAtMost most counts → AreAtMost (most + done + 64) counts')
-      → RunsFirst kept cost after without mode all left' m fetches n fetches' entries counts counts'
-  first-steps mode other event done times all left left' m fetches n fetches' entries counts counts' some less split behind ran before counted most =
+  -- so many of them, of which no trace is kept
+  pub first-untraced : (mode : Mode) → mode ≢ Trace → (done : ℕ) (event : Event) (all left : List Event) (m : MachineValue T) (fetches : ℕ) (n : MachineValue T) (fetches' : ℕ) (entries : List Record) (counts counts' : Counts)
+      → 1 ≤ done → done ≤ length all → left ≡ drop done all → RanUntraced kept cost after without (take done all) m fetches n entries fetches'
+      → TellsNothing (state_of m) (take (done - 1) all) → counts' ≡ and_more counts done entries → ((most : ℕ) → AreAtMost most counts → AreAtMost (most + done + 64) counts')
+      → RunsFirst kept cost after without mode all left m fetches n fetches' entries counts counts'
+  first-untraced mode other done event all left m fetches n fetches' entries counts counts' some less behind ran before counted most =
       let s = state_of m in
+      let last : Event = get_or all (done - 1) event in
       let one : done - 1 + 1 ≡ done = omega (arith, some) in
-      let events : replicate (done - 1) event ++ event ∷ [] ≡ replicate done event = replicate_more (done - 1) event ∙ ap (λ k. replicate k event) one in
-      let size : length (replicate done event) ≡ done = length-replicate done event in
-      let rest : done + (times - done) ≡ times = omega (arith, less) in
-      let whole : replicate times event ≡ replicate done event ++ replicate (times - done) event = sym (replicate-append-replicate done (times - done) event ∙ ap (λ k. replicate k event) rest) in
-      let ends : RunsEvents mode all left' m fetches n fetches' entries counts counts' (replicate done event) =
+      let events : take (done - 1) all ++ last ∷ [] ≡ take done all = sym (take_more all (done - 1) event (omega (arith, some, less))) ∙ ap (λ k. take k all) one in
+      let size : length (take done all) ≡ done = length-take-le done all less in
+      let ends : RunsEvents mode all left m fetches n fetches' entries counts counts' (take done all) =
       record {
-        split = split ∙ (ap (λ es. es ++ left) whole ∙ append_assoc (replicate done event) (replicate (times - done) event) left ∙ ap (λ es. replicate done event ++ es) (sym behind));
+        split = sym (take-append-drop done all) ∙ ap (λ es. take done all ++ es) (sym behind);
         ran = record { state = ran.state; counted = ran.counted; keeps = ran.keeps; harts = ran.harts };
-        lines = same_lines mode other entries (run_records s (replicate done event)) ran.records;
+        lines = same_lines mode other entries (run_records s (take done all)) ran.records;
         counted =
-            counted ∙ and_more-untraced counts done entries (run_records s (replicate done event)) ran.records
-            ∙ ap (λ k. and_more counts k (run_records s (replicate done event))) (sym size);
-        most = λ limit under. at_most-trans (limit + done + 64) (limit + 65 * length (replicate done event)) counts' (omega (arith, some, size)) (most limit under);
+            counted ∙ and_more-untraced counts done entries (run_records s (take done all)) ran.records
+            ∙ ap (λ k. and_more counts k (run_records s (take done all))) (sym size);
+        most = λ limit under. at_most-trans (limit + done + 64) (limit + 65 * length (take done all)) counts' (omega (arith, some, size)) (most limit under);
       } in
-      let said = subst (RunsEvents mode all left' m fetches n fetches' entries counts counts') (sym events) ends in
+      let said = subst (RunsEvents mode all left m fetches n fetches' entries counts counts') (sym events) ends in
       record {
-        before = replicate (done - 1) event;
-        last = event;
+        before = take (done - 1) all;
+        last = last;
         split = said.split;
         ran = said.ran;
-        quiet = same_lines mode other (run_records s (replicate (done - 1) event)) [] before ∙ lines_of-nil mode;
+        quiet = same_lines mode other (run_records s (take (done - 1) all)) [] before ∙ lines_of-nil mode;
         lines = said.lines;
         counted = said.counted;
         most = said.most;

@@ -1,5 +1,5 @@
--- Rounds, event by event.
-use Rattle.std.proofs.Common.{◌≡◌, ◌<◌, ◌≤◌, ◌+◌, ◌-◌, ℕ, zero, suc, List, [], ◌∷◌, Option, None, Some, IfSome, ◌++◌, ◌*◌, length, replicate, refl, sym, ap, subst, ◌∙◌, arith}
+-- The events of a line: of which harts they are, and how many.
+use Rattle.std.proofs.Common.{◌≡◌, ◌<◌, ◌≤◌, ◌+◌, ℕ, zero, suc, List, [], ◌∷◌, Option, None, Some, IfSome, ◌++◌, ◌*◌, length, replicate, refl, sym, ap, ◌∙◌, arith}
 use Rattle.std.proofs.Math.Nat.{add_comm, suc-mul}
 use Rattle.std.proofs.lemmas.Nat.{mul-le}
 use Rattle.std.proofs.lemmas.List.{length-append, length-replicate}
@@ -9,35 +9,8 @@ use Rattle.listing_read.specs.Schedule.{IsTimed}
 use Rattle.listing_read.specs.declared.schedule.Timed.{Timed}
 use Rattle.listing_read.specs.declared.schedule.Timed.TheVariants.{Step as Steps, Tick as TimerTick, Round}
 use Rattle.schedule_replay.specs.Scheduled.{asked_events}
-use Rattle.schedule_replay.specs.Events.{steps_from, rounds, line_events, OfHarts}
-
--- a round that is not over goes on with the step of its hart
-pub round_goes_on : (hart harts times : ℕ) → hart < harts
-    → steps_from hart (harts - hart) ++ rounds harts times ≡ Step hart ∷ (steps_from (hart + 1) (harts - (hart + 1)) ++ rounds harts times)
-round_goes_on hart harts times h =
-    let more : harts - hart ≡ suc (harts - (hart + 1)) = omega arith in
-    let next : suc hart ≡ hart + 1 = omega arith in
-    rw more (ap (λ n. Step hart ∷ (steps_from n (harts - (hart + 1)) ++ rounds harts times)) next)
-
--- a round that is over leaves the rounds behind it
-pub round_is_over : (hart harts times : ℕ) → harts ≤ hart → steps_from hart (harts - hart) ++ rounds harts times ≡ rounds harts times
-round_is_over hart harts times h =
-    let none : harts - hart ≡ 0 = omega arith in
-    rw none refl
-
--- the next round begins with hart 0
-pub round_begins : (harts times : ℕ) → 1 ≤ harts → 1 ≤ times → rounds harts times ≡ Step 0 ∷ (steps_from 1 (harts - 1) ++ rounds harts (times - 1))
-round_begins (suc harts) (suc times) h t =
-    let one_less : suc harts - 1 ≡ harts = omega arith in
-    let one_round : suc times - 1 ≡ times = omega arith in
-    rw (one_less, one_round) refl
-round_begins zero times h t = absurd (omega arith)
-round_begins (suc harts) zero h t = absurd (omega arith)
-
--- rounds of no hart have no event
-pub rounds_of_none : (times : ℕ) → rounds 0 times ≡ []
-rounds_of_none zero = refl
-rounds_of_none (suc times) = rounds_of_none times
+use Rattle.schedule_replay.specs.Events.{line_events, rounds, OfHarts}
+use Rattle.untraced_steps.specs.HartSteps.{steps_from}
 
 -- ---- all events of a line are of harts that are there
 
@@ -95,7 +68,3 @@ few_events harts (Round times) h t =
     let size = length_rounds harts times in
     let most : times * harts ≤ 1000000 * 255 = mul-le times harts 1000000 255 t.1 h in
     omega (arith, size, most)
-
--- the rounds that are left where none has begun
-pub few_rounds : (harts times : ℕ) → harts ≤ 255 → IsTimed harts (Round times) → length (steps_from harts (harts - harts) ++ rounds harts times) ≤ 255000000
-few_rounds harts times h t = subst (λ events. length events ≤ 255000000) (sym (round_is_over harts harts times (omega arith))) (few_events harts (Round times) h t)

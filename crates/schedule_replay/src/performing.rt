@@ -4,7 +4,7 @@ ghost use Rattle.machine_state.specs.declared.event.Event.{Event as AnyEvent};
 ghost use Rattle.machine_state.specs.declared.event.Event.TheVariants.{Step};
 ghost use Rattle.kernel_core.specs.Machine.{hart_in};
 ghost use Rattle.schedule_replay.specs.Counts.{AreAtMost};
-ghost use Rattle.schedule_replay.specs.Events.{left};
+ghost use Rattle.schedule_replay.specs.Events.{OfHarts, left, steps_left};
 ghost use Rattle.schedule_replay.specs.First.{RunsFirst};
 
 use crate::counts::{Counts, count_events};
@@ -14,10 +14,10 @@ use decoded_words::Decoder;
 use kernel_core::{Event, Machine, Records, event_into};
 use std::sync::ledger::Ledger;
 use steps::Steps;
-use untraced_steps::run_untraced;
+use untraced_steps::{HartSteps, run_untraced};
 use walk_engine::Translator;
 
-/// Performs and counts this event, and where no trace is written some of the same behind it. None but the last of them
+/// Performs and counts this event, and where no trace is written some of the steps behind it. None but the last of them
 /// tells anything that the mode names. What they told is left in the list of records, of which, where no trace is written,
 /// those of accesses and instructions may be missing.
 pub(crate) fn perform<T: Translator, L: Ledger>(
@@ -30,7 +30,7 @@ pub(crate) fn perform<T: Translator, L: Ledger>(
     counts: &mut Counts,
     fetches: &mut Steps<L>,
 )
-    requires hart { hart_in event < machine.old.objects.harts }
+    requires harts { OfHarts machine.old.objects.harts (event ∷ left events.old) }
     requires few { length (left events.old) ≤ 255000000 }
     requires room { AreAtMost (2 ^ 62) counts.old }
     ensures { RunsFirst T.kept T.cost T.after T.without mode (event ∷ left events.old) (left events.new)
@@ -38,11 +38,11 @@ pub(crate) fn perform<T: Translator, L: Ledger>(
 {
     match mode {
         Mode::Trace => perform_one(event, machine, records, counts, fetches),
-        Mode::Silent | Mode::Records => match event {
-            Event::Step(hart) => {
-                perform_steps(hart, events, machine, decoder, records, counts, fetches)
+        Mode::Silent | Mode::Records => match (event, events) {
+            (Event::Step(hart), Events::StepsLeft(steps)) => {
+                perform_steps(hart, steps, machine, decoder, records, counts, fetches)
             }
-            Event::Tick(_) => perform_one(event, machine, records, counts, fetches),
+            _ => perform_one(event, machine, records, counts, fetches),
         },
     }
 }
@@ -64,24 +64,22 @@ fn perform_one<T: Translator, L: Ledger>(
     *counts = count_events(*counts, 1, records.as_slice());
 }
 
-/// Performs and counts a step of this hart, and more of the same where all that is left are such steps. No trace is kept.
+/// Performs and counts a step of this hart, and some of those that are left. No trace is kept.
 fn perform_steps<T: Translator, L: Ledger>(
     hart: u8,
-    events: &mut Events,
+    steps: &mut HartSteps,
     machine: &mut Machine<T>,
     decoder: &mut Decoder,
     records: &mut Records,
     counts: &mut Counts,
     fetches: &mut Steps<L>,
 )
-    requires hart { hart < machine.old.objects.harts }
-    requires few { length (left events.old) ≤ 255000000 }
+    requires harts { OfHarts machine.old.objects.harts (Step hart ∷ steps_left steps.old) }
+    requires few { length (steps_left steps.old) ≤ 255000000 }
     requires room { AreAtMost (2 ^ 62) counts.old }
-    ensures { (mode : Mode) → mode ≢ Mode.Trace → RunsFirst T.kept T.cost T.after T.without mode (Step hart ∷ left events.old) (left events.new)
+    ensures { (mode : Mode) → mode ≢ Mode.Trace → RunsFirst T.kept T.cost T.after T.without mode (Step hart ∷ steps_left steps.old) (steps_left steps.new)
         machine.old fetches.old machine.new fetches.new records.new counts.old counts.new }
 {
-    let more = events.take_steps(hart);
-    let done = run_untraced(machine, hart, more + 1, decoder, records, fetches);
-    events.put_back(hart, more + 1 - done);
+    let done = run_untraced(machine, hart, steps, decoder, records, fetches);
     *counts = count_events(*counts, done, records.as_slice());
 }

@@ -1,1 +1,2 @@
+mod Cycle
 mod Ran

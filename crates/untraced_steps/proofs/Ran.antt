@@ -1,6 +1,6 @@
 -- Runs, by one event more.
-use Rattle.std.proofs.Common.{◌≡◌, ◌+◌, ◌∙◌, ◌∷◌, ◌++◌, [], ℕ, List, replicate, refl, sym, ap, subst, append-nil, arith}
-use Rattle.std.proofs.lemmas.List.{replicate_more}
+use Rattle.std.proofs.Common.{◌≡◌, ◌<◌, ◌+◌, ◌∙◌, ◌∷◌, ◌++◌, [], ℕ, List, length, get_or, take, drop, refl, sym, ap, subst, append-nil, arith}
+use Rattle.std.proofs.lemmas.List.{drop_more, take_more}
 use Rattle.std.proofs.lemmas.List.Elements.{filter-append}
 use Rattle.cap_format.specs.Capability.{Capability}
 use Rattle.cap_format.specs.declared.item.Item.{Item}
@@ -15,6 +15,20 @@ use Rattle.kernel_core.specs.Event.{event_of}
 use Rattle.kernel_core.specs.Run.{run_state, run_records, run_touches}
 use Rattle.kernel_core.proofs.Ran.{run_state-nil, run_state-cons, run_state-append, run_records-nil, run_records-cons, run_records-append, run_touches-nil, run_touches-cons, run_touches-append, spent-append, kept_after-append}
 use Rattle.untraced_steps.specs.Untraced.{CameUntraced, RanUntraced, untraced}
+
+-- ---- the next of some events
+
+at-next : (all : List Event) (done : ℕ) (e : Event) (rest : List Event) → done < length all → drop done all ≡ e ∷ rest → get_or all done e ∷ drop (done + 1) all ≡ e ∷ rest
+at-next all done e rest within is = sym (drop_more all done e within) ∙ is
+
+take-next : (all : List Event) (done : ℕ) (e : Event) (rest : List Event) → done < length all → drop done all ≡ e ∷ rest → take (done + 1) all ≡ take done all ++ e ∷ []
+take-next all done e rest within is =
+    let next = at-next all done e rest within is in
+    let here : get_or all done e ≡ e = cc in
+    take_more all done e within ∙ ap (λ x. take done all ++ x ∷ []) here
+
+pub drop-next : (all : List Event) (done : ℕ) (e : Event) (rest : List Event) → done < length all → drop done all ≡ e ∷ rest → drop (done + 1) all ≡ rest
+drop-next all done e rest within is = let next = at-next all done e rest within is in cc
 
 -- ---- an event behind others
 
@@ -78,10 +92,11 @@ module _ {T K : Type 0} (kept : T → K) (cost : K → Items → Capability → 
         harts = c.harts ∙ r.harts;
       }
 
-  -- the same event once more
-  pub ran-next : (done : ℕ) (e : Event) (m : MachineValue T) (fetches0 : ℕ) (n : MachineValue T) (fetches : ℕ) (n1 : MachineValue T) (told : List Record) (fetches1 : ℕ)
-      → RanUntraced kept cost after without (replicate done e) m fetches0 n [] fetches → CameUntraced kept cost after without (event_of (state_of n) e) n fetches n1 told fetches1
-      → RanUntraced kept cost after without (replicate (done + 1) e) m fetches0 n1 told fetches1
-  ran-next done e m fetches0 n fetches n1 told fetches1 r c =
-      subst (λ events. RanUntraced kept cost after without events m fetches0 n1 told fetches1) (replicate_more done e)
-      (ran-more (replicate done e) e m fetches0 n fetches n1 told fetches1 r c)
+  -- the next of some events
+  pub ran-next : (all : List Event) (done : ℕ) (e : Event) (rest : List Event) (m : MachineValue T) (fetches0 : ℕ) (n : MachineValue T) (fetches : ℕ) (n1 : MachineValue T) (told : List Record) (fetches1 : ℕ)
+      → done < length all → drop done all ≡ e ∷ rest
+      → RanUntraced kept cost after without (take done all) m fetches0 n [] fetches → CameUntraced kept cost after without (event_of (state_of n) e) n fetches n1 told fetches1
+      → RanUntraced kept cost after without (take (done + 1) all) m fetches0 n1 told fetches1
+  ran-next all done e rest m fetches0 n fetches n1 told fetches1 within is r c =
+      subst (λ events. RanUntraced kept cost after without events m fetches0 n1 told fetches1) (sym (take-next all done e rest within is))
+      (ran-more (take done all) e m fetches0 n fetches n1 told fetches1 r c)

@@ -1,11 +1,13 @@
-//! Steps of a hart of which no trace is kept: the records of accesses and instructions are left out, and a word that comes
+//! Steps of harts of which no trace is kept: the records of accesses and instructions are left out, and a word that comes
 //! again is not decoded again.
 //!
 //! What becomes of the machine is the same as event by event. Nothing here knows of texts, or of what a translator keeps.
 #![tactic(auto)]
 
+mod hart_steps;
 mod instructions;
 mod memory;
 mod running;
 
+pub use hart_steps::HartSteps;
 pub use running::run_untraced;

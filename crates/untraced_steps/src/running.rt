@@ -1,10 +1,12 @@
-//! Steps of one hart, one after the other.
-ghost use Rattle.std.specs.Prelude.{◌≡◌, ◌<◌, ◌≤◌, ◌-◌, [], IsTrue, replicate};
+//! Steps of harts, one after the other.
+ghost use Rattle.std.specs.Prelude.{◌≡◌, ◌<◌, ◌≤◌, ◌-◌, ◌^◌, ◌∷◌, [], IsTrue, length, take, drop};
 ghost use Rattle.machine_state.specs.declared.event.Event.TheVariants.{Step};
 ghost use Rattle.machine_state.specs.State.{state_of};
 ghost use Rattle.kernel_core.specs.Event.{event_of, event_by};
+ghost use Rattle.untraced_steps.specs.HartSteps.{OfHarts, steps_left};
 ghost use Rattle.untraced_steps.specs.Untraced.{CameUntraced, RanUntraced, TellsNothing};
 
+use crate::hart_steps::HartSteps;
 use crate::instructions::untraced_instruction;
 use decoded_words::Decoder;
 use kernel_core::{Machine, Records};
@@ -12,35 +14,44 @@ use std::sync::ledger::Ledger;
 use steps::Steps;
 use walk_engine::Translator;
 
-/// Performs so many steps of a hart, one at least. It stops early behind a step that is more than an instruction of which
-/// a trace alone would tell, and answers how many it performed. What the last of them told is left in the list, but for
-/// records of accesses and instructions, some of which may be missing.
+/// Performs a step of a hart, and then the steps that are left. It stops early behind a step that is more than an
+/// instruction of which a trace alone would tell, and answers how many it performed. What the last of them told is left in
+/// the list, but for records of accesses and instructions, some of which may be missing.
 ///
 /// It is not inlined, so that its loop has the registers of the processor to itself.
 #[inline(never)]
 pub fn run_untraced<T: Translator, L: Ledger>(
     machine: &mut Machine<T>,
     hart: u8,
-    times: u32,
+    left: &mut HartSteps,
     decoder: &mut Decoder,
     records: &mut Records,
     fetches: &mut Steps<L>,
 ) -> u32
-    requires hart { hart < machine.old.objects.harts }
-    requires some { 1 ≤ times }
+    requires harts { OfHarts machine.old.objects.harts (Step hart ∷ steps_left left.old) }
+    requires few { length (steps_left left.old) < 2 ^ 32 - 1 }
     ensures some { 1 ≤ result }
-    ensures most { result ≤ times }
-    ensures ran { RanUntraced T.kept T.cost T.after T.without (replicate result (Step hart))
+    ensures most { let all = Step hart ∷ steps_left left.old in result ≤ length all }
+    ensures ran { let all = Step hart ∷ steps_left left.old in
+        RanUntraced T.kept T.cost T.after T.without (take result all)
         machine.old fetches.old machine.new records.new fetches.new }
-    ensures before { TellsNothing (state_of machine.old) (replicate (result - 1) (Step hart)) }
+    ensures before { let all = Step hart ∷ steps_left left.old in
+        TellsNothing (state_of machine.old) (take (result - 1) all) }
+    ensures behind { let all = Step hart ∷ steps_left left.old in
+        steps_left left.new ≡ drop result all }
 {
     records.clear();
+    let mut next = hart;
     let mut done = 0;
     'steps: loop {
-        let plain = step_untraced(machine, hart, decoder, records, fetches);
+        let plain = step_untraced(machine, next, decoder, records, fetches);
         done += 1;
-        if !plain || done == times {
+        if !plain {
             return done;
+        }
+        match left.take() {
+            Some(hart) => next = hart,
+            None => return done,
         }
     }
 }
