@@ -135,6 +135,7 @@ counted-reached o space address kind place is reached = on (is_live o space) ref
 
 -- an access for which nothing is read and nothing changes
 pub record IsSpared (k : KeptValue) (o : Items) (c : Capability) (address : ℕ) (kind : Kind) : Type 0 where
+  pub found : is_spared k o c address kind ≡ true
   pub cost : cost_of k o c address kind ≡ 0
   pub after : kept_after k o c address kind ≡ k
   pub tlb : (entries : List Entry) → tlb_after k o c address kind entries ≡ entries
@@ -147,6 +148,7 @@ pub record IsLost (k : KeptValue) (o : Items) (c : Capability) (address : ℕ) (
 
 -- an access that walks, and adds where it ended
 pub record IsAdded (k : KeptValue) (o : Items) (c space : Capability) (address : ℕ) (kind : Kind) : Type 0 where
+  pub unfound : is_spared k o c address kind ≡ false
   pub cost : cost_of k o c address kind ≡ slots o c address kind
   pub after : kept_after k o c address kind ≡ added_to k space (address / 4096) (trail o c address kind)
   pub tlb : (entries : List Entry) → tlb_after k o c address kind entries ≡ (if fits (added k space (address / 4096) (trail o c address kind)) then entries else [])
@@ -158,6 +160,7 @@ module _ (k : KeptValue) (o : Items) (c : Capability) (address : ℕ) (kind : Ki
 
   pub spared : (space : Capability) (place : Place) → counted o c ≡ space → access o c address kind ≡ Ok place → k.held space (address / 4096) ≡ true → IsSpared k o c address kind
   spared space place same reached held = record {
+    found = yes;
     cost = ap (λ (b : Bool). if b then 0 else slots o c address kind) yes;
     after = ap (λ (b : Bool). if b then added_to k (counted o c) (address / 4096) (trail o c address kind) else k) no;
     tlb = λ entries. ap (λ (b : Bool). if b && not (fits (added k (counted o c) (address / 4096) (trail o c address kind))) then [] else entries) no;
@@ -184,6 +187,7 @@ module _ (k : KeptValue) (o : Items) (c : Capability) (address : ℕ) (kind : Ki
 
   pub adds : (space : Capability) (place : Place) → counted o c ≡ space → access o c address kind ≡ Ok place → k.held space (address / 4096) ≡ false → IsAdded k o c space address kind
   adds space place same reached held = record {
+    unfound = no;
     cost = ap (λ (b : Bool). if b then 0 else slots o c address kind) no;
     after = ap (λ (b : Bool). if b then added_to k (counted o c) (address / 4096) (trail o c address kind) else k) yes ∙ ap (λ (s : Capability). added_to k s (address / 4096) (trail o c address kind)) same;
     tlb = λ entries.

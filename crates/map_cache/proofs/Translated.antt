@@ -1,5 +1,5 @@
 -- A translation: by a leaf that is there, and by a walk.
-use Rattle.std.proofs.Common.{◌≡◌, ℕ, ◌<◌, ◌/◌, ◌%◌, ◌^◌, Bool, true, false, ◌&&◌, nat_lt, if◌then◌else◌, List, [], Option, Some, None, Ok, is_some, refl, sym, ap, ◌∙◌, subst, arith}
+use Rattle.std.proofs.Common.{◌≡◌, ℕ, ◌<◌, ◌/◌, ◌%◌, ◌^◌, Bool, true, false, ◌&&◌, nat_lt, if◌then◌else◌, List, [], Option, Some, None, Result, Ok, Err, is_some, refl, sym, ap, ◌∙◌, subst, arith}
 use Rattle.std.specs.List.{AllByRecursion as Each}
 use Rattle.std.proofs.lemmas.Bool.Decides.{nat_tests}
 use Rattle.std.proofs.lemmas.Option.{none-some}
@@ -17,11 +17,12 @@ use Rattle.tlb_model.specs.declared.entry.Entry.{Entry}
 use Rattle.walk_meaning.specs.declared.kind.Kind.{Kind}
 use Rattle.walk_meaning.specs.declared.noted.Noted.{Noted}
 use Rattle.walk_meaning.specs.declared.place.Place.{Place}
+use Rattle.walk_meaning.specs.declared.place.WalkFault.{WalkFault}
 use Rattle.walk_meaning.specs.Walk.{access, is_data}
 use Rattle.walk_meaning.specs.Trail.{trail}
 use Rattle.walk_meaning.specs.Laws.{KindLaw, PageLaw, PlaceLaw, ReadsLaw}
 use Rattle.walk_engine.specs.Answer.{hit_of}
-use Rattle.map_cache.specs.Kept.{KeptValue, added, added_to, cost_of, fits, kept_after, tlb_after}
+use Rattle.map_cache.specs.Kept.{KeptValue, added, added_to, cost_of, counted, fits, is_reached, is_spared, kept_after, tlb_after}
 use Rattle.map_cache.specs.Cache.{CacheValue, IsCache, kept_of, leaf_for, leaf_in, root_at}
 use Rattle.map_cache.specs.Coherent.{IsCoherent, IsFresh, IsRecorded}
 use Rattle.map_cache.specs.Effects.{ChangesHart, IsWalked, Remembers, allows, reached_leaf}
@@ -33,6 +34,7 @@ use Rattle.map_cache.proofs.Accesses.{IsAdded, adds, changes-coherent, changes-k
 pub record Served (items : Items) (space : Capability) (address : ℕ) (kind : Kind) (k : KeptValue) (leaf : Leaf) : Type 0 where
   pub answer : Ok (record { page = leaf.page; offset = address % 4096 }) ≡ hit_of (access (map_of items) (meaning items space) address kind)
   pub page : leaf.page < size_of items Page
+  pub found : is_spared k (map_of items) (meaning items space) address kind ≡ true
   pub cost : cost_of k (map_of items) (meaning items space) address kind ≡ 0
   pub after : kept_after k (map_of items) (meaning items space) address kind ≡ k
   pub tlb : (entries : List Entry) → tlb_after k (map_of items) (meaning items space) address kind entries ≡ entries
@@ -76,6 +78,7 @@ module _ (page_law : PageLaw) (kind_law : KindLaw) (items : Items) (ranged : IsR
       record {
         answer = sym (ap hit_of reaches.reached ∙ λ i. Ok (record { page = reaches.leads i; offset = reaches.offset i }));
         page = subst (λ (n : ℕ). n < size_of items Page) reaches.leads (subst (λ (k : CapKind). reaches.place.number < size_of items k) paged placed.there);
+        found = done.found;
         cost = done.cost;
         after = done.after;
         tlb = done.tlb;
@@ -95,6 +98,14 @@ module _ (page_law : PageLaw) (kind_law : KindLaw) (items : Items) (ranged : IsR
   pub reached-new : (place : Place) → access (map_of items) (meaning items space) address kind ≡ Ok place → leaf_for v space (address / 4096) ≡ None → IsAdded (kept_of v) (map_of items) (meaning items space) space address kind
   reached-new place reached none =
       adds (kept_of v) (map_of items) (meaning items space) address kind space place (counted-reached (map_of items) space address kind place is reached) reached (held-page (leaf_for v space (address / 4096)) ∙ ap is_some none)
+
+  -- an access that no leaf serves is not spared its walk
+  pub unspared : ((leaf : Leaf) → leaf_for v space (address / 4096) ≡ Some leaf → allows leaf kind ≡ false) → is_spared (kept_of v) (map_of items) (meaning items space) address kind ≡ false
+  unspared refused = on (access (map_of items) (meaning items space) address kind) refl
+    where
+      on : (r : Result Place WalkFault) → access (map_of items) (meaning items space) address kind ≡ r → is_spared (kept_of v) (map_of items) (meaning items space) address kind ≡ false
+      on (Ok place) reached = (reached-new place reached (unserved refused place reached)).unfound
+      on (Err fault) faulted = ap (λ (r : Result Place WalkFault). is_reached r && (kept_of v).held (counted (map_of items) (meaning items space)) (address / 4096)) faulted
 
   -- the leaf of the place is fresh
   pub reached-walked : ReadsLaw → (place : Place) (reads : List Noted) → access (map_of items) (meaning items space) address kind ≡ Ok place → reads ≡ trail (map_of items) (meaning items space) address kind

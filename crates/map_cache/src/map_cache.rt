@@ -1,6 +1,6 @@
 //! The mapping cache as a translator.
 
-ghost use Rattle.std.specs.Prelude.{◌≡◌, ◌≢◌, ◌≤◌, ◌<◌, ◌+◌, ◌/◌, ◌%◌, ◌^◌, [], ◌∷◌, ℕ, true, length, slice_get, IfOk, IfErr, IfSome, IsNone, Some};
+ghost use Rattle.std.specs.Prelude.{◌≡◌, ◌≢◌, ◌≤◌, ◌<◌, ◌+◌, ◌/◌, ◌%◌, ◌^◌, [], ◌∷◌, ℕ, true, length, slice_get, is_some, IfOk, IfErr, IfSome, IsNone, Some, Ok};
 ghost use Rattle.object_store.specs.Store.{Items, size_of};
 ghost use Rattle.object_store.specs.Meaning.{map_of, meaning};
 ghost use Rattle.object_store.specs.Differ.{DifferIn};
@@ -9,7 +9,7 @@ ghost use Rattle.sv32_tables.specs.Pool.{IsRoot};
 ghost use Rattle.tlb_model.specs.Tlb.{look};
 ghost use Rattle.walk_meaning.specs.Walk.{access, is_data};
 ghost use Rattle.walk_engine.specs.Answer.{HandlerLives, hit_meaning, hit_of};
-ghost use Rattle.map_cache.specs.Kept.{cost_of, kept_after, kept_without, nothing, tlb_after};
+ghost use Rattle.map_cache.specs.Kept.{cost_of, is_spared, kept_after, kept_without, nothing, tlb_after};
 ghost use Rattle.map_cache.specs.Cache.{IsBacked, kept_of, root_at, tlb_at};
 ghost use Rattle.map_cache.specs.Coherent.{IsCoherent};
 ghost use Rattle.map_cache.specs.Effects.{AnswersHeld, IsBlank, value_of};
@@ -135,7 +135,7 @@ impl MapCache {
 impl Translator for MapCache {
     ghost use Rattle.tlb_model.specs.declared.entry.Entry.{Entry};
     ghost use Rattle.std.specs.Prelude.{List};
-    ghost use Rattle.map_cache.specs.Kept.{KeptValue, cost_of, kept_after, kept_without, tlb_after};
+    ghost use Rattle.map_cache.specs.Kept.{KeptValue, cost_of, is_spared, kept_after, kept_without, tlb_after};
     ghost use Rattle.map_cache.specs.Cache.{kept_of, tlb_at};
     ghost use Rattle.map_cache.specs.Coherent.{IsCoherent};
     ghost use Rattle.map_cache.specs.Effects.{IsBlank};
@@ -158,6 +158,8 @@ impl Translator for MapCache {
     ghost cost = { λ k o c a kind. cost_of k o c a kind };
 
     ghost after = { λ k o c a kind. kept_after k o c a kind };
+
+    ghost finds = { λ k o c a kind. is_spared k o c a kind };
 
     ghost without = { λ k item. kept_without k item };
 
@@ -215,6 +217,50 @@ impl Translator for MapCache {
             &mut self.trail,
             fetches,
         )
+    }
+
+    #[inline(always)]
+    fn find_kept(
+        &mut self,
+        objects: &Objects,
+        hart: u8,
+        space: Cap,
+        address: u32,
+        kind: Kind,
+    ) -> Option<Hit>
+        requires data { is_data kind ≡ true }
+        requires hart { hart < length self.old.tlbs }
+        requires coherent { IsCoherent self.old (map_of objects.now.items) }
+        ensures exactly { let o = map_of objects.now.items in
+            let c = meaning objects.now.items space in
+            is_some result ≡ is_spared (kept_of self.old) o c address kind }
+        ensures answer { let o = map_of objects.now.items in
+            let c = meaning objects.now.items space in
+            IfSome result (λ hit. Ok hit ≡ hit_of (access o c address kind)) }
+        ensures page { IfSome result (λ hit. hit.page < size_of objects.now.items CapKind.Page) }
+        ensures offset { IfSome result (λ hit. hit.offset ≡ address % 4096) }
+
+        ensures coherent { IsCoherent self.new (map_of objects.now.items) }
+        ensures harts { length self.new.tlbs ≡ length self.old.tlbs }
+        ensures kept { kept_of self.new ≡ kept_of self.old }
+        ensures caches { (k : ℕ) → k ≢ hart → tlb_at self.new.tlbs k ≡ tlb_at self.old.tlbs k }
+
+        // Where it finds a page, the hart holds the leaf that the tables have.
+        ensures held { IfSome result
+            (λ hit. AnswersHeld self.new hart space (address / 4096) hit.page) }
+
+        ensures free { let o = map_of objects.now.items in
+            let c = meaning objects.now.items space in
+            IfSome result (λ hit. cost_of (kept_of self.old) o c address kind ≡ 0) }
+        ensures after { let o = map_of objects.now.items in
+            let c = meaning objects.now.items space in
+            IfSome result (λ hit. kept_of self.new ≡ kept_after (kept_of self.old) o c address kind) }
+        ensures others { let o = map_of objects.now.items in
+            let c = meaning objects.now.items space in
+            IfSome result (λ hit. (k : ℕ) → k ≢ hart → tlb_at self.new.tlbs k
+            ≡ tlb_after (kept_of self.old) o c address kind (tlb_at self.old.tlbs k)) }
+    {
+        self.mappings.find_kept(objects, hart, space, address, kind)
     }
 
     fn invalidate(&mut self, item: Item)

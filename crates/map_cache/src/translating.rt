@@ -1,12 +1,12 @@
 //! Translating: by what is kept, or by a walk that is kept then.
 
-ghost use Rattle.std.specs.Prelude.{◌≡◌, ◌≢◌, ◌≤◌, ◌<◌, ◌+◌, ◌/◌, ◌%◌, ℕ, true, false, length, IfOk, IfErr, IfSome, IsNone, Some};
+ghost use Rattle.std.specs.Prelude.{◌≡◌, ◌≢◌, ◌≤◌, ◌<◌, ◌+◌, ◌/◌, ◌%◌, ℕ, true, false, length, is_some, IfOk, IfErr, IfSome, IsNone, Some, Ok};
 ghost use Rattle.object_store.specs.Store.{size_of};
 ghost use Rattle.object_store.specs.Meaning.{map_of, meaning};
 ghost use Rattle.sv32_tables.specs.declared.leaf.Leaf.{Leaf as AnyLeaf};
 ghost use Rattle.walk_meaning.specs.Walk.{access, is_data};
 ghost use Rattle.walk_engine.specs.Answer.{HandlerLives, hit_meaning, hit_of};
-ghost use Rattle.map_cache.specs.Kept.{cost_of, kept_after, tlb_after};
+ghost use Rattle.map_cache.specs.Kept.{cost_of, is_spared, kept_after, tlb_after};
 ghost use Rattle.map_cache.specs.Cache.{kept_of, leaf_for, tlb_at};
 ghost use Rattle.map_cache.specs.Coherent.{IsCoherent};
 ghost use Rattle.map_cache.specs.Effects.{AnswersHeld, ChangesHart, IsHeld, IsKept, allows, reached_leaf, value_of};
@@ -63,21 +63,70 @@ impl Mappings {
             (k : ℕ) → k ≢ hart → tlb_at self.new.tlbs.items k
             ≡ tlb_after (kept_of (value_of self.old)) o c address kind (tlb_at self.old.tlbs.items k) }
     {
+        if let Some(hit) = self.find_kept(objects, hart, space, address, kind) {
+            return Ok(hit);
+        }
+        // The walk gets a copy of the space, so that for a hit it need not stand in memory.
+        let from = space;
+        self.walk_anew(objects, hart, from, address, kind, trail, fetches)
+    }
+
+    /// The answer of `translate` where a page is kept that allows the access: no slot is fetched then. The hart holds the
+    /// page afterwards, and nothing else changes.
+    #[inline(always)]
+    pub fn find_kept(
+        &mut self,
+        objects: &Objects,
+        hart: u8,
+        space: Cap,
+        address: u32,
+        kind: Kind,
+    ) -> Option<Hit>
+        requires kept { IsKept self.old }
+        requires data { is_data kind ≡ true }
+        requires hart { hart < length self.old.tlbs.items }
+        requires coherent { IsCoherent (value_of self.old) (map_of objects.now.items) }
+        ensures exactly { let o = map_of objects.now.items in
+            let c = meaning objects.now.items space in
+            is_some result ≡ is_spared (kept_of (value_of self.old)) o c address kind }
+        ensures none { IsNone result → (leaf : AnyLeaf)
+            → leaf_for (value_of self.old) space (address / 4096) ≡ Some leaf → allows leaf kind ≡ false }
+        ensures answer { let o = map_of objects.now.items in
+            let c = meaning objects.now.items space in
+            IfSome result (λ hit. Ok hit ≡ hit_of (access o c address kind)) }
+        ensures page { IfSome result (λ hit. hit.page < size_of objects.now.items CapKind.Page) }
+        ensures offset { IfSome result (λ hit. hit.offset ≡ address % 4096) }
+
+        ensures kept { IsKept self.new }
+        ensures coherent { IsCoherent (value_of self.new) (map_of objects.now.items) }
+        ensures changes { ChangesHart (value_of self.old) (value_of self.new) hart }
+        ensures same { kept_of (value_of self.new) ≡ kept_of (value_of self.old) }
+        ensures held { IfSome result
+            (λ hit. AnswersHeld (value_of self.new) hart space (address / 4096) hit.page) }
+
+        ensures free { let o = map_of objects.now.items in
+            let c = meaning objects.now.items space in
+            IfSome result (λ hit. cost_of (kept_of (value_of self.old)) o c address kind ≡ 0) }
+        ensures after { let o = map_of objects.now.items in
+            let c = meaning objects.now.items space in
+            IfSome result (λ hit. kept_of (value_of self.new) ≡ kept_after (kept_of (value_of self.old)) o c address kind) }
+        ensures others { let o = map_of objects.now.items in
+            let c = meaning objects.now.items space in
+            IfSome result (λ hit. (k : ℕ) → k ≢ hart → tlb_at self.new.tlbs.items k
+            ≡ tlb_after (kept_of (value_of self.old)) o c address kind (tlb_at self.old.tlbs.items k)) }
+    {
         objects.in_ranges();
         let _range = space.kind();
         kind_law();
         page_law();
         place_law();
-        reads_law();
-        if let Some(leaf) = self.find_allowed(hart, space, address, kind) {
-            return Ok(Hit {
-                page: leaf.page,
-                offset: (address % 4096) as u16,
-            });
-        }
-        // The walk gets a copy of the space, so that for a hit it need not stand in memory.
-        let from = space;
-        self.walk_anew(objects, hart, from, address, kind, trail, fetches)
+        let Some(leaf) = self.find_allowed(hart, space, address, kind) else {
+            return None;
+        };
+        Some(Hit {
+            page: leaf.page,
+            offset: (address % 4096) as u16,
+        })
     }
 
     /// Translates by a walk, whose end is kept.

@@ -1,5 +1,5 @@
 -- A translation: by a leaf that is there, and by a walk.
-use Rattle.std.proofs.Common.{◌≡◌, ℕ, ◌/◌, ◌%◌, ◌^◌, ◌<◌, Bool, true, false, not, ◌&&◌, if◌then◌else◌, List, [], length, Option, Some, None, Ok, is_some, refl, sym, ap, ◌∙◌, subst, arith}
+use Rattle.std.proofs.Common.{◌≡◌, ℕ, ◌/◌, ◌%◌, ◌^◌, ◌<◌, Bool, true, false, not, ◌&&◌, if◌then◌else◌, List, [], length, Option, Some, None, Result, Ok, Err, is_some, refl, sym, ap, ◌∙◌, subst, arith}
 use Rattle.std.specs.Prelude.{IfSome}
 use Rattle.std.specs.List.{AllByRecursion as Each}
 use Rattle.std.proofs.lemmas.Option.{none-some}
@@ -18,6 +18,7 @@ use Rattle.depend_table.specs.Depend.{Depend, has}
 use Rattle.walk_meaning.specs.declared.kind.Kind.{Kind}
 use Rattle.walk_meaning.specs.declared.noted.Noted.{Noted}
 use Rattle.walk_meaning.specs.declared.place.Place.{Place}
+use Rattle.walk_meaning.specs.declared.place.WalkFault.{WalkFault}
 use Rattle.walk_meaning.specs.Bounds.{Below}
 use Rattle.walk_meaning.specs.Walk.{access, is_data}
 use Rattle.walk_meaning.specs.Trail.{slots, trail}
@@ -49,6 +50,7 @@ use Rattle.shared_leaves.proofs.Codes.{key_coding}
 
 -- an access for which nothing is read and nothing changes
 pub record IsSpared (k : SharedKept) (o : Items) (c : Capability) (address : ℕ) (kind : Kind) : Type 0 where
+  pub found : is_spared k o c address kind ≡ true
   pub cost : cost_of k o c address kind ≡ 0
   pub after : kept_after k o c address kind ≡ k
   pub tlb : (entries : List TlbEntry) → tlb_after k o c address kind entries ≡ entries
@@ -62,6 +64,7 @@ pub record IsAdded (k : SharedKept) (o : Items) (c space : Capability) (address 
 module _ (k : SharedKept) (o : Items) (c : Capability) (address : ℕ) (kind : Kind) where
   spared : (space : Capability) (place : Place) → counted o c ≡ space → access o c address kind ≡ Ok place → is_held k space (address / 4096) ≡ true → IsSpared k o c address kind
   spared space place same reached held = record {
+    found = yes;
     cost = ap (λ (b : Bool). if b then 0 else slots o c address kind) yes;
     after = ap (λ (b : Bool). if b then added_to k (counted o c) (address / 4096) (addition_of o c address kind) else k) no;
     tlb = λ entries. ap (λ (b : Bool). if b && not (spares_harts k (counted o c) (address / 4096) (addition_of o c address kind)) then [] else entries) no;
@@ -120,6 +123,7 @@ changes-leaf v w hart space page changes = λ i. leaf_for (record { tables = cha
 pub record Served (items : Items) (space : Capability) (address : ℕ) (kind : Kind) (k : SharedKept) (leaf : Entry) : Type 0 where
   pub answer : Ok (record { page = leaf.page; offset = address % 4096 }) ≡ hit_of (access (map_of items) (meaning items space) address kind)
   pub page : leaf.page < size_of items Page
+  pub found : is_spared k (map_of items) (meaning items space) address kind ≡ true
   pub cost : cost_of k (map_of items) (meaning items space) address kind ≡ 0
   pub after : kept_after k (map_of items) (meaning items space) address kind ≡ k
   pub tlb : (entries : List TlbEntry) → tlb_after k (map_of items) (meaning items space) address kind entries ≡ entries
@@ -165,6 +169,7 @@ module _ (page_law : PageLaw) (kind_law : KindLaw) (region_law : RegionLaw) (ite
       record {
         answer = sym (ap hit_of reaches.reached ∙ λ i. Ok (record { page = reaches.leads i; offset = reaches.offset i }));
         page = subst (λ (n : ℕ). n < size_of items Page) reaches.leads (subst (λ (k : CapKind). reaches.place.number < size_of items k) paged placed.there);
+        found = done.found;
         cost = done.cost;
         after = done.after;
         tlb = done.tlb;
@@ -178,6 +183,17 @@ module _ (page_law : PageLaw) (kind_law : KindLaw) (region_law : RegionLaw) (ite
       on None there = refl
       on (Some leaf) there =
           absurd (leaf-refuses page_law kind_law (map_of items) space (IsRanged-map_of items ranged) meant address kind data' leaf Any place (fresh-for leaf there) (refused leaf there) reached)
+
+  -- an access that no leaf serves is not spared its walk
+  pub unspared : ((leaf : Entry) → leaf_for v space (address / 4096) ≡ Some leaf → allows leaf kind ≡ false) → is_spared (kept_of v) (map_of items) (meaning items space) address kind ≡ false
+  unspared refused = on (access (map_of items) (meaning items space) address kind) refl
+    where
+      on : (r : Result Place WalkFault) → access (map_of items) (meaning items space) address kind ≡ r → is_spared (kept_of v) (map_of items) (meaning items space) address kind ≡ false
+      on (Ok place) reached =
+          let same = counted-reached (map_of items) space address kind place is reached in
+          let none = held-leaf v cache space (address / 4096) inside ∙ ap is_some (unserved refused place reached) in
+          λ i. is_reached (reached i) && (ap (λ (s : Capability). is_held (kept_of v) s (address / 4096)) same ∙ none) i
+      on (Err fault) faulted = ap (λ (r : Result Place WalkFault). is_reached r && is_held (kept_of v) (counted (map_of items) (meaning items space)) (address / 4096)) faulted
 
   -- an entry that is there is the one that a walk makes
   agrees-walked : (k : Key) (place : ℕ) (leaf : Entry) (P : Noted → Type 0) → place < 1024 → IsEntry (map_of items) k place leaf P → Agrees v k place leaf

@@ -1,6 +1,6 @@
 //! Shared leaf tables as a translator.
 
-ghost use Rattle.std.specs.Prelude.{◌≡◌, ◌≢◌, ◌≤◌, ◌<◌, ◌+◌, ◌/◌, ◌%◌, ◌^◌, ℕ, true, length, is_some, IfOk, IfErr, IfSome, Some};
+ghost use Rattle.std.specs.Prelude.{◌≡◌, ◌≢◌, ◌≤◌, ◌<◌, ◌+◌, ◌/◌, ◌%◌, ◌^◌, ℕ, true, length, is_some, IfOk, IfErr, IfSome, Some, Ok};
 ghost use Rattle.object_store.specs.Store.{Items, size_of};
 ghost use Rattle.object_store.specs.Meaning.{map_of, meaning};
 ghost use Rattle.object_store.specs.Differ.{DifferIn};
@@ -12,7 +12,7 @@ ghost use Rattle.walk_meaning.specs.Walk.{access, is_data};
 ghost use Rattle.walk_engine.specs.Answer.{HandlerLives, hit_meaning, hit_of};
 ghost use Rattle.map_cache.specs.Cache.{tlb_at};
 ghost use Rattle.shared_leaves.specs.Key.{has_key, root_key};
-ghost use Rattle.shared_leaves.specs.Kept.{cost_of, is_held, kept_after, kept_without, nothing, tlb_after};
+ghost use Rattle.shared_leaves.specs.Kept.{cost_of, is_held, is_spared, kept_after, kept_without, nothing, tlb_after};
 ghost use Rattle.shared_leaves.specs.Cache.{IsBacked, kept_of, leaf_in, root_at};
 ghost use Rattle.shared_leaves.specs.Coherent.{IsCoherent, IsFreshLeaf};
 ghost use Rattle.shared_leaves.specs.Effects.{AnswersHeld, IsBlank, value_of};
@@ -121,7 +121,7 @@ impl Translator for SharedLeaves {
     ghost use Rattle.tlb_model.specs.declared.entry.Entry.{Entry};
     ghost use Rattle.std.specs.Prelude.{List};
     ghost use Rattle.map_cache.specs.Cache.{tlb_at};
-    ghost use Rattle.shared_leaves.specs.Kept.{SharedKept, cost_of, kept_after, kept_without, tlb_after};
+    ghost use Rattle.shared_leaves.specs.Kept.{SharedKept, cost_of, is_spared, kept_after, kept_without, tlb_after};
     ghost use Rattle.shared_leaves.specs.Cache.{kept_of};
     ghost use Rattle.shared_leaves.specs.Coherent.{IsCoherent};
     ghost use Rattle.shared_leaves.specs.Effects.{IsBlank};
@@ -144,6 +144,8 @@ impl Translator for SharedLeaves {
     ghost cost = { λ k o c a kind. cost_of k o c a kind };
 
     ghost after = { λ k o c a kind. kept_after k o c a kind };
+
+    ghost finds = { λ k o c a kind. is_spared k o c a kind };
 
     ghost without = { λ k item. kept_without k item };
 
@@ -200,6 +202,49 @@ impl Translator for SharedLeaves {
             &mut self.trail,
             fetches,
         )
+    }
+
+    fn find_kept(
+        &mut self,
+        objects: &Objects,
+        hart: u8,
+        space: Cap,
+        address: u32,
+        kind: Kind,
+    ) -> Option<Hit>
+        requires data { is_data kind ≡ true }
+        requires hart { hart < length self.old.tlbs }
+        requires coherent { IsCoherent self.old (map_of objects.now.items) }
+        ensures exactly { let o = map_of objects.now.items in
+            let c = meaning objects.now.items space in
+            is_some result ≡ is_spared (kept_of self.old) o c address kind }
+        ensures answer { let o = map_of objects.now.items in
+            let c = meaning objects.now.items space in
+            IfSome result (λ hit. Ok hit ≡ hit_of (access o c address kind)) }
+        ensures page { IfSome result (λ hit. hit.page < size_of objects.now.items CapKind.Page) }
+        ensures offset { IfSome result (λ hit. hit.offset ≡ address % 4096) }
+
+        ensures coherent { IsCoherent self.new (map_of objects.now.items) }
+        ensures harts { length self.new.tlbs ≡ length self.old.tlbs }
+        ensures kept { kept_of self.new ≡ kept_of self.old }
+        ensures caches { (k : ℕ) → k ≢ hart → tlb_at self.new.tlbs k ≡ tlb_at self.old.tlbs k }
+
+        // Where it finds a page, the hart holds the leaf that the tables have.
+        ensures held { IfSome result
+            (λ hit. AnswersHeld self.new hart space (address / 4096) hit.page) }
+
+        ensures free { let o = map_of objects.now.items in
+            let c = meaning objects.now.items space in
+            IfSome result (λ hit. cost_of (kept_of self.old) o c address kind ≡ 0) }
+        ensures after { let o = map_of objects.now.items in
+            let c = meaning objects.now.items space in
+            IfSome result (λ hit. kept_of self.new ≡ kept_after (kept_of self.old) o c address kind) }
+        ensures others { let o = map_of objects.now.items in
+            let c = meaning objects.now.items space in
+            IfSome result (λ hit. (k : ℕ) → k ≢ hart → tlb_at self.new.tlbs k
+            ≡ tlb_after (kept_of self.old) o c address kind (tlb_at self.old.tlbs k)) }
+    {
+        self.leaves.find_kept(objects, hart, space, address, kind)
     }
 
     fn invalidate(&mut self, item: Item)

@@ -37,6 +37,7 @@ impl Plain {
 }
 
 impl Translator for Plain {
+    ghost use Rattle.std.specs.Prelude.{false};
     ghost use Rattle.walk_meaning.specs.Trail.{slots};
 
     ghost harts = { λ _. 8 };
@@ -52,6 +53,8 @@ impl Translator for Plain {
     ghost cost = { λ k o c a kind. slots o c a kind };
 
     ghost after = { λ k o c a kind. k };
+
+    ghost finds = { λ k o c a kind. false };
 
     ghost without = { λ k item. k };
 
@@ -75,6 +78,17 @@ impl Translator for Plain {
             page: place.number,
             offset: place.offset,
         })
+    }
+
+    fn find_kept(
+        &mut self,
+        _objects: &Objects,
+        _hart: u8,
+        _space: Cap,
+        _address: u32,
+        _kind: Kind,
+    ) -> Option<Hit> {
+        None
     }
 
     fn invalidate(&mut self, _item: Item) {}

@@ -1,6 +1,6 @@
 //! What a machine asks of whatever translates its data accesses.
 
-ghost use Rattle.std.specs.Prelude.{◌≡◌, ◌≢◌, ◌<◌, ◌≤◌, ◌+◌, ◌%◌, ℕ, true, IfOk, IfErr};
+ghost use Rattle.std.specs.Prelude.{◌≡◌, ◌≢◌, ◌<◌, ◌≤◌, ◌+◌, ◌%◌, ℕ, Bool, true, IfOk, IfErr, IfSome, is_some, Ok};
 ghost use Rattle.cap_format.specs.Capability.{Capability};
 ghost use Rattle.cap_format.specs.declared.item.Item.{Item};
 ghost use Rattle.object_store.specs.Store.{Items, size_of};
@@ -42,6 +42,9 @@ pub trait Translator: Drop {
 
     /// What is kept after a data access.
     ghost after: { Kept → Items → Capability → ℕ → Kind → Kept };
+
+    /// Whether the end of a data access is found by what is kept, with no walk.
+    ghost finds: { Kept → Items → Capability → ℕ → Kind → Bool };
 
     /// What is kept after an item changed.
     ghost without: { Kept → Item → Kept };
@@ -86,6 +89,44 @@ pub trait Translator: Drop {
         ensures others { let o = map_of objects.now.items in
             let c = meaning objects.now.items space in
             (k : ℕ) → k ≢ hart → cache self.new k ≡ spared (kept self.old) o c address kind (cache self.old k) };
+
+    /// The answer of `translate` where it is a page that is found by what is kept: then it is all that
+    /// `translate` would be, and no slot is fetched. What is kept stays the same, whether it is found or not.
+    fn find_kept(
+        &mut self,
+        objects: &Objects,
+        hart: u8,
+        space: Cap,
+        address: u32,
+        kind: Kind,
+    ) -> Option<Hit>
+        requires data { is_data kind ≡ true }
+        requires hart { hart < harts self.old }
+        requires coherent { coherent self.old (map_of objects.now.items) }
+        ensures exactly { let o = map_of objects.now.items in
+            let c = meaning objects.now.items space in
+            is_some result ≡ finds (kept self.old) o c address kind }
+        ensures answer { let o = map_of objects.now.items in
+            let c = meaning objects.now.items space in
+            IfSome result (λ hit. Ok hit ≡ hit_of (access o c address kind)) }
+        ensures page { IfSome result (λ hit. hit.page < size_of objects.now.items CapKind.Page) }
+        ensures offset { IfSome result (λ hit. hit.offset ≡ address % 4096) }
+
+        ensures coherent { coherent self.new (map_of objects.now.items) }
+        ensures harts { harts self.new ≡ harts self.old }
+        ensures kept { kept self.new ≡ kept self.old }
+        ensures caches { (k : ℕ) → k ≢ hart → cache self.new k ≡ cache self.old k }
+
+        // What `translate` would say of its count, of what is kept and of the other harts.
+        ensures free { let o = map_of objects.now.items in
+            let c = meaning objects.now.items space in
+            IfSome result (λ hit. cost (kept self.old) o c address kind ≡ 0) }
+        ensures after { let o = map_of objects.now.items in
+            let c = meaning objects.now.items space in
+            IfSome result (λ hit. kept self.new ≡ after (kept self.old) o c address kind) }
+        ensures others { let o = map_of objects.now.items in
+            let c = meaning objects.now.items space in
+            IfSome result (λ hit. (k : ℕ) → k ≢ hart → cache self.new k ≡ spared (kept self.old) o c address kind (cache self.old k)) };
 
     /// Tells that this item alone may have changed.
     fn invalidate(&mut self, item: Item)
