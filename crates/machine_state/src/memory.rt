@@ -1,5 +1,5 @@
 //! What a process reaches by its space: the bytes of pages.
-ghost use Rattle.std.specs.Prelude.{◌≡◌, ◌≢◌, ◌<◌, ◌≤◌, ◌+◌, ◌*◌, ◌%◌, ◌^◌, ℕ, [], ◌∷◌, true, Some, IfOk, IfErr};
+ghost use Rattle.std.specs.Prelude.{◌≡◌, ◌≢◌, ◌<◌, ◌≤◌, ◌+◌, ◌*◌, ◌%◌, ◌^◌, ℕ, [], ◌∷◌, true, Some, Ok, IfOk, IfErr, IfSome, is_some};
 ghost use Rattle.cap_format.specs.declared.kind.CapKind.TheVariants.{Process};
 ghost use Rattle.object_store.specs.Store.{size_of};
 ghost use Rattle.object_store.specs.Meaning.{meaning};
@@ -27,7 +27,7 @@ const SPACE: u8 = 0;
 
 impl<T: Translator> Machine<T> {
     /// The hart of a process that stands on one.
-    fn hart(&self, p: u16) -> u8
+    pub fn hart(&self, p: u16) -> u8
         requires there { p < size_of self.now.objects.items Process }
         requires on_hart { IsOnHart self.now.queues p }
         ensures within { result < self.now.objects.harts }
@@ -45,6 +45,40 @@ impl<T: Translator> Machine<T> {
         ensures { meaning self.now.objects.items result ≡ space_of (state_of self.now) p }
     {
         self.objects.process(p).slot(SPACE)
+    }
+
+    /// The answer of a fetch, load or store on a hart where it is a page that the translator finds by what it keeps: then
+    /// no slot is fetched. What the translator keeps stays the same, whether it finds one or not.
+    #[inline(always)]
+    pub fn access_kept(&mut self, hart: u8, p: u16, address: u32, kind: Kind) -> Option<Hit>
+        requires hart { hart < self.old.objects.harts }
+        requires there { p < size_of self.old.objects.items Process }
+        requires data { is_data kind ≡ true }
+        ensures exactly { let s = state_of self.old in
+            is_some result ≡ T.finds (T.kept self.old.translator) s.store.items (space_of s p) address kind }
+        ensures answer { IfSome result (λ hit. Ok hit ≡ data_access (state_of self.old) p address kind) }
+        ensures page { IfSome result (λ hit. hit.page < size_of self.new.objects.items CapKind.Page) }
+        ensures offset { IfSome result (λ hit. hit.offset ≡ address % 4096) }
+        ensures state { state_of self.new ≡ state_of self.old }
+        ensures objects { self.new.objects ≡ self.old.objects }
+        ensures queues { self.new.queues ≡ self.old.queues }
+        ensures kept { T.kept self.new.translator ≡ T.kept self.old.translator }
+        ensures caches { (k : ℕ) → k ≢ hart → T.cache self.new.translator k ≡ T.cache self.old.translator k }
+
+        // What `access` would say of its count, of what is kept and of the other harts.
+        ensures free { let s = state_of self.old in
+            let cost = T.cost (T.kept self.old.translator) s.store.items (space_of s p) address kind in
+            IfSome result (λ hit. cost ≡ 0) }
+        ensures after { let s = state_of self.old in
+            let after = T.after (T.kept self.old.translator) s.store.items (space_of s p) address kind in
+            IfSome result (λ hit. T.kept self.new.translator ≡ after) }
+        ensures others { let s = state_of self.old in
+            let spared = T.spared (T.kept self.old.translator) s.store.items (space_of s p) address kind in
+            IfSome result (λ hit. (k : ℕ) → k ≢ hart → T.cache self.new.translator k ≡ spared (T.cache self.old.translator k)) }
+    {
+        let space = self.space(p);
+        self.translator
+            .find_kept(&self.objects, hart, space, address, kind)
     }
 
     /// A fetch, load or store of a process, which stands on a hart.
