@@ -5,4 +5,5 @@ pub mod LineLaws
 mod Nexts
 mod Parts
 mod Puts
+pub mod Texts
 mod Windows

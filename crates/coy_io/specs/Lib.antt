@@ -1,5 +1,6 @@
 pub mod Causes
 pub mod Pieces
+pub mod Written
 pub mod Memory
 pub mod InMemory
 pub mod Buffered

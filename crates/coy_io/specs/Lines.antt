@@ -15,6 +15,10 @@ pub data Part : Type 0 where
 abbrev pub is_line_feed : ℕ → Bool
 is_line_feed byte = byte == 10
 
+-- that byte as a text, which ends a line that is written
+abbrev pub line_feed : List ℕ
+line_feed = 10 ∷ []
+
 -- how many bytes stand before the first line feed, or how many there are where there is none
 abbrev pub line_len : List ℕ → ℕ
 line_len bytes = position_or_len is_line_feed bytes

@@ -5,7 +5,7 @@ use Rattle.std.specs.Io.KnownBytes.{Keeps, Consumes, IsAtEnd, prepend_known}
 use Rattle.coy_io.specs.declared.TheConstants.{LINE_LIMIT, INPUT_LIMIT}
 use Rattle.coy_io.specs.declared.lines.LineFault.{LineFault}
 use Rattle.coy_io.specs.declared.lines.LineFault.TheVariants.{ReadFault, LineTooLong, TooLong}
-use Rattle.coy_io.specs.Lines.{Part, Line, LongLine, PastLimit, IsUnfinished, parts, whole_lines}
+use Rattle.coy_io.specs.Lines.{Part, Line, LongLine, PastLimit, line_feed, IsUnfinished, parts, whole_lines}
 
 -- a reader of lines
 pub record Reader : Type 0 where
@@ -97,7 +97,7 @@ IsNext (Err TooLong) line old new = Begins old PastLimit
 -- the line feed of the line given, which the last line may lack
 abbrev pub line_feed_of : Bool → List ℕ
 line_feed_of true = []
-line_feed_of false = 10 ∷ []
+line_feed_of false = line_feed
 
 -- what each answer says of the bytes: a line goes with its line feed, and otherwise none is lost
 abbrev pub IsSpent : Result (Option ℕ) LineFault → Reader → Option (List ℕ) → Option (List ℕ) → Type 0

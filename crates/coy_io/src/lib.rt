@@ -23,7 +23,8 @@ pub use in_memory::{MemSink, MemSource};
 pub use lines::{LineFault, LineReader};
 pub use sure::{SureSink, SureSource};
 pub use traits::{Failed, Sink, Source};
-pub use writing::{WriteFault, put_all};
+pub use window::{WINDOW, Window};
+pub use writing::{WriteFault, put_all, put_bytes, put_text};
 
 /// The most bytes of a line, without its line feed.
 pub const LINE_LIMIT: usize = 512;

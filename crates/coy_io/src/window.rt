@@ -9,10 +9,11 @@ use crate::{Failed, Source};
 use std::marker::Model;
 
 /// How many bytes a window holds at most.
-pub(crate) const WINDOW: usize = 4096;
+pub const WINDOW: usize = 4096;
 
+/// Bytes of a source, from the first that was not used on.
 #[derive(Drop)]
-pub(crate) struct Window {
+pub struct Window {
     bytes: [u8; WINDOW],
     from: usize,
     end: usize,
@@ -27,7 +28,8 @@ impl Model for Window {
 }
 
 impl Window {
-    pub(crate) fn new() -> Window
+    /// A window that holds no bytes.
+    pub fn new() -> Window
         ensures { result ≡ [] }
     {
         Window {
@@ -37,14 +39,16 @@ impl Window {
         }
     }
 
-    pub(crate) fn as_slice(&self) -> &[u8]
+    /// The bytes that are held.
+    pub fn as_slice(&self) -> &[u8]
         ensures value { result.now ≡ self.now }
         ensures bound { length self.now ≤ WINDOW }
     {
         &self.bytes[self.from..self.end]
     }
 
-    pub(crate) fn drop_front(&mut self, count: usize)
+    /// Uses the first of the bytes.
+    pub fn drop_front(&mut self, count: usize)
         requires { count ≤ length self.old }
         ensures { self.new ≡ drop count self.old }
     {
@@ -52,11 +56,7 @@ impl Window {
     }
 
     /// Takes bytes from the source behind those that are there, at most `most` of them.
-    pub(crate) fn take_from<S: Source>(
-        &mut self,
-        source: &mut S,
-        most: usize,
-    ) -> Result<usize, Failed>
+    pub fn take_from<S: Source>(&mut self, source: &mut S, most: usize) -> Result<usize, Failed>
         requires room { length self.old < WINDOW }
         requires some { 1 ≤ most }
         ensures ahead { Keeps (prepend_known self.old (S.held source.old))

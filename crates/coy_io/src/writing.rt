@@ -1,8 +1,9 @@
-//! Writing a piece of bytes whole.
+//! Writing a piece of bytes, or a text, whole.
 ghost use Rattle.std.specs.Prelude.{◌+◌, ◌-◌, ◌<◌, ◌≤◌, length, take, drop, IfOk, OnOk, OnErr, MatchResult};
 ghost use Rattle.std.specs.Io.KnownBytes.{Appends, Keeps};
 ghost use Rattle.coy_io.specs.Causes.{HasCause};
 ghost use Rattle.coy_io.specs.Pieces.{AppendsSome};
+ghost use Rattle.coy_io.specs.Written.{WroteTo};
 
 use crate::{Failed, Sink};
 use thiserror::Error;
@@ -46,4 +47,18 @@ fn put_behind<K: Sink>(sink: &mut K, bytes: &[u8], done: usize) -> Result<usize,
 {
     let count = sink.put(&bytes[done..])?;
     Ok(done + count)
+}
+
+/// Writes bytes as they are.
+pub fn put_bytes<K: Sink>(bytes: &[u8], output: &mut K) -> Result<(), WriteFault>
+    ensures { WroteTo K.taken K.faults output.old output.new result bytes.now }
+{
+    put_all(output, bytes)
+}
+
+/// Writes a text as it is.
+pub fn put_text<K: Sink>(text: &str, output: &mut K) -> Result<(), WriteFault>
+    ensures { WroteTo K.taken K.faults output.old output.new result text.now }
+{
+    put_all(output, text.as_bytes())
 }
