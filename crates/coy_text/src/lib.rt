@@ -4,12 +4,14 @@
 //! Nothing here knows what a line means, nor where it comes from or goes to.
 #![tactic(auto)]
 
+mod bytes;
 mod line;
 mod line_buf;
 mod line_words;
 mod numeral;
 mod words;
 
+pub use bytes::push_bytes;
 pub use line::{is_skipped, is_visible};
 pub use line_buf::LineBuf;
 pub use line_words::LineWords;
