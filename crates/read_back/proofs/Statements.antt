@@ -1,10 +1,7 @@
 -- The line that is printed for each thing is that of its statement, so it is read as that.
-use Rattle.std.proofs.Common.{ℕ, ◌≡◌, Bool, true, false, if◌then◌else◌, List, [], ◌∷◌, ◌++◌, decimal, refl, arith, append_assoc, append-nil, ap, sym, ◌∙◌}
-use Rattle.std.specs.Prelude.{codes, Some}
+use Rattle.std.proofs.Common.{ℕ, ◌≡◌, Bool, true, false, List, refl, arith, ◌∙◌}
+use Rattle.std.specs.Prelude.{Some}
 use Rattle.std.proofs.lemmas.Bool.{ne_eqb}
-use Rattle.coy_text.specs.Numeral.{hex_text}
-use Rattle.cap_format.specs.declared.kind.CapKind.{CapKind}
-use Rattle.cap_format.specs.declared.kind.CapKind.TheVariants as kinds
 use Rattle.cap_format.specs.Capability.{bare}
 use Rattle.cap_format.proofs.Ranges.{IsCapability-bare}
 use Rattle.cap_format.specs.declared.fault.FaultCode.TheVariants.{Stopped}
@@ -19,13 +16,11 @@ use Rattle.listing_read.specs.Statement.{IsStatement}
 use Rattle.listing_read.specs.declared.statement.Statement.{Statement}
 use Rattle.listing_read.specs.declared.statement.Statement.TheVariants as says
 use Rattle.listing_read.specs.declared.terms.Version.TheVariants.{One}
-use Rattle.cap_words.specs.Text.{cap_text}
-use Rattle.statement_text.specs.Words.{kind_word, flag_words, match_word, run_word}
-use Rattle.statement_text.specs.Text.{line_feed, behind, line_of, statement_text}
+use Rattle.statement_text.specs.Words.{run_word}
+use Rattle.statement_text.specs.Text.{statement_text}
 use Rattle.statement_text.specs.Typed.{IsTyped}
 use Rattle.statement_text.specs.ReadsBack.{ReadsBack, IsSayable}
 use Rattle.statement_text.proofs.Statements.{statement_reads}
-use Rattle.run_text.specs.Names.{object_name}
 use Rattle.run_text.specs.Objects.{count_text, row_text, slot_text, header_text, endpoint_text, process_text, register_text, state_word}
 use Rattle.read_back.specs.Laws.{CountsReadBack, RowsReadBack, CapPageSlotsReadBack, HeadersReadBack, GptSlotsReadBack, EndpointsReadBack, runs_of, ProcessesReadBack, RegistersReadBack, CapRegistersReadBack}
 
@@ -35,85 +30,43 @@ read_as sizes text x same limits is typed sayable =
     let reads = statement_reads (terms_of One sizes) x limits is typed sayable in
     record { line = reads.line; text_is = same ∙ reads.text_is; short = reads.short; whole = reads.whole; said = reads.said }
 
--- words that are written one after the other, each behind a space
-abbrev written : List ℕ → List (List ℕ) → List ℕ
-written line [] = line
-written line (word ∷ words) = written (line ++ codes " " ++ word) words
-
-written-behind : (line : List ℕ) (words : List (List ℕ)) → written line words ≡ line ++ behind words
-written-behind line [] = sym (append-nil line)
-written-behind line (word ∷ words) =
-    written-behind (line ++ codes " " ++ word) words
-    ∙ append_assoc (line ++ codes " ") word (behind words)
-    ∙ append_assoc line (codes " ") (word ++ behind words)
-
--- they are a line with its line feed
-line_same : (first : List ℕ) (words : List (List ℕ)) → written first words ++ line_feed ≡ line_of (first ∷ words) ++ line_feed
-unfolding line_of
-line_same first words = ap (λ line. line ++ line_feed) (written-behind first words)
-
--- a kind by its name
-named : (kind : CapKind) → object_name kind ≡ kind_word kind
-named kinds.Page = refl
-named kinds.CapPage = refl
-named kinds.Gpt = refl
-named kinds.Endpoint = refl
-named kinds.Process = refl
-named _ = refl
-
 -- `count KIND N C`
 pub count_reads : CountsReadBack
 unfolding count_text
 count_reads sizes kind n count limits is some =
-    read_as sizes _ (says.Count kind n count) (rw (ne_eqb count 0 (λ none. omega arith), named kind) (line_same (codes "count") (kind_word kind ∷ decimal n ∷ decimal count ∷ []))) limits is tt tt
+    read_as sizes _ (says.Count kind n count) (rw (ne_eqb count 0 (λ none. omega arith)) refl) limits is tt tt
 
 -- `page N OFF HEX`
 pub row_reads : RowsReadBack
-unfolding row_text line_of
+unfolding row_text
 row_reads sizes n at bytes limits is sixteen each some =
-    read_as sizes _ (says.Page n at bytes) (rw some (simp append_assoc)) limits is (each, omega arith) tt
+    read_as sizes _ (says.Page n at bytes) (rw some refl) limits is (each, omega arith) tt
 
 -- `cap N S CAP`
 pub cap_reads : CapPageSlotsReadBack
-unfolding slot_text line_of
+unfolding slot_text
 cap_reads sizes n i c limits is below in_range some =
-    read_as sizes _ (says.CapSlot n i (bare c)) (rw some (simp append_assoc)) limits is (IsCapability-bare c in_range, below) tt
+    read_as sizes _ (says.CapSlot n i (bare c)) (rw some refl) limits is (IsCapability-bare c in_range, below) tt
 
 -- `slot N S CAP`
 pub slot_reads : GptSlotsReadBack
-unfolding slot_text line_of
+unfolding slot_text
 slot_reads sizes n i c limits is in_range some =
-    read_as sizes _ (says.GptSlot n i (bare c)) (rw some (simp append_assoc)) limits is (IsCapability-bare c in_range) tt
-
--- the flags of a GPT
-flags_same : (ha bg : Bool) (line rest : List ℕ) → line ++ (if ha then codes " ha" else []) ++ (if bg then codes " bg" else []) ++ rest ≡ line ++ (behind (flag_words ha bg) ++ rest)
-flags_same true true line rest = simp append_assoc
-flags_same true false line rest = simp (append_assoc, append-nil)
-flags_same false true line rest = simp (append_assoc, append-nil)
-flags_same false false line rest = simp append-nil
+    read_as sizes _ (says.GptSlot n i (bare c)) (rw some refl) limits is (IsCapability-bare c in_range) tt
 
 -- `gpt N V [ha] [bg]`
 pub header_reads : HeadersReadBack
-unfolding header_text line_of
+unfolding header_text
 header_reads sizes n header limits is in_range some =
     read_as sizes _ (says.Gpt n header)
-    (rw some (flags_same header.ha header.bg (codes "gpt " ++ decimal n ++ codes " " ++ decimal header.l2v) line_feed ∙ simp append_assoc))
-    limits is in_range tt
-
--- whether an endpoint takes its payload alone
-match_same : (matching : Bool) (line : List ℕ) → line ++ (if matching then codes " match" else codes " plain") ≡ line ++ codes " " ++ match_word matching
-match_same true line = sym (append_assoc line (codes " ") (codes "match"))
-match_same false line = sym (append_assoc line (codes " ") (codes "plain"))
+    (rw some refl) limits is in_range tt
 
 -- `endpoint N REC ID PAYLOAD FLAG`
 pub endpoint_reads : EndpointsReadBack
 unfolding endpoint_text
 endpoint_reads sizes n e limits is in_range id payload some =
     read_as sizes _ (says.Endpoint n (bare e.recipient) e.id e.payload e.matching)
-    (rw some
-    (ap (λ line. line ++ line_feed) (match_same e.matching (codes "endpoint " ++ decimal n ++ codes " " ++ cap_text e.recipient ++ codes " " ++ hex_text 8 e.id ++ codes " " ++ hex_text 8 e.payload))
-    ∙ line_same (codes "endpoint") (decimal n ∷ cap_text e.recipient ∷ hex_text 8 e.id ∷ hex_text 8 e.payload ∷ match_word e.matching ∷ [])))
-    limits is (IsCapability-bare e.recipient in_range, id, payload) tt
+    (rw some refl) limits is (IsCapability-bare e.recipient in_range, id, payload) tt
 
 -- the word of a state
 state_word-runs : (state : State) (runs : Bool) → runs_of state ≡ Some runs → state_word state ≡ run_word runs
@@ -128,18 +81,16 @@ unfolding process_text
 process_reads sizes n p runs limits is in_range fits state some =
     let slot = λ (i : ℕ). IsCapability-bare (slot_of p i) (IsCapability-slot_of p i in_range) in
     read_as sizes _ (says.Process n p.pc (bare (slot_of p 0)) (bare (slot_of p 1)) (bare (slot_of p 2)) runs)
-    (rw (some, state_word-runs p.state runs state)
-    (line_same (codes "process") (decimal n ∷ hex_text 8 p.pc ∷ cap_text (slot_of p 0) ∷ cap_text (slot_of p 1) ∷ cap_text (slot_of p 2) ∷ run_word runs ∷ [])))
-    limits is (fits, slot 0, slot 1, slot 2) tt
+    (rw (some, state_word-runs p.state runs state) refl) limits is (fits, slot 0, slot 1, slot 2) tt
 
 -- `reg N I VALUE`
 pub register_reads : RegistersReadBack
-unfolding register_text line_of
+unfolding register_text
 register_reads sizes n i value limits is fits some =
-    read_as sizes _ (says.Reg n i value) (rw (ne_eqb value 0 (λ none. omega arith)) (simp append_assoc)) limits is fits tt
+    read_as sizes _ (says.Reg n i value) (rw (ne_eqb value 0 (λ none. omega arith)) refl) limits is fits tt
 
 -- `capreg N I CAP`
 pub capreg_reads : CapRegistersReadBack
-unfolding slot_text line_of
+unfolding slot_text
 capreg_reads sizes n i c limits is in_range some =
-    read_as sizes _ (says.CapReg n i (bare c)) (rw some (simp append_assoc)) limits is (IsCapability-bare c in_range) tt
+    read_as sizes _ (says.CapReg n i (bare c)) (rw some refl) limits is (IsCapability-bare c in_range) tt

@@ -1,9 +1,5 @@
 -- Texts of things that have numbers, one behind the other.
-use Rattle.std.specs.Prelude.{ℕ, zero, suc, List, [], ◌∷◌, ◌++◌}
-
--- the byte that ends a line
-abbrev pub line_feed : List ℕ
-line_feed = 10 ∷ []
+use Rattle.std.specs.Prelude.{ℕ, zero, suc, List, [], ◌++◌}
 
 -- the texts of the first n, in the order of their numbers
 unfoldable pub each_below : (ℕ → List ℕ) → ℕ → List ℕ

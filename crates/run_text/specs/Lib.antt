@@ -1,3 +1,4 @@
+pub use Rattle.coy_io.specs.Written
 pub mod Each
 pub mod Names
 pub mod Record
@@ -6,4 +7,3 @@ pub mod Mapping
 pub mod Objects
 pub mod Standing
 pub mod State
-pub mod Written

@@ -3,7 +3,7 @@ use Rattle.std.specs.Prelude.{ℕ, Bool, if◌then◌else◌, List, [], ◌++◌
 use Rattle.coy_text.specs.Numeral.{hex_text}
 use Rattle.cap_format.specs.Capability.{Capability}
 use Rattle.cap_words.specs.Text.{cap_text}
-use Rattle.run_text.specs.Each.{line_feed}
+use Rattle.coy_io.specs.Lines.{line_feed}
 
 -- what may be done: reading always
 abbrev pub rights_text : Bool → Bool → List ℕ

@@ -1,7 +1,5 @@
 -- Names in the output (this project's own).
 use Rattle.std.specs.Prelude.{ℕ, List, codes}
-use Rattle.cap_format.specs.declared.kind.CapKind.{CapKind}
-use Rattle.cap_format.specs.declared.kind.CapKind.TheVariants.{Page, CapPage, Gpt, Endpoint, Process}
 use Rattle.cap_format.specs.declared.fault.FaultCode.{FaultCode}
 use Rattle.cap_format.specs.declared.fault.FaultCode.TheVariants.{Stopped, InvalidDataReference, InvalidCapReference, DataAccessTypeError, CapAccessTypeError, AccessViolation, MalformedSpace, NoSchedule, MalformedSyscall, BadAlign, BadOpcode, Breakpoint}
 use Rattle.walk_meaning.specs.declared.kind.Kind.{Kind}
@@ -21,15 +19,6 @@ fault_name MalformedSyscall = codes "MalformedSyscall"
 fault_name BadAlign = codes "BadAlign"
 fault_name BadOpcode = codes "BadOpcode"
 fault_name Breakpoint = codes "Breakpoint"
-
--- a kind of objects, as in the statement `count`; other kinds are never printed
-abbrev pub object_name : CapKind → List ℕ
-object_name Page = codes "page"
-object_name CapPage = codes "cappage"
-object_name Gpt = codes "gpt"
-object_name Endpoint = codes "endpoint"
-object_name Process = codes "process"
-object_name _ = codes "none"
 
 -- a kind of accesses
 abbrev pub access_name : Kind → List ℕ

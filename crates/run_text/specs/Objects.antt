@@ -20,10 +20,9 @@ use Rattle.endpoint_objects.specs.declared.endpoint.Endpoint.{Endpoint as Endpoi
 use Rattle.object_store.specs.Store.{Store, count_of, gpt_at, page_at, cappage_at, process_at, endpoint_at}
 use Rattle.run_text.specs.declared.parts.Part.{Part}
 use Rattle.run_text.specs.declared.parts.Part.TheVariants.{Row, PageSlot, GptSlot, Register, CapRegister}
-use Rattle.run_text.specs.Each.{line_feed, each_below}
-use Rattle.run_text.specs.Names.{fault_name, object_name}
-use Rattle.cap_words.specs.Text.{cap_text}
-use Rattle.run_text.specs.Record.{bytes_text}
+use Rattle.run_text.specs.Each.{each_below}
+use Rattle.run_text.specs.Names.{fault_name}
+use Rattle.object_lines.specs.Words.{line_text, count_words, page_words, held_words, gpt_words, endpoint_words, process_words, register_words}
 
 -- a number that is 0
 abbrev pub is_zero : ℕ → Bool
@@ -42,19 +41,19 @@ is_null c = is_null_kind c.kind
 unfoldable pub count_text : CapKind → ℕ → ℕ → List ℕ
 count_text kind n count =
     if count == 0 then []
-    else codes "count " ++ object_name kind ++ codes " " ++ decimal n ++ codes " " ++ decimal count ++ line_feed
+    else line_text (count_words kind n count)
 
 -- a row of sixteen bytes of page `n`, from offset `at` on
 unfoldable pub row_text : ℕ → ℕ → List ℕ → List ℕ
 row_text n at bytes =
     if list_all (λ byte. byte == 0) bytes then []
-    else codes "page " ++ decimal n ++ codes " " ++ hex_text 3 at ++ codes " " ++ bytes_text bytes ++ line_feed
+    else line_text (page_words n at bytes)
 
 -- slot `i` of object `n`, by the statement's first word
 unfoldable pub slot_text : List ℕ → ℕ → ℕ → Capability → List ℕ
 slot_text word n i cap =
     if is_null cap then []
-    else word ++ codes " " ++ decimal n ++ codes " " ++ decimal i ++ codes " " ++ cap_text cap ++ line_feed
+    else line_text (held_words word n i cap)
 
 -- the header of an empty GPT: 2^12 bytes a slot, with no handler and no background
 abbrev pub is_empty_header : HeaderValue → Bool
@@ -64,8 +63,7 @@ is_empty_header header = (header.l2v == 12) && not header.ha && not header.bg
 unfoldable pub header_text : ℕ → HeaderValue → List ℕ
 header_text n header =
     if is_empty_header header then []
-    else codes "gpt " ++ decimal n ++ codes " " ++ decimal header.l2v ++
-    (if header.ha then codes " ha" else []) ++ (if header.bg then codes " bg" else []) ++ line_feed
+    else line_text (gpt_words n header)
 
 -- an endpoint as a new one: without a recipient, with zeros, and open to every payload
 abbrev pub is_empty_endpoint : EndpointValue → Bool
@@ -75,8 +73,7 @@ is_empty_endpoint e = is_null e.recipient && is_zero e.id && is_zero e.payload &
 unfoldable pub endpoint_text : ℕ → EndpointValue → List ℕ
 endpoint_text n e =
     if is_empty_endpoint e then []
-    else codes "endpoint " ++ decimal n ++ codes " " ++ cap_text e.recipient ++ codes " " ++ hex_text 8 e.id ++
-    codes " " ++ hex_text 8 e.payload ++ (if e.matching then codes " match" else codes " plain") ++ line_feed
+    else line_text (endpoint_words n e.recipient e.id e.payload e.matching)
 
 -- from whom a receiver takes a message: from anyone, or through an endpoint with this id alone
 abbrev pub wait_text : Wait → List ℕ
@@ -120,15 +117,13 @@ is_empty_process p = is_still p && list_all is_null p.capregs && list_all is_nul
 unfoldable pub process_text : ℕ → ProcessValue → List ℕ
 process_text n p =
     if is_empty_process p then []
-    else codes "process " ++ decimal n ++ codes " " ++ hex_text 8 p.pc ++ codes " " ++
-    cap_text (process_slot p 0) ++ codes " " ++ cap_text (process_slot p 1) ++ codes " " ++
-    cap_text (process_slot p 2) ++ codes " " ++ state_word p.state ++ line_feed
+    else line_text (process_words n p.pc (process_slot p 0) (process_slot p 1) (process_slot p 2) (state_word p.state))
 
 -- register `i` of process `n`
 unfoldable pub register_text : ℕ → ℕ → ℕ → List ℕ
 register_text n i value =
     if is_zero value then []
-    else codes "reg " ++ decimal n ++ codes " " ++ decimal i ++ codes " " ++ hex_text 8 value ++ line_feed
+    else line_text (register_words n i value)
 
 -- ---- the parts of an object that have a line each
 

@@ -1,14 +1,16 @@
 -- Records as lines. Addresses and values have eight hexadecimal digits, numbers of objects are decimal.
-use Rattle.std.specs.Prelude.{ℕ, List, ◌++◌, codes, decimal, flat_map, slice_index, Option, Some, None}
+use Rattle.std.specs.Prelude.{ℕ, List, ◌++◌, codes, decimal, slice_index, Option, Some, None}
+use Rattle.coy_text.specs.Bytes.{bytes_text}
 use Rattle.coy_text.specs.Numeral.{hex_text}
+use Rattle.cap_words.specs.Kind.{kind_word}
 use Rattle.rv32_asm.specs.Text.{text_of}
 use Rattle.cap_format.specs.declared.fault.FaultCode.{FaultCode}
 use Rattle.rv32_decode.specs.declared.insn.Insn.{Insn as InsnRead}
 use Rattle.walk_meaning.specs.declared.kind.Kind.{Kind}
 use Rattle.machine_state.specs.declared.record.Record.{Record}
 use Rattle.machine_state.specs.declared.record.Record.TheVariants.{Access, Insn, Message, Fault, Log, Destroy, Halt}
-use Rattle.run_text.specs.Each.{line_feed}
-use Rattle.run_text.specs.Names.{fault_name, object_name, access_name, target_name}
+use Rattle.coy_io.specs.Lines.{line_feed}
+use Rattle.run_text.specs.Names.{fault_name, access_name, target_name}
 
 -- a process and an address
 abbrev pub place_text : ℕ → ℕ → List ℕ
@@ -19,10 +21,6 @@ abbrev pub words_text : List ℕ → List ℕ
 words_text words =
     hex_text 8 (slice_index words 0) ++ codes "," ++ hex_text 8 (slice_index words 1) ++ codes "," ++
     hex_text 8 (slice_index words 2) ++ codes "," ++ hex_text 8 (slice_index words 3)
-
--- bytes, with two digits each
-abbrev pub bytes_text : List ℕ → List ℕ
-bytes_text bytes = flat_map (hex_text 2) bytes
 
 -- who hears a fault
 abbrev pub hearer_text : Option ℕ → List ℕ
@@ -60,7 +58,7 @@ said (Message from to endpoint payload words length caps) =
     codes " len=" ++ decimal length ++ codes " caps=" ++ decimal caps
 said (Fault process code address to) = fault_said process code address to
 said (Log process bytes) = codes "log " ++ decimal process ++ codes " " ++ bytes_text bytes
-said (Destroy kind number) = codes "destroy " ++ object_name kind ++ codes " " ++ decimal number
+said (Destroy kind number) = codes "destroy " ++ kind_word kind ++ codes " " ++ decimal number
 said (Halt process) = codes "halt " ++ decimal process
 
 -- the line of a record

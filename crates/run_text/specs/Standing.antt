@@ -1,7 +1,7 @@
 -- Where processes stand: on harts, in ready queues, asleep on another.
 use Rattle.std.specs.Prelude.{ℕ, ◌<◌, List, [], ◌∷◌, ◌++◌, length, codes, decimal, flat_map, Option, Some, None}
 use Rattle.schedules.specs.Queues.{QueuesValue, ready_queue, sleepers_of}
-use Rattle.run_text.specs.Each.{line_feed}
+use Rattle.coy_io.specs.Lines.{line_feed}
 use Rattle.run_text.specs.declared.standing.Queue.{Queue}
 use Rattle.run_text.specs.declared.standing.Queue.TheVariants.{Ready, Sleepers}
 

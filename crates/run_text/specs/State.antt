@@ -7,7 +7,8 @@ use Rattle.schedules.specs.Queues.{QueuesValue, hart_of}
 use Rattle.machine_state.specs.State.{State}
 use Rattle.run_text.specs.declared.standing.Queue.{Queue}
 use Rattle.run_text.specs.declared.standing.Queue.TheVariants.{Ready, Sleepers}
-use Rattle.run_text.specs.Each.{line_feed, each_below}
+use Rattle.coy_io.specs.Lines.{line_feed}
+use Rattle.run_text.specs.Each.{each_below}
 use Rattle.run_text.specs.Objects.{object_text}
 use Rattle.run_text.specs.Standing.{hart_text, queue_name, queue_text, members}
 

@@ -4,8 +4,9 @@ use Rattle.coy_text.specs.Numeral.{hex_text}
 use Rattle.cap_format.specs.Capability.{Capability}
 use Rattle.walk_meaning.specs.declared.place.Place.{Place}
 use Rattle.walk_meaning.specs.declared.place.WalkFault.{WalkFault}
-use Rattle.run_text.specs.Each.{line_feed}
-use Rattle.run_text.specs.Names.{fault_name, object_name}
+use Rattle.coy_io.specs.Lines.{line_feed}
+use Rattle.run_text.specs.Names.{fault_name}
+use Rattle.cap_words.specs.Kind.{kind_word}
 use Rattle.cap_words.specs.Text.{letters, cap_text}
 
 -- all restrictions that were met, by their letters
@@ -14,7 +15,7 @@ met_text restr = if restr == 0 then codes "-" else letters restr
 
 -- where a walk ended
 abbrev pub reach_text : Place → List ℕ
-reach_text place = codes "reach " ++ object_name place.kind ++ codes " " ++ decimal place.number ++ codes " " ++ hex_text 3 place.offset ++ codes " " ++ met_text place.restr.0
+reach_text place = codes "reach " ++ kind_word place.kind ++ codes " " ++ decimal place.number ++ codes " " ++ hex_text 3 place.offset ++ codes " " ++ met_text place.restr.0
 
 -- the handler that a walk gave its fault, if it gave one; the process's own is not looked at
 abbrev pub handler_text : Option Capability → List ℕ

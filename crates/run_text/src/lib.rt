@@ -13,7 +13,6 @@ mod standing;
 mod state;
 mod statements;
 mod walk;
-mod writing;
 
 pub use mapping::mapping_line;
 pub use objects::put_objects;

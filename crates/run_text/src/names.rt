@@ -1,8 +1,8 @@
 //! Names in the output.
 ghost use Rattle.std.specs.Prelude.{◌≡◌, ◌≤◌, length};
-ghost use Rattle.run_text.specs.Names.{fault_name, object_name, access_name, target_name};
+ghost use Rattle.run_text.specs.Names.{fault_name, access_name, target_name};
 
-use cap_format::{CapKind, FaultCode};
+use cap_format::FaultCode;
 use walk_meaning::Kind;
 
 /// A fault's name.
@@ -23,21 +23,6 @@ pub(crate) fn fault_name(code: FaultCode) -> &'static str
         FaultCode::BadAlign => "BadAlign",
         FaultCode::BadOpcode => "BadOpcode",
         FaultCode::Breakpoint => "Breakpoint",
-    }
-}
-
-/// An object's kind, as in the statement `count`.
-pub(crate) fn object_name(kind: CapKind) -> &'static str
-    ensures name { result.now ≡ object_name kind }
-    ensures len { length result.now ≤ 8 }
-{
-    match kind {
-        CapKind::Page => "page",
-        CapKind::CapPage => "cappage",
-        CapKind::Gpt => "gpt",
-        CapKind::Endpoint => "endpoint",
-        CapKind::Process => "process",
-        _ => "none",
     }
 }
 

@@ -5,14 +5,13 @@ ghost use Rattle.object_store.specs.Store.{size_of, endpoint_at, process_at};
 ghost use Rattle.object_store.specs.Meaning.{state_map};
 ghost use Rattle.run_text.specs.Objects.{endpoint_text, process_text, object_text, heading_text, statement_text, contents_text, reads_of};
 ghost use Rattle.run_text.specs.State.{kinds, kind_text, objects_text};
-ghost use Rattle.run_text.specs.Written.{WroteTo};
+ghost use Rattle.coy_io.specs.Written.{WroteTo};
 
 use crate::parts::{Part, put_parts};
 use crate::process::push_process;
 use crate::statements::{push_count, push_endpoint, push_header};
-use crate::writing::put_line;
 use cap_format::CapKind;
-use coy_io::{Sink, WriteFault};
+use coy_io::{Sink, WriteFault, put_bytes};
 use coy_text::LineBuf;
 use endpoint_objects::Endpoint;
 use object_store::Objects;
@@ -119,7 +118,7 @@ fn put_heading<K: Sink>(
         (heading_text (state_map objects.now) kind n) }
 {
     make_heading(objects, kind, n, line);
-    put_line(line, output)
+    put_bytes(line.as_bytes(), output)
 }
 
 fn make_heading(objects: &Objects, kind: CapKind, n: u16, line: &mut LineBuf)
@@ -155,14 +154,11 @@ fn push_endpoint_of(line: &mut LineBuf, objects: &Objects, n: u16)
 {
     let endpoint = objects.endpoint(n);
     let recipient = objects.live(endpoint.recipient);
-    push_endpoint(
-        line,
-        n,
-        Endpoint {
-            recipient,
-            ..*endpoint
-        },
-    );
+    let meant = Endpoint {
+        recipient,
+        ..*endpoint
+    };
+    push_endpoint(line, n, &meant);
 }
 
 /// Appends a process, with what its capabilities mean.

@@ -9,12 +9,11 @@ ghost use Rattle.process_objects.specs.Process.{reg_of, capreg_of};
 ghost use Rattle.object_store.specs.Store.{size_of, gpt_at, page_at, cappage_at, process_at};
 ghost use Rattle.object_store.specs.Meaning.{map_of, state_map};
 ghost use Rattle.run_text.specs.Objects.{row_text, owner, parts_in, part_text, parts_text, reads};
-ghost use Rattle.run_text.specs.Written.{WroteTo};
+ghost use Rattle.coy_io.specs.Written.{WroteTo};
 
 use crate::statements::{push_register, push_row, push_slot};
-use crate::writing::put_line;
 use cap_format::Cap;
-use coy_io::{Sink, WriteFault};
+use coy_io::{Sink, WriteFault, put_bytes};
 use coy_text::LineBuf;
 use object_store::Objects;
 use std::sync::ledger::Ledger;
@@ -84,7 +83,7 @@ fn put_part<K: Sink, L: Ledger>(
     ensures counted { fetches.new ≡ fetches.old + reads part }
 {
     make_part(objects, part, n, i, line, fetches);
-    put_line(line, output)
+    put_bytes(line.as_bytes(), output)
 }
 
 /// Makes the line of a part, which is empty where the part is.

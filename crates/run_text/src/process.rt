@@ -1,15 +1,18 @@
 //! The statement of a process.
-ghost use Rattle.std.specs.Prelude.{◌≡◌, ◌≤◌, ◌<◌, ◌+◌, ◌++◌, ◌==◌, codes, map, length};
+ghost use Rattle.std.specs.Prelude.{◌≡◌, ◌≤◌, ◌<◌, ◌+◌, ◌++◌, ◌==◌, map, length};
 ghost use Rattle.std.specs.List.{list_all};
 ghost use Rattle.process_objects.specs.Process.{IsProcess, slot_of};
 ghost use Rattle.object_store.specs.Meaning.{meaning, process_map};
+ghost use Rattle.coy_text.specs.Spaced.{line_of};
 ghost use Rattle.cap_words.specs.Text.{cap_text};
+ghost use Rattle.object_lines.specs.Words.{process_front};
 ghost use Rattle.run_text.specs.Objects.{is_null, is_stopped, is_still, wait_text, registers_text, accept_text, state_word, is_empty_process, process_text};
 
 use crate::names::fault_name;
 use crate::statements::is_null;
-use cap_words::push_capability;
+use cap_format::Cap;
 use coy_text::LineBuf;
+use object_lines::push_process_front;
 use object_store::Objects;
 use process_objects::{Accept, Process, State, Wait};
 
@@ -24,11 +27,7 @@ pub(crate) fn push_process(line: &mut LineBuf, objects: &Objects, n: u16, proces
     if is_empty(objects, process) {
         return;
     }
-    line.push_numbered("process ", n as u32);
-    line.push_value(process.pc());
-    push_held(line, objects, process, 0);
-    push_held(line, objects, process, 1);
-    push_held(line, objects, process, 2);
+    push_front(line, objects, n, process);
     line.push_word(" ");
     push_state(line, process.state());
     line.push_word("\n");
@@ -100,16 +99,27 @@ fn has_null_slots(objects: &Objects, process: &Process) -> bool
     true
 }
 
-/// Appends what a slot of a process means.
-fn push_held(line: &mut LineBuf, objects: &Objects, process: &Process, i: u8)
-    requires room { length line.old ≤ 800 }
-    requires slot { i ≤ 2 }
-    ensures text { line.new ≡ line.old ++ codes " " ++
-        cap_text (slot_of (process_map (meaning objects.now.items) process.now) i) }
-    ensures len { length line.new ≤ length line.old + 81 }
+/// Appends a process but for what it does.
+fn push_front(line: &mut LineBuf, objects: &Objects, n: u16, process: &Process)
+    requires { length line.old ≤ 100 }
+    ensures text { let p = process_map (meaning objects.now.items) process.now in
+        line.new ≡ line.old ++
+        line_of (process_front n p.pc (slot_of p 0) (slot_of p 1) (slot_of p 2)) }
+    ensures len { length line.new ≤ length line.old + 290 }
 {
-    line.push_word(" ");
-    push_capability(line, objects.live(process.slot(i)));
+    let space = held(objects, process, 0);
+    let schedule = held(objects, process, 1);
+    let handler = held(objects, process, 2);
+    push_process_front(line, n, process.pc(), space, schedule, handler);
+}
+
+/// What a slot of a process means.
+fn held(objects: &Objects, process: &Process, i: u8) -> Cap
+    requires { i ≤ 2 }
+    ensures { cap_text result ≡
+        cap_text (slot_of (process_map (meaning objects.now.items) process.now) i) }
+{
+    objects.live(process.slot(i))
 }
 
 /// Appends what a process does.

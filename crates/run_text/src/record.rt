@@ -1,13 +1,14 @@
 //! Records as lines.
-ghost use Rattle.std.specs.Prelude.{◌≡◌, ◌≤◌, ◌+◌, ◌*◌, ◌++◌, codes, length};
+ghost use Rattle.std.specs.Prelude.{◌≡◌, ◌≤◌, ◌+◌, ◌++◌, codes, length};
 ghost use Rattle.machine_state.specs.Machine.{IsRecord};
 ghost use Rattle.rv32_decode.specs.InRange.{InRange};
-ghost use Rattle.run_text.specs.Record.{place_text, words_text, bytes_text, hearer_text};
+ghost use Rattle.run_text.specs.Record.{place_text, words_text, hearer_text};
 ghost use Rattle.run_text.specs.Record.{access_said, insn_said, envelope_said, fault_said, said, record_text};
 
-use crate::names::{access_name, fault_name, object_name, target_name};
+use crate::names::{access_name, fault_name, target_name};
 use cap_format::FaultCode;
-use coy_text::LineBuf;
+use cap_words::kind_word;
+use coy_text::{LineBuf, push_bytes};
 use machine_state::Record;
 use rv32_asm::disassemble;
 use rv32_decode::Insn;
@@ -65,7 +66,7 @@ fn push_record(line: &mut LineBuf, entry: &Record)
         }
         Record::Destroy { kind, number } => {
             line.push_word("destroy ");
-            line.push_word(object_name(*kind));
+            line.push_word(kind_word(*kind));
             line.push_numbered(" ", *number as u32);
         }
         Record::Halt { process } => line.push_numbered("halt ", *process as u32),
@@ -158,16 +159,4 @@ fn push_words(line: &mut LineBuf, words: &[u32; 4])
     line.push_hex(words[2], 8);
     line.push_word(",");
     line.push_hex(words[3], 8);
-}
-
-/// Appends two digits for each byte.
-pub(crate) fn push_bytes(line: &mut LineBuf, bytes: &[u8])
-    requires room { length line.old ≤ 400 }
-    requires most { length bytes.now ≤ 256 }
-    ensures text { line.new ≡ line.old ++ bytes_text bytes.now }
-    ensures len { length line.new ≡ length line.old + 2 * length bytes.now }
-{
-    'bytes: for byte in bytes {
-        line.push_hex(*byte as u32, 2);
-    }
 }

@@ -4,10 +4,9 @@ ghost use Rattle.schedules.specs.Queues.{hart_of};
 ghost use Rattle.run_text.specs.declared.standing.Queue.TheVariants.{Ready};
 ghost use Rattle.run_text.specs.Standing.{occupant_text, hart_text, member_text, queue_name, members, queue_text, IsQueue};
 ghost use Rattle.run_text.specs.State.{queue_line, harts_text, ready_text, sleepers_text};
-ghost use Rattle.run_text.specs.Written.{WroteTo};
+ghost use Rattle.coy_io.specs.Written.{WroteTo};
 
-use crate::writing::{put_line, put_text};
-use coy_io::{Sink, WriteFault};
+use coy_io::{Sink, WriteFault, put_bytes, put_text};
 use coy_text::LineBuf;
 use schedules::Queues;
 
@@ -48,7 +47,7 @@ fn put_hart<K: Sink>(
         (hart_text hart (hart_of queues.now hart)) }
 {
     make_hart(line, hart, queues.on_hart(hart));
-    put_line(line, output)
+    put_bytes(line.as_bytes(), output)
 }
 
 /// Makes the line of a hart.
@@ -135,7 +134,7 @@ fn put_name<K: Sink>(queue: Queue, line: &mut LineBuf, output: &mut K) -> Result
     ensures { WroteTo K.taken K.faults output.old output.new result (queue_name queue) }
 {
     make_name(line, queue);
-    put_line(line, output)
+    put_bytes(line.as_bytes(), output)
 }
 
 fn make_name(line: &mut LineBuf, queue: Queue)
@@ -193,5 +192,5 @@ fn put_member<K: Sink>(p: u16, line: &mut LineBuf, output: &mut K) -> Result<(),
 {
     line.clear();
     line.push_numbered(" ", p as u32);
-    put_line(line, output)
+    put_bytes(line.as_bytes(), output)
 }

@@ -5,12 +5,11 @@ ghost use Rattle.coy_io.specs.Causes.{HasCause};
 ghost use Rattle.object_store.specs.Store.{size_of};
 ghost use Rattle.machine_state.specs.State.{state_of};
 ghost use Rattle.run_text.specs.State.{standing_text, halted_text, front_text, state_text};
-ghost use Rattle.run_text.specs.Written.{Writes, WroteTo};
+ghost use Rattle.coy_io.specs.Written.{Writes, WroteTo};
 
 use crate::objects::put_objects;
 use crate::standing::{put_harts, put_ready, put_sleepers};
-use crate::writing::put_text;
-use coy_io::{Sink, WriteFault};
+use coy_io::{Sink, WriteFault, put_text};
 use coy_text::LineBuf;
 use machine_state::Machine;
 use object_store::Sizes;

@@ -5,13 +5,11 @@ ghost use Rattle.cap_format.specs.Capability.{bare};
 ghost use Rattle.object_store.specs.Meaning.{endpoint_map};
 ghost use Rattle.run_text.specs.Objects.{is_null_kind, is_empty_header, is_empty_endpoint, count_text, row_text, slot_text, header_text, endpoint_text, register_text};
 
-use crate::names::object_name;
-use crate::record::push_bytes;
 use cap_format::{Cap, CapKind};
-use cap_words::push_capability;
 use coy_text::LineBuf;
 use endpoint_objects::Endpoint;
 use gpt_objects::GptHeader;
+use object_lines::{push_gpt, push_held, push_page};
 
 /// Whether a capability names nothing and allows nothing.
 pub(crate) fn is_null(kind: CapKind) -> bool
@@ -30,11 +28,7 @@ pub(crate) fn push_count(line: &mut LineBuf, kind: CapKind, n: u16, count: u32)
     if count == 0 {
         return;
     }
-    line.push_word("count ");
-    line.push_word(object_name(kind));
-    line.push_numbered(" ", n as u32);
-    line.push_numbered(" ", count);
-    line.push_word("\n");
+    object_lines::push_count(line, kind, n, count);
 }
 
 /// Whether all bytes are 0.
@@ -56,12 +50,7 @@ pub(crate) fn push_row(line: &mut LineBuf, n: u16, at: u16, bytes: &[u8])
     if is_zero(bytes) {
         return;
     }
-    line.push_numbered("page ", n as u32);
-    line.push_word(" ");
-    line.push_hex(at as u32, 3);
-    line.push_word(" ");
-    push_bytes(line, bytes);
-    line.push_word("\n");
+    push_page(line, n, at, bytes);
 }
 
 /// Appends a slot, by the first word of its statement, unless it holds Null.
@@ -75,12 +64,7 @@ pub(crate) fn push_slot(line: &mut LineBuf, word: &str, n: u16, slot: u8, cap: C
     if is_null(cap.kind()) {
         return;
     }
-    line.push_word(word);
-    line.push_numbered(" ", n as u32);
-    line.push_numbered(" ", slot as u32);
-    line.push_word(" ");
-    push_capability(line, cap);
-    line.push_word("\n");
+    push_held(line, word, n, slot, cap);
 }
 
 fn is_empty_header(header: GptHeader) -> bool
@@ -99,23 +83,7 @@ pub(crate) fn push_header(line: &mut LineBuf, n: u16, header: GptHeader)
     if is_empty_header(header) {
         return;
     }
-    line.push_numbered("gpt ", n as u32);
-    line.push_numbered(" ", header.l2v() as u32);
-    push_if(line, header.ha(), " ha");
-    push_if(line, header.bg(), " bg");
-    line.push_word("\n");
-}
-
-/// Appends a word where it holds.
-fn push_if(line: &mut LineBuf, holds: bool, word: &str)
-    requires room { length line.old ≤ 1000 }
-    requires word { length word.now ≤ 3 }
-    ensures text { line.new ≡ line.old ++ (if holds then word.now else []) }
-    ensures len { length line.new ≤ length line.old + 3 }
-{
-    if holds {
-        line.push_word(word);
-    }
+    push_gpt(line, n, header);
 }
 
 fn is_empty_endpoint(endpoint: Endpoint) -> bool
@@ -129,25 +97,22 @@ fn is_empty_endpoint(endpoint: Endpoint) -> bool
 
 /// Appends an endpoint, unless it is empty.
 #[tactic(auto, unfolding(crate::specs::Objects::endpoint_text))]
-pub(crate) fn push_endpoint(line: &mut LineBuf, n: u16, endpoint: Endpoint)
+pub(crate) fn push_endpoint(line: &mut LineBuf, n: u16, endpoint: &Endpoint)
     requires { length line.old ≤ 100 }
-    ensures text { line.new ≡ line.old ++ endpoint_text n (endpoint_map bare endpoint) }
+    ensures text { line.new ≡ line.old ++ endpoint_text n (endpoint_map bare endpoint.now) }
     ensures len { length line.new ≤ length line.old + 140 }
 {
-    if is_empty_endpoint(endpoint) {
+    if is_empty_endpoint(*endpoint) {
         return;
     }
-    line.push_numbered("endpoint ", n as u32);
-    line.push_word(" ");
-    push_capability(line, endpoint.recipient);
-    line.push_value(endpoint.id);
-    line.push_value(endpoint.payload);
-    line.push_word(if endpoint.matching {
-        " match"
-    } else {
-        " plain"
-    });
-    line.push_word("\n");
+    object_lines::push_endpoint(
+        line,
+        n,
+        endpoint.recipient,
+        endpoint.id,
+        endpoint.payload,
+        endpoint.matching,
+    );
 }
 
 /// Appends a register of a process, unless it is 0.
@@ -160,8 +125,5 @@ pub(crate) fn push_register(line: &mut LineBuf, n: u16, i: u8, value: u32)
     if value == 0 {
         return;
     }
-    line.push_numbered("reg ", n as u32);
-    line.push_numbered(" ", i as u32);
-    line.push_value(value);
-    line.push_word("\n");
+    object_lines::push_register(line, n, i, value);
 }

@@ -3,10 +3,10 @@ ghost use Rattle.std.specs.Prelude.{◌≡◌, ◌≤◌, ◌<◌, ◌+◌, ◌+
 ghost use Rattle.walk_engine.specs.Answer.{bare_handler, fault_meaning, answer_meaning};
 ghost use Rattle.run_text.specs.Walk.{met_text, reach_text, handler_text, unreached_text, walk_text};
 
-use crate::names::{fault_name, object_name};
+use crate::names::fault_name;
 use bitflags::Flags;
 use cap_format::Cap;
-use cap_words::{push_capability, push_letters};
+use cap_words::{kind_word, push_capability, push_letters};
 use coy_text::LineBuf;
 use walk_meaning::{Place, WalkFault};
 
@@ -31,7 +31,7 @@ fn push_reach(line: &mut LineBuf, place: Place)
     ensures len { length line.new ≤ length line.old + 60 }
 {
     line.push_word("reach ");
-    line.push_word(object_name(place.kind));
+    line.push_word(kind_word(place.kind));
     line.push_numbered(" ", place.number as u32);
     line.push_word(" ");
     line.push_hex(place.offset as u32, 3);

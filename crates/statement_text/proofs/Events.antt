@@ -6,7 +6,7 @@ use Rattle.std.proofs.lemmas.Bool.{le-leb, lt-ltb}
 use Rattle.std.proofs.lemmas.List.Elements.{All-tail}
 use Rattle.coy_text.proofs.NumeralLaws.{dec_of-decimal}
 use Rattle.coy_io.specs.declared.TheConstants.{LINE_LIMIT, INPUT_LIMIT}
-use Rattle.coy_io.specs.Lines.{Line, parts}
+use Rattle.coy_io.specs.Lines.{Line, line_feed, parts}
 use Rattle.coy_io.proofs.LineLaws.{parts-line_in_front}
 use Rattle.listing_read.specs.Statement.{ListingValue}
 use Rattle.listing_read.specs.Listing.{Good, listing_of}
@@ -16,7 +16,7 @@ use Rattle.listing_read.specs.declared.schedule.Timed.{Timed}
 use Rattle.listing_read.specs.declared.schedule.Timed.TheVariants.{Step, Tick, Round}
 use Rattle.listing_read.specs.declared.terms.Version.TheVariants.{Two}
 use Rattle.statement_text.specs.Words.{event_words}
-use Rattle.statement_text.specs.Text.{line_feed, event_line, event_text, events_text, format_text, machine_text, statements_text, end_text, listing_text}
+use Rattle.statement_text.specs.Text.{event_line, event_text, events_text, format_text, machine_text, statements_text, end_text, listing_text}
 use Rattle.statement_text.specs.Laws.{event_part, EventsAreRead, MigratedIsRead}
 use Rattle.statement_text.proofs.Lines.{printed-decimal, IsLine, line_is}
 use Rattle.statement_text.proofs.Listed.{all_listed, listing_listed}

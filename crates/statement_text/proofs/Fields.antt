@@ -2,11 +2,13 @@
 use Rattle.std.proofs.Common.{ℕ, suc, ◌≡◌, ◌+◌, ◌*◌, ◌/◌, ◌%◌, ◌^◌, ◌<◌, ◌≤◌, true, List, [], ◌∷◌, ◌++◌, decimal, refl, arith, length, slice_index, length-append}
 use Rattle.std.specs.Prelude.{Ok, Some, codes}
 use Rattle.std.proofs.lemmas.Bool.{le-leb, lt-ltb, eq-eqb}
+use Rattle.coy_text.specs.Bytes.{bytes_text}
 use Rattle.coy_text.specs.Numeral.{hex_text}
 use Rattle.coy_text.proofs.NumeralLaws.{dec_of-decimal, hex_of-hex_text, hex_digit-byte, length-hex_text}
 use Rattle.cap_format.specs.declared.kind.CapKind.{CapKind}
 use Rattle.cap_format.specs.declared.kind.CapKind.TheVariants.{Page, CapPage, Gpt, Endpoint, Process}
 use Rattle.cap_format.specs.Kind.{is_object}
+use Rattle.cap_words.specs.Kind.{kind_word}
 use Rattle.object_store.specs.Ranges.{IsWithinLimits}
 use Rattle.object_store.specs.declared.sizes.Sizes.{Sizes}
 use Rattle.object_store.specs.Sizes.{size_in}
@@ -16,7 +18,6 @@ use Rattle.listing_read.specs.declared.terms.Terms.{Terms}
 use Rattle.listing_read.specs.StatementLines.{kind_of, hex_bytes_of}
 use Rattle.coy_text.specs.Reading.{◌>>=◌}
 use Rattle.listing_read.specs.Bytes.{byte_of, bytes_of}
-use Rattle.statement_text.specs.Words.{kind_word, bytes_text}
 use Rattle.statement_text.proofs.Called.{called-decimal}
 use Rattle.statement_text.proofs.Printed.{IsPiece, piece, joined, piece-hex_text, IsPrinted}
 use Rattle.statement_text.proofs.Lines.{keyword, printed-decimal}

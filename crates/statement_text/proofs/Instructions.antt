@@ -12,7 +12,7 @@ use Rattle.rv32_decode.specs.InRange.{InRange, IsImmediate, IsBranchOffset, IsJu
 use Rattle.rv32_asm.specs.Assembly.{insn_of}
 use Rattle.rv32_asm.specs.Text.{register_text, address_text, registers_words, number_words, shift_words, address_words, jump_words, upper_words, words_from, text_of}
 use Rattle.rv32_asm.proofs.RoundTrip.{text_reads_back}
-use Rattle.statement_text.specs.Text.{behind}
+use Rattle.coy_text.specs.Spaced.{behind}
 use Rattle.statement_text.proofs.Printed.{IsPiece, piece, joined, IsPrinted, ArePrinted, printed, printed_line, piece-decimal}
 use Rattle.statement_text.proofs.Lines.{keyword, is_keyword, printed-decimal}
 

@@ -1,3 +1,4 @@
+pub use Rattle.coy_io.proofs.Texts
 pub mod Printed
 mod Called
 pub mod Capabilities
@@ -7,5 +8,4 @@ mod Instructions
 pub mod Statements
 pub mod Listed
 mod Events
-pub mod Texts
 mod HasLines

@@ -9,14 +9,14 @@ use Rattle.coy_text.proofs.WordLaws.{words_of-join}
 use Rattle.coy_text.specs.Numeral.{hex_text}
 use Rattle.coy_text.proofs.NumeralLaws.{length-hex_text}
 use Rattle.coy_io.specs.declared.TheConstants.{LINE_LIMIT}
-use Rattle.coy_io.specs.Lines.{IsUnfinished}
+use Rattle.coy_io.specs.Lines.{line_feed, IsUnfinished}
 use Rattle.listing_read.specs.Terms.{has_names}
 use Rattle.listing_read.specs.declared.terms.Terms.{Terms}
 use Rattle.listing_read.specs.declared.statement.Statement.{Statement}
 use Rattle.coy_text.specs.Line.{is_visible, says_nothing}
 use Rattle.listing_read.specs.StatementLines.{statement_of}
 use Rattle.listing_read.specs.Listing.{judged, further_line, stating_line, says_line}
-use Rattle.statement_text.specs.Text.{line_feed, line_of}
+use Rattle.coy_text.specs.Spaced.{line_of}
 use Rattle.statement_text.specs.ReadsBack.{ReadsBack}
 use Rattle.statement_text.proofs.Printed.{ArePrinted, printed_line, whole-visible, is_glyph, IsPrinted, printed, piece-decimal, piece-hex_text}
 

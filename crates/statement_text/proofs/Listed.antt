@@ -7,7 +7,7 @@ use Rattle.std.proofs.lemmas.List.Elements.{All-tail}
 use Rattle.coy_text.proofs.NumeralLaws.{dec_of-decimal}
 use Rattle.coy_text.proofs.WordLaws.{words_of-join}
 use Rattle.coy_io.specs.declared.TheConstants.{LINE_LIMIT, INPUT_LIMIT}
-use Rattle.coy_io.specs.Lines.{IsUnfinished, parts}
+use Rattle.coy_io.specs.Lines.{line_feed, IsUnfinished, parts}
 use Rattle.coy_io.proofs.LineLaws.{parts-line_in_front}
 use Rattle.object_store.specs.declared.sizes.Sizes.{Sizes}
 use Rattle.object_store.specs.Ranges.{IsWithinLimits}
@@ -25,7 +25,8 @@ use Rattle.listing_read.specs.declared.terms.Terms.{Terms}
 use Rattle.listing_read.specs.declared.terms.Version.{Version}
 use Rattle.listing_read.specs.declared.terms.Version.TheVariants.{One, Two}
 use Rattle.listing_read.specs.Listing.{Listed, Good, Refused, Past, listing_of, with_front, judged, said_by, header_line, machine_line, further_line, end_line}
-use Rattle.statement_text.specs.Text.{line_feed, line_of, format_text, machine_text, end_text, statement_text, statements_text}
+use Rattle.coy_text.specs.Spaced.{line_of}
+use Rattle.statement_text.specs.Text.{format_text, machine_text, end_text, statement_text, statements_text}
 use Rattle.statement_text.specs.Typed.{IsTyped}
 use Rattle.statement_text.specs.ReadsBack.{IsSayable}
 use Rattle.statement_text.specs.Lists.{Lists}

@@ -3,6 +3,7 @@ use Rattle.std.proofs.Common.{ℕ, ◌≡◌, ◌+◌, ◌-◌, ◌<◌, ◌≤�
 use Rattle.std.specs.Prelude.{nat_le, Ok, codes, bytes_eq}
 use Rattle.std.specs.List.{All}
 use Rattle.std.proofs.lemmas.Bool.{ne_eqb, le-leb, cases_lt}
+use Rattle.coy_text.specs.Bytes.{bytes_text}
 use Rattle.coy_text.specs.Numeral.{hex_text}
 use Rattle.coy_text.proofs.NumeralLaws.{hex_of-hex_text}
 use Rattle.cap_format.specs.declared.kind.CapKind.{CapKind}
@@ -13,13 +14,15 @@ use Rattle.rv32_decode.specs.declared.insn.Insn.{Insn}
 use Rattle.rv32_asm.specs.Text.{words_from}
 use Rattle.object_store.specs.Ranges.{IsWithinLimits}
 use Rattle.object_store.specs.Sizes.{size_in}
+use Rattle.cap_words.specs.Kind.{kind_word}
 use Rattle.cap_words.specs.Text.{letters, cap_text}
 use Rattle.listing_read.specs.CapWord.{cap_of, IsStated}
 use Rattle.listing_read.specs.Fields.{either_of, hex_to, aligned_to}
 use Rattle.listing_read.specs.declared.terms.Terms.{Terms}
 use Rattle.listing_read.specs.declared.statement.Statement.TheVariants as says
 use Rattle.listing_read.specs.StatementLines.{statement_of, later_statement_of, count_line, page_line, code_line, flags_of, gpt_line, cap_line, slot_line, endpoint_line, process_line, reg_line, capreg_line, letters_of, region_line}
-use Rattle.statement_text.specs.Words.{bytes_text, flag_words, letter_words, match_word, run_word, kind_word}
+use Rattle.object_lines.specs.Words.{flag_words, match_word}
+use Rattle.statement_text.specs.Words.{letter_words, run_word}
 use Rattle.statement_text.specs.Laws.{StatementsAreRead}
 use Rattle.statement_text.proofs.Printed.{IsPrinted, ArePrinted, printed}
 use Rattle.statement_text.proofs.Capabilities.{cap_of-cap_text, printed-cap_text, restr_of-letters, piece-letters, some-letters}

@@ -1,6 +1,6 @@
+pub use Rattle.coy_io.specs.Written
 pub mod Words
 pub mod Text
-pub mod Written
 pub mod Typed
 pub mod ReadsBack
 pub mod Lists

@@ -1,7 +1,7 @@
 -- Text that is read as what it was written for.
 use Rattle.std.specs.Prelude.{ℕ, ◌≡◌, ◌≤◌, ◌<◌, ⊤, true, List, ◌++◌, length, Ok}
 use Rattle.coy_io.specs.declared.TheConstants.{LINE_LIMIT}
-use Rattle.coy_io.specs.Lines.{IsUnfinished}
+use Rattle.coy_io.specs.Lines.{line_feed, IsUnfinished}
 use Rattle.rv32_decode.specs.InRange.{InRange}
 use Rattle.listing_read.specs.declared.place.Place.TheVariants.{Statements}
 use Rattle.listing_read.specs.declared.place.Said.TheVariants.{Says}
@@ -11,7 +11,6 @@ use Rattle.listing_read.specs.declared.terms.Terms.{Terms}
 use Rattle.listing_read.specs.declared.terms.Version.{Version}
 use Rattle.listing_read.specs.Terms.{has_names}
 use Rattle.listing_read.specs.Listing.{judged}
-use Rattle.statement_text.specs.Text.{line_feed}
 
 -- the text is a line and the line feed behind it; the line has none in it, is no longer than a reader takes, and says
 -- this statement among those that are judged by these terms

@@ -1,5 +1,8 @@
 -- A listing and a schedule as text: one line for each statement and event, its words with one space between two.
 use Rattle.std.specs.Prelude.{ℕ, List, [], ◌∷◌, ◌++◌, codes, decimal, flat_map}
+use Rattle.coy_io.specs.Lines.{line_feed}
+use Rattle.coy_text.specs.Spaced.{line_of}
+use Rattle.object_lines.specs.Words.{line_text}
 use Rattle.object_store.specs.declared.sizes.Sizes.{Sizes}
 use Rattle.listing_read.specs.declared.statement.Statement.{Statement}
 use Rattle.listing_read.specs.declared.schedule.Timed.{Timed}
@@ -8,23 +11,9 @@ use Rattle.listing_read.specs.declared.terms.Version.TheVariants.{One, Two}
 use Rattle.listing_read.specs.Statement.{ListingValue}
 use Rattle.statement_text.specs.Words.{statement_words, event_words}
 
--- the byte that ends a line
-abbrev pub line_feed : List ℕ
-line_feed = 10 ∷ []
-
--- words, each behind a space
-abbrev pub behind : List (List ℕ) → List ℕ
-behind [] = []
-behind (word ∷ words) = 32 ∷ (word ++ behind words)
-
--- words with one space between two
-unfoldable pub line_of : List (List ℕ) → List ℕ
-line_of [] = []
-line_of (first ∷ words) = first ++ behind words
-
 -- the line of a statement
 abbrev pub statement_text : Statement → List ℕ
-statement_text statement = line_of (statement_words statement) ++ line_feed
+statement_text statement = line_text (statement_words statement)
 
 -- the line of what a schedule asks for
 abbrev pub event_line : Timed → List ℕ
@@ -47,11 +36,11 @@ machine_words sizes =
 
 -- the first line
 abbrev pub format_text : Version → List ℕ
-format_text version = line_of (format_words version) ++ line_feed
+format_text version = line_text (format_words version)
 
 -- the second line
 abbrev pub machine_text : Sizes → List ℕ
-machine_text sizes = line_of (machine_words sizes) ++ line_feed
+machine_text sizes = line_text (machine_words sizes)
 
 -- the last line
 abbrev pub end_text : List ℕ

@@ -6,7 +6,7 @@ use coy_text::LineBuf;
 use listing_read::Timed;
 
 /// Leaves the line of an event in the buffer, with its line feed, and nothing else.
-#[tactic(auto, unfolding(crate::specs::Text::line_of))]
+#[tactic(auto, unfolding(coy_text::specs::Spaced::line_of))]
 pub fn write_event(event: Timed, line: &mut LineBuf)
     ensures { line.new ≡ event_text event }
 {

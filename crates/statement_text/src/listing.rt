@@ -3,11 +3,11 @@ ghost use Rattle.std.specs.Prelude.{◌≡◌, ◌≤◌, ◌++◌, length};
 ghost use Rattle.statement_text.specs.ReadsBack.{HasLine};
 ghost use Rattle.listing_read.specs.declared.terms.Version.TheVariants.{Two};
 ghost use Rattle.statement_text.specs.Text.{format_text, machine_text, statement_text, statements_text, end_text, listing_text};
-ghost use Rattle.statement_text.specs.Written.{WroteTo};
+ghost use Rattle.coy_io.specs.Written.{WroteTo};
 
 use crate::memory_lines::push_three;
 use crate::statement::push_statement;
-use coy_io::{Sink, WriteFault, put_all};
+use coy_io::{Sink, WriteFault, put_bytes, put_text};
 use coy_text::LineBuf;
 use listing_read::{Listing, Statement};
 use object_store::Sizes;
@@ -25,25 +25,11 @@ pub fn write_listing<K: Sink>(listing: &Listing, output: &mut K) -> Result<(), W
 }
 
 /// Writes the first line.
-#[tactic(auto, unfolding(crate::specs::Text::line_of))]
+#[tactic(auto, unfolding(coy_text::specs::Spaced::line_of))]
 fn put_format<K: Sink>(output: &mut K) -> Result<(), WriteFault>
     ensures { WroteTo K.taken K.faults output.old output.new result (format_text Two) }
 {
     put_text("coyotos 2\n", output)
-}
-
-/// Writes a text as it is.
-fn put_text<K: Sink>(text: &str, output: &mut K) -> Result<(), WriteFault>
-    ensures { WroteTo K.taken K.faults output.old output.new result text.now }
-{
-    put_all(output, text.as_bytes())
-}
-
-/// Writes a line that was made.
-fn put_line<K: Sink>(line: &LineBuf, output: &mut K) -> Result<(), WriteFault>
-    ensures { WroteTo K.taken K.faults output.old output.new result line.now }
-{
-    put_all(output, line.as_bytes())
 }
 
 /// Writes the line of the sizes, which is made in `line` first.
@@ -56,11 +42,11 @@ fn put_machine<K: Sink>(
         (machine_text listing.now.sizes) }
 {
     make_machine(line, listing.sizes());
-    put_line(line, output)
+    put_bytes(line.as_bytes(), output)
 }
 
 /// Leaves the line of the sizes in the buffer.
-#[tactic(auto, unfolding(crate::specs::Text::line_of))]
+#[tactic(auto, unfolding(coy_text::specs::Spaced::line_of))]
 fn make_machine(line: &mut LineBuf, sizes: Sizes)
     ensures { line.new ≡ machine_text sizes }
 {
@@ -107,5 +93,5 @@ fn put_statement<K: Sink>(
 {
     line.clear();
     push_statement(line, statement);
-    put_line(line, output)
+    put_bytes(line.as_bytes(), output)
 }

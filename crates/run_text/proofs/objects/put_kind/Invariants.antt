@@ -2,7 +2,7 @@ use Rattle.std.proofs.Common.{◌≡◌, ◌+◌, ◌*◌}
 use Rattle.object_store.specs.Meaning.{state_map}
 use Rattle.run_text.specs.Each.{each_below}
 use Rattle.run_text.specs.Objects.{object_text, reads_of}
-use Rattle.run_text.proofs.Texts.{Written}
+use Rattle.coy_io.proofs.Texts.{Written}
 use Rattle.run_text.proofs.objects.put_kind.Given as goal
 
 abbrev pub invariant-each : goal.invariant-each

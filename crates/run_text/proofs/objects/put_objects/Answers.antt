@@ -2,7 +2,8 @@ use Rattle.std.proofs.Common.{ap, arith}
 use Rattle.object_store.specs.Meaning.{state_map}
 use Rattle.run_text.specs.State.{kind_text}
 use Rattle.run_text.proofs.ByKind.{at_place, kinds_all, reads_none, reads_more, reads_most, reads_done}
-use Rattle.run_text.proofs.Texts.{none_yet, one_more, one_stops, all_done, same}
+use Rattle.coy_io.proofs.Texts.{same}
+use Rattle.run_text.proofs.Texts.{none_yet, one_more, one_stops, all_done}
 use Rattle.run_text.proofs.objects.put_objects.Goals as goal
 
 pub each-init : goal.each-init

@@ -3,7 +3,7 @@ use Rattle.object_store.specs.Meaning.{state_map}
 use Rattle.run_text.specs.Each.{each_below}
 use Rattle.run_text.specs.State.{kind_text, kinds}
 use Rattle.run_text.proofs.ByKind.{kind_at, reads_before}
-use Rattle.run_text.proofs.Texts.{Written}
+use Rattle.coy_io.proofs.Texts.{Written}
 use Rattle.run_text.proofs.objects.put_objects.Given as goal
 
 abbrev pub invariant-each : goal.invariant-each

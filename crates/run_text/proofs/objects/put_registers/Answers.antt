@@ -1,4 +1,4 @@
-use Rattle.run_text.proofs.Texts.{go_on, stop}
+use Rattle.coy_io.proofs.Texts.{go_on, stop}
 use Rattle.run_text.proofs.objects.put_registers.Goals as goal
 
 pub returns-in_err-put_parts-clause-wrote : goal.returns-in_err-put_parts-clause-wrote

@@ -2,7 +2,7 @@ use Rattle.std.proofs.Common.{◌≡◌, ◌+◌, ◌*◌}
 use Rattle.object_store.specs.Meaning.{state_map}
 use Rattle.run_text.specs.Each.{each_below}
 use Rattle.run_text.specs.Objects.{part_text, reads}
-use Rattle.run_text.proofs.Texts.{Written}
+use Rattle.coy_io.proofs.Texts.{Written}
 use Rattle.run_text.proofs.parts.put_parts.Given as goal
 
 abbrev pub invariant-each : goal.invariant-each

@@ -1,6 +1,6 @@
 use Rattle.std.proofs.Common.{◌-◌, ◌≤◌, length, take, flat_map}
 use Rattle.run_text.specs.Standing.{member_text, members}
-use Rattle.run_text.proofs.Texts.{Written}
+use Rattle.coy_io.proofs.Texts.{Written}
 use Rattle.run_text.proofs.standing.put_members.Given as goal
 
 abbrev pub invariant-each : goal.invariant-each

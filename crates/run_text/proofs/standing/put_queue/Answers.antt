@@ -1,6 +1,7 @@
 use Rattle.std.proofs.Common.{◌∙◌, sym, refl}
 use Rattle.std.proofs.KnownBytes.{Appends-nil}
-use Rattle.run_text.proofs.Texts.{go_on, stop, same, whole, queue_none, queue_some}
+use Rattle.coy_io.proofs.Texts.{go_on, stop, same, whole}
+use Rattle.run_text.proofs.Texts.{queue_none, queue_some}
 use Rattle.run_text.proofs.standing.put_queue.Goals as goal
 
 pub returns-then-is_empty : goal.returns-then-is_empty

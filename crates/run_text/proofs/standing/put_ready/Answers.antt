@@ -1,6 +1,7 @@
 use Rattle.std.proofs.Common.{ap}
 use Rattle.run_text.specs.State.{queue_line}
-use Rattle.run_text.proofs.Texts.{none_yet, one_more, one_stops, all_done, same}
+use Rattle.coy_io.proofs.Texts.{same}
+use Rattle.run_text.proofs.Texts.{none_yet, one_more, one_stops, all_done}
 use Rattle.run_text.proofs.standing.put_ready.Goals as goal
 
 pub each-init : goal.each-init

@@ -2,7 +2,7 @@ use Rattle.std.proofs.Common.{◌-◌}
 use Rattle.run_text.specs.Each.{each_below}
 use Rattle.run_text.specs.declared.standing.Queue.TheVariants.{Ready}
 use Rattle.run_text.specs.State.{queue_line}
-use Rattle.run_text.proofs.Texts.{Written}
+use Rattle.coy_io.proofs.Texts.{Written}
 use Rattle.run_text.proofs.standing.put_ready.Given as goal
 
 abbrev pub invariant-each : goal.invariant-each

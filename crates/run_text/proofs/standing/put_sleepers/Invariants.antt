@@ -1,5 +1,5 @@
 use Rattle.run_text.specs.State.{sleepers_text}
-use Rattle.run_text.proofs.Texts.{Written}
+use Rattle.coy_io.proofs.Texts.{Written}
 use Rattle.run_text.proofs.standing.put_sleepers.Given as goal
 
 abbrev pub invariant-each : goal.invariant-each

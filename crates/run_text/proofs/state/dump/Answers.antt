@@ -2,7 +2,7 @@ use Rattle.std.proofs.Common.{ap, refl, ◌∙◌}
 use Rattle.object_store.specs.Store.{Store}
 use Rattle.object_store.specs.Meaning.{state_map}
 use Rattle.run_text.specs.State.{objects_text, state_text}
-use Rattle.run_text.proofs.Texts.{caused, failed, go_on, same, stop}
+use Rattle.coy_io.proofs.Texts.{caused, failed, go_on, same, stop}
 use Rattle.run_text.proofs.state.dump.Goals as goal
 
 pub returns-in_err-put_front_of-clause-text : goal.returns-in_err-put_front_of-clause-text

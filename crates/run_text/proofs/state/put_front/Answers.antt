@@ -1,4 +1,4 @@
-use Rattle.run_text.proofs.Texts.{go_on, stop}
+use Rattle.coy_io.proofs.Texts.{go_on, stop}
 use Rattle.run_text.specs.State.{front_text}
 use Rattle.run_text.proofs.state.put_front.Goals as goal
 

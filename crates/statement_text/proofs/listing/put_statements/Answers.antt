@@ -1,7 +1,7 @@
 use Rattle.std.proofs.Common.{◌≤◌, length, refl, arith}
 use Rattle.std.proofs.KnownBytes.{Appends-nil}
 use Rattle.statement_text.specs.Text.{statement_text}
-use Rattle.statement_text.proofs.Texts.{member_more, member_stops, members_done}
+use Rattle.coy_io.proofs.Texts.{member_more, member_stops, members_done}
 use Rattle.statement_text.proofs.HasLines.{stated_has_line}
 use Rattle.statement_text.proofs.listing.put_statements.Goals as goal
 

@@ -1,6 +1,6 @@
 use Rattle.std.proofs.Common.{take, flat_map}
 use Rattle.statement_text.specs.Text.{statement_text}
-use Rattle.statement_text.proofs.Texts.{Written}
+use Rattle.coy_io.proofs.Texts.{Written}
 use Rattle.statement_text.proofs.listing.put_statements.Given as goal
 
 -- the lines of the statements so far were written

@@ -1,5 +1,5 @@
 use Rattle.statement_text.specs.Text.{listing_text}
-use Rattle.statement_text.proofs.Texts.{go_on, stop}
+use Rattle.coy_io.proofs.Texts.{go_on, stop}
 use Rattle.statement_text.proofs.listing.write_listing.Goals as goal
 
 pub returns-in_err-put_format : goal.returns-in_err-put_format
