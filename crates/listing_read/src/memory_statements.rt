@@ -15,7 +15,7 @@ use crate::hex_bytes::hex_bytes;
 use crate::statement::Statement;
 use crate::terms::Terms;
 use bitflags::Flags;
-use cap_format::{CapKind, Restr};
+use cap_format::{CAPPAGE_SLOTS, CapKind, GPT_SLOTS, PAGE_BYTES, Restr};
 use cap_words::restrictions;
 use coy_text::LineWords;
 use gpt_objects::GptHeader;
@@ -28,7 +28,7 @@ pub(crate) fn page(terms: &Terms, words: &LineWords<'_>) -> Result<Statement, Fa
 {
     has_words(words, 4)?;
     let number = object(terms, CapKind::Page, words.word(1))?;
-    let at = hexadecimal_to(0xfff, words.word(2))?;
+    let at = hexadecimal_to(u32::from(PAGE_BYTES) - 1, words.word(2))?;
     let bytes = hex_bytes(words.word(3))?;
     within_page(at, bytes.as_slice())?;
     Ok(Statement::Page {
@@ -43,7 +43,7 @@ fn within_page(at: u32, bytes: &[u8]) -> Result<(), Fault>
     requires { length bytes.now ≤ 64 }
     ensures { result ≡ ensured (nat_le (at + length bytes.now) 4096) BadValue }
 {
-    if at as usize + bytes.len() > 4096 {
+    if at as usize + bytes.len() > usize::from(PAGE_BYTES) {
         return Err(Fault::BadValue);
     }
     Ok(())
@@ -58,7 +58,7 @@ pub(crate) fn code(terms: &Terms, words: &LineWords<'_>) -> Result<Statement, Fa
         return Err(Fault::WrongWords);
     }
     let number = object(terms, CapKind::Page, words.word(1))?;
-    let at = aligned(0xffc, words.word(2))?;
+    let at = aligned(u32::from(PAGE_BYTES) - 4, words.word(2))?;
     match assemble_insn(words.behind(3)) {
         Ok(insn) => Ok(Statement::Code {
             number,
@@ -77,7 +77,7 @@ pub(crate) fn cap_slot(terms: &Terms, words: &LineWords<'_>) -> Result<Statement
 {
     has_words(words, 4)?;
     let number = object(terms, CapKind::CapPage, words.word(1))?;
-    let slot = between(0, 255, words.word(2))?;
+    let slot = between(0, u32::from(CAPPAGE_SLOTS) - 1, words.word(2))?;
     let cap = capability(terms, words.word(3))?;
     Ok(Statement::CapSlot {
         number,
@@ -112,7 +112,7 @@ pub(crate) fn gpt_slot(terms: &Terms, words: &LineWords<'_>) -> Result<Statement
 {
     has_words(words, 4)?;
     let number = object(terms, CapKind::Gpt, words.word(1))?;
-    let slot = between(0, 15, words.word(2))?;
+    let slot = between(0, u32::from(GPT_SLOTS) - 1, words.word(2))?;
     let cap = capability(terms, words.word(3))?;
     Ok(Statement::GptSlot {
         number,
@@ -131,7 +131,7 @@ pub(crate) fn region(terms: &Terms, words: &LineWords<'_>) -> Result<Statement, 
         return Err(Fault::WrongWords);
     }
     let gpt = object(terms, CapKind::Gpt, words.word(1))?;
-    let slot = between(0, 15, words.word(2))?;
+    let slot = between(0, u32::from(GPT_SLOTS) - 1, words.word(2))?;
     let count = slots_from(slot, words.word(3))?;
     let page = first_page(terms, count, words.word(4))?;
     let restr = letters(words)?;
@@ -151,7 +151,7 @@ fn slots_from(slot: u32, word: &[u8]) -> Result<u32, Fault>
     ensures some { IfOk result (λ count. 1 ≤ count) }
     ensures fits { IfOk result (λ count. slot + count ≤ 16) }
 {
-    between(1, 16 - slot, word)
+    between(1, u32::from(GPT_SLOTS) - slot, word)
 }
 
 /// The bits of a region's restrictions.

@@ -12,6 +12,7 @@ use crate::names::{Names, Naming};
 use crate::statement::Statement;
 use crate::statements::{naming, statement};
 use crate::terms::{Terms, Version};
+use cap_format::{CAPPAGES, ENDPOINTS, GPTS, HARTS, PAGES, PROCESSES};
 use cap_words::number_to;
 use coy_text::{LineWords, is_skipped, is_visible};
 use object_store::Sizes;
@@ -148,17 +149,17 @@ fn machine_sizes(words: &LineWords<'_>) -> Option<Sizes>
     if words.count() != 7 || words.word(0) != b"machine".as_slice() {
         return None;
     }
-    let harts = number_to(8, words.word(1))?;
+    let harts = number_to(u32::from(HARTS), words.word(1))?;
     if harts < 1 {
         return None;
     }
     Some(Sizes {
         harts: harts as u8,
-        pages: number_to(4096, words.word(2))? as u16,
-        cappages: number_to(256, words.word(3))? as u16,
-        gpts: number_to(1024, words.word(4))? as u16,
-        processes: number_to(256, words.word(5))? as u16,
-        endpoints: number_to(1024, words.word(6))? as u16,
+        pages: number_to(u32::from(PAGES), words.word(2))? as u16,
+        cappages: number_to(u32::from(CAPPAGES), words.word(3))? as u16,
+        gpts: number_to(u32::from(GPTS), words.word(4))? as u16,
+        processes: number_to(u32::from(PROCESSES), words.word(5))? as u16,
+        endpoints: number_to(u32::from(ENDPOINTS), words.word(6))? as u16,
     })
 }
 

@@ -12,7 +12,7 @@ use crate::memory_statements::{cap_slot, code, gpt, gpt_slot, page, region};
 use crate::names::Naming;
 use crate::statement::Statement;
 use crate::terms::Terms;
-use cap_format::CapKind;
+use cap_format::{CapKind, LAST_COUNT};
 use cap_words::read_name;
 use coy_text::LineWords;
 
@@ -157,7 +157,7 @@ fn count(terms: &Terms, words: &LineWords<'_>) -> Result<Statement, Fault>
     has_words(words, 4)?;
     let kind = object_kind(words.word(1))?;
     let number = object(terms, kind, words.word(2))?;
-    let count = between(0, 1_048_575, words.word(3))?;
+    let count = between(0, LAST_COUNT, words.word(3))?;
     Ok(Statement::Count {
         kind,
         number,
