@@ -1,4 +1,5 @@
 mod Cuts
+mod Found
 pub mod NumeralLaws
 mod Numerals
 pub mod WordLaws

@@ -2,11 +2,14 @@
 ghost use Rattle.std.specs.Prelude.{◌≡◌, ◌≢◌, ◌+◌, ◌≤◌, ◌==◌, not, option_map, [], length, min, drop, position, slice_index, slice_index_or};
 ghost use Rattle.coy_text.specs.Words.{words_of, count_of, cut_at};
 
+use memchr::memchr;
+
 /// Where the first byte `mark` stands.
+#[tactic(auto, using(crate::proofs::Found::first_byte))]
 fn first_mark(line: &[u8], mark: u8) -> Option<usize>
     ensures { result ≡ position (λ byte. byte == mark) line.now }
 {
-    line.iter().position(|byte| *byte == mark)
+    memchr(mark, line)
 }
 
 /// Where the first byte stands that is no space.
