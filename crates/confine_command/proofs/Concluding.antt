@@ -8,6 +8,8 @@ use Rattle.coy_io.specs.Reader.{Reader, ahead}
 use Rattle.kernel_core.specs.State.{State}
 use Rattle.confine_check.specs.declared.fault.CutFault.{CutFault}
 use Rattle.confinement.specs.Cut.{Sides}
+use Rattle.judged_lines.specs.declared.stop.Stop.{Stop}
+use Rattle.judged_lines.specs.declared.stop.Stop.TheVariants as stops
 use Rattle.schedule_replay.specs.Scheduled.{OnParts}
 use Rattle.schedule_replay.proofs.Reading.{on_all}
 use Rattle.courses.specs.Course.{Course, ComesTo, cached, course_output}
@@ -24,8 +26,6 @@ use Rattle.confine_command.specs.Confine.{Concludes, NobodySleeps, checked, conf
 use Rattle.confine_command.specs.Decided.{DecidesStated}
 use Rattle.confine_command.proofs.Deciding.{decides}
 use Rattle.confine_command.specs.Stated.{PastEnd, RefusedAt, Stated, StateAll, StatesRest, StatesSides, stated}
-use Rattle.confine_command.specs.declared.lines.CutStop.{CutStop}
-use Rattle.confine_command.specs.declared.lines.CutStop.TheVariants as stops
 
 module _ {K : Type 0} (taken : K → Option (List ℕ)) (faults : K → ℕ) (s : State) (first sides : Sides) (old new : Reader) (held held' : Option (List ℕ)) (out out' : K)
     (fetches fetches' : ℕ) (exit : Exit) where
@@ -48,7 +48,7 @@ module _ {K : Type 0} (taken : K → Option (List ℕ)) (faults : K → ℕ) (s 
       record { output = e.output; fetched = record { whole = λ given. omega (arith, none, counted); most = omega (arith, none, counted) } }
 
   -- what was written and fetched is what the lines come to
-  pub concludes-comes : (stop : CutStop) → StatesRest first sides old new held held' stop → Concludes taken faults s sides stop out out' fetches fetches' exit
+  pub concludes-comes : (stop : Stop CutFault) → StatesRest first sides old new held held' stop → Concludes taken faults s sides stop out out' fetches fetches' exit
       → OnParts (ahead old held) (λ parts. Comes (checked s (stated first old.number parts)))
   concludes-comes stops.End r c = states-comes (StatesSides sides) r (comes-told c.0 c.1)
   concludes-comes (stops.Refused line fault) r c = states-comes (RefusedAt line fault) r (comes-last _ _ _ _ _ _ _ cached _ c.0 c.1 refl)
@@ -75,31 +75,31 @@ module _ {K : Type 0} (taken : K → Option (List ℕ)) (faults : K → ℕ) (s 
   past-last = record { usage = λ e. omega (arith, e); read = λ e. omega (arith, e); memory = λ e. omega (arith, e) }
 
   -- a part of what an answer comes to, by its cases: a text was told, or reading failed and nothing came of it
-  by_answer : (P : CutStop → Type 0) → ((stop : CutStop) (o : Output) → stop ≢ stops.ReadFault → (o.exit ≡ Done → stop ≡ stops.End) → IsLast o → Ends_with o → P stop)
+  by_answer : (P : Stop CutFault → Type 0) → ((stop : Stop CutFault) (o : Output) → stop ≢ stops.ReadFault → (o.exit ≡ Done → stop ≡ stops.End) → IsLast o → Ends_with o → P stop)
       → (exit ≡ ReadFault → out' ≡ out → fetches' ≡ fetches → P stops.ReadFault)
-      → (stop : CutStop) → Concludes taken faults s sides stop out out' fetches fetches' exit → P stop
+      → (stop : Stop CutFault) → Concludes taken faults s sides stop out out' fetches fetches' exit → P stop
   by_answer P at read stops.End c = at stops.End (told s sides) (λ same. cc) (λ done. refl) told-last c.0
   by_answer P at read (stops.Refused line fault) c = at (stops.Refused line fault) (refused_cut line fault) (λ same. cc) (λ done. cc) (refused-last line fault) c.0
   by_answer P at read stops.TooLong c = at stops.TooLong too_long (λ same. cc) (λ done. cc) past-last c.0
   by_answer P at read stops.ReadFault c = read c.0 c.1 c.2
 
   -- the program neither tells its usage nor wants memory
-  pub concludes-usage : (stop : CutStop) → Concludes taken faults s sides stop out out' fetches fetches' exit → exit ≢ Usage
+  pub concludes-usage : (stop : Stop CutFault) → Concludes taken faults s sides stop out out' fetches fetches' exit → exit ≢ Usage
   concludes-usage = by_answer (λ stop. exit ≢ Usage) (λ stop o other done last e. last-usage _ _ _ _ _ _ last e) (λ read same still usage. let bad : ReadFault ≡ Usage = sym read ∙ usage in cc)
 
-  pub concludes-memory : (stop : CutStop) → Concludes taken faults s sides stop out out' fetches fetches' exit → exit ≢ OutOfMemory
+  pub concludes-memory : (stop : Stop CutFault) → Concludes taken faults s sides stop out out' fetches fetches' exit → exit ≢ OutOfMemory
   concludes-memory =
       by_answer (λ stop. exit ≢ OutOfMemory) (λ stop o other done last e. last-memory _ _ _ _ _ _ last e)
       (λ read same still memory. let bad : ReadFault ≡ OutOfMemory = sym read ∙ memory in cc)
 
   -- where all was done, all lines were read
-  pub concludes-done : (stop : CutStop) → Concludes taken faults s sides stop out out' fetches fetches' exit → exit ≡ Done → stop ≡ stops.End
+  pub concludes-done : (stop : Stop CutFault) → Concludes taken faults s sides stop out out' fetches fetches' exit → exit ≡ Done → stop ≡ stops.End
   concludes-done =
       by_answer (λ stop. exit ≡ Done → stop ≡ stops.End) (λ stop o other done last e is. done (last-done _ _ _ _ _ _ last e is))
       (λ read same still is. let bad : ReadFault ≡ Done = sym read ∙ is in cc)
 
   -- the causes of both faults
-  pub concludes-causes : (unread unread' : ℕ) (stop : CutStop) → Concludes taken faults s sides stop out out' fetches fetches' exit
+  pub concludes-causes : (unread unread' : ℕ) (stop : Stop CutFault) → Concludes taken faults s sides stop out out' fetches fetches' exit
       → (stop ≡ stops.ReadFault → Rose unread unread') → (stop ≢ stops.ReadFault → unread' ≡ unread) → HasCauses unread unread' (faults out) (faults out') exit
   concludes-causes unread unread' =
       by_answer (λ stop. (stop ≡ stops.ReadFault → Rose unread unread') → (stop ≢ stops.ReadFault → unread' ≡ unread) → HasCauses unread unread' (faults out) (faults out') exit)
@@ -112,7 +112,7 @@ module _ {K : Type 0} (taken : K → Option (List ℕ)) (faults : K → ℕ) (s 
       })
 
   -- where all was done, what was told is so
-  pub concludes-decided : NobodySleeps s.queues → (stop : CutStop) → StatesRest first sides old new held held' stop → Concludes taken faults s sides stop out out' fetches fetches' exit → exit ≡ Done
+  pub concludes-decided : NobodySleeps s.queues → (stop : Stop CutFault) → StatesRest first sides old new held held' stop → Concludes taken faults s sides stop out out' fetches fetches' exit → exit ≡ Done
       → OnParts (ahead old held) (λ parts. DecidesStated s (stated first old.number parts) (course_output (checked s (stated first old.number parts))).text)
   concludes-decided awake stops.End r c done =
       on_all (ahead old held) (λ parts. stated first old.number parts ≡ StatesSides sides) (λ parts. DecidesStated s (stated first old.number parts) (course_output (checked s (stated first old.number parts))).text)
@@ -122,7 +122,7 @@ module _ {K : Type 0} (taken : K → Option (List ℕ)) (faults : K → ℕ) (s 
   concludes-decided awake stops.ReadFault r c done = let other = concludes-done stops.ReadFault c done in absurd (cc (other))
 
   -- reading failed
-  pub concludes-sure : (stop : CutStop) → StatesRest first sides old new held held' stop → Concludes taken faults s sides stop out out' fetches fetches' exit → exit ≡ ReadFault
+  pub concludes-sure : (stop : Stop CutFault) → StatesRest first sides old new held held' stop → Concludes taken faults s sides stop out out' fetches fetches' exit → exit ≡ ReadFault
       → StandsOn old new held held' (taken out) (taken out') fetches fetches' cached (λ parts. checked s (stated first old.number parts))
   concludes-sure stops.End r c read = absurd (last-read _ _ _ _ _ _ told-last c.0 read)
   concludes-sure (stops.Refused line fault) r c read = absurd (last-read _ _ _ _ _ _ (refused-last line fault) c.0 read)

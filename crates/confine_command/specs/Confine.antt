@@ -15,13 +15,14 @@ use Rattle.confine_check.specs.declared.verdict.Breach.{Breach}
 use Rattle.confine_check.specs.declared.verdict.Verdict.TheVariants as verdicts
 use Rattle.confine_check.specs.Found.{meant_of, reads_to, verdict_in}
 use Rattle.confine_check.specs.Sides.{all_right, cut_of, left_count, right_count}
+use Rattle.confine_check.specs.declared.fault.CutFault.{CutFault}
+use Rattle.judged_lines.specs.declared.stop.Stop.{Stop}
+use Rattle.judged_lines.specs.declared.stop.Stop.TheVariants as stops
 use Rattle.courses.specs.Course.{Course, ends_in}
 use Rattle.courses.specs.Ending.{Output, EndsIn, refused_cut, too_long}
 use Rattle.courses.specs.Listed.{Behind}
 use Rattle.courses.specs.declared.exit.Exit.{Exit}
 use Rattle.courses.specs.declared.exit.Exit.TheVariants.{Done, ReadFault}
-use Rattle.confine_command.specs.declared.lines.CutStop.{CutStop}
-use Rattle.confine_command.specs.declared.lines.CutStop.TheVariants as stops
 use Rattle.confine_command.specs.Stated.{Stated, StatesSides, RefusedAt, PastEnd, stated}
 
 -- how many objects are on each side of a cut that holds
@@ -66,7 +67,7 @@ abbrev pub confine_course : Behind
 confine_course listing last rest = checked (booted listing) (stated (all_right listing.sizes) last rest)
 
 -- how the program ends by the reason why there is no further line, where the lines gave these sides
-abbrev pub Concludes : {K : Type 0} → (K → Option (List ℕ)) → (K → ℕ) → State → Sides → CutStop → K → K → ℕ → ℕ → Exit → Type 0
+abbrev pub Concludes : {K : Type 0} → (K → Option (List ℕ)) → (K → ℕ) → State → Sides → Stop CutFault → K → K → ℕ → ℕ → Exit → Type 0
 Concludes taken faults s sides stops.End old new fetches fetches' exit =
     EndsIn taken faults old new exit (told s sides) × (fetches' ≡ fetches + reads s sides) × FindsExactly s sides
 Concludes taken faults s sides (stops.Refused line fault) old new fetches fetches' exit =

@@ -3,16 +3,15 @@
 use Rattle.std.specs.Prelude.{◌≡◌, ℕ, ◌+◌, List, [], ◌∷◌, Option, Result, Ok, Err}
 use Rattle.coy_io.specs.Lines.{Part, Line, LongLine, PastLimit}
 use Rattle.coy_io.specs.Reader.{Reader, ahead}
-use Rattle.listing_read.specs.Reads.{IsStopped}
 use Rattle.confinement.specs.Cut.{Sides}
-use Rattle.confine_check.specs.CutLine.{after_line, cut_line}
+use Rattle.confine_check.specs.CutLine.{after_line, cut_line, refusal}
 use Rattle.confine_check.specs.declared.block.Block.{Block}
 use Rattle.confine_check.specs.declared.fault.CutFault.{CutFault}
 use Rattle.confine_check.specs.declared.fault.CutFault.TheVariants.{LineTooLong}
-use Rattle.schedule_replay.specs.Lines.{FailsOn, ReadsOn}
+use Rattle.judged_lines.specs.declared.stop.Stop.{Stop}
+use Rattle.judged_lines.specs.declared.stop.Stop.TheVariants as stops
+use Rattle.schedule_replay.specs.Lines.{FailsOn}
 use Rattle.schedule_replay.specs.Scheduled.{OnParts}
-use Rattle.confine_command.specs.declared.lines.CutStop.{CutStop}
-use Rattle.confine_command.specs.declared.lines.CutStop.TheVariants as stops
 
 -- what lines state: these sides, or nothing, since a line is refused or the input goes on behind the last byte that is read
 pub data Stated : Type 0 where
@@ -33,27 +32,18 @@ stated sides n (PastLimit ∷ parts) = PastEnd
 stated sides n (Line line ∷ parts) =
     stated_with (n + 1) (cut_line sides line) (stated (after_line sides (cut_line sides line)) (n + 1) parts)
 
+-- how a line is judged by itself: whether it is refused, and the sides after it
+abbrev pub JudgesCut : Sides → List ℕ → Result (Unit {0}) CutFault → Sides → Type 0
+JudgesCut sides line answer sides' = (answer ≡ refusal (cut_line sides line)) × (sides' ≡ after_line sides (cut_line sides line))
+
 -- ---- lines as they are read
 
 -- the lines to come state this
 abbrev pub StateAll : Sides → Reader → Option (List ℕ) → Stated → Type 0
 StateAll sides old held all = OnParts (ahead old held) (λ parts. stated sides old.number parts ≡ all)
 
--- what reading one line more came to, where the sides were these before and are those now
-abbrev pub StatesNext : Sides → Sides → Reader → Reader → Option (List ℕ) → Option (List ℕ) → Result (Unit {0}) CutStop → Type 0
-StatesNext sides sides' old new held held' (Ok done) = ReadsOn (stated sides old.number) (stated sides' new.number) old new held held'
-StatesNext sides sides' old new held held' (Err stops.End) = StateAll sides old held (StatesSides sides')
-StatesNext sides sides' old new held held' (Err (stops.Refused line fault)) = StateAll sides old held (RefusedAt line fault)
-StatesNext sides sides' old new held held' (Err stops.TooLong) = StateAll sides old held PastEnd
-StatesNext sides sides' old new held held' (Err stops.ReadFault) = IsStopped old new held held' × (sides' ≡ sides)
-
--- whether line `n` is refused, where it is read by itself: a line that is refused is the last that is read
-abbrev pub refusal_at : ℕ → Result (Unit {0}) CutFault → Result (Unit {0}) CutStop
-refusal_at n (Ok done) = Ok tt
-refusal_at n (Err fault) = Err (stops.Refused n fault)
-
 -- what reading all lines came to, up to where they end
-abbrev pub StatesRest : Sides → Sides → Reader → Reader → Option (List ℕ) → Option (List ℕ) → CutStop → Type 0
+abbrev pub StatesRest : Sides → Sides → Reader → Reader → Option (List ℕ) → Option (List ℕ) → Stop CutFault → Type 0
 StatesRest sides sides' old new held held' stops.End = StateAll sides old held (StatesSides sides')
 StatesRest sides sides' old new held held' (stops.Refused line fault) = StateAll sides old held (RefusedAt line fault)
 StatesRest sides sides' old new held held' stops.TooLong = StateAll sides old held PastEnd

@@ -14,11 +14,12 @@ ghost use Rattle.confine_command.specs.Decided.{DecidesStated, IsDecided};
 ghost use Rattle.confine_command.specs.Stated.{stated};
 
 use crate::checking::tell;
-use crate::lines::{CutStop, read_sides};
-use confine_check::Cut;
+use crate::lines::read_sides;
+use confine_check::{Cut, CutFault};
 use courses::{Exit, end_past_limit, read_head, refuse_cut};
 use coy_io::{LineReader, Sink, Source};
 use image_builder::boot;
+use judged_lines::Stop;
 use kernel_core::Machine;
 use std::alloc::Global;
 use std::sync::ledger::Ledger;
@@ -101,7 +102,7 @@ fn check_lines<T: Translator, S: Source, K: Sink, L: Ledger>(
 
 /// Tells what is found, or why the lines of the cut ended before.
 fn conclude<T: Translator, K: Sink, L: Ledger>(
-    stop: CutStop,
+    stop: Stop<CutFault>,
     machine: &Machine<T>,
     cut: &Cut,
     output: &mut K,
@@ -112,9 +113,9 @@ fn conclude<T: Translator, K: Sink, L: Ledger>(
         output.old output.new fetches.old fetches.new result }
 {
     match stop {
-        CutStop::End => tell(machine, cut, output, fetches),
-        CutStop::Refused { line, fault } => refuse_cut(line, fault, output),
-        CutStop::TooLong => end_past_limit(output),
-        CutStop::ReadFault => Exit::ReadFault,
+        Stop::End => tell(machine, cut, output, fetches),
+        Stop::Refused { line, fault } => refuse_cut(line, fault, output),
+        Stop::TooLong => end_past_limit(output),
+        Stop::ReadFault => Exit::ReadFault,
     }
 }

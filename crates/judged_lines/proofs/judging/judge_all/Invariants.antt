@@ -1,12 +1,11 @@
 use Rattle.std.proofs.Common.{◌≡◌, false}
 use Rattle.coy_io.specs.Reader.{TellsEnd}
-use Rattle.schedule_replay.specs.Lines.{ReadsOn}
-use Rattle.confine_command.specs.Stated.{stated}
-use Rattle.confine_command.proofs.lines.read_sides.Given as goal
+use Rattle.judged_lines.specs.Judged.{Takes}
+use Rattle.judged_lines.proofs.judging.judge_all.Given as goal
 
 abbrev pub invariant-lines : goal.invariant-lines
 invariant-lines g l = record {
-  reads : ReadsOn (stated l.fn.cut l.fn.lines.number) (stated l.cut l.lines.number) l.fn.lines l.lines (g.S.Source.held l.fn.source) (g.S.Source.held l.source);
+  takes : Takes (g.J.Judge.judged l.judge) l.fn.made l.made l.fn.lines l.lines (g.S.Source.held l.fn.source) (g.S.Source.held l.source);
   going : l.lines.failed ≡ false;
   told : TellsEnd l.fn.lines (g.S.Source.held l.fn.source) → TellsEnd l.lines (g.S.Source.held l.source);
   read : g.S.Source.faults l.source ≡ g.S.Source.faults l.fn.source;
