@@ -12,8 +12,8 @@ use Rattle.schedule_replay.specs.Counts.{events_alone}
 use Rattle.schedule_replay.specs.Replay.{Accords, answer_at, count_answer, stop_answer}
 use Rattle.schedule_replay.specs.Scheduled.{AtEnd, AtFault, AtLimit, Ending, OnParts, Scheduled, scheduled}
 use Rattle.schedule_replay.specs.declared.counts.Counts.{Counts}
-use Rattle.schedule_replay.specs.declared.lines.Stop.{Stop}
-use Rattle.schedule_replay.specs.declared.lines.Stop.TheVariants as stops
+use Rattle.judged_lines.specs.declared.stop.Stop.{Stop}
+use Rattle.judged_lines.specs.declared.stop.Stop.TheVariants as stops
 use Rattle.schedule_replay.specs.declared.replayed.Replayed.TheVariants as answers
 use Rattle.schedule_replay.proofs.Reading.{on_all}
 use Rattle.courses.specs.Course.{cached, course_output}
@@ -57,38 +57,38 @@ past-at all (AtFault line fault) same = cc
 past-at all AtLimit same = refl
 
 module _ {K : Type 0} (taken : K → Option (List ℕ)) (faults : K → ℕ) (number : ℕ) (h : History) (old new : K) (exit : Exit) where
-  abbrev Concluded : Stop → Type 0
+  abbrev Concluded : Stop ScheduleFault → Type 0
   Concluded stop = Concludes taken faults number h stop old new exit
 
   -- the program neither tells its usage nor wants memory
-  pub concludes-usage : (stop : Stop) → Concluded stop → exit ≢ Usage
+  pub concludes-usage : (stop : Stop ScheduleFault) → Concluded stop → exit ≢ Usage
   concludes-usage stops.End c = last-usage _ _ _ _ _ _ (state-last (text_of number h)) c
   concludes-usage (stops.Refused line fault) c = last-usage _ _ _ _ _ _ (refused-last line fault) c
   concludes-usage stops.TooLong c = last-usage _ _ _ _ _ _ past-last c
   concludes-usage stops.ReadFault c = λ usage. let bad : ReadFault ≡ Usage = sym c.0 ∙ usage in cc
 
-  pub concludes-memory : (stop : Stop) → Concluded stop → exit ≢ OutOfMemory
+  pub concludes-memory : (stop : Stop ScheduleFault) → Concluded stop → exit ≢ OutOfMemory
   concludes-memory stops.End c = last-memory _ _ _ _ _ _ (state-last (text_of number h)) c
   concludes-memory (stops.Refused line fault) c = last-memory _ _ _ _ _ _ (refused-last line fault) c
   concludes-memory stops.TooLong c = last-memory _ _ _ _ _ _ past-last c
   concludes-memory stops.ReadFault c = λ memory. let bad : ReadFault ≡ OutOfMemory = sym c.0 ∙ memory in cc
 
   -- where all was done, all lines were read
-  pub concludes-done : (stop : Stop) → Concluded stop → exit ≡ Done → stop ≡ stops.End
+  pub concludes-done : (stop : Stop ScheduleFault) → Concluded stop → exit ≡ Done → stop ≡ stops.End
   concludes-done stops.End c done = refl
   concludes-done (stops.Refused line fault) c done = let bad = last-done _ _ _ _ _ _ (refused-last line fault) c done in cc
   concludes-done stops.TooLong c done = let bad = last-done _ _ _ _ _ _ past-last c done in cc
   concludes-done stops.ReadFault c done = let bad : ReadFault ≡ Done = sym c.0 ∙ done in cc
 
   -- where reading failed, it failed in the lines, and nothing was written
-  pub concludes-read : (stop : Stop) → Concluded stop → exit ≡ ReadFault → (stop ≡ stops.ReadFault) × (new ≡ old)
+  pub concludes-read : (stop : Stop ScheduleFault) → Concluded stop → exit ≡ ReadFault → (stop ≡ stops.ReadFault) × (new ≡ old)
   concludes-read stops.End c read = absurd (last-read _ _ _ _ _ _ (state-last (text_of number h)) c read)
   concludes-read (stops.Refused line fault) c read = absurd (last-read _ _ _ _ _ _ (refused-last line fault) c read)
   concludes-read stops.TooLong c read = absurd (last-read _ _ _ _ _ _ past-last c read)
   concludes-read stops.ReadFault c read = (refl, c.1)
 
   -- the causes of both faults
-  pub concludes-causes : (unread unread' : ℕ) (stop : Stop) → Concluded stop → (stop ≡ stops.ReadFault → Rose unread unread') → (stop ≢ stops.ReadFault → unread' ≡ unread)
+  pub concludes-causes : (unread unread' : ℕ) (stop : Stop ScheduleFault) → Concluded stop → (stop ≡ stops.ReadFault → Rose unread unread') → (stop ≢ stops.ReadFault → unread' ≡ unread)
       → HasCauses unread unread' (faults old) (faults new) exit
   concludes-causes unread unread' stops.End c rose quiet = last-causes _ _ _ _ _ _ (state-last (text_of number h)) c unread unread' (faults old) (quiet (λ same. cc)) refl
   concludes-causes unread unread' (stops.Refused line fault) c rose quiet = last-causes _ _ _ _ _ _ (refused-last line fault) c unread unread' (faults old) (quiet (λ same. cc)) refl
@@ -112,7 +112,7 @@ module _ {K : Type 0} (taken : K → Option (List ℕ)) (faults : K → ℕ) (nu
         (subst (λ es. Outputs (taken old) (taken new) exit (output_at number s es ending)) is o)
 
     -- by all cases of the answer
-    comes-accord : (events : List Event) (text : text_of number h ≡ (output_at number s events AtEnd).text) (stop : Stop) (all : Scheduled) → Concluded stop
+    comes-accord : (events : List Event) (text : text_of number h ≡ (output_at number s events AtEnd).text) (stop : Stop ScheduleFault) (all : Scheduled) → Concluded stop
         → Accords count_answer (stop_answer (events_alone (length events)) stop) events all → Comes all
     comes-accord events text stops.End all c a =
         comes-at events all AtEnd a.0 (ended-at _ _ all.ending a.1)
@@ -122,7 +122,7 @@ module _ {K : Type 0} (taken : K → Option (List ℕ)) (faults : K → ℕ) (nu
     comes-accord events text stops.ReadFault all c a =
         subst (λ e. Outputs (taken old) (taken new) e (course_output (undoing number s all))) (sym c.0) (outputs_none (taken old) (taken new) (course_output (undoing number s all)))
 
-    module _ (harts : ℕ) (lines lines' : Reader) (held held' : Option (List ℕ)) (stop : Stop) (r : RunsLines harts s h lines lines' held held' stop) (c : Concluded stop) where
+    module _ (harts : ℕ) (lines lines' : Reader) (held held' : Option (List ℕ)) (stop : Stop ScheduleFault) (r : RunsLines harts s h lines lines' held held' stop) (c : Concluded stop) where
       -- what was written is what the known lines come to
       pub comes-run : OnParts (ahead lines held) (λ parts. Comes (scheduled harts lines.number parts))
       comes-run =

@@ -7,7 +7,8 @@ use Rattle.reverse_run.specs.History.{History, after_event}
 use Rattle.schedule_replay.specs.Counts.{events_alone}
 use Rattle.schedule_replay.specs.Replay.{answer_at, count_answer}
 use Rattle.schedule_replay.specs.Scheduled.{Ending, IsNextLine, Reads, ends, preceded}
-use Rattle.schedule_replay.specs.declared.lines.Stop.{Stop}
+use Rattle.listing_read.specs.declared.fault.ScheduleFault.{ScheduleFault}
+use Rattle.judged_lines.specs.declared.stop.Stop.{Stop}
 use Rattle.schedule_replay.proofs.Reading.{reads-none, reads-same, reads-trans}
 use Rattle.schedule_replay.proofs.SoFar.{follows-stop}
 use Rattle.back_command.specs.Runs.{RunsLines, history_at}
@@ -56,7 +57,7 @@ module _ (harts : ℕ) (s : State) (old : Reader) (held : Option (List ℕ)) whe
     }
 
     -- no further line was read
-    pub runs-stop : (now1 : Reader) (held1 : Option (List ℕ)) (harts' : ℕ) (stop : Stop) (none : List Event) → none ≡ [] → harts' ≡ harts → SoFar h now held' none
+    pub runs-stop : (now1 : Reader) (held1 : Option (List ℕ)) (harts' : ℕ) (stop : Stop ScheduleFault) (none : List Event) → none ≡ [] → harts' ≡ harts → SoFar h now held' none
         → IsNextLine harts' now now1 held' held1 (Err stop) → RunsLines harts s h old now1 held held1 stop
     runs-stop now1 held1 harts' stop none is same so next =
         let all : (ending : Ending) → answer_at (events_alone (length so.done)) ending ≡ count_answer (preceded so.done (ends ending)) =

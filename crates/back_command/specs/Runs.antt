@@ -8,8 +8,9 @@ use Rattle.kernel_core.specs.Run.{run_state}
 use Rattle.reverse_run.specs.History.{History, after_undo, remembered}
 use Rattle.schedule_replay.specs.Counts.{events_alone}
 use Rattle.schedule_replay.specs.Replay.{Follows, count_answer, stop_answer}
-use Rattle.schedule_replay.specs.declared.lines.Stop.{Stop}
-use Rattle.schedule_replay.specs.declared.lines.Stop.TheVariants as stops
+use Rattle.listing_read.specs.declared.fault.ScheduleFault.{ScheduleFault}
+use Rattle.judged_lines.specs.declared.stop.Stop.{Stop}
+use Rattle.judged_lines.specs.declared.stop.Stop.TheVariants as stops
 use Rattle.courses.specs.Ending.{EndsIn, refused_schedule, too_long}
 use Rattle.courses.specs.declared.exit.Exit.{Exit}
 use Rattle.courses.specs.declared.exit.Exit.TheVariants.{Done, ReadFault}
@@ -31,7 +32,7 @@ undos (suc n) h = after_undo (undos n h)
 
 -- these events were run from the state on and the last of them are remembered, and they are what the lines ask for, as far as
 -- they are known
-pub record RunsLines (harts : ℕ) (s : State) (h : History) (old new : Reader) (held held' : Option (List ℕ)) (stop : Stop) : Type 0 where
+pub record RunsLines (harts : ℕ) (s : State) (h : History) (old new : Reader) (held held' : Option (List ℕ)) (stop : Stop ScheduleFault) : Type 0 where
   pub events : List Event
   pub history : h ≡ history_at most_remembered s events
   pub follows : Follows count_answer harts old new held held' events (stop_answer (events_alone (length events)) stop)
@@ -43,7 +44,7 @@ abbrev pub text_of : ℕ → History → List ℕ
 text_of number h = let n = min number (remembered h) in back_text n (undos n h).present
 
 -- how the program ends behind the lines: by what is written last, or where reading failed with nothing
-abbrev pub Concludes : {K : Type 0} → (K → Option (List ℕ)) → (K → ℕ) → ℕ → History → Stop → K → K → Exit → Type 0
+abbrev pub Concludes : {K : Type 0} → (K → Option (List ℕ)) → (K → ℕ) → ℕ → History → Stop ScheduleFault → K → K → Exit → Type 0
 Concludes taken faults number h stops.End old new exit = EndsIn taken faults old new exit (record { text = text_of number h; exit = Done })
 Concludes taken faults number h (stops.Refused line fault) old new exit = EndsIn taken faults old new exit (refused_schedule line fault)
 Concludes taken faults number h stops.TooLong old new exit = EndsIn taken faults old new exit too_long

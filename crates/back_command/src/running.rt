@@ -4,6 +4,7 @@ ghost use Rattle.coy_io.specs.Causes.{Rose};
 ghost use Rattle.coy_io.specs.Reader.{TellsEnd};
 ghost use Rattle.machine_state.specs.State.{state_of};
 ghost use Rattle.reverse_run.specs.History.{history_of};
+ghost use Rattle.judged_lines.specs.declared.stop.Stop.{Stop};
 ghost use Rattle.back_command.specs.Runs.{RunsLines};
 
 use crate::DEPTH;

@@ -1,8 +1,7 @@
 -- Line by line, what the lines of a cut state.
-use Rattle.std.proofs.Common.{◌≡◌, ◌≢◌, ◌+◌, ◌∙◌, ◌∷◌, [], ℕ, List, Option, Some, None, Result, Ok, Err, refl, sym, ap}
+use Rattle.std.proofs.Common.{◌≡◌, ◌+◌, ◌∙◌, ◌∷◌, [], ℕ, List, Option, Result, Ok, Err, refl, sym, ap}
 use Rattle.coy_io.specs.Lines.{Part, Line, LongLine, PastLimit}
-use Rattle.coy_io.specs.Reader.{Reader, ahead, bytes_ahead}
-use Rattle.coy_io.proofs.GivenLaws.{GivesLines-kept}
+use Rattle.coy_io.specs.Reader.{Reader, ahead}
 use Rattle.confinement.specs.Cut.{Sides}
 use Rattle.confine_check.specs.CutLine.{after_line, cut_line, refusal}
 use Rattle.confine_check.specs.declared.block.Block.{Block}
@@ -12,8 +11,9 @@ use Rattle.judged_lines.specs.Judged.{JudgesAll}
 use Rattle.judged_lines.specs.declared.stop.Stop.{Stop}
 use Rattle.judged_lines.specs.declared.stop.Stop.TheVariants as stops
 use Rattle.judged_lines.proofs.Made.{Follows, makes-given, makes-stop}
-use Rattle.schedule_replay.specs.Scheduled.{OnParts}
-use Rattle.confine_command.specs.Stated.{JudgesCut, PastEnd, RefusedAt, StatesRest, Stated, StatesSides, stated, stated_with}
+use Rattle.schedule_replay.proofs.ReadOn.{fails_on-judged}
+use Rattle.schedule_replay.proofs.Reading.{on_each}
+use Rattle.confine_command.specs.Stated.{JudgesCut, PastEnd, RefusedAt, StatesRest, StatesSides, stated, stated_with}
 
 module _ (sides : Sides) (n : ℕ) where
   stated-end : stated sides n [] ≡ StatesSides sides
@@ -62,10 +62,6 @@ follows = record {
   refuses = λ sides sides' n line fault parts judged. stated-refused sides n sides' line fault parts judged;
 }
 
-on_each : (left : Option (List Part)) (P : List Part → Type 0) → ((parts : List Part) → left ≡ Some parts → P parts) → OnParts left P
-on_each None P all = tt
-on_each (Some parts) P all = all parts refl
-
 -- lines were judged, and then they end
 pub states-rest : (first last : Sides) (old new : Reader) (held held' : Option (List ℕ)) (stop : Stop CutFault) → JudgesAll JudgesCut LineTooLong first last old new held held' stop
     → StatesRest first last old new held held' stop
@@ -76,12 +72,5 @@ states-rest first last old new held held' (stops.Refused line fault) a =
 states-rest first last old new held held' stops.TooLong a =
     on_each (ahead old held) _ (makes-stop JudgesCut LineTooLong stated _ RefusedAt PastEnd follows first last old new held held' stops.TooLong (λ same. cc) a)
 states-rest first last old new held held' stops.ReadFault a =
-    let stop = a.stops.0 in
-    record {
-      before = a.takes.before stop.before;
-      going = stop.unended;
-      unfinished = stop.unfinished;
-      given = a.takes.given;
-      gives = GivesLines-kept (bytes_ahead old held) (bytes_ahead a.reader a.left) (bytes_ahead new held') a.takes.given (a.takes.bytes stop.before) stop.kept;
-      makes = makes-given JudgesCut LineTooLong stated (λ sides n. StatesSides sides) RefusedAt PastEnd follows first last old new held held' a;
-    }
+    fails_on-judged JudgesCut LineTooLong _ _ first last old new held held' a
+    (makes-given JudgesCut LineTooLong stated (λ sides n. StatesSides sides) RefusedAt PastEnd follows first last old new held held' a)

@@ -7,8 +7,9 @@ use Rattle.coy_io.specs.Lines.{Part}
 use Rattle.coy_io.specs.Reader.{Reader, ahead}
 use Rattle.listing_read.specs.Statement.{ListingValue}
 use Rattle.schedule_replay.specs.Scheduled.{Ending, AtEnd, AtFault, AtLimit, OnParts}
-use Rattle.schedule_replay.specs.declared.lines.Stop.{Stop}
-use Rattle.schedule_replay.specs.declared.lines.Stop.TheVariants as stops
+use Rattle.listing_read.specs.declared.fault.ScheduleFault.{ScheduleFault}
+use Rattle.judged_lines.specs.declared.stop.Stop.{Stop}
+use Rattle.judged_lines.specs.declared.stop.Stop.TheVariants as stops
 use Rattle.schedule_replay.proofs.Reading.{on_all}
 use Rattle.courses.specs.Course.{Course, ComesTo, cached, course_output, ends_in}
 use Rattle.courses.specs.Ending.{Outputs, Ends, HasCauses}
@@ -27,40 +28,40 @@ output-last listing (AtFault line fault) = record { usage = λ e. omega (arith, 
 output-last listing AtLimit = record { usage = λ e. omega (arith, e); read = λ e. omega (arith, e); memory = λ e. omega (arith, e) }
 
 module _ {K : Type 0} (taken : K → Option (List ℕ)) (faults : K → ℕ) (listing : ListingValue) (out out' : K) (exit : Exit) where
-  abbrev Concluded : Stop → Type 0
+  abbrev Concluded : Stop ScheduleFault → Type 0
   Concluded stop = Concludes taken faults listing stop out out' exit
 
   abbrev Ends_with : Ending → Type 0
   Ends_with ending = Ends (taken out) (taken out') (faults out) (faults out') exit (pack_output listing ending)
 
   -- a part of what an answer comes to, by its cases: a text was told, or reading failed and nothing came of it
-  by_answer : (P : Stop → Type 0)
-      → ((stop : Stop) (ending : Ending) → stop ≢ stops.ReadFault → ((pack_output listing ending).exit ≡ Done → stop ≡ stops.End) → Ends_with ending → P stop)
-      → (exit ≡ ReadFault → out' ≡ out → P stops.ReadFault) → (stop : Stop) → Concluded stop → P stop
+  by_answer : (P : Stop ScheduleFault → Type 0)
+      → ((stop : Stop ScheduleFault) (ending : Ending) → stop ≢ stops.ReadFault → ((pack_output listing ending).exit ≡ Done → stop ≡ stops.End) → Ends_with ending → P stop)
+      → (exit ≡ ReadFault → out' ≡ out → P stops.ReadFault) → (stop : Stop ScheduleFault) → Concluded stop → P stop
   by_answer P at read stops.End c = at stops.End AtEnd (λ same. cc) (λ done. refl) c
   by_answer P at read (stops.Refused line fault) c = at (stops.Refused line fault) (AtFault line fault) (λ same. cc) (λ done. cc) c
   by_answer P at read stops.TooLong c = at stops.TooLong AtLimit (λ same. cc) (λ done. cc) c
   by_answer P at read stops.ReadFault c = read c.0 c.1
 
   -- the program neither tells its usage nor wants memory
-  pub concludes-usage : (stop : Stop) → Concluded stop → exit ≢ Usage
+  pub concludes-usage : (stop : Stop ScheduleFault) → Concluded stop → exit ≢ Usage
   concludes-usage =
       by_answer (λ stop. exit ≢ Usage) (λ stop ending other done e. last-usage _ _ _ _ _ _ (output-last listing ending) e)
       (λ read same usage. let bad : ReadFault ≡ Usage = sym read ∙ usage in cc)
 
-  pub concludes-memory : (stop : Stop) → Concluded stop → exit ≢ OutOfMemory
+  pub concludes-memory : (stop : Stop ScheduleFault) → Concluded stop → exit ≢ OutOfMemory
   concludes-memory =
       by_answer (λ stop. exit ≢ OutOfMemory) (λ stop ending other done e. last-memory _ _ _ _ _ _ (output-last listing ending) e)
       (λ read same memory. let bad : ReadFault ≡ OutOfMemory = sym read ∙ memory in cc)
 
   -- where all was done, all lines were passed over
-  pub concludes-done : (stop : Stop) → Concluded stop → exit ≡ Done → stop ≡ stops.End
+  pub concludes-done : (stop : Stop ScheduleFault) → Concluded stop → exit ≡ Done → stop ≡ stops.End
   concludes-done =
       by_answer (λ stop. exit ≡ Done → stop ≡ stops.End) (λ stop ending other done e is. done (last-done _ _ _ _ _ _ (output-last listing ending) e is))
       (λ read same is. let bad : ReadFault ≡ Done = sym read ∙ is in cc)
 
   -- the causes of both faults
-  pub concludes-causes : (unread unread' : ℕ) (stop : Stop) → Concluded stop
+  pub concludes-causes : (unread unread' : ℕ) (stop : Stop ScheduleFault) → Concluded stop
       → (stop ≡ stops.ReadFault → Rose unread unread') → (stop ≢ stops.ReadFault → unread' ≡ unread) → HasCauses unread unread' (faults out) (faults out') exit
   concludes-causes unread unread' =
       by_answer (λ stop. (stop ≡ stops.ReadFault → Rose unread unread') → (stop ≢ stops.ReadFault → unread' ≡ unread) → HasCauses unread unread' (faults out) (faults out') exit)
@@ -83,7 +84,7 @@ module _ {K : Type 0} (taken : K → Option (List ℕ)) (faults : K → ℕ) (li
         (λ parts is. subst (λ x. Comes (ends_in (pack_output listing x))) (sym is) (comes-last _ _ _ _ fetches fetches exit cached _ e refl refl)) passes
 
     -- what was written is what the lines come to
-    pub concludes-comes : (stop : Stop) → PassesRest old new held held' stop → Concluded stop → OnParts (ahead old held) (λ parts. Comes (pack_course listing old.number parts))
+    pub concludes-comes : (stop : Stop ScheduleFault) → PassesRest old new held held' stop → Concluded stop → OnParts (ahead old held) (λ parts. Comes (pack_course listing old.number parts))
     concludes-comes stops.End r c = passes-comes AtEnd r c
     concludes-comes (stops.Refused line fault) r c = passes-comes (AtFault line fault) r c
     concludes-comes stops.TooLong r c = passes-comes AtLimit r c
@@ -97,7 +98,7 @@ module _ {K : Type 0} (taken : K → Option (List ℕ)) (faults : K → ℕ) (li
         }
 
     -- reading failed
-    pub concludes-sure : (stop : Stop) → PassesRest old new held held' stop → Concluded stop → exit ≡ ReadFault
+    pub concludes-sure : (stop : Stop ScheduleFault) → PassesRest old new held held' stop → Concluded stop → exit ≡ ReadFault
         → StandsOn old new held held' (taken out) (taken out') fetches fetches cached (pack_course listing old.number)
     concludes-sure stops.End r c read = absurd (last-read _ _ _ _ _ _ (output-last listing AtEnd) c read)
     concludes-sure (stops.Refused line fault) r c read = absurd (last-read _ _ _ _ _ _ (output-last listing (AtFault line fault)) c read)
@@ -116,5 +117,5 @@ module _ {K : Type 0} (taken : K → Option (List ℕ)) (faults : K → ℕ) (li
         }
 
 -- all known lines were passed over where all was done
-pub concludes-passed : (old new : Reader) (held held' : Option (List ℕ)) (stop : Stop) → PassesRest old new held held' stop → stop ≡ stops.End → PassAll old held AtEnd
+pub concludes-passed : (old new : Reader) (held held' : Option (List ℕ)) (stop : Stop ScheduleFault) → PassesRest old new held held' stop → stop ≡ stops.End → PassAll old held AtEnd
 concludes-passed old new held held' stop r is = subst (PassesRest old new held held') is r

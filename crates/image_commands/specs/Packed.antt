@@ -3,8 +3,9 @@ use Rattle.std.specs.Prelude.{◌≡◌, ℕ, List, Option}
 use Rattle.image_binary.specs.Image.{image_of}
 use Rattle.listing_read.specs.Statement.{ListingValue}
 use Rattle.schedule_replay.specs.Scheduled.{Ending, AtEnd, AtFault, AtLimit}
-use Rattle.schedule_replay.specs.declared.lines.Stop.{Stop}
-use Rattle.schedule_replay.specs.declared.lines.Stop.TheVariants as stops
+use Rattle.listing_read.specs.declared.fault.ScheduleFault.{ScheduleFault}
+use Rattle.judged_lines.specs.declared.stop.Stop.{Stop}
+use Rattle.judged_lines.specs.declared.stop.Stop.TheVariants as stops
 use Rattle.courses.specs.Course.{ends_in}
 use Rattle.courses.specs.Ending.{Output, EndsIn, refused_schedule, too_long}
 use Rattle.courses.specs.Listed.{Behind}
@@ -24,7 +25,7 @@ abbrev pub pack_course : Behind
 pack_course listing last rest = ends_in (pack_output listing (passed last rest))
 
 -- how the program ends by the reason why there is no further line
-abbrev pub Concludes : {K : Type 0} → (K → Option (List ℕ)) → (K → ℕ) → ListingValue → Stop → K → K → Exit → Type 0
+abbrev pub Concludes : {K : Type 0} → (K → Option (List ℕ)) → (K → ℕ) → ListingValue → Stop ScheduleFault → K → K → Exit → Type 0
 Concludes taken faults listing stops.End old new exit = EndsIn taken faults old new exit (pack_output listing AtEnd)
 Concludes taken faults listing (stops.Refused line fault) old new exit =
     EndsIn taken faults old new exit (pack_output listing (AtFault line fault))

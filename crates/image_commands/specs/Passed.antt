@@ -2,14 +2,13 @@
 use Rattle.std.specs.Prelude.{◌≡◌, ℕ, ◌+◌, List, [], ◌∷◌, Option, Result, Ok, Err}
 use Rattle.coy_io.specs.Lines.{Part, Line, LongLine, PastLimit}
 use Rattle.coy_io.specs.Reader.{Reader, ahead}
-use Rattle.listing_read.specs.Reads.{IsStopped}
 use Rattle.listing_read.specs.Schedule.{eventless_line}
 use Rattle.listing_read.specs.declared.fault.ScheduleFault.{ScheduleFault}
 use Rattle.listing_read.specs.declared.fault.ScheduleFault.TheVariants.{LineTooLong}
-use Rattle.schedule_replay.specs.Lines.{FailsOn, ReadsOn}
+use Rattle.schedule_replay.specs.Lines.{FailsOn}
 use Rattle.schedule_replay.specs.Scheduled.{Ending, AtEnd, AtFault, AtLimit, OnParts}
-use Rattle.schedule_replay.specs.declared.lines.Stop.{Stop}
-use Rattle.schedule_replay.specs.declared.lines.Stop.TheVariants as stops
+use Rattle.judged_lines.specs.declared.stop.Stop.{Stop}
+use Rattle.judged_lines.specs.declared.stop.Stop.TheVariants as stops
 
 -- where lines end of which line `n` is the first, by what is wrong with it and where those behind it end
 abbrev pub passed_with : ℕ → Result (Unit {0}) ScheduleFault → Ending → Ending
@@ -24,27 +23,18 @@ passed n (LongLine ∷ parts) = AtFault (n + 1) LineTooLong
 passed n (PastLimit ∷ parts) = AtLimit
 passed n (Line line ∷ parts) = passed_with (n + 1) (eventless_line line) (passed (n + 1) parts)
 
+-- how a line is judged by itself: it is skipped, or this is its fault
+abbrev pub JudgesEventless : Unit {0} → List ℕ → Result (Unit {0}) ScheduleFault → Unit {0} → Type 0
+JudgesEventless before line answer behind = answer ≡ eventless_line line
+
 -- ---- lines as they are read
 
 -- the lines to come end here
 abbrev pub PassAll : Reader → Option (List ℕ) → Ending → Type 0
 PassAll old held ending = OnParts (ahead old held) (λ parts. passed old.number parts ≡ ending)
 
--- what reading one line more came to
-abbrev pub PassesNext : Reader → Reader → Option (List ℕ) → Option (List ℕ) → Result (Unit {0}) Stop → Type 0
-PassesNext old new held held' (Ok done) = ReadsOn (passed old.number) (passed new.number) old new held held'
-PassesNext old new held held' (Err stops.End) = PassAll old held AtEnd
-PassesNext old new held held' (Err (stops.Refused line fault)) = PassAll old held (AtFault line fault)
-PassesNext old new held held' (Err stops.TooLong) = PassAll old held AtLimit
-PassesNext old new held held' (Err stops.ReadFault) = IsStopped old new held held'
-
--- whether line `n` is passed over, where it is read by itself: a line that is refused is the last that is read
-abbrev pub passed_alone : ℕ → Result (Unit {0}) ScheduleFault → Result (Unit {0}) Stop
-passed_alone n (Ok done) = Ok tt
-passed_alone n (Err fault) = Err (stops.Refused n fault)
-
 -- what reading all lines came to, up to where they end
-abbrev pub PassesRest : Reader → Reader → Option (List ℕ) → Option (List ℕ) → Stop → Type 0
+abbrev pub PassesRest : Reader → Reader → Option (List ℕ) → Option (List ℕ) → Stop ScheduleFault → Type 0
 PassesRest old new held held' stops.End = PassAll old held AtEnd
 PassesRest old new held held' (stops.Refused line fault) = PassAll old held (AtFault line fault)
 PassesRest old new held held' stops.TooLong = PassAll old held AtLimit

@@ -20,8 +20,9 @@ use Rattle.courses.specs.Course.{course_output}
 use Rattle.courses.specs.Listed.{listed_course, lines_course}
 use Rattle.migrate_command.specs.Migrate.{Accords, PutsLines, migrate_course, migrated}
 use Rattle.schedule_replay.proofs.Reading.{on_all}
-use Rattle.schedule_replay.specs.declared.lines.Stop.{Stop}
-use Rattle.schedule_replay.specs.declared.lines.Stop.TheVariants as stops
+use Rattle.listing_read.specs.declared.fault.ScheduleFault.{ScheduleFault}
+use Rattle.judged_lines.specs.declared.stop.Stop.{Stop}
+use Rattle.judged_lines.specs.declared.stop.Stop.TheVariants as stops
 use Rattle.migrate_command.specs.Same.{IsMigrated, ReadsAgain, Says}
 
 -- the lines of what is asked for ask for it
@@ -54,7 +55,7 @@ reads_again law events listing is typed lines timed last rest asks =
     }
 
 -- where all lines were written, their text is read again
-pub puts-again : {E : Type 0} (old new : Reader) (held held' taken taken' : Option (List ℕ)) (answer : Result Stop E) (listing : ListingValue) → MigratedIsRead → EventsAreRead → IsListing listing
+pub puts-again : {E : Type 0} (old new : Reader) (held held' taken taken' : Option (List ℕ)) (answer : Result (Stop ScheduleFault) E) (listing : ListingValue) → MigratedIsRead → EventsAreRead → IsListing listing
     → All IsTyped listing.statements → answer ≡ Ok stops.End → PutsLines listing.sizes.harts old new held held' taken taken' answer
     → OnParts (ahead old held) (λ parts. ReadsAgain listing old.number parts)
 puts-again old new held held' taken taken' answer listing law events is typed end puts =

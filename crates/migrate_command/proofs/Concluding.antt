@@ -14,8 +14,8 @@ use Rattle.run_text.proofs.Texts.{cut_before, cut_behind}
 use Rattle.statement_text.specs.Text.{event_text, events_text, listing_text}
 use Rattle.schedule_replay.specs.Asked.{Asked, asked}
 use Rattle.schedule_replay.specs.Scheduled.{AtEnd, AtFault, AtLimit, Ending, OnParts}
-use Rattle.schedule_replay.specs.declared.lines.Stop.{Stop}
-use Rattle.schedule_replay.specs.declared.lines.Stop.TheVariants as stops
+use Rattle.judged_lines.specs.declared.stop.Stop.{Stop}
+use Rattle.judged_lines.specs.declared.stop.Stop.TheVariants as stops
 use Rattle.schedule_replay.proofs.Reading.{on_all}
 use Rattle.courses.specs.Course.{Course, ComesTo, cached, course_output}
 use Rattle.courses.specs.Ending.{Output, Outputs, Ends, HasCauses, refused_schedule, too_long}
@@ -84,7 +84,7 @@ module _ {K : Type 0} (taken : K → Option (List ℕ)) (faults : K → ℕ) (st
         (Appends-trans start (taken mid) (taken now) (listing_text listing) (events_text lines) listed written) last))
 
   -- what came is what is asked for, by how the lines ended
-  pub comes-by : {E : Type 0} (answer : Result Stop E) (now : K) (all : Asked) → WritesLines (taken mid) (taken now) answer lines → Accords answer lines all → Concludes taken faults answer now out exit
+  pub comes-by : {E : Type 0} (answer : Result (Stop ScheduleFault) E) (now : K) (all : Asked) → WritesLines (taken mid) (taken now) answer lines → Accords answer lines all → Concludes taken faults answer now out exit
       → (fetches : ℕ) → ComesTo start (taken out) fetches fetches exit cached (migrated listing all)
   comes-by (Ok stops.End) now all written is c =
       comes-behind now AtEnd written (λ memory. let bad : Done ≡ OutOfMemory = sym c.0 ∙ memory in cc) (outputs_done (taken now) (taken out) exit c.0 (ap taken c.1)) all is
@@ -107,18 +107,18 @@ module _ {K : Type 0} (taken : K → Option (List ℕ)) (faults : K → ℕ) (st
 -- ---- what else is so of the end
 
 module _ {K E : Type 0} (taken : K → Option (List ℕ)) (faults : K → ℕ) (now out : K) (exit : Exit) where
-  abbrev Concluded : Result Stop E → Type 0
+  abbrev Concluded : Result (Stop ScheduleFault) E → Type 0
   Concluded answer = Concludes taken faults answer now out exit
 
   -- the program neither tells its usage nor wants memory
-  pub concludes-usage : (answer : Result Stop E) → Concluded answer → exit ≢ Usage
+  pub concludes-usage : (answer : Result (Stop ScheduleFault) E) → Concluded answer → exit ≢ Usage
   concludes-usage (Ok stops.End) c = λ usage. let bad : Done ≡ Usage = sym c.0 ∙ usage in cc
   concludes-usage (Ok (stops.Refused line fault)) c = last-usage _ _ _ _ _ _ (refused-last line fault) c
   concludes-usage (Ok stops.TooLong) c = last-usage _ _ _ _ _ _ past-last c
   concludes-usage (Ok stops.ReadFault) c = λ usage. let bad : ReadFault ≡ Usage = sym c.0 ∙ usage in cc
   concludes-usage (Err fault) c = λ usage. let bad : WriteFault ≡ Usage = sym c.0 ∙ usage in cc
 
-  pub concludes-memory : (answer : Result Stop E) → Concluded answer → exit ≢ OutOfMemory
+  pub concludes-memory : (answer : Result (Stop ScheduleFault) E) → Concluded answer → exit ≢ OutOfMemory
   concludes-memory (Ok stops.End) c = λ memory. let bad : Done ≡ OutOfMemory = sym c.0 ∙ memory in cc
   concludes-memory (Ok (stops.Refused line fault)) c = last-memory _ _ _ _ _ _ (refused-last line fault) c
   concludes-memory (Ok stops.TooLong) c = last-memory _ _ _ _ _ _ past-last c
@@ -126,7 +126,7 @@ module _ {K E : Type 0} (taken : K → Option (List ℕ)) (faults : K → ℕ) (
   concludes-memory (Err fault) c = λ memory. let bad : WriteFault ≡ OutOfMemory = sym c.0 ∙ memory in cc
 
   -- where all was done, all lines were read
-  pub concludes-done : (answer : Result Stop E) → Concluded answer → exit ≡ Done → answer ≡ Ok stops.End
+  pub concludes-done : (answer : Result (Stop ScheduleFault) E) → Concluded answer → exit ≡ Done → answer ≡ Ok stops.End
   concludes-done (Ok stops.End) c done = refl
   concludes-done (Ok (stops.Refused line fault)) c done = let bad = last-done _ _ _ _ _ _ (refused-last line fault) c done in cc
   concludes-done (Ok stops.TooLong) c done = let bad = last-done _ _ _ _ _ _ past-last c done in cc
@@ -134,7 +134,7 @@ module _ {K E : Type 0} (taken : K → Option (List ℕ)) (faults : K → ℕ) (
   concludes-done (Err fault) c done = let bad : WriteFault ≡ Done = sym c.0 ∙ done in cc
 
   -- the causes of both faults
-  pub concludes-causes : (unread unread' unwritten : ℕ) (answer : Result Stop E) → Concluded answer → (answer ≡ Ok stops.ReadFault → Rose unread unread')
+  pub concludes-causes : (unread unread' unwritten : ℕ) (answer : Result (Stop ScheduleFault) E) → Concluded answer → (answer ≡ Ok stops.ReadFault → Rose unread unread')
       → (answer ≢ Ok stops.ReadFault → unread' ≡ unread) → HasCause unwritten (faults now) answer → HasCauses unread unread' unwritten (faults out) exit
   concludes-causes unread unread' unwritten (Ok stops.End) c rose quiet cause = record {
     read = λ same. let bad : Done ≡ ReadFault = sym c.0 ∙ same in cc;
@@ -160,7 +160,7 @@ module _ {K E : Type 0} (taken : K → Option (List ℕ)) (faults : K → ℕ) (
 
 -- reading failed
 pub concludes-sure : {K E : Type 0} (taken : K → Option (List ℕ)) (faults : K → ℕ) (start held held' : Option (List ℕ)) (mid now out : K) (exit : Exit) (listing : ListingValue) (old new : Reader)
-    (answer : Result Stop E) → Appends start (taken mid) (listing_text listing) → PutsLines listing.sizes.harts old new held held' (taken mid) (taken now) answer
+    (answer : Result (Stop ScheduleFault) E) → Appends start (taken mid) (listing_text listing) → PutsLines listing.sizes.harts old new held held' (taken mid) (taken now) answer
     → Concludes taken faults answer now out exit → exit ≡ ReadFault → (fetches : ℕ)
     → StandsOn old new held held' start (taken out) fetches fetches cached (λ parts. migrated listing (asked listing.sizes.harts old.number parts))
 concludes-sure taken faults start held held' mid now out exit listing old new (Ok stops.End) listed puts c read fetches = let bad : Done ≡ ReadFault = sym c.0 ∙ read in cc
@@ -185,7 +185,7 @@ concludes-sure taken faults start held held' mid now out exit listing old new (O
 
 -- what was written is what the known lines come to
 pub concludes-comes : {K E : Type 0} (taken : K → Option (List ℕ)) (faults : K → ℕ) (start held held' : Option (List ℕ)) (mid now out : K) (exit : Exit) (listing : ListingValue) (old new : Reader)
-    (answer : Result Stop E) → Appends start (taken mid) (listing_text listing) → PutsLines listing.sizes.harts old new held held' (taken mid) (taken now) answer
+    (answer : Result (Stop ScheduleFault) E) → Appends start (taken mid) (listing_text listing) → PutsLines listing.sizes.harts old new held held' (taken mid) (taken now) answer
     → Concludes taken faults answer now out exit → (fetches : ℕ)
     → OnParts (ahead old held) (λ parts. ComesTo start (taken out) fetches fetches exit cached (migrated listing (asked listing.sizes.harts old.number parts)))
 concludes-comes taken faults start held held' mid now out exit listing old new answer listed puts c fetches =

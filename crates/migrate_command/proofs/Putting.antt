@@ -15,8 +15,9 @@ use Rattle.statement_text.specs.Text.{event_text, events_text}
 use Rattle.schedule_replay.specs.Asked.{Asked, AskNone, AsksNext, asked, asks_first, asks_none, of_line}
 use Rattle.schedule_replay.specs.Lines.{FailsOn, ReadsOn}
 use Rattle.schedule_replay.specs.Scheduled.{AtEnd, AtFault, AtLimit, Ending, OnParts}
-use Rattle.schedule_replay.specs.declared.lines.Stop.{Stop}
-use Rattle.schedule_replay.specs.declared.lines.Stop.TheVariants as stops
+use Rattle.listing_read.specs.declared.fault.ScheduleFault.{ScheduleFault}
+use Rattle.judged_lines.specs.declared.stop.Stop.{Stop}
+use Rattle.judged_lines.specs.declared.stop.Stop.TheVariants as stops
 use Rattle.schedule_replay.proofs.Asked.{asked-end}
 use Rattle.schedule_replay.proofs.ReadOn.{fails_on, on_lines, reads_on-map, reads_on-none, reads_on-same, reads_on-trans}
 use Rattle.schedule_replay.proofs.Reading.{on_all}
@@ -85,7 +86,7 @@ module _ (harts : ℕ) (old : Reader) (held taken : Option (List ℕ)) where
         (λ rest is. ap (asks_first s.lines) is ∙ ap (λ lines. let a : Asked = record { lines = lines; ending = ending } in a) (append-nil s.lines)) none)
 
     -- there is no further line
-    pub puts-stop : {E : Type 0} (stop : Stop) (new : Reader) (held'' : Option (List ℕ)) → AsksNext harts mid new held' held'' (Err stop)
+    pub puts-stop : {E : Type 0} (stop : Stop ScheduleFault) (new : Reader) (held'' : Option (List ℕ)) → AsksNext harts mid new held' held'' (Err stop)
         → PutsLines {E = E} harts old new held held'' taken taken' (Ok stop)
     puts-stop stops.End new held'' next = record { lines = s.lines; timed = s.timed; known = ends_so AtEnd next; written = s.written; fails = λ read. cc }
     puts-stop (stops.Refused line fault) new held'' next = record { lines = s.lines; timed = s.timed; known = ends_so (AtFault line fault) next; written = s.written; fails = λ read. cc }
@@ -104,6 +105,6 @@ module _ (harts : ℕ) (old : Reader) (held taken : Option (List ℕ)) where
     }
 
 -- by another name of the number of harts
-pub puts-harts : {E : Type 0} (harts harts' : ℕ) (old new : Reader) (held held' taken taken' : Option (List ℕ)) (answer : Result Stop E) → harts ≡ harts'
+pub puts-harts : {E : Type 0} (harts harts' : ℕ) (old new : Reader) (held held' taken taken' : Option (List ℕ)) (answer : Result (Stop ScheduleFault) E) → harts ≡ harts'
     → PutsLines harts old new held held' taken taken' answer → PutsLines harts' old new held held' taken taken' answer
 puts-harts harts harts' old new held held' taken taken' answer same puts = subst (λ n. PutsLines n old new held held' taken taken' answer) same puts

@@ -12,8 +12,9 @@ use Rattle.statement_text.specs.Text.{events_text, listing_text}
 use Rattle.schedule_replay.specs.Asked.{Asked, asked}
 use Rattle.schedule_replay.specs.Lines.{FailsOn}
 use Rattle.schedule_replay.specs.Scheduled.{Ending, AtEnd, AtFault, AtLimit, OnParts}
-use Rattle.schedule_replay.specs.declared.lines.Stop.{Stop}
-use Rattle.schedule_replay.specs.declared.lines.Stop.TheVariants as stops
+use Rattle.listing_read.specs.declared.fault.ScheduleFault.{ScheduleFault}
+use Rattle.judged_lines.specs.declared.stop.Stop.{Stop}
+use Rattle.judged_lines.specs.declared.stop.Stop.TheVariants as stops
 use Rattle.courses.specs.Course.{Course, ends_in}
 use Rattle.courses.specs.Ending.{Output, EndsIn, refused_schedule, too_long}
 use Rattle.courses.specs.Listed.{Behind}
@@ -38,19 +39,19 @@ migrate_course listing last rest = migrated listing (asked listing.sizes.harts l
 -- ---- lines as they are written
 
 -- this is what was asked for up to here, and why there was no further line; or writing failed in its last line
-abbrev pub Accords : {E : Type 0} → Result Stop E → List Timed → Asked → Type 0
+abbrev pub Accords : {E : Type 0} → Result (Stop ScheduleFault) E → List Timed → Asked → Type 0
 Accords (Ok stops.End) lines all = all ≡ record { lines = lines; ending = AtEnd }
 Accords (Ok (stops.Refused line fault)) lines all = all ≡ record { lines = lines; ending = AtFault line fault }
 Accords (Ok stops.TooLong) lines all = all ≡ record { lines = lines; ending = AtLimit }
 Accords _ lines all = (rest : List Timed) × (all.lines ≡ lines ++ rest)
 
 -- the lines of all that was asked for were written, or a front of them where writing failed
-abbrev pub WritesLines : {E : Type 0} → Option (List ℕ) → Option (List ℕ) → Result Stop E → List Timed → Type 0
+abbrev pub WritesLines : {E : Type 0} → Option (List ℕ) → Option (List ℕ) → Result (Stop ScheduleFault) E → List Timed → Type 0
 WritesLines taken taken' (Ok stop) lines = Appends taken taken' (events_text lines)
 WritesLines taken taken' (Err fault) lines = AppendsSome taken taken' (events_text lines)
 
 -- what was asked for by the lines behind a listing, of a machine with so many harts, and that it was written
-pub record PutsLines {E : Type 0} (harts : ℕ) (old new : Reader) (held held' taken taken' : Option (List ℕ)) (answer : Result Stop E) : Type 0 where
+pub record PutsLines {E : Type 0} (harts : ℕ) (old new : Reader) (held held' taken taken' : Option (List ℕ)) (answer : Result (Stop ScheduleFault) E) : Type 0 where
   pub lines : List Timed
   pub timed : All (IsTimed harts) lines
   pub known : OnParts (ahead old held) (λ parts. Accords answer lines (asked harts old.number parts))
@@ -58,7 +59,7 @@ pub record PutsLines {E : Type 0} (harts : ℕ) (old new : Reader) (held held' t
   pub fails : answer ≡ Ok stops.ReadFault → FailsOn (asked harts old.number) (record { lines = lines; ending = AtEnd }) old new held held'
 
 -- how the program ends behind these lines: by what is written last, or where reading or writing failed with nothing more
-abbrev pub Concludes : {K E : Type 0} → (K → Option (List ℕ)) → (K → ℕ) → Result Stop E → K → K → Exit → Type 0
+abbrev pub Concludes : {K E : Type 0} → (K → Option (List ℕ)) → (K → ℕ) → Result (Stop ScheduleFault) E → K → K → Exit → Type 0
 Concludes taken faults (Ok stops.End) old new exit = (exit ≡ Done) × (new ≡ old)
 Concludes taken faults (Ok (stops.Refused line fault)) old new exit = EndsIn taken faults old new exit (refused_schedule line fault)
 Concludes taken faults (Ok stops.TooLong) old new exit = EndsIn taken faults old new exit too_long

@@ -2,6 +2,7 @@
 ghost use Rattle.std.specs.Prelude.{◌≡◌, ◌≢◌, false, true};
 ghost use Rattle.coy_io.specs.Causes.{HasCause, Rose};
 ghost use Rattle.coy_io.specs.Reader.{TellsEnd};
+ghost use Rattle.judged_lines.specs.declared.stop.Stop.{Stop};
 ghost use Rattle.schedule_replay.specs.Asked.{of_line};
 ghost use Rattle.statement_text.specs.Text.{events_text};
 ghost use Rattle.statement_text.specs.Written.{WroteTo};

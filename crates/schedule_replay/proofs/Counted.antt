@@ -7,15 +7,16 @@ use Rattle.schedule_replay.specs.Counts.{events_alone}
 use Rattle.schedule_replay.specs.Replay.{Counted, answer_at, count_answer, stop_answer}
 use Rattle.schedule_replay.specs.Scheduled.{Ending, IsNextLine, Reads, ends, preceded}
 use Rattle.schedule_replay.specs.declared.counts.Counts.{Counts}
-use Rattle.schedule_replay.specs.declared.lines.Stop.{Stop}
-use Rattle.schedule_replay.specs.declared.lines.Stop.TheVariants as stops
+use Rattle.listing_read.specs.declared.fault.ScheduleFault.{ScheduleFault}
+use Rattle.judged_lines.specs.declared.stop.Stop.{Stop}
+use Rattle.judged_lines.specs.declared.stop.Stop.TheVariants as stops
 use Rattle.schedule_replay.specs.declared.replayed.Replayed.{Replayed}
 use Rattle.schedule_replay.specs.declared.replayed.Replayed.TheVariants as answers
 use Rattle.schedule_replay.proofs.Reading.{reads-none, reads-trans}
 use Rattle.schedule_replay.proofs.SoFar.{follows-stop}
 
 -- no stop is a fault of writing
-stop-no-write : (counts : Counts) (stop : Stop) → stop_answer counts stop ≡ answers.WriteFault → ⊥
+stop-no-write : (counts : Counts) (stop : Stop ScheduleFault) → stop_answer counts stop ≡ answers.WriteFault → ⊥
 stop-no-write counts stops.End same = cc
 stop-no-write counts (stops.Refused line fault) same = cc
 stop-no-write counts stops.TooLong same = cc
@@ -49,7 +50,7 @@ module _ (harts : ℕ) (old : Reader) (held : Option (List ℕ)) where
         }
 
     -- no further line was read
-    pub counts-stop : (stop : Stop) (answer : Replayed) → IsNextLine harts now now1 held' held1 (Err stop) → answer ≡ stop_answer (events_alone events) stop → Counted harts old now1 held held1 answer
+    pub counts-stop : (stop : Stop ScheduleFault) (answer : Replayed) → IsNextLine harts now now1 held' held1 (Err stop) → answer ≡ stop_answer (events_alone events) stop → Counted harts old now1 held held1 answer
     counts-stop stop answer next by =
         let all : (ending : Ending) → answer_at (events_alone events) ending ≡ count_answer (preceded c.done (ends ending)) =
         λ ending. ap (λ n. answer_at (events_alone n) ending) (c.size ∙ ap length (sym (append-nil c.done))) in

@@ -1,9 +1,11 @@
 -- Line by line, what is made of the lines of an input.
-use Rattle.std.proofs.Common.{◌≡◌, ◌∙◌, ◌∷◌, ◌++◌, [], ℕ, List, true, Option, Some, None, Ok, refl, sym, ap, subst, append_assoc, append-nil}
+use Rattle.std.proofs.Common.{◌≡◌, ◌∙◌, ◌∷◌, ◌++◌, [], ℕ, List, true, Option, Some, None, Result, Ok, refl, sym, ap, subst, append_assoc, append-nil}
 use Rattle.coy_io.specs.Lines.{Part, Line}
 use Rattle.coy_io.specs.Reader.{Reader, IsLine, IsNext, IsSpent, ahead, bytes_ahead}
 use Rattle.coy_io.proofs.GivenLaws.{Advances-nil, Advances-trans, GivesLines-nil, GivesLines-trans, GivesLines-kept, GivesLines-line}
 use Rattle.listing_read.specs.Reads.{IsStopped}
+use Rattle.judged_lines.specs.Judged.{JudgesAll}
+use Rattle.judged_lines.specs.declared.stop.Stop.TheVariants as stops
 use Rattle.schedule_replay.specs.Lines.{ReadsOn, FailsOn}
 use Rattle.schedule_replay.specs.Scheduled.{OnParts}
 use Rattle.schedule_replay.proofs.Reading.{gave, gave_none, gave-none, not_ended, on_given}
@@ -75,3 +77,18 @@ module _ {M : Type 0} where
     gives = GivesLines-kept (bytes_ahead old held) (bytes_ahead mid held') (bytes_ahead new held'') r.given (r.bytes stop.before) stop.kept;
     makes = ap was (sym (append-nil r.given)) ∙ r.makes [];
   }
+
+  -- lines were judged, and then reading failed: this is made of those that were given
+  pub fails_on-judged : {Made Said Fault : Type 0} (judged : Made → List ℕ → Result Said Fault → Made → Type 0) (long : Fault) (was : List Part → M) (made : M) (first last : Made)
+      (old new : Reader) (held held' : Option (List ℕ)) → (a : JudgesAll judged long first last old new held held' stops.ReadFault) → was a.takes.given ≡ made
+      → FailsOn was made old new held held'
+  fails_on-judged judged long was made first last old new held held' a makes =
+      let stop = a.stops.0 in
+      record {
+        before = a.takes.before stop.before;
+        going = stop.unended;
+        unfinished = stop.unfinished;
+        given = a.takes.given;
+        gives = GivesLines-kept (bytes_ahead old held) (bytes_ahead a.reader a.left) (bytes_ahead new held') a.takes.given (a.takes.bytes stop.before) stop.kept;
+        makes = makes;
+      }

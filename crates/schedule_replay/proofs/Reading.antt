@@ -1,18 +1,20 @@
 -- Line by line, what the lines behind a listing ask for.
-use Rattle.std.proofs.Common.{◌≡◌, ◌+◌, ◌∙◌, ◌∷◌, ◌++◌, [], ℕ, List, Bool, true, false, Option, Some, None, Result, Ok, Err, refl, sym, ap, subst, append_assoc, append-nil}
+use Rattle.std.proofs.Common.{◌≡◌, ◌+◌, ◌∙◌, ◌∷◌, ◌++◌, [], ℕ, List, Bool, true, false, Option, Some, None, Result, Ok, Err, refl, sym, ap, subst, inl, inr, IfOk, IfSome, append_assoc, append-nil}
 use Rattle.coy_io.specs.Lines.{Part, Line, LongLine, PastLimit}
-use Rattle.coy_io.specs.Reader.{Reader, Advances, Begins, IsDone, IsLine, IsNext, IsSpent, ahead, bytes_ahead}
+use Rattle.coy_io.specs.Reader.{Reader, Advances, Begins, IsDone, ahead, bytes_ahead}
 use Rattle.coy_io.specs.declared.lines.LineFault.{LineFault}
-use Rattle.coy_io.proofs.GivenLaws.{Advances-nil, Advances-trans, GivesLines-nil, GivesLines-trans, GivesLines-kept, GivesLines-line}
+use Rattle.coy_io.proofs.GivenLaws.{Advances-nil, Advances-trans, GivesLines-nil, GivesLines-trans, GivesLines-kept}
 use Rattle.machine_state.specs.declared.event.Event.{Event}
-use Rattle.listing_read.specs.Schedule.{schedule_line}
+use Rattle.listing_read.specs.Schedule.{IsTimed, schedule_line}
 use Rattle.listing_read.specs.Reads.{IsStopped}
 use Rattle.listing_read.specs.declared.fault.ScheduleFault.{ScheduleFault}
 use Rattle.listing_read.specs.declared.fault.ScheduleFault.TheVariants.{LineTooLong}
 use Rattle.listing_read.specs.declared.schedule.Timed.{Timed}
-use Rattle.schedule_replay.specs.declared.lines.Stop.{Stop}
+use Rattle.judged_lines.specs.Judged.{JudgesNext, Refuses}
+use Rattle.judged_lines.specs.declared.stop.Stop.{Stop}
+use Rattle.judged_lines.specs.declared.stop.Stop.TheVariants as stops
 use Rattle.schedule_replay.specs.Replay.{FailsBehind}
-use Rattle.schedule_replay.specs.Scheduled.{Scheduled, AtEnd, AtFault, AtLimit, ends, preceded, asked_events, asked_alone, asked_with, scheduled, OnParts, Reads, EndHere, IsNextLine}
+use Rattle.schedule_replay.specs.Scheduled.{Scheduled, AtEnd, AtFault, AtLimit, ends, preceded, asked_events, asked_with, scheduled, OnParts, Reads, EndHere, IsNextLine, JudgesTimed}
 
 -- ---- what lines ask for
 
@@ -58,6 +60,11 @@ on_given None left given P a all = tt
 on_given (Some parts) None given P a all = absurd a
 on_given (Some parts) (Some rest) given P a all = subst P (sym a) (all rest refl)
 
+-- what is so of all lines that may be the known ones
+pub on_each : (left : Option (List Part)) (P : List Part → Type 0) → ((parts : List Part) → left ≡ Some parts → P parts) → OnParts left P
+on_each None P all = tt
+on_each (Some parts) P all = all parts refl
+
 -- what follows from all lines follows from those that are known
 pub on_all : (left : Option (List Part)) (P Q : List Part → Type 0) → ((parts : List Part) → P parts → Q parts) → OnParts left P → OnParts left Q
 on_all None P Q all is = tt
@@ -79,30 +86,6 @@ on_known (Some parts) rest P all same =
     let is : parts ≡ rest = cc in
     subst P is all
 
--- ---- where no further line is
-
--- there is none
-pub end-here : (harts : ℕ) (old : Reader) (held : Option (List ℕ)) → IsDone (ahead old held) → EndHere harts old held AtEnd
-end-here harts old held none = on_none (ahead old held) (λ parts. scheduled harts old.number parts ≡ ends AtEnd) none (scheduled-end harts old.number)
-
--- the next is too long
-pub long-here : (harts n : ℕ) (old : Reader) (held : Option (List ℕ)) → n ≡ old.number → Begins (ahead old held) LongLine → EndHere harts old held (AtFault (n + 1) LineTooLong)
-long-here harts n old held is long =
-    on_begun (ahead old held) LongLine (λ parts. scheduled harts old.number parts ≡ ends (AtFault (n + 1) LineTooLong)) long
-    (λ rest. scheduled-long harts old.number rest ∙ ap (λ k. ends (AtFault (k + 1) LineTooLong)) (sym is))
-
--- it is past the limit
-pub past-here : (harts : ℕ) (old : Reader) (held : Option (List ℕ)) → Begins (ahead old held) PastLimit → EndHere harts old held AtLimit
-past-here harts old held past =
-    on_begun (ahead old held) PastLimit (λ parts. scheduled harts old.number parts ≡ ends AtLimit) past (λ rest. scheduled-past harts old.number rest)
-
--- it is refused
-pub refused-here : (harts n : ℕ) (old : Reader) (held left : Option (List ℕ)) (new : Reader) (line : List ℕ) (fault : ScheduleFault) → n ≡ old.number
-    → Advances (ahead old held) (ahead new left) (Line line ∷ []) → schedule_line harts line ≡ Err fault → EndHere harts old held (AtFault (n + 1) fault)
-refused-here harts n old held left new line fault is next bad =
-    on_given (ahead old held) (ahead new left) (Line line ∷ []) (λ parts. scheduled harts old.number parts ≡ ends (AtFault (n + 1) fault)) next
-    (λ rest same. scheduled-refused harts old.number line fault rest bad ∙ ap (λ k. ends (AtFault (k + 1) fault)) (sym is))
-
 -- ---- lines that were read
 
 pub not_ended : {A X : Type 0} (ended : Bool) (x y : A) → (ended ≡ true → (x ≡ y) × X) → (x ≡ y → ⊥) → ended ≡ false
@@ -123,31 +106,36 @@ gave_none = Ok None
 pub gave-none : (n : ℕ) → gave n ≡ gave_none → ⊥
 gave-none n e = cc
 
--- one line, which asks for this
-pub reads-line : {X : Type 0} (harts n : ℕ) (old new : Reader) (held held' : Option (List ℕ)) (asked : Option Timed)
-    → IsNext (Ok (Some n)) new.line (ahead old held) (ahead new held') → IsSpent (Ok (Some n)) new (bytes_ahead old held) (bytes_ahead new held')
-    → IsLine n new.line → (old.ended ≡ true → (gave n ≡ gave_none) × X) → new.number ≡ old.number + 1 → schedule_line harts new.line ≡ Ok asked
-    → Reads harts old new held held' (asked_events harts asked)
-reads-line harts n old new held held' asked next spent line ended number is = record {
-  given = Line new.line ∷ [];
-  lines = next;
-  before = λ going. not_ended old.ended (gave n) gave_none ended (gave-none n);
-  bytes = λ going. GivesLines-line n new (bytes_ahead old held) (bytes_ahead new held') going line spent;
-  asks = λ rest. scheduled-asked harts old.number new.number new.line asked rest is number;
-}
-
 -- the next line, whatever it asks for
-pub next-line : {X : Type 0} (harts n k : ℕ) (old new : Reader) (held held' : Option (List ℕ)) (line : List ℕ) (answer : Result (Option Timed) Stop)
-    → k ≡ old.number → line ≡ new.line → answer ≡ asked_alone (k + 1) (schedule_line harts line)
-    → IsNext (Ok (Some n)) new.line (ahead old held) (ahead new held') → IsSpent (Ok (Some n)) new (bytes_ahead old held) (bytes_ahead new held')
-    → IsLine n new.line → (old.ended ≡ true → (gave n ≡ gave_none) × X) → new.number ≡ old.number + 1
-    → IsNextLine harts old new held held' answer
-next-line harts n k old new held held' line answer is same by next spent whole ended number =
-    subst (IsNextLine harts old new held held') (sym by) (by_line (schedule_line harts line) refl)
+pub next-line : (harts : ℕ) (old new : Reader) (held held' : Option (List ℕ)) (answer : Result (Option Timed) (Stop ScheduleFault))
+    → JudgesNext (JudgesTimed harts) LineTooLong tt tt old new held held' answer → IsNextLine harts old new held held' answer
+next-line harts old new held held' (Ok asked) next = record {
+  given = Line new.line ∷ [];
+  lines = next.0.line;
+  before = λ going. next.0.before;
+  bytes = next.0.given;
+  asks = λ rest. scheduled-asked harts old.number new.number new.line asked rest (sym next.1.0) next.0.counted;
+}
+next-line harts old new held held' (Err stops.End) next =
+    on_none (ahead old held) (λ parts. scheduled harts old.number parts ≡ ends AtEnd) next.0.none (scheduled-end harts old.number)
+next-line harts old new held held' (Err (stops.Refused line fault)) next = by_cause next.1
   where
-    by_line : (asked : Result (Option Timed) ScheduleFault) → schedule_line harts line ≡ asked → IsNextLine harts old new held held' (asked_alone (k + 1) asked)
-    by_line (Ok asked) asks = reads-line harts n old new held held' asked next spent whole ended number (ap (schedule_line harts) (sym same) ∙ asks)
-    by_line (Err fault) asks = refused-here harts k old held held' new new.line fault is next (ap (schedule_line harts) (sym same) ∙ asks)
+    by_cause : Refuses (JudgesTimed harts) LineTooLong tt tt old new held held' fault → EndHere harts old held (AtFault line fault)
+    by_cause (inl long) =
+        on_begun (ahead old held) LongLine (λ parts. scheduled harts old.number parts ≡ ends (AtFault line fault)) long.0
+        (λ rest. scheduled-long harts old.number rest ∙ ap (λ f. ends (AtFault (old.number + 1) f)) (sym long.1) ∙ ap (λ n. ends (AtFault n fault)) (sym next.0))
+    by_cause (inr r) =
+        on_given (ahead old held) (ahead new held') (Line new.line ∷ []) (λ parts. scheduled harts old.number parts ≡ ends (AtFault line fault)) r.reads.line
+        (λ rest same. scheduled-refused harts old.number new.line fault rest (sym r.judges.0) ∙ ap (λ n. ends (AtFault n fault)) (sym next.0))
+next-line harts old new held held' (Err stops.TooLong) next =
+    on_begun (ahead old held) PastLimit (λ parts. scheduled harts old.number parts ≡ ends AtLimit) next.0 (λ rest. scheduled-past harts old.number rest)
+next-line harts old new held held' (Err stops.ReadFault) next = next.0
+
+-- what is asked for is in the ranges of a machine with so many harts
+pub next-timed : (harts : ℕ) (old new : Reader) (held held' : Option (List ℕ)) (answer : Result (Option Timed) (Stop ScheduleFault))
+    → JudgesNext (JudgesTimed harts) LineTooLong tt tt old new held held' answer → IfOk answer (λ asked. IfSome asked (IsTimed harts))
+next-timed harts old new held held' (Ok asked) next = next.1.1
+next-timed harts old new held held' (Err stop) next = tt
 
 -- no line
 pub reads-none : (harts : ℕ) (reader : Reader) (held : Option (List ℕ)) → Reads harts reader reader held held []

@@ -21,8 +21,9 @@ use Rattle.schedule_replay.specs.Scheduled.{Scheduled, Ending, AtEnd, AtFault, A
 use Rattle.schedule_replay.specs.First.{RunsFirst}
 use Rattle.schedule_replay.specs.Told.{lines_of, told}
 use Rattle.schedule_replay.specs.declared.counts.Counts.{Counts}
-use Rattle.schedule_replay.specs.declared.lines.Stop.{Stop}
-use Rattle.schedule_replay.specs.declared.lines.Stop.TheVariants as stops
+use Rattle.listing_read.specs.declared.fault.ScheduleFault.{ScheduleFault}
+use Rattle.judged_lines.specs.declared.stop.Stop.{Stop}
+use Rattle.judged_lines.specs.declared.stop.Stop.TheVariants as stops
 use Rattle.schedule_replay.specs.declared.mode.Mode.{Mode}
 use Rattle.schedule_replay.specs.declared.replayed.Replayed.{Replayed}
 use Rattle.schedule_replay.specs.declared.replayed.Replayed.TheVariants as answers
@@ -80,7 +81,7 @@ follows-read answer_of harts old now new held held' held'' events reads fails = 
 }
 
 -- the answers of a stop, by the place where the lines end
-pub follows-stop : (answer_of : Scheduled → Replayed) (harts : ℕ) (old now new : Reader) (held held' held'' : Option (List ℕ)) (events : List Event) (counts : Counts) (stop : Stop)
+pub follows-stop : (answer_of : Scheduled → Replayed) (harts : ℕ) (old now new : Reader) (held held' held'' : Option (List ℕ)) (events : List Event) (counts : Counts) (stop : Stop ScheduleFault)
     → ((ending : Ending) → answer_at counts ending ≡ answer_of (preceded events (ends ending))) → Reads harts old now held held' events
     → IsNextLine harts now new held' held'' (Err stop) → Follows answer_of harts old new held held'' events (stop_answer counts stop)
 follows-stop answer_of harts old now new held held' held'' events counts stops.End same reads here =
@@ -95,7 +96,7 @@ follows-stop answer_of harts old now new held held' held'' events counts stops.R
 -- ---- a replay
 
 -- a text that was written whole, by the answer of a stop
-stop-writes : (mode : Mode) (s : State) (taken taken' : Option (List ℕ)) (events : List Event) (counts : Counts) (stop : Stop)
+stop-writes : (mode : Mode) (s : State) (taken taken' : Option (List ℕ)) (events : List Event) (counts : Counts) (stop : Stop ScheduleFault)
     → Appends taken taken' (told mode s events) → WritesRun mode s taken taken' events (stop_answer counts stop)
 stop-writes mode s taken taken' events counts stops.End written = written
 stop-writes mode s taken taken' events counts (stops.Refused line fault) written = written
@@ -220,7 +221,7 @@ module _ {T K : Type 0} (kept : T → K) (cost : K → Items → Capability → 
         }
 
     -- no further line was read
-    replays-stopped : (now1 : Reader) (held1 : Option (List ℕ)) (harts : ℕ) (stop : Stop) (none : List Event) → none ≡ [] → harts ≡ m.objects.harts
+    replays-stopped : (now1 : Reader) (held1 : Option (List ℕ)) (harts : ℕ) (stop : Stop ScheduleFault) (none : List Event) → none ≡ [] → harts ≡ m.objects.harts
         → SoFar n now held' taken' fetches' counts none → IsNextLine harts now now1 held' held1 (Err stop)
         → Replays kept cost after without mode m n old now1 held held1 taken taken' fetches fetches' (stop_answer counts stop)
     replays-stopped now1 held1 harts stop none is same s next =
@@ -236,7 +237,7 @@ module _ {T K : Type 0} (kept : T → K) (cost : K → Items → Capability → 
               (subst (λ h. IsNextLine h now now1 held' held1 (Err stop)) same next);
         }
 
-    pub replays-stop : (now1 : Reader) (held1 : Option (List ℕ)) (harts : ℕ) (stop : Stop) (answered : Replayed) (none : List Event) → none ≡ [] → harts ≡ m.objects.harts
+    pub replays-stop : (now1 : Reader) (held1 : Option (List ℕ)) (harts : ℕ) (stop : Stop ScheduleFault) (answered : Replayed) (none : List Event) → none ≡ [] → harts ≡ m.objects.harts
         → SoFar n now held' taken' fetches' counts none → IsNextLine harts now now1 held' held1 (Err stop) → answered ≡ stop_answer counts stop
         → Replays kept cost after without mode m n old now1 held held1 taken taken' fetches fetches' answered
     replays-stop now1 held1 harts stop answered none is same s next by =

@@ -9,8 +9,8 @@ use Rattle.listing_read.specs.declared.fault.ScheduleFault.TheVariants.{LineTooL
 use Rattle.listing_read.specs.declared.schedule.Timed.{Timed}
 use Rattle.schedule_replay.specs.Lines.{ReadsOn}
 use Rattle.schedule_replay.specs.Scheduled.{Ending, AtEnd, AtFault, AtLimit, OnParts}
-use Rattle.schedule_replay.specs.declared.lines.Stop.{Stop}
-use Rattle.schedule_replay.specs.declared.lines.Stop.TheVariants as stops
+use Rattle.judged_lines.specs.declared.stop.Stop.{Stop}
+use Rattle.judged_lines.specs.declared.stop.Stop.TheVariants as stops
 
 -- what is asked for up to the place where lines end; a line that is skipped asks for nothing
 pub record Asked : Type 0 where
@@ -47,7 +47,7 @@ abbrev pub AskNone : ℕ → Reader → Option (List ℕ) → Ending → Type 0
 AskNone harts old held ending = OnParts (ahead old held) (λ parts. asked harts old.number parts ≡ asks_none ending)
 
 -- what reading one line more came to, by what is asked for
-abbrev pub AsksNext : ℕ → Reader → Reader → Option (List ℕ) → Option (List ℕ) → Result (Option Timed) Stop → Type 0
+abbrev pub AsksNext : ℕ → Reader → Reader → Option (List ℕ) → Option (List ℕ) → Result (Option Timed) (Stop ScheduleFault) → Type 0
 AsksNext harts old new held held' (Ok timed) =
     ReadsOn (asked harts old.number) (λ rest. asks_first (of_line timed) (asked harts new.number rest)) old new held held'
 AsksNext harts old new held held' (Err stops.End) = AskNone harts old held AtEnd

@@ -17,8 +17,9 @@ use Rattle.schedule_replay.specs.Counts.{counts_of, events_alone}
 use Rattle.schedule_replay.specs.Scheduled.{Scheduled, Ending, AtEnd, AtFault, AtLimit, OnParts, scheduled, ends, preceded}
 use Rattle.schedule_replay.specs.Told.{told}
 use Rattle.schedule_replay.specs.declared.counts.Counts.{Counts}
-use Rattle.schedule_replay.specs.declared.lines.Stop.{Stop}
-use Rattle.schedule_replay.specs.declared.lines.Stop.TheVariants as stops
+use Rattle.listing_read.specs.declared.fault.ScheduleFault.{ScheduleFault}
+use Rattle.judged_lines.specs.declared.stop.Stop.{Stop}
+use Rattle.judged_lines.specs.declared.stop.Stop.TheVariants as stops
 use Rattle.schedule_replay.specs.declared.mode.Mode.{Mode}
 use Rattle.schedule_replay.specs.declared.replayed.Replayed.{Replayed}
 use Rattle.schedule_replay.specs.declared.replayed.Replayed.TheVariants as answers
@@ -30,7 +31,7 @@ answer_at counts (AtFault line fault) = answers.Refused line fault
 answer_at counts AtLimit = answers.TooLong
 
 -- the answer where there is no further line
-abbrev pub stop_answer : Counts → Stop → Replayed
+abbrev pub stop_answer : Counts → Stop ScheduleFault → Replayed
 stop_answer counts stops.End = answers.Ended counts
 stop_answer counts (stops.Refused line fault) = answers.Refused line fault
 stop_answer counts stops.TooLong = answers.TooLong

@@ -1,16 +1,16 @@
 -- What the lines behind a listing ask for: their events, and how they end (this project's own).
-use Rattle.std.specs.Prelude.{◌≡◌, ◌+◌, ℕ, List, [], ◌∷◌, ◌++◌, Option, Some, None, Result, Ok, Err, false, ⊤}
+use Rattle.std.specs.Prelude.{◌≡◌, ◌+◌, ℕ, List, [], ◌∷◌, ◌++◌, Option, Some, None, Result, Ok, Err, IfOk, IfSome, false, ⊤}
 use Rattle.coy_io.specs.Lines.{Part, Line, LongLine, PastLimit}
 use Rattle.coy_io.specs.Reader.{Reader, Advances, GivesLines, ahead, bytes_ahead}
 use Rattle.machine_state.specs.declared.event.Event.{Event}
-use Rattle.listing_read.specs.Schedule.{schedule_line}
+use Rattle.listing_read.specs.Schedule.{IsTimed, schedule_line}
 use Rattle.listing_read.specs.Reads.{IsStopped}
 use Rattle.listing_read.specs.declared.fault.ScheduleFault.{ScheduleFault}
 use Rattle.listing_read.specs.declared.fault.ScheduleFault.TheVariants.{LineTooLong}
 use Rattle.listing_read.specs.declared.schedule.Timed.{Timed}
 use Rattle.schedule_replay.specs.Events.{line_events}
-use Rattle.schedule_replay.specs.declared.lines.Stop.{Stop}
-use Rattle.schedule_replay.specs.declared.lines.Stop.TheVariants as stops
+use Rattle.judged_lines.specs.declared.stop.Stop.{Stop}
+use Rattle.judged_lines.specs.declared.stop.Stop.TheVariants as stops
 
 -- how lines end: behind the last of them, at one that is refused, or where the input goes on behind the last byte that is
 -- read
@@ -42,17 +42,16 @@ abbrev pub asked_with : ℕ → ℕ → Result (Option Timed) ScheduleFault → 
 asked_with harts n (Ok asked) behind = preceded (asked_events harts asked) behind
 asked_with harts n (Err fault) behind = ends (AtFault n fault)
 
--- what a line asks for, line `n`, where it is read by itself: a line that is refused is the last that is read
-abbrev pub asked_alone : ℕ → Result (Option Timed) ScheduleFault → Result (Option Timed) Stop
-asked_alone n (Ok asked) = Ok asked
-asked_alone n (Err fault) = Err (stops.Refused n fault)
-
 -- what the lines behind line `n` ask for, on a machine with so many harts
 unfoldable pub scheduled : ℕ → ℕ → List Part → Scheduled
 scheduled harts n [] = ends AtEnd
 scheduled harts n (LongLine ∷ parts) = ends (AtFault (n + 1) LineTooLong)
 scheduled harts n (PastLimit ∷ parts) = ends AtLimit
 scheduled harts n (Line line ∷ parts) = asked_with harts (n + 1) (schedule_line harts line) (scheduled harts (n + 1) parts)
+
+-- how a line is judged by itself, on a machine with so many harts: what it asks for, or its fault
+abbrev pub JudgesTimed : ℕ → Unit {0} → List ℕ → Result (Option Timed) ScheduleFault → Unit {0} → Type 0
+JudgesTimed harts before line answer behind = (answer ≡ schedule_line harts line) × IfOk answer (λ asked. IfSome asked (IsTimed harts))
 
 -- ---- lines as they are read
 
@@ -74,7 +73,7 @@ abbrev pub EndHere : ℕ → Reader → Option (List ℕ) → Ending → Type 0
 EndHere harts old held ending = OnParts (ahead old held) (λ parts. scheduled harts old.number parts ≡ ends ending)
 
 -- what reading one line more came to
-abbrev pub IsNextLine : ℕ → Reader → Reader → Option (List ℕ) → Option (List ℕ) → Result (Option Timed) Stop → Type 0
+abbrev pub IsNextLine : ℕ → Reader → Reader → Option (List ℕ) → Option (List ℕ) → Result (Option Timed) (Stop ScheduleFault) → Type 0
 IsNextLine harts old new held held' (Ok asked) = Reads harts old new held held' (asked_events harts asked)
 IsNextLine harts old new held held' (Err stops.End) = EndHere harts old held AtEnd
 IsNextLine harts old new held held' (Err (stops.Refused line fault)) = EndHere harts old held (AtFault line fault)

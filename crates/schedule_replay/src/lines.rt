@@ -3,24 +3,43 @@ ghost use Rattle.std.specs.Prelude.{◌≡◌, ◌≢◌, ◌<◌, ◌≤◌, �
 ghost use Rattle.coy_io.specs.declared.TheConstants.{INPUT_LIMIT};
 ghost use Rattle.coy_io.specs.Causes.{Rose};
 ghost use Rattle.coy_io.specs.Reader.{TellsEnd};
-ghost use Rattle.listing_read.specs.Schedule.{IsTimed, schedule_line};
+ghost use Rattle.listing_read.specs.Schedule.{IsTimed};
+ghost use Rattle.listing_read.specs.declared.fault.ScheduleFault.TheVariants.{LineTooLong};
+ghost use Rattle.judged_lines.specs.declared.stop.Stop.{Stop};
 ghost use Rattle.schedule_replay.specs.Asked.{AsksNext};
-ghost use Rattle.schedule_replay.specs.Scheduled.{asked_alone, IsNextLine};
+ghost use Rattle.schedule_replay.specs.Scheduled.{IsNextLine, JudgesTimed};
 
-use coy_io::{LineFault, LineReader, Source};
+use coy_io::{LineReader, Source};
+use judged_lines::{Judge, judge_next};
 use listing_read::{ScheduleFault, Timed, read_event};
 
-/// Why there is no further line.
+/// Why there is no further line of a schedule.
+pub type Stop = judged_lines::Stop<ScheduleFault>;
+
+/// Judges the lines of a schedule, on a machine with so many harts.
 #[derive(Clone, Copy)]
-pub enum Stop {
-    /// There is none.
-    End,
-    /// The next line is refused.
-    Refused { line: u32, fault: ScheduleFault },
-    /// The input goes on behind the last byte that is read.
-    TooLong,
-    /// Reading failed.
-    ReadFault,
+struct ScheduleLines {
+    harts: u8,
+}
+
+impl Judge for ScheduleLines {
+    type Made = ();
+
+    type Said = Option<Timed>;
+
+    type Fault = ScheduleFault;
+
+    ghost judged = { λ judge. JudgesTimed judge.harts };
+
+    ghost long = { λ _. LineTooLong };
+
+    fn judge(&self, line: &[u8], _made: &mut ()) -> Result<Option<Timed>, ScheduleFault> {
+        read_event(line, self.harts)
+    }
+
+    fn too_long(&self) -> ScheduleFault {
+        ScheduleFault::LineTooLong
+    }
 }
 
 /// Reads the next line, and answers what it asks for, which is nothing where the line is skipped.
@@ -48,35 +67,5 @@ pub fn next_line<S: Source>(
     ensures read { result ≡ Err Stop.ReadFault → Rose (S.faults source.old) (S.faults source.new) }
     ensures quiet { result ≢ Err Stop.ReadFault → S.faults source.new ≡ S.faults source.old }
 {
-    let number = lines.number();
-    match lines.next(source) {
-        Ok(Some(_)) => asked_by(number, lines.line(), harts),
-        Ok(None) => Err(Stop::End),
-        Err(LineFault::ReadFault) => Err(Stop::ReadFault),
-        Err(LineFault::LineTooLong) => Err(refused(number, ScheduleFault::LineTooLong)),
-        Err(LineFault::TooLong) => Err(Stop::TooLong),
-    }
-}
-
-/// What the line behind so many asks for.
-fn asked_by(number: u32, line: &[u8], harts: u8) -> Result<Option<Timed>, Stop>
-    requires { number < 4294967295 }
-    ensures value { result ≡ asked_alone (number + 1) (schedule_line harts line.now) }
-    ensures timed { IfOk result (λ asked. IfSome asked (IsTimed harts)) }
-{
-    match read_event(line, harts) {
-        Ok(asked) => Ok(asked),
-        Err(fault) => Err(refused(number, fault)),
-    }
-}
-
-/// The line behind so many is refused.
-fn refused(number: u32, fault: ScheduleFault) -> Stop
-    requires { number < 4294967295 }
-    ensures { result ≡ Stop.Refused (number + 1) fault }
-{
-    Stop::Refused {
-        line: number + 1,
-        fault,
-    }
+    judge_next(&ScheduleLines { harts }, &mut (), lines, source)
 }
