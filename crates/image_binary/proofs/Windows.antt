@@ -1,37 +1,49 @@
--- The part of a buffer that holds bytes, and what taking more does to it.
-use Rattle.std.proofs.Common.{◌≡◌, ℕ, ◌+◌, ◌-◌, ◌<◌, ◌≤◌, List, [], ◌∷◌, ◌++◌, Option, subst, length, take, drop, sym, ap, ◌∙◌, arith, length-take, length-drop}
-use Rattle.std.specs.Io.KnownBytes.{Consumes}
-use Rattle.std.proofs.lemmas.Slice.{between_is}
-use Rattle.std.proofs.lemmas.List.{drop-drop}
-use Rattle.std.proofs.lemmas.List.Elements.{All-head, All-take, All-drop}
-use Rattle.std.proofs.Math.Seq.{take-add}
+-- What a window and its place in the image hold behind a call that took bytes from the source.
+use Rattle.std.proofs.Common.{◌≡◌, ℕ, ◌+◌, ◌<◌, ◌≤◌, List, [], ◌∷◌, ◌++◌, Option, Some, None, Result, Ok, Err, IsErr, subst, length, take, drop, sym, ap, ◌∙◌, arith, append_assoc, take-append-drop, length-drop}
+use Rattle.std.specs.Io.KnownBytes.{Keeps, Consumes, IsAtEnd, prepend_known}
+use Rattle.std.proofs.lemmas.List.{append_cancel_left, take_all}
+use Rattle.std.proofs.lemmas.List.Elements.{All-head, All-drop}
+use Rattle.coy_io.specs.declared.traits.Failed.{Failed}
 use Rattle.image_binary.specs.Laws.{AreBytes}
+use Rattle.image_binary.specs.Reader.{Reader, IsFilled}
 
--- how many bytes a window holds
-pub length-window : (bytes : List ℕ) (from end : ℕ) → end ≤ length bytes → length (take (end - from) (drop from bytes)) ≡ end - from
-length-window bytes from end within = omega (arith, length-take (end - from) (drop from bytes), length-drop from bytes)
+-- bytes that stand behind those that were held are those that the source gave
+given_behind : (a b : Option (List ℕ)) (old new got : List ℕ) → new ≡ old ++ got → Keeps (prepend_known old a) (prepend_known new b) → Consumes a b got
+given_behind None b old new got grown keeps = tt
+given_behind (Some x) None old new got grown keeps = absurd keeps
+given_behind (Some x) (Some y) old new got grown keeps =
+    sym (append_cancel_left old (got ++ y) x (sym (append_assoc old got y) ∙ ap (λ l. l ++ y) (sym grown) ∙ keeps))
 
--- the last `left` of them
-pub kept_window : (bytes : List ℕ) (from end left : ℕ) → end ≤ length bytes
-    → let held = take (end - from) (drop from bytes) in
-    left ≤ length held → take (end - (from + (end - from - left))) (drop (from + (end - from - left)) bytes) ≡ drop (length held - left) held
-kept_window bytes from end left within few =
-    let held = take (end - from) (drop from bytes) in
-    let len = length-window bytes from end within in
-    let used : end - from - left ≡ length held - left = omega arith in
-    between_is bytes (from + (end - from - left)) end
-    ∙ sym (ap (drop (end - from - left)) (between_is bytes from end) ∙ drop-drop (end - from - left) from (take end bytes))
-    ∙ ap (λ n. drop n held) used
+-- where none stand behind them, it gave none
+none_behind : (a b : Option (List ℕ)) (old new : List ℕ) → new ≡ old → Keeps (prepend_known old a) (prepend_known new b) → Keeps a b
+none_behind None b old new same keeps = tt
+none_behind (Some x) None old new same keeps = absurd keeps
+none_behind (Some x) (Some y) old new same keeps = append_cancel_left old y x (ap (λ l. l ++ y) (sym same) ∙ keeps)
 
--- the window with more behind it
-pub take-grown : (bytes old : List ℕ) (n count : ℕ) → take n bytes ≡ old → take (n + count - 0) bytes ≡ old ++ take count (drop n bytes)
-take-grown bytes old n count e =
-    let sum : n + count - 0 ≡ n + count = omega arith in
-    ap (λ k. take k bytes) sum ∙ take-add n count bytes ∙ ap (λ l. l ++ take count (drop n bytes)) e
+module _ (from to : Reader) (a b : Option (List ℕ)) (at : to.at ≡ from.at) (front : take (length from.held) to.held ≡ from.held) (keeps : Keeps (prepend_known from.held a) (prepend_known to.held b)) where
+  -- so many bytes came
+  pub filled : (count : ℕ) → length to.held ≡ length from.held + count → AreBytes to.held → (count ≡ 0 → IsAtEnd b) → IsFilled (Ok count) from to a b
+  filled count len are end =
+      let got = drop (length from.held) to.held in
+      let grown : to.held ≡ from.held ++ got = sym (take-append-drop (length from.held) to.held) ∙ ap (λ l. l ++ got) front in (
+        got,
+        omega (arith, length-drop (length from.held) to.held, len),
+        record {
+          bytes = All-drop (λ byte. byte < 256) (length from.held) to.held are;
+          taken = given_behind a b from.held to.held got grown keeps;
+          held = grown;
+          at = at;
+        },
+        end,
+      )
 
--- what stands in a part of a buffer of bytes are bytes
-pub taken_bytes : (bytes : List ℕ) (n count : ℕ) → AreBytes bytes → AreBytes (take count (drop n bytes))
-taken_bytes bytes n count are = All-take (λ byte. byte < 256) count (drop n bytes) (All-drop (λ byte. byte < 256) n bytes are)
+  -- none came, and all is as it was
+  pub unfilled : (r : Result ℕ Failed) → IsErr r → length to.held ≡ length from.held → IsFilled r from to a b
+  unfilled (Ok count) is len = cc
+  unfilled (Err failed) is len =
+      let held : to.held ≡ from.held = sym (take_all (length from.held) to.held (omega (arith, len))) ∙ front in
+      let same : to ≡ from = ap (λ l. record { at = to.at; held = l }) held ∙ ap (λ n. record { at = n; held = from.held }) at in
+      (same, none_behind a b from.held to.held held keeps)
 
 -- the one byte that was taken into a buffer of one
 pub one_taken : (a b : Option (List ℕ)) (buf : List ℕ) (count : ℕ) → length buf ≡ 1 → count ≤ length buf → (count ≡ 0 → ⊥) → AreBytes buf

@@ -1,6 +1,6 @@
 //! The image of a listing.
 ghost use Rattle.std.specs.Prelude.{◌≡◌, ℕ, ◌+◌, ◌≤◌, ◌++◌, [], length, flat_map};
-ghost use Rattle.statement_text.specs.Written.{WroteTo};
+ghost use Rattle.coy_io.specs.Written.{WroteTo};
 ghost use Rattle.image_binary.specs.Added.{Adds};
 ghost use Rattle.image_binary.specs.Statements.{HasWord, statement_bytes, fields_bytes};
 ghost use Rattle.image_binary.specs.Image.{head_bytes, image_of};
@@ -10,7 +10,7 @@ use crate::pushing::{
     push_code, push_count, push_endpoint, push_form, push_gpt, push_held, push_magic, push_page,
     push_process, push_region, push_register,
 };
-use coy_io::{Sink, WriteFault, put_all};
+use coy_io::{Sink, WriteFault, put_bytes};
 use listing_read::{Listing, Statement};
 use object_store::Sizes;
 
@@ -21,13 +21,6 @@ pub fn pack<K: Sink>(listing: &Listing, output: &mut K) -> Result<(), WriteFault
     let mut bytes = ImageBytes::new();
     put_head(listing, &mut bytes, output)?;
     put_statements(listing, &mut bytes, output)
-}
-
-/// Writes bytes that were made.
-fn put_bytes<K: Sink>(bytes: &ImageBytes, output: &mut K) -> Result<(), WriteFault>
-    ensures { WroteTo K.taken K.faults output.old output.new result bytes.now }
-{
-    put_all(output, bytes.as_slice())
 }
 
 /// Writes the start of an image, which is made in `bytes` first.
@@ -41,7 +34,7 @@ fn put_head<K: Sink>(
         WroteTo K.taken K.faults output.old output.new result head }
 {
     make_head(bytes, listing.sizes(), listing.statements().len() as u32);
-    put_bytes(bytes, output)
+    put_bytes(bytes.as_slice(), output)
 }
 
 /// Leaves the start of an image in the buffer.
@@ -86,7 +79,7 @@ fn put_statement<K: Sink>(
         WroteTo K.taken K.faults output.old output.new result all }
 {
     make_statement(statement, bytes);
-    put_bytes(bytes, output)
+    put_bytes(bytes.as_slice(), output)
 }
 
 /// Leaves a statement in the buffer.

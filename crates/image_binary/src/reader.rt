@@ -1,19 +1,14 @@
-//! The bytes that were taken from a source and not used yet.
-ghost use Rattle.std.specs.Prelude.{◌≡◌, ℕ, ◌+◌, ◌-◌, ◌<◌, ◌≤◌, List, [], Ok, length, take, drop, IfOk};
-ghost use Rattle.std.specs.Io.KnownBytes.{ReadConsumes};
+//! The bytes that were taken from a source and not used yet, and where in the image they stand.
+ghost use Rattle.std.specs.Prelude.{◌≡◌, ◌+◌, ◌-◌, ◌<◌, ◌≤◌, length, drop, IfOk};
 ghost use Rattle.coy_io.specs.declared.TheConstants.{INPUT_LIMIT};
+ghost use Rattle.coy_io.specs.declared.window.TheConstants.{WINDOW};
 ghost use Rattle.coy_io.specs.Causes.{HasCause};
-ghost use Rattle.coy_io.specs.Pieces.{moved};
-ghost use Rattle.image_binary.specs.declared.reader.TheConstants.{WINDOW};
 ghost use Rattle.image_binary.specs.Laws.{AreBytes};
 ghost use Rattle.image_binary.specs.Reader.{new_reader, offset_of, IsSupply, IsFilled, IsProbe};
 
 use crate::fault::{ImageFault, ImageWord};
-use coy_io::{Failed, INPUT_LIMIT, Source};
+use coy_io::{Failed, INPUT_LIMIT, Source, Window};
 use std::marker::Model;
-
-/// How many bytes are held at most.
-pub const WINDOW: usize = 4096;
 
 /// What a source gave when it was asked for more.
 #[derive(Clone, Copy)]
@@ -29,23 +24,20 @@ pub enum Supply {
 /// Holds bytes of an image, from the first that was not used on.
 #[derive(Drop)]
 pub struct ImageReader {
-    bytes: [u8; WINDOW],
-    from: usize,
-    end: usize,
+    window: Window,
     at: u32,
 }
 
 impl Model for ImageReader {
-    ghost use Rattle.std.specs.Prelude.{◌+◌, ◌-◌, ◌≤◌, take, drop};
+    ghost use Rattle.std.specs.Prelude.{◌+◌, ◌≤◌, length};
     ghost use Rattle.coy_io.specs.declared.TheConstants.{INPUT_LIMIT};
-    ghost use Rattle.image_binary.specs.declared.reader.TheConstants.{WINDOW};
     ghost use Rattle.image_binary.specs.Reader.{Reader};
 
     ghost Value = { Reader };
 
-    ghost view = { λ r. record { at = r.at; held = take (r.end - r.from) (drop r.from r.bytes) } };
+    ghost view = { λ r. record { at = r.at; held = r.window } };
 
-    ghost invariant = { λ r. (r.from ≤ r.end) × (r.end ≤ WINDOW) × (r.at + (r.end - r.from) ≤ INPUT_LIMIT) };
+    ghost invariant = { λ r. r.at + length r.window ≤ INPUT_LIMIT };
 }
 
 impl ImageReader {
@@ -53,9 +45,7 @@ impl ImageReader {
         ensures { result ≡ new_reader }
     {
         ImageReader {
-            bytes: [0; WINDOW],
-            from: 0,
-            end: 0,
+            window: Window::new(),
             at: 0,
         }
     }
@@ -67,7 +57,7 @@ impl ImageReader {
         ensures window { length self.now.held ≤ WINDOW }
         ensures limit { self.now.at + length self.now.held ≤ INPUT_LIMIT }
     {
-        let held = &self.bytes[self.from..self.end];
+        let held = self.window.as_slice();
         are_bytes(held);
         held
     }
@@ -77,7 +67,7 @@ impl ImageReader {
         requires { left ≤ length self.now.held }
         ensures { result ≡ ImageFault.Refused (offset_of self.now left) fault }
     {
-        let offset = self.at + (self.end - self.from - left) as u32;
+        let offset = self.at + (self.window.as_slice().len() - left) as u32;
         ImageFault::Refused { offset, fault }
     }
 
@@ -87,8 +77,8 @@ impl ImageReader {
         ensures at { self.new.at + left ≡ self.old.at + length self.old.held }
         ensures held { self.new.held ≡ drop (length self.old.held - left) self.old.held }
     {
-        let used = self.end - self.from - left;
-        self.from += used;
+        let used = self.window.as_slice().len() - left;
+        self.window.drop_front(used);
         self.at += used as u32;
     }
 
@@ -98,7 +88,7 @@ impl ImageReader {
         ensures supply { IsSupply result self.old self.new (S.held source.old) (S.held source.new) }
         ensures cause { HasCause (S.faults source.old) (S.faults source.new) result }
     {
-        let room = INPUT_LIMIT - self.at as usize - (self.end - self.from);
+        let room = INPUT_LIMIT - self.at as usize - self.window.as_slice().len();
         if room == 0 {
             return probe(source);
         }
@@ -118,13 +108,8 @@ impl ImageReader {
         ensures most { IfOk result (λ count. count ≤ room) }
         ensures cause { HasCause (S.faults source.old) (S.faults source.new) result }
     {
-        to_front(&mut self.bytes, self.from, self.end);
-        self.end -= self.from;
-        self.from = 0;
-        let most = room.min(WINDOW - self.end);
-        let count = take_behind(source, &mut self.bytes, self.end, most)?;
-        are_bytes(&self.bytes);
-        self.end += count;
+        let count = self.window.take_from(source, room)?;
+        are_bytes(self.window.as_slice());
         Ok(count)
     }
 }
@@ -148,32 +133,3 @@ fn probe<S: Source>(source: &mut S) -> Result<Supply, Failed>
 fn are_bytes(bytes: &[u8])
     ensures { AreBytes bytes.now }
 {}
-
-/// Moves the bytes between two places to the front.
-fn to_front(bytes: &mut [u8], from: usize, end: usize)
-    requires order { from ≤ end }
-    requires within { end ≤ length bytes.old }
-    ensures { take (end - from) bytes.new ≡ take (end - from) (drop from bytes.old) }
-{
-    if from > 0 {
-        bytes.copy_within(from..end, 0);
-    }
-}
-
-/// Takes bytes from the source to a place and behind it.
-fn take_behind<S: Source>(
-    source: &mut S,
-    bytes: &mut [u8],
-    at: usize,
-    most: usize,
-) -> Result<usize, Failed>
-    requires within { at + most ≤ length bytes.old }
-    requires some { 1 ≤ most }
-    ensures front { take at bytes.new ≡ take at bytes.old }
-    ensures bytes { ReadConsumes (S.held source.old) (S.held source.new) result
-        (drop at bytes.new) }
-    ensures most { moved result ≤ most }
-    ensures cause { HasCause (S.faults source.old) (S.faults source.new) result }
-{
-    source.take(&mut bytes[at..at + most])
-}

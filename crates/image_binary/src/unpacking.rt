@@ -5,7 +5,7 @@ ghost use Rattle.coy_io.specs.declared.TheConstants.{INPUT_LIMIT};
 ghost use Rattle.coy_io.specs.Causes.{Rose};
 ghost use Rattle.listing_read.specs.Statement.{ListingValue, IsStatement};
 ghost use Rattle.object_store.specs.Ranges.{IsWithinLimits};
-ghost use Rattle.image_binary.specs.declared.reader.TheConstants.{WINDOW};
+ghost use Rattle.coy_io.specs.declared.window.TheConstants.{WINDOW};
 ghost use Rattle.image_binary.specs.Image.{image_of, head_of};
 ghost use Rattle.image_binary.specs.Statements.{statement_of};
 ghost use Rattle.image_binary.specs.Laws.{IsPacked};

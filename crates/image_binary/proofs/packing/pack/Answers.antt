@@ -1,5 +1,5 @@
 use Rattle.std.proofs.Common.{length, flat_map}
-use Rattle.statement_text.proofs.Texts.{go_on, stop}
+use Rattle.coy_io.proofs.Texts.{go_on, stop}
 use Rattle.image_binary.specs.Statements.{statement_bytes}
 use Rattle.image_binary.specs.Image.{head_bytes}
 use Rattle.image_binary.proofs.packing.pack.Goals as goal

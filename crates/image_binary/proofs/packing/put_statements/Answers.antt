@@ -1,6 +1,6 @@
 use Rattle.std.proofs.Common.{◌≤◌, length, refl, arith}
 use Rattle.std.proofs.KnownBytes.{Appends-nil}
-use Rattle.statement_text.proofs.Texts.{member_more, member_stops, members_done}
+use Rattle.coy_io.proofs.Texts.{member_more, member_stops, members_done}
 use Rattle.image_binary.specs.Statements.{statement_bytes}
 use Rattle.image_binary.proofs.HasWords.{stated_has_word}
 use Rattle.image_binary.proofs.packing.put_statements.Goals as goal

@@ -1,5 +1,5 @@
 use Rattle.std.proofs.Common.{take, flat_map}
-use Rattle.statement_text.proofs.Texts.{Written}
+use Rattle.coy_io.proofs.Texts.{Written}
 use Rattle.image_binary.specs.Statements.{statement_bytes}
 use Rattle.image_binary.proofs.packing.put_statements.Given as goal
 

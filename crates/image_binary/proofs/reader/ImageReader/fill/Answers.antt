@@ -1,27 +1,24 @@
-use Rattle.std.proofs.Common.{◌≡◌, ◌≤◌, ◌<◌, ◌-◌, length, take, drop, ap, ◌∙◌, arith, length-take, length-drop}
-use Rattle.image_binary.specs.Reader.{Reader}
-use Rattle.image_binary.proofs.Windows.{length-window, take-grown, taken_bytes}
+use Rattle.std.proofs.Common.{Ok, refl, ap, subst, arith}
+use Rattle.image_binary.specs.Laws.{AreBytes}
+use Rattle.image_binary.specs.Reader.{Reader, IsFilled}
+use Rattle.image_binary.proofs.Windows.{filled, unfilled}
 use Rattle.image_binary.proofs.reader.ImageReader.fill.Goals as goal
 
 pub returns-clause-filled : goal.returns-clause-filled
 returns-clause-filled g c =
     let r = c.self.inside in
-    let n = r.end - r.from in
-    let bytes = c.take_behind.new.bytes in
-    let count = c.in_ok-count.count in
-    let seen : take n (drop r.from r.bytes) ≡ c.args.self.now.held = ap (λ (r : Reader). r.held) c.self.view_is in
-    let front : take n bytes ≡ c.args.self.now.held = c.in_ok-count.ensures.front ∙ c.to_front.ensures ∙ seen in
-    let len : length bytes ≡ 4096 = c.take_behind.auto.bytes ∙ c.to_front.auto.bytes ∙ c.self.told in
-    let most : count ≤ 4096 - n = omega (arith, c.in_ok-count.ensures.most, c.min-most.ensures) in
-    let held = length-window r.bytes r.from r.end (omega (arith, c.self.invariant.1, c.self.told)) in
-    let window : n < 4096 = omega (arith, held, ap length seen, c.requires.window) in (
-      take count (drop n bytes),
-      omega (arith, length-take count (drop n bytes), length-drop n bytes, len, most),
-      record {
-        bytes = taken_bytes bytes n count c.are_bytes.ensures;
-        taken = c.in_ok-count.ensures.bytes.0;
-        held = take-grown bytes c.args.self.now.held n count front;
-        at = ap (λ (r : Reader). r.at) c.self.view_is;
-      },
-      λ none. c.in_ok-count.ensures.bytes.1 none (omega (arith, length-drop n bytes, len, window)),
-    )
+    let e = c.in_ok-count.ensures in
+    let from : Reader = record { at = r.at; held = r.window } in
+    let to : Reader = record { at = r.at; held = c.take_from.new.self } in
+    let are = subst AreBytes c.as_slice.ensures.value c.are_bytes.ensures in
+    subst (λ (x : Reader). IsFilled (Ok c.in_ok-count.count) x to (g.S.Source.held c.args.source.now) (g.S.Source.held c.take_from.new.source)) c.self.view_is
+    (filled from to _ _ refl e.front e.ahead c.in_ok-count.count e.length are (λ none. e.end (ap (λ n. Ok n) none)))
+
+pub returns-in_err-count-clause-filled : goal.returns-in_err-count-clause-filled
+returns-in_err-count-clause-filled g c =
+    let r = c.self.inside in
+    let e = c.in_err-count.ensures in
+    let from : Reader = record { at = r.at; held = r.window } in
+    let to : Reader = record { at = r.at; held = c.take_from.new.self } in
+    subst (λ (x : Reader). IsFilled c.from_residual.result x to (g.S.Source.held c.args.source.now) (g.S.Source.held c.take_from.new.source)) c.self.view_is
+    (unfilled from to _ _ refl e.front e.ahead c.from_residual.result c.from_residual.ensures.0 (omega (arith, e.length)))
