@@ -2,6 +2,7 @@
 -- project's own.)
 use Rattle.std.specs.Prelude.{ℕ, ◌+◌, ◌*◌, ◌/◌, ◌%◌, List, [], ◌∷◌, ◌++◌, map, drop, codes, decimal}
 use Rattle.std.specs.List.{range_with_len, concat}
+use Rattle.coy_io.specs.Lines.{line_feed}
 use Rattle.coy_text.specs.Numeral.{hex_text}
 
 -- how many pairs the text of a number has, 1 to 63
@@ -19,10 +20,6 @@ harts_of n = 1 + n % 8
 -- how many rounds are run: 13 for each call of each client and 20 more for each pair
 abbrev pub rounds_of : ℕ → ℕ
 rounds_of n = pairs_of n * (13 * calls_of n + 20)
-
--- the byte that ends a line
-abbrev pub line_feed : List ℕ
-line_feed = 10 ∷ []
 
 -- the first two lines
 unfoldable pub head_text : ℕ → List ℕ
