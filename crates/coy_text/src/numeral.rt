@@ -26,12 +26,16 @@ pub fn hex_value(byte: u8) -> Option<u8>
     ensures value { result ≡ hex_digit byte }
     ensures below { IfSome result (λ digit. digit < 16) }
 {
-    match byte {
-        b'0'..=b'9' => Some(byte - b'0'),
-        b'A'..=b'F' => Some(byte - b'A' + 10),
-        b'a'..=b'f' => Some(byte - b'a' + 10),
-        _ => None,
+    if b'0' <= byte && byte <= b'9' {
+        return Some(byte - b'0');
     }
+    if b'a' <= byte && byte <= b'f' {
+        return Some(byte - b'a' + 10);
+    }
+    if b'A' <= byte && byte <= b'F' {
+        return Some(byte - b'A' + 10);
+    }
+    None
 }
 
 /// Reads a word of 1 to 10 decimal digits whose value is at most 4,294,967,295. Leading zeros are allowed.
