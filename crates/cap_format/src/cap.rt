@@ -3,7 +3,7 @@
 ghost use Rattle.std.specs.Prelude.{◌≡◌, ◌≤◌, ◌<◌, ◌^◌, ◌%◌, ◌↔◌, true, false, IsTrue, IsOk, IfOk, IsSome, IfSome};
 ghost use Rattle.cap_format.specs.Kind.{is_memory, is_window, is_counted, is_object, object_limit};
 ghost use Rattle.cap_format.specs.Capability.{Capability, IsCapability, capability, null, plain, is_plain, to_object, entry, schedule, window, local_window, with_count, with_guard};
-ghost use Rattle.cap_format.specs.Guard.{Divides, no_guard};
+ghost use Rattle.cap_format.specs.Guard.{Divides};
 ghost use Rattle.cap_format.specs.Weakening.{reduced};
 
 use crate::guard::Guard;
@@ -17,29 +17,67 @@ use std::marker::Model;
 pub struct Misaligned;
 
 /// A capability. Fields that its kind does not use are 0, and an unused guard is 12/0.
-#[derive(Clone, Copy, PartialEq, Eq)]
+///
+/// The four small fields stand together, so that it has 20 bytes and no gaps.
+#[derive(Clone, Copy)]
 pub struct Cap {
     kind: CapKind,
     restr: Restr,
+    /// The guard's size: how many low bits pass it.
+    l2g: u8,
+    slot: u8,
     /// The allocation count of the object when the capability was made.
     count: u32,
-    guard: Guard,
+    /// What the guard asks of the higher bits.
+    matches: u32,
     /// The object number, the offset in bytes, or the priority.
     object: u32,
     payload: u32,
-    slot: u8,
 }
 
 impl Model for Cap {
     ghost use Rattle.cap_format.specs.Capability.{Capability, IsCapability, capability};
+    ghost use Rattle.cap_format.specs.Guard.{guard_of};
 
     ghost Value = { Capability };
 
-    ghost view = { λ c. capability c.kind c.restr.0 c.count c.guard c.object c.payload c.slot };
+    ghost view = { λ c. capability c.kind c.restr.0 c.count (guard_of c.l2g c.matches) c.object c.payload c.slot };
 
-    ghost invariant = { λ c. IsCapability (capability c.kind c.restr.0 c.count c.guard c.object c.payload c.slot) };
+    ghost invariant = { λ c. IsCapability (capability c.kind c.restr.0 c.count (guard_of c.l2g c.matches) c.object c.payload c.slot) };
 
-    ghost inverse = { λ v. record { kind = v.kind; restr = record { 0 = v.restr }; count = v.count; guard = v.guard; object = v.object; payload = v.payload; slot = v.slot } };
+    ghost inverse = { λ v. record { kind = v.kind; restr = record { 0 = v.restr }; l2g = v.guard.l2g; slot = v.slot; count = v.count; matches = v.guard.matches; object = v.object; payload = v.payload } };
+}
+
+impl PartialEq for Cap {
+    ghost use Rattle.std.specs.Prelude.{nat_eq, [], ◌∷◌};
+    ghost use Rattle.std.specs.Ordering.{on};
+    ghost use Rattle.std.specs.Cmp.Lexicographic.{pointwise};
+    ghost use Rattle.std.specs.Cmp.Rules.{comparing};
+    ghost use Rattle.std.proofs.Common.{rules};
+    ghost use Rattle.cap_format.specs.Kind.{number_of};
+
+    ghost eq = { on (λ c. number_of c.kind ∷ c.restr ∷ c.count ∷ c.guard.l2g ∷ c.guard.matches ∷ c.object ∷ c.payload ∷ c.slot ∷ []) (pointwise nat_eq) };
+
+    ghost laws = { Prim.search (comparing, rules) };
+
+    // No branch stands between the fields of one size, so that they are compared at once.
+    fn eq(&self, other: &Cap) -> bool {
+        ((self.kind.number() == other.kind.number())
+            & (self.restr.bits() == other.restr.bits())
+            & (self.l2g == other.l2g)
+            & (self.slot == other.slot))
+            && ((self.count == other.count)
+                & (self.matches == other.matches)
+                & (self.object == other.object)
+                & (self.payload == other.payload))
+    }
+}
+
+impl Eq for Cap {
+    ghost use Rattle.std.specs.Cmp.Rules.{comparing};
+    ghost use Rattle.std.proofs.Common.{rules};
+
+    ghost laws = { Prim.search (comparing, rules) };
 }
 
 impl Default for Cap {
@@ -66,11 +104,12 @@ impl Cap {
         Cap {
             kind,
             restr: Restr::empty(),
+            l2g: 12,
+            slot: 0,
             count: 0,
-            guard: Guard::page(),
+            matches: 0,
             object: 0,
             payload: 0,
-            slot: 0,
         }
     }
 
@@ -89,11 +128,12 @@ impl Cap {
         Cap {
             kind,
             restr: Restr::empty(),
+            l2g: guard.l2g(),
+            slot: 0,
             count,
-            guard,
+            matches: guard.matches(),
             object: u32::from(number),
             payload: 0,
-            slot: 0,
         }
     }
 
@@ -106,11 +146,12 @@ impl Cap {
         Cap {
             kind: CapKind::Entry,
             restr: Restr::empty(),
+            l2g: 12,
+            slot: 0,
             count,
-            guard: Guard::page(),
+            matches: 0,
             object: u32::from(endpoint),
             payload,
-            slot: 0,
         }
     }
 
@@ -122,11 +163,12 @@ impl Cap {
         Cap {
             kind: CapKind::Schedule,
             restr: Restr::empty(),
+            l2g: 12,
+            slot: 0,
             count: 0,
-            guard: Guard::page(),
+            matches: 0,
             object: u32::from(priority),
             payload: 0,
-            slot: 0,
         }
     }
 
@@ -142,11 +184,12 @@ impl Cap {
         Ok(Cap {
             kind: CapKind::Window,
             restr,
+            l2g: guard.l2g(),
+            slot: 0,
             count: 0,
-            guard,
+            matches: guard.matches(),
             object: offset,
             payload: 0,
-            slot: 0,
         })
     }
 
@@ -168,11 +211,12 @@ impl Cap {
         Ok(Cap {
             kind: CapKind::LocalWindow,
             restr,
+            l2g: guard.l2g(),
+            slot,
             count: 0,
-            guard,
+            matches: guard.matches(),
             object: offset,
             payload: 0,
-            slot,
         })
     }
 
@@ -203,11 +247,12 @@ impl Cap {
         Some(Cap {
             kind,
             restr,
+            l2g: guard.l2g(),
+            slot,
             count,
-            guard,
+            matches: guard.matches(),
             object,
             payload,
-            slot,
         })
     }
 
@@ -220,7 +265,11 @@ impl Cap {
         if self.kind.is_window() && !guard.divides(self.object) {
             return Err(Misaligned);
         }
-        Ok(Cap { guard, ..self })
+        Ok(Cap {
+            l2g: guard.l2g(),
+            matches: guard.matches(),
+            ..self
+        })
     }
 
     /// The same memory capability with more restrictions.
@@ -270,7 +319,7 @@ impl Cap {
         ensures value { result ≡ self.guard }
         ensures range { IsCapability self }
     {
-        self.guard
+        Guard::of(self.l2g, self.matches)
     }
 
     /// The object number, the offset in bytes, or the priority.

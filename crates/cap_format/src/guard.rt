@@ -43,6 +43,14 @@ impl Guard {
         }
     }
 
+    /// The guard of numbers that are in range.
+    pub(crate) fn of(l2g: u8, matches: u32) -> Guard
+        requires { IsGuard (guard_of l2g matches) }
+        ensures { result ≡ guard_of l2g matches }
+    {
+        Guard { l2g, matches }
+    }
+
     /// 12/0, which lets the lowest page pass. Capabilities that use no guard have it.
     pub fn page() -> Guard
         ensures { result ≡ no_guard }
