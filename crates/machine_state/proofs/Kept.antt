@@ -11,7 +11,7 @@ use Rattle.object_store.specs.Ahead.{IsBehind, NoneAhead}
 use Rattle.object_store.proofs.Each.{capregs-each, process_slots-each}
 use Rattle.object_store.proofs.Behind.{NoneAhead-with_process}
 use Rattle.object_store.proofs.WritesBehind.{null_behind, put_process_behind, put_capreg_behind, put_cap_behind}
-use Rattle.schedules.specs.Queues.{QueuesValue}
+use Rattle.schedules.specs.Queues.{QueuesValue, priorities}
 use Rattle.schedules.specs.Standing.{standing, times_in, times_on, empty_queues}
 use Rattle.schedules.specs.Ready.{runs_of, Agrees}
 use Rattle.cap_format.specs.declared.request.Reply.{Reply}
@@ -67,7 +67,7 @@ kept_new o stopped behind sizes = record {
   where
     nowhere : (p : ℕ) → standing (empty_queues (size_of o.items Process) o.harts) p ≡ 0
     nowhere p =
-        let ready = none_in p 8 in
+        let ready = none_in p priorities in
         let asleep = none_in p (size_of o.items Process) in
         let harts = none_on p o.harts in
         omega (arith, ready, asleep, harts)
