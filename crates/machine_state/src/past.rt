@@ -2,7 +2,7 @@
 ghost use Rattle.std.specs.Prelude.{◌≡◌, ◌+◌, ◌<◌, ◌++◌, ◌∷◌, [], ℕ, IfOk, length};
 ghost use Rattle.cap_format.specs.declared.kind.CapKind.{CapKind};
 ghost use Rattle.object_store.specs.declared.sizes.Sizes.{Sizes};
-ghost use Rattle.object_store.specs.Store.{size_of, sizes_of};
+ghost use Rattle.object_store.specs.Store.{Store, size_of, sizes_of};
 ghost use Rattle.object_store.specs.Ranges.{IsWithinLimits};
 ghost use Rattle.object_store.specs.Object.{object_name};
 ghost use Rattle.object_store.specs.Saved.{slots_copied};
@@ -73,6 +73,17 @@ impl Past {
         self.places.clear();
         self.queues.copy_from(machine.queues());
         self.halted = machine.halted();
+    }
+
+    /// Forgets its objects. The queues, and whether the machine was halted, stay.
+    pub fn forget_objects(&mut self)
+        ensures nothing { self.new.places ≡ [] }
+        ensures queues { self.new.queues ≡ self.old.queues }
+        ensures halted { self.new.halted ≡ self.old.halted }
+        ensures sizes { (z : Sizes) → IsFor self.old z → IsFor self.new z }
+        ensures holds { (s : Store) → Holds self.new s }
+    {
+        self.places.clear();
     }
 
     /// Keeps an object of the machine, which is as at `begin`: a copy of its record and its count. One that is kept

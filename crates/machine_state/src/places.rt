@@ -59,7 +59,7 @@ impl Places {
     pub fn clear(&mut self)
         ensures { self.new ≡ [] }
     {
-        *self = Places::new();
+        self.list.clear();
     }
 
     pub fn push(&mut self, place: Place)

@@ -32,6 +32,19 @@ impl<T: Translator> Machine<T> {
         self.queues.copy_from(&past.queues);
         self.halted = past.halted;
     }
+
+    /// Puts back the objects that are remembered, as `restore` does. The queues, and whether the machine is halted, stay.
+    pub fn restore_objects<L: Ledger>(&mut self, past: &Past, fetches: &mut Steps<L>)
+        requires there { AreThere self.old.objects (names_in past.now) }
+        requires machine { IsMachine
+            (restored (saved_in past.now) self.old.objects) self.old.queues }
+        ensures objects { self.new.objects ≡ restored (saved_in past.now) self.old.objects }
+        ensures queues { self.new.queues ≡ self.old.queues }
+        ensures halted { self.new.halted ≡ self.old.halted }
+        ensures counted { fetches.new ≡ fetches.old + slots_back past.now.places }
+    {
+        put_back(&mut self.objects, &mut self.translator, past, fetches);
+    }
 }
 
 /// Puts back all objects that are remembered, one after the other.
