@@ -4,7 +4,7 @@
 ghost use Rattle.std.specs.Prelude.{◌≡◌, ◌≢◌, IfSome, map, string_bytes};
 ghost use Rattle.coy_io.specs.Buffered.{taken_in, gone_out};
 ghost use Rattle.coy_io.specs.Causes.{Rose};
-ghost use Rattle.coyotos_cli.specs.Command.{command_for};
+ghost use Rattle.coyotos_words.specs.Command.{command_of};
 ghost use Rattle.courses.specs.Ending.{HasCauses};
 ghost use Rattle.courses.specs.Flush.{GoesOut, GoesOutSure};
 ghost use Rattle.courses.specs.Sure.{WritesSure};
@@ -60,7 +60,7 @@ fn run_and_flush<S: Source, W: Write + Drop, L: Ledger>(
 
     // What the writer behind the buffer gets, and how it ends, where the bytes that are read are told.
     ensures output { let words = map string_bytes words.now in
-        IfSome (bytes_for (command_for words) (S.held input.old)) (λ bytes.
+        IfSome (bytes_for (command_of words) (S.held input.old)) (λ bytes.
         let old = taken_in W.contents output.old in let new = gone_out W.contents output.new in
         GoesOut old new result (out words bytes)) }
 

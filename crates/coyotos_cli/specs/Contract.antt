@@ -2,8 +2,8 @@
 use Rattle.std.specs.Prelude.{◌≡◌, ◌≢◌, ◌⊎◌, ◌+◌, ℕ, true, false, if◌then◌else◌, List, [], Option, Some, None, IfSome}
 use Rattle.std.specs.List.{list_any}
 use Rattle.std.specs.Io.KnownBytes.{IsAtEnd}
-use Rattle.coyotos_words.specs.Command.{is_dashed}
-use Rattle.coyotos_cli.specs.Command.{command_for, count_of, has_cache, reads_input, asks_run, tells_fetches}
+use Rattle.coyotos_words.specs.Command.{command_of, is_dashed}
+use Rattle.coyotos_cli.specs.Command.{count_of, has_cache, reads_input, asks_run, tells_fetches}
 use Rattle.courses.specs.Course.{Course, course_fetches, course_output}
 use Rattle.courses.specs.Ending.{Outputs, Fetches}
 use Rattle.courses.specs.Bounds.{IsBounded}
@@ -21,22 +21,22 @@ bytes_for asked held = if reads_input asked then held else Some []
 
 -- what was written and how it ended is what the words and the bytes that are read for them come to
 pub record Answers (words : List (List ℕ)) (held taken taken' : Option (List ℕ)) (exit : Exit) : Type 0 where
-  pub output : IfSome (bytes_for (command_for words) held) (λ bytes. Outputs taken taken' exit (out words bytes))
+  pub output : IfSome (bytes_for (command_of words) held) (λ bytes. Outputs taken taken' exit (out words bytes))
   pub unwritten : exit ≡ OutOfMemory → taken' ≡ taken
 
 -- words of no form are answered as such, and no others, but where there was no memory to read them; a word that begins
 -- with `-` is answered without any
 pub record HasForm (words : List (List ℕ)) (exit : Exit) : Type 0 where
-  pub usage : exit ≡ Usage → command_for words ≡ None
-  pub no_form : command_for words ≡ None → (exit ≡ Usage) ⊎ ((exit ≡ WriteFault) ⊎ (exit ≡ OutOfMemory))
+  pub usage : exit ≡ Usage → command_of words ≡ None
+  pub no_form : command_of words ≡ None → (exit ≡ Usage) ⊎ ((exit ≡ WriteFault) ⊎ (exit ≡ OutOfMemory))
   pub early : list_any is_dashed words ≡ true → exit ≢ OutOfMemory
 
 -- where all was done the input was read to its end, and where it is not read the source stays as it was and no reading
 -- fails
 pub record ReadsInput {S : Type 0} (held : S → Option (List ℕ)) (words : List (List ℕ)) (old new : S) (exit : Exit) : Type 0 where
-  pub end : exit ≡ Done → reads_input (command_for words) ≡ true → IsAtEnd (held new)
-  pub unread : reads_input (command_for words) ≡ false → new ≡ old
-  pub unfailed : reads_input (command_for words) ≡ false → exit ≢ ReadFault
+  pub end : exit ≡ Done → reads_input (command_of words) ≡ true → IsAtEnd (held new)
+  pub unread : reads_input (command_of words) ≡ false → new ≡ old
+  pub unfailed : reads_input (command_of words) ≡ false → exit ≢ ReadFault
 
 -- what a call wrote and how it ended is what it comes to, and so is how many slots it fetched, where their number is told
 pub record ComesFor (asked : Option Command) (taken taken' : Option (List ℕ)) (fetches fetches' : ℕ) (exit : Exit) (course : Course) : Type 0 where
@@ -52,12 +52,12 @@ pub record StandsFor (asked : Option Command) (held held' taken taken' : Option 
 -- how many slots are fetched: where their number is told, those of the whole run and never more, and over a mapping cache no
 -- more than the bounds on it; and none for words that let nothing run or where memory was wanting
 pub record FetchesFor (words : List (List ℕ)) (held : Option (List ℕ)) (fetches fetches' : ℕ) (exit : Exit) : Type 0 where
-  pub counted : tells_fetches (command_for words) ≡ true → IfSome (bytes_for (command_for words) held) (λ bytes. Fetches fetches fetches' exit (fetched words bytes))
-  pub bounded : tells_fetches (command_for words) ≡ true → has_cache (command_for words) ≡ true → IfSome (bytes_for (command_for words) held) (λ bytes. IsBounded fetches fetches' (whole_course words bytes))
-  pub unfetched : asks_run (command_for words) ≡ false → fetches' ≡ fetches
+  pub counted : tells_fetches (command_of words) ≡ true → IfSome (bytes_for (command_of words) held) (λ bytes. Fetches fetches fetches' exit (fetched words bytes))
+  pub bounded : tells_fetches (command_of words) ≡ true → has_cache (command_of words) ≡ true → IfSome (bytes_for (command_of words) held) (λ bytes. IsBounded fetches fetches' (whole_course words bytes))
+  pub unfetched : asks_run (command_of words) ≡ false → fetches' ≡ fetches
   pub unspent : exit ≡ OutOfMemory → fetches' ≡ fetches
 
 -- how few frames `share` tells where all was done, and how few slots it fetches
 pub record SharesFor (words : List (List ℕ)) (held : Option (List ℕ)) (fetches fetches' : ℕ) (exit : Exit) : Type 0 where
-  pub frames : exit ≡ Done → command_for words ≡ Some Share → IfSome (bytes_for (command_for words) held) (λ bytes. TellsFew (whole_course words bytes))
-  pub bounded : command_for words ≡ Some Share → IfSome (bytes_for (command_for words) held) (λ bytes. IsSharedBounded fetches fetches' (whole_course words bytes))
+  pub frames : exit ≡ Done → command_of words ≡ Some Share → IfSome (bytes_for (command_of words) held) (λ bytes. TellsFew (whole_course words bytes))
+  pub bounded : command_of words ≡ Some Share → IfSome (bytes_for (command_of words) held) (λ bytes. IsSharedBounded fetches fetches' (whole_course words bytes))

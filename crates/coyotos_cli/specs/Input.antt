@@ -18,7 +18,3 @@ whole_input bytes = record { lines = parts_of bytes; image = unpacked bytes }
 -- what is taken of bytes that were read, with more to come: their whole lines, and an image as if it ended behind them
 abbrev pub read_input : List ℕ → Input
 read_input bytes = record { lines = whole_lines [] bytes; image = read_of bytes }
-
--- nothing is taken
-abbrev pub no_input : Input
-no_input = whole_input []

@@ -5,7 +5,8 @@ ghost use Rattle.coyotos_words.specs.declared.command.Command.TheVariants.{Confi
 ghost use Rattle.confine_command.specs.Decided.{IsDecided};
 ghost use Rattle.image_commands.specs.Same.{IsImageOf};
 ghost use Rattle.migrate_command.specs.Same.{IsMigrated};
-ghost use Rattle.coyotos_cli.specs.Command.{command_for, has_cache};
+ghost use Rattle.coyotos_words.specs.Command.{command_of};
+ghost use Rattle.coyotos_cli.specs.Command.{has_cache};
 ghost use Rattle.courses.specs.Course.{HasEntries};
 ghost use Rattle.courses.specs.Ending.{HasCauses, Completes};
 ghost use Rattle.coyotos_cli.specs.Program.{out, sure, whole_course};
@@ -35,13 +36,13 @@ pub fn coyotos<S: Source, K: Sink, L: Ledger>(
     ensures complete { let words = map string_bytes words.now in
         ¬ Rose (S.faults input.old) (S.faults input.new) →
         ¬ Rose (K.faults output.old) (K.faults output.new) →
-        IfSome (bytes_for (command_for words) (S.held input.old)) (λ bytes.
+        IfSome (bytes_for (command_of words) (S.held input.old)) (λ bytes.
         Completes (K.taken output.old) (K.taken output.new) result (out words bytes)) }
 
     // Where reading failed, no whole line that was read ended the call, and what was written and fetched is what these
     // lines come to.
     ensures sure { let words = map string_bytes words.now in result ≡ Exit.ReadFault →
-        StandsFor (command_for words) (S.held input.old) (S.held input.new)
+        StandsFor (command_of words) (S.held input.old) (S.held input.new)
         (K.taken output.old) (K.taken output.new) fetches.old fetches.new (sure words) }
 
     // How much of the input is read.
@@ -55,22 +56,22 @@ pub fn coyotos<S: Source, K: Sink, L: Ledger>(
     // What the mapping lines of `tables` say: each is right and its space live, none comes twice, those of a space are in
     // order of address, and where the need of the run fits, each covered pair of the last state has one.
     ensures entries { let words = map string_bytes words.now in
-        result ≡ Exit.Done → has_cache (command_for words) ≡ true →
-        IfSome (bytes_for (command_for words) (S.held input.old)) (λ bytes.
+        result ≡ Exit.Done → has_cache (command_of words) ≡ true →
+        IfSome (bytes_for (command_of words) (S.held input.old)) (λ bytes.
         HasEntries (whole_course words bytes)) }
 
     // What `migrate` writes is, read again, the same statements and events, if it is short enough to be an input.
-    ensures migrated { let words = map string_bytes words.now in command_for words ≡ Some Migrate →
+    ensures migrated { let words = map string_bytes words.now in command_of words ≡ Some Migrate →
         result ≡ Exit.Done → IfSome (S.held input.old) (λ bytes. IsMigrated bytes (out words bytes).text) }
 
     // For the image that `pack` writes, `unpack` writes what `migrate` writes for the input, if it is short enough.
-    ensures packed { let words = map string_bytes words.now in command_for words ≡ Some Pack →
+    ensures packed { let words = map string_bytes words.now in command_of words ≡ Some Pack →
         result ≡ Exit.Done → IfSome (S.held input.old) (λ bytes.
         IsImageOf bytes (out words bytes).text) }
 
     // Where `confine` writes that a cut holds, it does at the start of the machine that the listing boots, and its sides are
     // kept apart whatever events follow; where it writes a breach, the cut doesn't hold, and this is the first.
-    ensures decided { let words = map string_bytes words.now in command_for words ≡ Some Confine →
+    ensures decided { let words = map string_bytes words.now in command_of words ≡ Some Confine →
         result ≡ Exit.Done → IfSome (S.held input.old) (λ bytes.
         IsDecided bytes (out words bytes).text) }
 

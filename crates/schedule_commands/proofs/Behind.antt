@@ -4,11 +4,11 @@ use Rattle.coy_io.specs.Lines.{Part}
 use Rattle.kernel_core.specs.State.{State}
 use Rattle.image_builder.specs.Boot.{booted}
 use Rattle.listing_read.specs.Statement.{ListingValue}
-use Rattle.coyotos_words.specs.declared.command.Command.{Command}
+use Rattle.schedule_commands.specs.declared.command.ScheduleCommand.{ScheduleCommand}
 use Rattle.schedule_replay.specs.Scheduled.{scheduled}
 use Rattle.schedule_commands.specs.Finished.{course_of, schedule_course}
 
 -- what lines come to on the machine of the listing is what is done with it and them
-pub of-listing : (command : Command) (listing : ListingValue) (last harts : ℕ) (s : State) → harts ≡ listing.sizes.harts → s ≡ booted listing
+pub of-listing : (command : ScheduleCommand) (listing : ListingValue) (last harts : ℕ) (s : State) → harts ≡ listing.sizes.harts → s ≡ booted listing
     → (parts : List Part) → course_of command s (scheduled harts last parts) ≡ schedule_course command listing last parts
 of-listing command listing last harts s few state parts = rw (few, state) refl

@@ -14,8 +14,8 @@ use Rattle.map_cache.specs.Kept.{nothing}
 use Rattle.fetch_economy.proofs.Bound.{bound_in_every_run, slot_reads-most}
 use Rattle.fetch_economy.proofs.Economic.{fetch_economy}
 use Rattle.run_economy.proofs.Events.{run-ages}
-use Rattle.coyotos_words.specs.declared.command.Command.{Command}
-use Rattle.coyotos_words.specs.declared.command.Command.TheVariants.{Walk}
+use Rattle.schedule_commands.specs.declared.command.ScheduleCommand.{ScheduleCommand}
+use Rattle.schedule_commands.specs.declared.command.ScheduleCommand.TheVariants.{Walk}
 use Rattle.courses.specs.Course.{ends_in}
 use Rattle.courses.proofs.Sound.{IsSound, ends-sound}
 use Rattle.schedule_commands.specs.Finished.{course_behind, course_of, finished, fetches_for, accesses_for, printed_for, schedule_course}
@@ -27,7 +27,7 @@ use Rattle.schedule_replay.specs.declared.replayed.Replayed.{Replayed}
 use Rattle.schedule_replay.specs.declared.replayed.Replayed.TheVariants as answers
 
 -- what is fetched for the last text is at most 32 for each access that is made for it and 16 for each GPT that is printed
-for-most : (command : Command) (s : State) → fetches_for command s ≤ 32 * accesses_for command s + 16 * printed_for command s
+for-most : (command : ScheduleCommand) (s : State) → fetches_for command s ≤ 32 * accesses_for command s + 16 * printed_for command s
 for-most (Walk process kind address) s = on (nat_lt process (size_of s.store.items Process))
   where
     on : (is : Bool) → (if is then slots s.store.items (space_of s process) address kind else 0) ≤ 32 * (if is then 1 else 0) + 16 * 0
@@ -35,13 +35,13 @@ for-most (Walk process kind address) s = on (nat_lt process (size_of s.store.ite
     on false = omega arith
 for-most _ s = omega arith
 
-last-most : (command : Command) (s : State) (answer : Replayed)
+last-most : (command : ScheduleCommand) (s : State) (answer : Replayed)
     → if_ended (fetches_for command s) answer ≤ 32 * if_ended (accesses_for command s) answer + 16 * if_ended (printed_for command s) answer
 last-most command s (answers.Ended counts) = for-most command s
 last-most command s _ = omega arith
 
 -- a run and what is written behind it is within the bounds
-behind-sound : (command : Command) (s : State) (events : List Event) (answer : Replayed) → IsSound (course_behind command s events answer)
+behind-sound : (command : ScheduleCommand) (s : State) (events : List Event) (answer : Replayed) → IsSound (course_behind command s events answer)
 behind-sound command s events answer =
     let touches = run_touches s events in
     let end = run_state s events in
@@ -55,7 +55,7 @@ behind-sound command s events answer =
       sharp_economy = λ fits. let few = (fetch_economy s.store.items end.store.items touches (run-ages s events) fits).few in omega (arith, few, last);
     }
 
-of-sound : (command : Command) (s : State) (all : Scheduled) → IsSound (course_of command s all)
+of-sound : (command : ScheduleCommand) (s : State) (all : Scheduled) → IsSound (course_of command s all)
 of-sound command s all = on (runs command)
   where
     on : (run : Bool) → IsSound (if run then course_behind command s all.events (run_answer s all) else ends_in (finished command s nothing (count_answer all)))
@@ -63,5 +63,5 @@ of-sound command s all = on (runs command)
     on false = ends-sound (finished command s nothing (count_answer all))
 
 -- with whatever listing
-pub schedule-sound : (command : Command) (listing : ListingValue) (last : ℕ) (rest : List Part) → IsSound (schedule_course command listing last rest)
+pub schedule-sound : (command : ScheduleCommand) (listing : ListingValue) (last : ℕ) (rest : List Part) → IsSound (schedule_course command listing last rest)
 schedule-sound command listing last rest = of-sound command (booted listing) (scheduled listing.sizes.harts last rest)

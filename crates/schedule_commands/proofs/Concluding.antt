@@ -22,7 +22,7 @@ use Rattle.fetch_economy.specs.Counts.{kept_by}
 use Rattle.fetch_economy.specs.Laws.{HasEntry}
 use Rattle.map_cache.specs.Kept.{counted as counted_space}
 use Rattle.run_economy.proofs.Events.{run-ages}
-use Rattle.coyotos_words.specs.declared.command.Command.{Command}
+use Rattle.schedule_commands.specs.declared.command.ScheduleCommand.{ScheduleCommand}
 use Rattle.schedule_commands.specs.Runs.{runs, mode_of}
 use Rattle.courses.specs.Course.{Course, ComesTo, HasEntries, course_output, ends_in}
 use Rattle.schedule_commands.specs.Finished.{course_behind, course_of, finished, runner_of}
@@ -46,16 +46,16 @@ use Rattle.schedule_replay.proofs.Reading.{on_all}
 -- ---- a run
 
 -- a command that lets the machine run comes to what its run comes to
-pub course-runs : (command : Command) (s : State) (all : Scheduled) → runs command ≡ true → course_of command s all ≡ course_behind command s all.events (run_answer s all)
+pub course-runs : (command : ScheduleCommand) (s : State) (all : Scheduled) → runs command ≡ true → course_of command s all ≡ course_behind command s all.events (run_answer s all)
 course-runs command s all on = ap (λ b. if b then course_behind command s all.events (run_answer s all) else ends_in (finished command s nothing (count_answer all))) on
 
 -- and `check` to what it counts
-course-counts : (command : Command) (s : State) (all : Scheduled) → runs command ≡ false → course_of command s all ≡ ends_in (finished command s nothing (count_answer all))
+course-counts : (command : ScheduleCommand) (s : State) (all : Scheduled) → runs command ≡ false → course_of command s all ≡ ends_in (finished command s nothing (count_answer all))
 course-counts command s all off = ap (λ b. if b then course_behind command s all.events (run_answer s all) else ends_in (finished command s nothing (count_answer all))) off
 
 -- ---- the entries
 
-module _ (command : Command) (m n : MachineValue CacheValue) (f g : ℕ) (events : List Event) (none : kept_of m.translator ≡ nothing)
+module _ (command : ScheduleCommand) (m n : MachineValue CacheValue) (f g : ℕ) (events : List Event) (none : kept_of m.translator ≡ nothing)
     (ran : Ran kept_of cost_of kept_after kept_without m f n g events) (tells : TellsEntries n.translator (state_of n).store.items) where
   -- those of a cache at the end of a run are right, and whole where the run's need fits
   behind-entries : (answer : Replayed) → HasEntries (course_behind command (state_of m) events answer)
@@ -75,7 +75,7 @@ module _ (command : Command) (m n : MachineValue CacheValue) (f g : ℕ) (events
       }
 
 -- so are those of the course of the known lines, where all of these were run
-pub run-entries : (command : Command) (m n : MachineValue CacheValue) (lines lines' : Reader) (held held' start taken' : Option (List ℕ)) (f g : ℕ) (counts : Counts) (answer : Replayed)
+pub run-entries : (command : ScheduleCommand) (m n : MachineValue CacheValue) (lines lines' : Reader) (held held' start taken' : Option (List ℕ)) (f g : ℕ) (counts : Counts) (answer : Replayed)
     → answer ≡ answers.Ended counts → kept_of m.translator ≡ nothing → runs command ≡ true
     → Replays kept_of cost_of kept_after kept_without (mode_of command) m n lines lines' held held' start taken' f g answer → TellsEntries n.translator (state_of n).store.items
     → OnParts (ahead lines held) (λ parts. HasEntries (course_of command (state_of m) (scheduled m.objects.harts lines.number parts)))
@@ -90,7 +90,7 @@ run-entries command m n lines lines' held held' start taken' f g counts answer i
         (behind-entries command m n f g r.events none r.ran tells (run_answer (state_of m) all)))
 
 -- and where they were counted
-pub count-entries : (command : Command) (s : State) (harts number : ℕ) (left : Option (List Part)) → runs command ≡ false
+pub count-entries : (command : ScheduleCommand) (s : State) (harts number : ℕ) (left : Option (List Part)) → runs command ≡ false
     → OnParts left (λ parts. HasEntries (course_of command s (scheduled harts number parts)))
 count-entries command s harts number None off = tt
 count-entries command s harts number (Some parts) off =
@@ -98,7 +98,7 @@ count-entries command s harts number (Some parts) off =
 
 -- ---- a count
 
-module _ {S : Type 0} (taken : S → Option (List ℕ)) (faults : S → ℕ) (command : Command) (s : State) (harts : ℕ) (lines lines' : Reader) (held held' : Option (List ℕ)) (old new : S) (f h : ℕ)
+module _ {S : Type 0} (taken : S → Option (List ℕ)) (faults : S → ℕ) (command : ScheduleCommand) (s : State) (harts : ℕ) (lines lines' : Reader) (held held' : Option (List ℕ)) (old new : S) (f h : ℕ)
     (exit : Exit) (answer : Replayed) (k : KeptValue) (is : k ≡ nothing) (count : List Touch → ℕ) (none : count [] ≡ 0) (off : runs command ≡ false) (still : h ≡ f)
     (r : Counted harts lines lines' held held' answer) (c : ConcludesBy taken faults (runner_of command) s k answer old new f h exit) where
   abbrev Comes_in : Course → Type 0

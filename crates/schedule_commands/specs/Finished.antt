@@ -23,8 +23,8 @@ use Rattle.schedule_replay.specs.Scheduled.{Scheduled, scheduled}
 use Rattle.schedule_replay.specs.Replay.{run_answer, count_answer}
 use Rattle.schedule_replay.specs.declared.counts.Counts.{Counts}
 use Rattle.schedule_replay.specs.declared.replayed.Replayed.{Replayed}
-use Rattle.coyotos_words.specs.declared.command.Command.{Command}
-use Rattle.coyotos_words.specs.declared.command.Command.TheVariants.{Check, Tables, Walk, Make}
+use Rattle.schedule_commands.specs.declared.command.ScheduleCommand.{ScheduleCommand}
+use Rattle.schedule_commands.specs.declared.command.ScheduleCommand.TheVariants.{Check, Run, Trace, Tables, Walk, Summary}
 
 -- what `walk` writes of a state: where an access of a process's space ends, by a walk at this moment
 abbrev pub access_text : State → ℕ → Kind → ℕ → List ℕ
@@ -51,36 +51,45 @@ abbrev pub tables_text : State → KeptValue → List ℕ
 tables_text s kept = last_state_text s ++ entries_text (held_entries s.store.items kept)
 
 -- what comes behind the records where all lines were read, by the last state, what is kept then, and the counts of the run
-abbrev pub last_text : Command → State → KeptValue → Counts → List ℕ
+abbrev pub last_text : ScheduleCommand → State → KeptValue → Counts → List ℕ
 last_text Check s kept counts = count_text counts.events
-last_text (Walk process kind address) s kept counts = access_text s process kind address
-last_text (Make number summary) s kept counts = summary_text counts
+last_text Run s kept counts = last_state_text s
+last_text Trace s kept counts = last_state_text s
 last_text Tables s kept counts = tables_text s kept
-last_text _ s kept counts = last_state_text s
+last_text (Walk process kind address) s kept counts = access_text s process kind address
+last_text Summary s kept counts = summary_text counts
 
 -- the slots that are fetched for it: all of each GPT to print a state, and those that the access of `walk` reads
-abbrev pub fetches_for : Command → State → ℕ
+abbrev pub fetches_for : ScheduleCommand → State → ℕ
 fetches_for Check s = 0
+fetches_for Run s = 16 * size_of s.store.items Gpt
+fetches_for Trace s = 16 * size_of s.store.items Gpt
+fetches_for Tables s = 16 * size_of s.store.items Gpt
 fetches_for (Walk process kind address) s =
     if nat_lt process (size_of s.store.items Process) then slots s.store.items (space_of s process) address kind
     else 0
-fetches_for (Make number summary) s = 0
-fetches_for _ s = 16 * size_of s.store.items Gpt
+fetches_for Summary s = 0
 
 -- the accesses that are made for it
-abbrev pub accesses_for : Command → State → ℕ
+abbrev pub accesses_for : ScheduleCommand → State → ℕ
+accesses_for Check s = 0
+accesses_for Run s = 0
+accesses_for Trace s = 0
+accesses_for Tables s = 0
 accesses_for (Walk process kind address) s = if nat_lt process (size_of s.store.items Process) then 1 else 0
-accesses_for _ s = 0
+accesses_for Summary s = 0
 
 -- the GPTs that are printed
-abbrev pub printed_for : Command → State → ℕ
+abbrev pub printed_for : ScheduleCommand → State → ℕ
 printed_for Check s = 0
+printed_for Run s = size_of s.store.items Gpt
+printed_for Trace s = size_of s.store.items Gpt
+printed_for Tables s = size_of s.store.items Gpt
 printed_for (Walk process kind address) s = 0
-printed_for (Make number summary) s = 0
-printed_for _ s = size_of s.store.items Gpt
+printed_for Summary s = 0
 
 -- a command as one that runs the lines
-abbrev pub runner_of : Command → Runner KeptValue
+abbrev pub runner_of : ScheduleCommand → Runner KeptValue
 runner_of command = record {
   mode = mode_of command;
   text = last_text command;
@@ -91,22 +100,22 @@ runner_of command = record {
 }
 
 -- what is written last, and how the program ends, by the answer of a run that came to this state and left this kept
-abbrev pub finished : Command → State → KeptValue → Replayed → Output
+abbrev pub finished : ScheduleCommand → State → KeptValue → Replayed → Output
 finished command s kept answer = finished_by (runner_of command) s kept answer
 
 -- ---- the lines behind a listing
 
 -- over the mapping cache, which keeps nothing at first, the events of a run come first, and then what its answer comes to
-abbrev pub course_behind : Command → State → List Event → Replayed → Course
+abbrev pub course_behind : ScheduleCommand → State → List Event → Replayed → Course
 course_behind command s events answer = run_course cost_of kept_after kept_without nothing (runner_of command) s events answer
 
 -- what a command comes to with what the lines ask for; `check` runs nothing, and counts their events
-abbrev pub course_of : Command → State → Scheduled → Course
+abbrev pub course_of : ScheduleCommand → State → Scheduled → Course
 course_of command s all =
     if runs command then course_behind command s all.events (run_answer s all)
     else ends_in (finished command s nothing (count_answer all))
 
 -- what a command comes to with a listing, the number of its line `end` and the lines behind that: the machine of the
 -- listing runs their events
-abbrev pub schedule_course : Command → Behind
+abbrev pub schedule_course : ScheduleCommand → Behind
 schedule_course command listing last rest = course_of command (booted listing) (scheduled listing.sizes.harts last rest)

@@ -1,18 +1,24 @@
 -- Which commands run the events of a schedule, and which of their records they write.
 use Rattle.std.specs.Prelude.{Bool, true, false}
-use Rattle.coyotos_words.specs.declared.command.Command.{Command}
-use Rattle.coyotos_words.specs.declared.command.Command.TheVariants.{Check, Run, Trace as Traced, Tables}
+use Rattle.schedule_commands.specs.declared.command.ScheduleCommand.{ScheduleCommand}
+use Rattle.schedule_commands.specs.declared.command.ScheduleCommand.TheVariants.{Check, Run, Trace as Traced, Tables, Walk, Summary}
 use Rattle.schedule_replay.specs.declared.mode.Mode.{Mode}
 use Rattle.schedule_replay.specs.declared.mode.Mode.TheVariants.{Silent, Records, Trace}
 
 -- whether the events of the lines are run for a command, or only counted, as for `check`
-abbrev pub runs : Command → Bool
+abbrev pub runs : ScheduleCommand → Bool
 runs Check = false
-runs _ = true
+runs Run = true
+runs Traced = true
+runs Tables = true
+runs (Walk process kind address) = true
+runs Summary = true
 
 -- the records of the run that a command writes
-abbrev pub mode_of : Command → Mode
+abbrev pub mode_of : ScheduleCommand → Mode
+mode_of Check = Silent
 mode_of Run = Records
-mode_of Tables = Records
 mode_of Traced = Trace
-mode_of _ = Silent
+mode_of Tables = Records
+mode_of (Walk process kind address) = Silent
+mode_of Summary = Silent

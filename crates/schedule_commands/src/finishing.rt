@@ -13,12 +13,12 @@ ghost use Rattle.object_store.specs.Meaning.{meaning};
 ghost use Rattle.object_store.specs.Store.{size_of};
 ghost use Rattle.cap_format.specs.declared.kind.CapKind.TheVariants.{Gpt, Process};
 
+use crate::command::ScheduleCommand;
 use crate::tables::tables;
 use cap_format::Cap;
 use courses::{Exit, end_past_limit, end_with, refuse_schedule};
 use coy_io::Sink;
 use coy_text::LineBuf;
-use coyotos_words::Command;
 use kernel_core::Machine;
 use map_cache::MapCache;
 use run_text::{dump, walk_line};
@@ -30,7 +30,7 @@ use walk_meaning::Kind;
 
 /// Writes what comes behind the records, by the answer of the lines.
 pub(crate) fn conclude<K: Sink, L: Ledger>(
-    command: Command,
+    command: ScheduleCommand,
     answer: Replayed,
     machine: &Machine<MapCache>,
     output: &mut K,
@@ -53,7 +53,7 @@ pub(crate) fn conclude<K: Sink, L: Ledger>(
 /// Writes what comes last where all lines were read: the number of events, the counts, the last state with the entries of
 /// the mapping cache or without, or where a walk ends.
 fn finish<K: Sink, L: Ledger>(
-    command: Command,
+    command: ScheduleCommand,
     counts: Counts,
     machine: &Machine<MapCache>,
     output: &mut K,
@@ -67,15 +67,15 @@ fn finish<K: Sink, L: Ledger>(
     ensures stays { runs command ≡ false → fetches.new ≡ fetches.old }
 {
     match command {
-        Command::Check => count(counts.events, output),
-        Command::Make { .. } => summary(counts, output),
-        Command::Walk {
+        ScheduleCommand::Check => count(counts.events, output),
+        ScheduleCommand::Walk {
             process,
             kind,
             address,
         } => access(machine, process as u16, kind, address, output, fetches),
-        Command::Tables => tables(machine, output, fetches),
-        _ => last_state(machine, output, fetches),
+        ScheduleCommand::Tables => tables(machine, output, fetches),
+        ScheduleCommand::Summary => summary(counts, output),
+        ScheduleCommand::Run | ScheduleCommand::Trace => last_state(machine, output, fetches),
     }
 }
 
@@ -138,7 +138,7 @@ fn access<T: Translator, K: Sink, L: Ledger>(
 ) -> Exit
     ensures ends { EndsIn K.taken K.faults output.old output.new result
         (record { text = access_text (state_of machine.now) process kind address; exit = Exit.Done }) }
-    ensures counted { let command = Command.Walk process kind address in
+    ensures counted { let command = ScheduleCommand.Walk process kind address in
         fetches.new ≡ fetches.old + fetches_for command (state_of machine.now) }
 {
     let mut line = LineBuf::new();

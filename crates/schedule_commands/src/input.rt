@@ -9,10 +9,10 @@ ghost use Rattle.courses.specs.Sure.{StandsSure};
 ghost use Rattle.schedule_commands.specs.Finished.{schedule_course};
 ghost use Rattle.schedule_commands.specs.Runs.{runs};
 
+use crate::command::ScheduleCommand;
 use crate::schedule::answer_lines;
 use courses::{Exit, read_head};
 use coy_io::{LineReader, Sink, Source};
-use coyotos_words::Command;
 use image_builder::boot;
 use map_cache::MapCache;
 use std::alloc::Global;
@@ -22,7 +22,7 @@ use steps::Steps;
 /// Reads a listing and its schedule, and does with them what the command says.
 pub fn answer_schedule<S: Source, K: Sink, L: Ledger>(
     alloc: Global,
-    command: Command,
+    command: ScheduleCommand,
     input: &mut S,
     output: &mut K,
     fetches: &mut Steps<L>,

@@ -3,9 +3,11 @@
 //! Nothing here knows the words that ask for a command, or where the bytes of its input come from.
 #![tactic(auto)]
 
+mod command;
 mod finishing;
 mod input;
 mod schedule;
 mod tables;
 
+pub use command::ScheduleCommand;
 pub use input::answer_schedule;

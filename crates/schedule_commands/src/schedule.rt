@@ -12,11 +12,11 @@ ghost use Rattle.courses.specs.Sure.{StandsOn};
 ghost use Rattle.schedule_commands.specs.Finished.{course_of};
 ghost use Rattle.schedule_replay.specs.Scheduled.{OnParts, scheduled};
 
+use crate::command::ScheduleCommand;
 use crate::finishing::conclude;
 use crate::tables::tell_entries;
 use courses::Exit;
 use coy_io::{LineReader, Sink, Source};
-use coyotos_words::Command;
 use kernel_core::Machine;
 use map_cache::MapCache;
 use schedule_replay::{Mode, count_lines, replay};
@@ -25,7 +25,7 @@ use steps::Steps;
 
 /// Runs the lines behind a listing, or counts their events, and writes what the command says.
 pub(crate) fn answer_lines<S: Source, K: Sink, L: Ledger>(
-    command: Command,
+    command: ScheduleCommand,
     machine: &mut Machine<MapCache>,
     lines: &mut LineReader,
     input: &mut S,
@@ -71,19 +71,28 @@ pub(crate) fn answer_lines<S: Source, K: Sink, L: Ledger>(
 }
 
 /// Whether the events of the lines are run for a command.
-fn runs(command: Command) -> bool
+fn runs(command: ScheduleCommand) -> bool
     ensures { result ≡ runs command }
 {
-    !matches!(command, Command::Check)
+    match command {
+        ScheduleCommand::Check => false,
+        ScheduleCommand::Run
+        | ScheduleCommand::Trace
+        | ScheduleCommand::Tables
+        | ScheduleCommand::Walk { .. }
+        | ScheduleCommand::Summary => true,
+    }
 }
 
 /// The records of the run that a command writes.
-fn mode_of(command: Command) -> Mode
+fn mode_of(command: ScheduleCommand) -> Mode
     ensures { result ≡ mode_of command }
 {
     match command {
-        Command::Run | Command::Tables => Mode::Records,
-        Command::Trace => Mode::Trace,
-        _ => Mode::Silent,
+        ScheduleCommand::Run | ScheduleCommand::Tables => Mode::Records,
+        ScheduleCommand::Trace => Mode::Trace,
+        ScheduleCommand::Check | ScheduleCommand::Walk { .. } | ScheduleCommand::Summary => {
+            Mode::Silent
+        }
     }
 }

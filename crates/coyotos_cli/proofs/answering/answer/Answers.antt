@@ -1,74 +1,151 @@
-use Rattle.std.proofs.Common.{◌∙◌, refl, sym}
-use Rattle.courses.specs.Course.{HasEntries}
-use Rattle.coyotos_words.specs.declared.command.Command.TheVariants.{Confine, Migrate, Pack, Share}
-use Rattle.confine_command.specs.Decided.{IsDecided}
-use Rattle.image_commands.specs.Same.{IsImageOf}
-use Rattle.migrate_command.specs.Same.{IsMigrated}
-use Rattle.share_command.specs.Few.{IsSharedBounded, TellsFew}
-use Rattle.coyotos_cli.proofs.Words.{causes-other, comes-input, entries-other, known-input, comes-other, sure-input, text-input, text-other}
+use Rattle.std.proofs.Common.{◌∙◌, Some, ap, refl, sym}
+use Rattle.courses.specs.Course.{cached}
+use Rattle.courses.specs.declared.exit.Exit.TheVariants.{Done}
+use Rattle.courses.proofs.Lasts.{last-causes, none-entries}
+use Rattle.coyotos_words.specs.declared.command.Command.TheVariants.{Help, Check, Run, Trace, Tables, Walk, Make, Pack, Unpack, Migrate, Confine, Share, Back}
+use Rattle.share_command.specs.Share.{shared_fetched}
+use Rattle.coyotos_cli.specs.Command.{asks_run}
+use Rattle.coyotos_cli.specs.Program.{tells_usage}
+use Rattle.coyotos_cli.proofs.Words.{cache-shared, causes-other, comes-back, comes-known, comes-text, comes-told, known-back, known-confine, known-migrate, known-pack, known-unpack, stands-back, stands-told, usage-last}
 use Rattle.coyotos_cli.proofs.answering.answer.Goals as goal
 
-pub returns-then-asks_input-clause-comes : goal.returns-then-asks_input-clause-comes
-returns-then-asks_input-clause-comes g c =
-    comes-input c.args.command _ _ _ _ _ _ (sym c.asks_input.ensures ∙ c.if-asks_input.true) c.answer_input.ensures.comes
+-- ---- no input
 
-pub returns-then-asks_input-clause-sure : goal.returns-then-asks_input-clause-sure
-returns-then-asks_input-clause-sure g c =
-    λ fault. sure-input c.args.command _ _ _ _ _ _ (sym c.asks_input.ensures ∙ c.if-asks_input.true) (c.answer_input.ensures.sure fault)
+pub returns-in-Help-clause-comes : goal.returns-in-Help-clause-comes
+returns-in-Help-clause-comes g c = rw c.in-Help.is (comes-text Help _ _ _ _ _ _ _ _ refl c.usage.ensures refl)
 
-pub returns-clause-comes : goal.returns-clause-comes
-returns-clause-comes g c =
-    comes-other c.args.command _ _ _ _ _ _ (sym c.asks_input.ensures ∙ c.if-asks_input.false) c.answer_other.ensures.comes
+pub returns-in-Help-clause-entries : goal.returns-in-Help-clause-entries
+returns-in-Help-clause-entries g c = λ done has. rw c.in-Help.is (none-entries (tells_usage Done).last)
 
-pub returns-clause-unread : goal.returns-clause-unread
-returns-clause-unread g c = λ off. refl
+pub returns-in-Help-clause-unread : goal.returns-in-Help-clause-unread
+returns-in-Help-clause-unread g c = λ off. refl
 
-pub returns-clause-causes : goal.returns-clause-causes
-returns-clause-causes g c = causes-other _ _ _ _ c.answer_other.ensures.read c.answer_other.ensures.causes
+pub returns-in-Help-clause-causes : goal.returns-in-Help-clause-causes
+returns-in-Help-clause-causes g c = last-causes _ _ _ _ _ _ usage-last c.usage.ensures _ _ _ refl refl
 
-pub returns-then-asks_input-clause-entries : goal.returns-then-asks_input-clause-entries
-returns-then-asks_input-clause-entries g c =
-    λ done has. known-input HasEntries c.args.command _ (sym c.asks_input.ensures ∙ c.if-asks_input.true) (c.answer_input.ensures.entries done has)
+pub returns-in-Make-clause-comes : goal.returns-in-Make-clause-comes
+returns-in-Make-clause-comes g c = rw c.in-Make.is (comes-told (Make c.in-Make.number c.in-Make.summary) _ _ _ _ _ cached refl _ c.make.ensures.comes)
 
-pub returns-clause-entries : goal.returns-clause-entries
-returns-clause-entries g c =
-    λ done has. entries-other c.args.command _ (sym c.asks_input.ensures ∙ c.if-asks_input.false) (c.answer_other.ensures.entries done)
+pub returns-in-Make-clause-entries : goal.returns-in-Make-clause-entries
+returns-in-Make-clause-entries g c = λ done has. rw c.in-Make.is (c.make.ensures.entries done)
 
-pub returns-then-asks_input-clause-migrated : goal.returns-then-asks_input-clause-migrated
-returns-then-asks_input-clause-migrated g c =
-    λ asked done. text-input IsMigrated c.args.command _ (sym c.asks_input.ensures ∙ c.if-asks_input.true) (c.answer_input.ensures.migrated asked done)
+pub returns-in-Make-clause-unread : goal.returns-in-Make-clause-unread
+returns-in-Make-clause-unread g c = λ off. refl
 
-pub returns-clause-migrated : goal.returns-clause-migrated
-returns-clause-migrated g c = λ asked done. text-other c.args.command Migrate asked refl (sym c.asks_input.ensures ∙ c.if-asks_input.false)
+pub returns-in-Make-clause-causes : goal.returns-in-Make-clause-causes
+returns-in-Make-clause-causes g c = causes-other _ _ _ _ c.make.ensures.read c.make.ensures.causes
 
-pub returns-then-asks_input-clause-packed : goal.returns-then-asks_input-clause-packed
-returns-then-asks_input-clause-packed g c =
-    λ asked done. text-input IsImageOf c.args.command _ (sym c.asks_input.ensures ∙ c.if-asks_input.true) (c.answer_input.ensures.packed asked done)
+pub returns-in-Make-clause-stays : goal.returns-in-Make-clause-stays
+returns-in-Make-clause-stays g c = λ off. c.make.ensures.stays (sym (ap (λ command. asks_run (Some command)) c.in-Make.is) ∙ off)
 
-pub returns-clause-packed : goal.returns-clause-packed
-returns-clause-packed g c = λ asked done. text-other c.args.command Pack asked refl (sym c.asks_input.ensures ∙ c.if-asks_input.false)
+-- ---- a schedule
 
-pub returns-then-asks_input-clause-fewer : goal.returns-then-asks_input-clause-fewer
-returns-then-asks_input-clause-fewer g c =
-    λ asked done. known-input TellsFew c.args.command _
-    (sym c.asks_input.ensures ∙ c.if-asks_input.true) (c.answer_input.ensures.fewer asked done)
+pub returns-in-Check-clause-comes : goal.returns-in-Check-clause-comes
+returns-in-Check-clause-comes g c = rw c.in-Check.is (comes-known Check _ _ _ _ _ cached refl _ _ c.answer_schedule.ensures.comes)
 
-pub returns-clause-fewer : goal.returns-clause-fewer
-returns-clause-fewer g c =
-    λ asked done. text-other c.args.command Share asked refl (sym c.asks_input.ensures ∙ c.if-asks_input.false)
+pub returns-in-Check-clause-sure : goal.returns-in-Check-clause-sure
+returns-in-Check-clause-sure g c = λ fault. rw c.in-Check.is (stands-told (Some Check) _ _ _ _ _ _ cached refl _ (c.answer_schedule.ensures.sure fault))
 
-pub returns-then-asks_input-clause-bounded : goal.returns-then-asks_input-clause-bounded
-returns-then-asks_input-clause-bounded g c =
-    λ asked. known-input (IsSharedBounded c.args.fetches.now c.answer_input.new.fetches) c.args.command _
-    (sym c.asks_input.ensures ∙ c.if-asks_input.true) (c.answer_input.ensures.bounded asked)
+pub returns-in-Check-clause-entries : goal.returns-in-Check-clause-entries
+returns-in-Check-clause-entries g c = λ done has. rw c.in-Check.is (c.answer_schedule.ensures.entries done)
 
-pub returns-clause-bounded : goal.returns-clause-bounded
-returns-clause-bounded g c =
-    λ asked. text-other c.args.command Share asked refl (sym c.asks_input.ensures ∙ c.if-asks_input.false)
+pub returns-in-Check-clause-stays : goal.returns-in-Check-clause-stays
+returns-in-Check-clause-stays g c = λ off. c.answer_schedule.ensures.stays refl
 
-pub returns-then-asks_input-clause-decided : goal.returns-then-asks_input-clause-decided
-returns-then-asks_input-clause-decided g c =
-    λ asked done. text-input IsDecided c.args.command _ (sym c.asks_input.ensures ∙ c.if-asks_input.true) (c.answer_input.ensures.decided asked done)
+pub returns-in-Run-clause-comes : goal.returns-in-Run-clause-comes
+returns-in-Run-clause-comes g c = rw c.in-Run.is (comes-known Run _ _ _ _ _ cached refl _ _ c.answer_schedule-in-Run.ensures.comes)
 
-pub returns-clause-decided : goal.returns-clause-decided
-returns-clause-decided g c = λ asked done. text-other c.args.command Confine asked refl (sym c.asks_input.ensures ∙ c.if-asks_input.false)
+pub returns-in-Run-clause-sure : goal.returns-in-Run-clause-sure
+returns-in-Run-clause-sure g c = λ fault. rw c.in-Run.is (stands-told (Some Run) _ _ _ _ _ _ cached refl _ (c.answer_schedule-in-Run.ensures.sure fault))
+
+pub returns-in-Run-clause-entries : goal.returns-in-Run-clause-entries
+returns-in-Run-clause-entries g c = λ done has. rw c.in-Run.is (c.answer_schedule-in-Run.ensures.entries done)
+
+pub returns-in-Trace-clause-comes : goal.returns-in-Trace-clause-comes
+returns-in-Trace-clause-comes g c = rw c.in-Trace.is (comes-known Trace _ _ _ _ _ cached refl _ _ c.answer_schedule-in-Trace.ensures.comes)
+
+pub returns-in-Trace-clause-sure : goal.returns-in-Trace-clause-sure
+returns-in-Trace-clause-sure g c = λ fault. rw c.in-Trace.is (stands-told (Some Trace) _ _ _ _ _ _ cached refl _ (c.answer_schedule-in-Trace.ensures.sure fault))
+
+pub returns-in-Trace-clause-entries : goal.returns-in-Trace-clause-entries
+returns-in-Trace-clause-entries g c = λ done has. rw c.in-Trace.is (c.answer_schedule-in-Trace.ensures.entries done)
+
+pub returns-in-Tables-clause-comes : goal.returns-in-Tables-clause-comes
+returns-in-Tables-clause-comes g c = rw c.in-Tables.is (comes-known Tables _ _ _ _ _ cached refl _ _ c.answer_schedule-in-Tables.ensures.comes)
+
+pub returns-in-Tables-clause-sure : goal.returns-in-Tables-clause-sure
+returns-in-Tables-clause-sure g c = λ fault. rw c.in-Tables.is (stands-told (Some Tables) _ _ _ _ _ _ cached refl _ (c.answer_schedule-in-Tables.ensures.sure fault))
+
+pub returns-in-Tables-clause-entries : goal.returns-in-Tables-clause-entries
+returns-in-Tables-clause-entries g c = λ done has. rw c.in-Tables.is (c.answer_schedule-in-Tables.ensures.entries done)
+
+pub returns-in-Walk-clause-comes : goal.returns-in-Walk-clause-comes
+returns-in-Walk-clause-comes g c = rw c.in-Walk.is (comes-known (Walk c.in-Walk.process c.in-Walk.kind c.in-Walk.address) _ _ _ _ _ cached refl _ _ c.answer_schedule-in-Walk.ensures.comes)
+
+pub returns-in-Walk-clause-sure : goal.returns-in-Walk-clause-sure
+returns-in-Walk-clause-sure g c = λ fault. rw c.in-Walk.is (stands-told (Some (Walk c.in-Walk.process c.in-Walk.kind c.in-Walk.address)) _ _ _ _ _ _ cached refl _ (c.answer_schedule-in-Walk.ensures.sure fault))
+
+pub returns-in-Walk-clause-entries : goal.returns-in-Walk-clause-entries
+returns-in-Walk-clause-entries g c = λ done has. rw c.in-Walk.is (c.answer_schedule-in-Walk.ensures.entries done)
+
+-- ---- what is no schedule over the mapping cache
+
+pub returns-in-Pack-clause-comes : goal.returns-in-Pack-clause-comes
+returns-in-Pack-clause-comes g c = rw c.in-Pack.is (comes-known Pack _ _ _ _ _ cached refl _ _ (c.answer_pack.ensures.comes _))
+
+pub returns-in-Pack-clause-sure : goal.returns-in-Pack-clause-sure
+returns-in-Pack-clause-sure g c = λ fault. rw c.in-Pack.is (stands-told (Some Pack) _ _ _ _ _ _ cached refl _ (c.answer_pack.ensures.sure fault _))
+
+pub returns-in-Pack-clause-entries : goal.returns-in-Pack-clause-entries
+returns-in-Pack-clause-entries g c = λ done has. rw c.in-Pack.is (known-pack _)
+
+pub returns-in-Unpack-clause-comes : goal.returns-in-Unpack-clause-comes
+returns-in-Unpack-clause-comes g c = rw c.in-Unpack.is (comes-known Unpack _ _ _ _ _ cached refl _ _ (c.answer_unpack.ensures.comes _))
+
+pub returns-in-Unpack-clause-sure : goal.returns-in-Unpack-clause-sure
+returns-in-Unpack-clause-sure g c = λ fault. rw c.in-Unpack.is (stands-told (Some Unpack) _ _ _ _ _ _ cached refl _ (c.answer_unpack.ensures.sure fault _))
+
+pub returns-in-Unpack-clause-entries : goal.returns-in-Unpack-clause-entries
+returns-in-Unpack-clause-entries g c = λ done has. rw c.in-Unpack.is (known-unpack _)
+
+pub returns-in-Migrate-clause-comes : goal.returns-in-Migrate-clause-comes
+returns-in-Migrate-clause-comes g c = rw c.in-Migrate.is (comes-known Migrate _ _ _ _ _ cached refl _ _ (c.migrate.ensures.comes _))
+
+pub returns-in-Migrate-clause-sure : goal.returns-in-Migrate-clause-sure
+returns-in-Migrate-clause-sure g c = λ fault. rw c.in-Migrate.is (stands-told (Some Migrate) _ _ _ _ _ _ cached refl _ (c.migrate.ensures.sure fault _))
+
+pub returns-in-Migrate-clause-entries : goal.returns-in-Migrate-clause-entries
+returns-in-Migrate-clause-entries g c = λ done has. rw c.in-Migrate.is (known-migrate _)
+
+pub returns-in-Confine-clause-comes : goal.returns-in-Confine-clause-comes
+returns-in-Confine-clause-comes g c = rw c.in-Confine.is (comes-known Confine _ _ _ _ _ cached refl _ _ c.confine.ensures.comes)
+
+pub returns-in-Confine-clause-sure : goal.returns-in-Confine-clause-sure
+returns-in-Confine-clause-sure g c = λ fault. rw c.in-Confine.is (stands-told (Some Confine) _ _ _ _ _ _ cached refl _ (c.confine.ensures.sure fault))
+
+pub returns-in-Confine-clause-entries : goal.returns-in-Confine-clause-entries
+returns-in-Confine-clause-entries g c = λ done has. rw c.in-Confine.is (known-confine _)
+
+pub returns-in-Share-clause-comes : goal.returns-in-Share-clause-comes
+returns-in-Share-clause-comes g c = rw c.in-Share.is (comes-known Share _ _ _ _ _ shared_fetched refl _ _ c.share.ensures.comes)
+
+pub returns-in-Share-clause-sure : goal.returns-in-Share-clause-sure
+returns-in-Share-clause-sure g c = λ fault. rw c.in-Share.is (stands-told (Some Share) _ _ _ _ _ _ shared_fetched refl _ (c.share.ensures.sure fault))
+
+pub returns-in-Share-clause-entries : goal.returns-in-Share-clause-entries
+returns-in-Share-clause-entries g c = λ done has. cache-shared c.args.command c.in-Share.is has
+
+pub returns-in-Share-clause-fewer : goal.returns-in-Share-clause-fewer
+returns-in-Share-clause-fewer g c = λ asked done. rw c.in-Share.is (c.share.ensures.fewer done)
+
+pub returns-in-Share-clause-bounded : goal.returns-in-Share-clause-bounded
+returns-in-Share-clause-bounded g c = λ asked. rw c.in-Share.is c.share.ensures.bounded
+
+pub returns-in-Back-clause-comes : goal.returns-in-Back-clause-comes
+returns-in-Back-clause-comes g c = rw c.in-Back.is (comes-back _ _ _ _ _ _ _ c.back.ensures.comes)
+
+pub returns-in-Back-clause-sure : goal.returns-in-Back-clause-sure
+returns-in-Back-clause-sure g c = λ fault. rw c.in-Back.is (stands-back _ _ _ _ _ _ _ (c.back.ensures.sure fault))
+
+pub returns-in-Back-clause-entries : goal.returns-in-Back-clause-entries
+returns-in-Back-clause-entries g c = λ done has. rw c.in-Back.is (known-back _ _)
