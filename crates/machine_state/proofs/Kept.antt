@@ -5,15 +5,14 @@ use Rattle.std.proofs.lemmas.List.{length-replicate}
 use Rattle.cap_format.specs.declared.kind.CapKind.TheVariants.{Process}
 use Rattle.cap_format.specs.Capability.{Capability}
 use Rattle.page_store.specs.CapPage.{with_cap}
-use Rattle.process_objects.specs.Process.{ProcessValue, with_capreg}
+use Rattle.process_objects.specs.Process.{with_capreg}
 use Rattle.object_store.specs.Store.{Store, with_process, with_cappage, process_at, cappage_at, size_of}
 use Rattle.object_store.specs.Ahead.{IsBehind, NoneAhead}
 use Rattle.object_store.proofs.Each.{capregs-each, process_slots-each}
 use Rattle.object_store.proofs.Behind.{NoneAhead-with_process}
-use Rattle.object_store.proofs.WritesBehind.{null_behind, put_process_behind, put_capreg_behind, put_cap_behind}
+use Rattle.object_store.proofs.WritesBehind.{null_behind, put_capreg_behind, put_cap_behind}
 use Rattle.schedules.specs.Queues.{QueuesValue, priorities}
 use Rattle.schedules.specs.Standing.{standing, times_in, times_on, empty_queues}
-use Rattle.schedules.specs.Ready.{runs_of, Agrees}
 use Rattle.cap_format.specs.declared.request.Reply.{Reply}
 use Rattle.process_objects.specs.Accept.{AcceptValue}
 use Rattle.operations.proofs.Placed.{agrees_written}
@@ -35,14 +34,6 @@ kept_cap o q n slot cap behind is = record {
   fits = record { processes = is.fits.processes; harts = is.fits.harts };
   agrees = record { sizes = is.agrees.sizes; each = is.agrees.each };
   behind = put_cap_behind o is.behind n slot cap behind;
-}
-
--- a process in another state, and other queues that agree with it
-pub kept_placed : (o : Store) (q r : QueuesValue) (p : ℕ) (v : ProcessValue) → v.capregs ≡ (process_at o p).capregs → v.slots ≡ (process_at o p).slots → length r.sleepers ≡ length q.sleepers → length r.harts ≡ length q.harts → Agrees (runs_of (with_process o p v) r) → IsMachine o q → IsMachine (with_process o p v) r
-kept_placed o q r p v capregs slots sleepers harts agrees is = record {
-  fits = record { processes = sleepers ∙ is.fits.processes; harts = harts ∙ is.fits.harts };
-  agrees = agrees;
-  behind = put_process_behind o is.behind p v capregs slots;
 }
 
 -- nobody stands in empty queues

@@ -1,17 +1,12 @@
 -- What moves with a message, and what is logged.
-use Rattle.std.proofs.Common.{◌≡◌, ℕ, ◌+◌, ◌<◌, ◌≤◌, List, [], ◌∷◌, ◌++◌, map, length, get_or, take, drop, refl, sym, ap, ◌∙◌, subst, arith, append_assoc, append-nil, length-append}
-use Rattle.std.proofs.lemmas.List.{map-append, take_more, at_drop_more, at_drop_all}
-use Rattle.std.proofs.lemmas.List.Elements.{All-append, All-cons, All-nil}
+use Rattle.std.proofs.Common.{◌≡◌, ℕ, ◌+◌, ◌<◌, ◌≤◌, List, [], ◌∷◌, ◌++◌, length, get_or, take, drop, refl, sym, ap, ◌∙◌, subst, arith, append_assoc, append-nil}
+use Rattle.std.proofs.lemmas.List.{at_drop_more, at_drop_all}
 use Rattle.std.proofs.lemmas.List.Sums.{sum_by-drop_more}
-use Rattle.std.specs.List.{All}
-use Rattle.cap_format.specs.Capability.{Capability}
-use Rattle.object_store.specs.Store.{Store, Items, process_at}
-use Rattle.object_store.specs.Meaning.{meaning, state_map}
-use Rattle.object_store.specs.Ahead.{IsBehind, NoneAhead}
-use Rattle.process_objects.specs.Process.{ProcessValue, capreg_of}
+use Rattle.object_store.specs.Store.{Store, Items}
+use Rattle.object_store.specs.Ahead.{NoneAhead}
+use Rattle.process_objects.specs.Process.{ProcessValue}
 use Rattle.schedules.specs.Queues.{QueuesValue}
 use Rattle.schedules.specs.Ready.{runs, Agrees}
-use Rattle.invocation.specs.Delivery.{sent_by}
 use Rattle.string_move.specs.declared.piece.Piece.{Piece}
 use Rattle.string_move.specs.Move.{size_of_pieces, piece_bytes, with_piece, gathered, scattered, copied}
 use Rattle.machine_state.specs.Machine.{IsMachine}
@@ -33,30 +28,6 @@ kept_moved s t q sources targets after items harts behind is = record {
   agrees = subst (λ (processes : List ProcessValue). Agrees (runs processes q)) (sym (copied_processes s t sources targets after)) is.agrees;
   behind = behind;
 }
-
--- ---- the capabilities of the first registers
-
-pub record IsSent (s : Store) (p : ℕ) (registers : List ℕ) (i : ℕ) (caps : List Capability) : Type 0 where
-  pub means : map (meaning s.items) caps ≡ sent_by (state_map s) p (take i registers)
-  pub behind : All (IsBehind s.items) caps
-  pub many : length caps ≡ i
-
--- the next one
-pub sent_more : (s : Store) (p : ℕ) (registers : List ℕ) (i : ℕ) (caps : List Capability) (cap : Capability) → i < length registers
-    → meaning s.items cap ≡ capreg_of (process_at (state_map s) p) (get_or registers i 0) → IsBehind s.items cap → IsSent s p registers i caps → IsSent s p registers (i + 1) (caps ++ cap ∷ [])
-sent_more s p registers i caps cap there means behind sent =
-    let f = meaning s.items in
-    let read = capreg_of (process_at (state_map s) p) in
-    record {
-      means =
-          map-append f caps (cap ∷ [])
-          ∙ (ap (λ front. front ++ f cap ∷ []) sent.means
-          ∙ (ap (λ c. map read (take i registers) ++ c ∷ []) means
-          ∙ (sym (map-append read (take i registers) (get_or registers i 0 ∷ []))
-          ∙ ap (map read) (sym (take_more registers i 0 there)))));
-      behind = All-append (IsBehind s.items) caps (cap ∷ []) sent.behind (All-cons (IsBehind s.items) cap [] behind (All-nil (IsBehind s.items)));
-      many = length-append caps (cap ∷ []) ∙ ap (λ n. n + 1) sent.many;
-    }
 
 -- ---- the bytes of the first pieces
 

@@ -1,14 +1,9 @@
 -- What one change makes of a state. All else stays the same.
 use Rattle.std.specs.Prelude.{ℕ, true, List, Option, Some, None}
 use Rattle.cap_format.specs.Capability.{Capability}
-use Rattle.gpt_objects.specs.Gpt.{GptValue}
-use Rattle.endpoint_objects.specs.declared.endpoint.Endpoint.{Endpoint as EndpointValue}
-use Rattle.process_objects.specs.Process.{ProcessValue, with_pc, with_regs, with_capreg, with_state}
-use Rattle.cap_format.specs.declared.fault.FaultCode.{FaultCode}
-use Rattle.process_objects.specs.declared.state.State.{State as RunState}
-use Rattle.process_objects.specs.declared.state.State.TheVariants.{Faulted}
+use Rattle.process_objects.specs.Process.{ProcessValue, with_pc, with_regs, with_capreg}
 use Rattle.rv32_user.specs.Word.{next_of}
-use Rattle.object_store.specs.Store.{Store, with_items, set_gpt as set_gpt_item, with_page, with_cappage, with_process, with_endpoint}
+use Rattle.object_store.specs.Store.{Store, with_page, with_cappage, with_process}
 use Rattle.schedules.specs.Queues.{QueuesValue, left, dispatched}
 use Rattle.schedules.specs.Ready.{Runs, runs_of, with_processes, readied}
 use Rattle.operations.specs.System.{System}
@@ -42,14 +37,6 @@ set_page s n page = set_store s (with_page s.store n page)
 abbrev pub set_cappage : State → ℕ → List Capability → State
 set_cappage s n page = set_store s (with_cappage s.store n page)
 
--- another GPT in the place of GPT `g`
-abbrev pub set_gpt : State → ℕ → GptValue → State
-set_gpt s g gpt = set_store s (with_items s.store (set_gpt_item s.store.items g gpt))
-
--- another endpoint in the place of endpoint `n`
-abbrev pub set_endpoint : State → ℕ → EndpointValue → State
-set_endpoint s n endpoint = set_store s (with_endpoint s.store n endpoint)
-
 -- another pc of process `p`
 abbrev pub set_pc : State → ℕ → ℕ → State
 set_pc s p pc = set_process s p (with_pc (process s p) pc)
@@ -61,10 +48,6 @@ set_registers s p registers = set_process s p (with_regs (process s p) registers
 -- another capability in the register c`i` of process `p`; what goes to c0 is lost
 abbrev pub set_capreg : State → ℕ → ℕ → Capability → State
 set_capreg s p i cap = set_process s p (with_capreg (process s p) i cap)
-
--- another state of process `p`, which stands where it stood
-abbrev pub set_run_state : State → ℕ → RunState → State
-set_run_state s p state = set_process s p (with_state (process s p) state)
 
 -- the process goes on behind its instruction (RV32I)
 abbrev pub advance : State → ℕ → State
@@ -81,10 +64,6 @@ set_runs s r = record { store = with_processes s.store r.processes; queues = r.q
 -- the process is made ready: it runs, as the last of its schedule's queue, or is faulted for want of a schedule (Coyotos)
 abbrev pub ready : State → ℕ → State
 ready s p = set_runs s (readied (schedule_slot s p) p (runs_of s.store s.queues))
-
--- the process is faulted and stands nowhere; its pc stays (Coyotos)
-abbrev pub faulted : State → ℕ → FaultCode → ℕ → State
-faulted s p code address = set_run_state (leave s p) p (Faulted code address)
 
 -- the process goes on behind its instruction, and to the end of its queue (call yield)
 abbrev pub yielded : State → ℕ → State

@@ -30,17 +30,13 @@ pc_of s p = (process s p).pc
 abbrev pub register_of : State → ℕ → ℕ → ℕ
 register_of s p i = reg_of (process s p) i
 
--- the numbers of a process's slots: the space, the schedule and the fault handler (Coyotos; the numbers are this project's)
+-- the slot of a process that holds its space (Coyotos; the numbers of slots are this project's)
 abbrev pub space_slot : ℕ
 space_slot = 0
 
 -- the slot of a process that holds its schedule
 abbrev pub schedule_slot_number : ℕ
 schedule_slot_number = 1
-
--- the slot of a process that holds its fault handler
-abbrev pub handler_slot : ℕ
-handler_slot = 2
 
 -- the capability in the slot for the space of process `p`, in which its accesses are walked (Coyotos)
 abbrev pub space_of : State → ℕ → Capability

@@ -9,13 +9,12 @@ ghost use Rattle.schedules.specs.Queues.{hart_of};
 ghost use Rattle.schedules.specs.Ready.{places_due};
 ghost use Rattle.rv32_user.specs.Registers.{with_register};
 ghost use Rattle.machine_state.specs.State.{state_of, process, pc_of};
-ghost use Rattle.machine_state.specs.Setters.{set_pc, set_registers, set_capreg, advance, leave, ready, faulted, yielded, dispatch, ticked};
+ghost use Rattle.machine_state.specs.Setters.{set_pc, set_registers, set_capreg, advance, leave, ready, yielded, dispatch, ticked};
 ghost use Rattle.machine_state.specs.Outcome.{process_name, names_on};
 ghost use Rattle.machine_state.specs.Came.{Leaves};
 
 use crate::machine::Machine;
-use cap_format::{Cap, FaultCode};
-use process_objects::State;
+use cap_format::Cap;
 use walk_engine::Translator;
 
 impl<T: Translator> Machine<T> {
@@ -81,20 +80,6 @@ impl<T: Translator> Machine<T> {
         self.requeue(p);
     }
 
-    /// The process is faulted, and stands nowhere.
-    #[tactic(auto, using(object_store::proofs::Stays::stays_process))]
-    pub fn stop(&mut self, p: u16, code: FaultCode, address: u32)
-        requires there { p < size_of self.old.objects.items Process }
-        ensures state { state_of self.new ≡ faulted (state_of self.old) p code address }
-        ensures leaves { Leaves (process_name p ∷ []) self.old self.new }
-        ensures translator { self.new.translator ≡ self.old.translator }
-    {
-        self.queues.leave(p);
-        self.objects
-            .process_mut(p)
-            .set_state(State::Faulted { code, address });
-    }
-
     pub fn pc(&self, p: u16) -> u32
         requires { p < size_of self.now.objects.items Process }
         ensures value { result ≡ pc_of (state_of self.now) p }
@@ -147,17 +132,6 @@ impl<T: Translator> Machine<T> {
         ensures queues { self.new.queues ≡ self.old.queues }
     {
         self.objects.process_mut(p).set_reg(to, word);
-    }
-
-    #[tactic(auto, using(object_store::proofs::Stays::stays_process))]
-    pub fn set_registers(&mut self, p: u16, registers: &[u32; 32])
-        requires there { p < size_of self.old.objects.items Process }
-        ensures state { state_of self.new ≡ set_registers (state_of self.old) p registers.now }
-        ensures leaves { Leaves (process_name p ∷ []) self.old self.new }
-        ensures translator { self.new.translator ≡ self.old.translator }
-        ensures queues { self.new.queues ≡ self.old.queues }
-    {
-        self.objects.process_mut(p).set_regs(registers);
     }
 
     /// What a capability register holds, as it is stored.

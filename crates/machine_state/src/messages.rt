@@ -38,11 +38,7 @@ impl<T: Translator> Machine<T> {
             map f result ≡ sent_by (state_of self.now).store p registers.now }
         ensures behind { All (IsBehind self.now.objects.items) result }
     {
-        let mut caps = CapList::new();
-        for register in registers.as_slice() {
-            caps.push(self.capability(p, *register));
-        }
-        caps
+        invocation::sent_by(&self.objects, p, registers)
     }
 
     /// A message through an endpoint to a process that receives, which is told and made ready. The bytes of a string are

@@ -1,11 +1,7 @@
-use Rattle.machine_state.proofs.Moved.{sent_more}
 use Rattle.machine_state.proofs.machine.Machine.capabilities.Goals as goal
 
-pub loop-register-preserved : goal.loop-register-preserved
-loop-register-preserved g c =
-    let i = c.loop-register.register-index in
-    let same = c.as_slice-register-items.ensures.value in
-    let there = rw same at c.loop-register-test.true in
-    let means = rw same at c.capability.ensures.means in
-    rw c.push.ensures
-    (sent_more c.args.self.now.objects c.args.p c.args.registers.now i c.loop-register.caps c.capability.result there means c.capability.ensures.behind c.loop-register.invariant)
+pub returns-clause-means : goal.returns-clause-means
+returns-clause-means g c = rw (← c.self.view_is) c.sent_by.ensures.means
+
+pub returns-clause-behind : goal.returns-clause-behind
+returns-clause-behind g c = rw (← c.self.view_is) (c.sent_by.ensures.behind c.self.invariant.2.behind)
