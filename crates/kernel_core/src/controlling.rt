@@ -16,7 +16,8 @@ ghost use Rattle.machine_state.specs.State.{state_of};
 ghost use Rattle.machine_state.specs.Setters.{advance};
 ghost use Rattle.machine_state.specs.Operation.{changed_by, changed_names, change_touches};
 ghost use Rattle.machine_state.specs.Outcome.{process_name, kept_after};
-ghost use Rattle.machine_state.specs.Came.{Came, Leaves, HasRoom};
+ghost use Rattle.machine_state.specs.Came.{Came, Leaves};
+ghost use Rattle.machine_state.specs.Room.{HasRoom};
 ghost use Rattle.kernel_core.specs.KernelOperation.{control_op, header_name, destroy_records, replied_unless, is_end_of};
 
 use cap_format::{Cap, CapKind, Item, Reply, Request};

@@ -5,7 +5,8 @@ ghost use Rattle.object_store.specs.Store.{size_of, sizes_of};
 ghost use Rattle.rv32_decode.specs.Table.{insn_at};
 ghost use Rattle.machine_state.specs.State.{state_of, IsOnHart};
 ghost use Rattle.machine_state.specs.Outcome.{process_name, spent, kept_after};
-ghost use Rattle.machine_state.specs.Came.{Came, Leaves, HasRoom};
+ghost use Rattle.machine_state.specs.Came.{Came, Leaves};
+ghost use Rattle.machine_state.specs.Room.{HasRoom, insn_room, event_room};
 ghost use Rattle.machine_state.specs.Machine.{hart_in};
 ghost use Rattle.kernel_core.specs.Event.{decoded_to, instruction, event_by, event_of};
 
@@ -80,7 +81,7 @@ fn event_unless_halted<T: Translator, L: Ledger>(
     fetches: &mut Steps<L>,
 )
     requires hart { hart_in e < machine.old.objects.harts }
-    requires room { HasRoom 42 records.old }
+    requires room { HasRoom event_room records.old }
     ensures came { Came T.kept T.cost T.after T.without (event_of (state_of machine.old) e)
         machine.old records.old fetches.old machine.new records.new fetches.new }
     ensures leaves { let outcome = event_of (state_of machine.old) e in
@@ -100,7 +101,7 @@ fn event_by<T: Translator, L: Ledger>(
     fetches: &mut Steps<L>,
 )
     requires hart { hart_in e < machine.old.objects.harts }
-    requires room { HasRoom 42 records.old }
+    requires room { HasRoom event_room records.old }
     ensures came { Came T.kept T.cost T.after T.without (event_by (state_of machine.old) e)
         machine.old records.old fetches.old machine.new records.new fetches.new }
     ensures leaves { let outcome = event_by (state_of machine.old) e in
@@ -126,7 +127,7 @@ fn instruction<T: Translator, L: Ledger>(
 )
     requires there { p < size_of machine.old.objects.items Process }
     requires on_hart { IsOnHart machine.old.queues p }
-    requires room { HasRoom 42 records.old }
+    requires room { HasRoom event_room records.old }
     ensures came { let outcome = instruction (state_of machine.old) p in
         Came T.kept T.cost T.after T.without
         outcome machine.old records.old fetches.old machine.new records.new fetches.new }
@@ -154,7 +155,7 @@ fn decoded<T: Translator, L: Ledger>(
 )
     requires there { p < size_of machine.old.objects.items Process }
     requires on_hart { IsOnHart machine.old.queues p }
-    requires room { HasRoom 41 records.old }
+    requires room { HasRoom insn_room records.old }
     ensures came { let outcome = decoded_to (state_of machine.old) p (insn_at word) in
         Came T.kept T.cost T.after T.without
         outcome machine.old records.old fetches.old machine.new records.new fetches.new }

@@ -5,7 +5,8 @@ ghost use Rattle.cap_format.specs.Capability.{bare};
 ghost use Rattle.object_store.specs.Store.{size_of};
 ghost use Rattle.machine_state.specs.State.{state_of};
 ghost use Rattle.machine_state.specs.Outcome.{process_name};
-ghost use Rattle.machine_state.specs.Came.{Came, CameUnasked, Leaves, HasRoom};
+ghost use Rattle.machine_state.specs.Came.{Came, CameUnasked, Leaves};
+ghost use Rattle.machine_state.specs.Room.{HasRoom};
 ghost use Rattle.kernel_core.specs.KernelOperation.{halting, sysctl_op};
 
 use crate::answering::{answer_call, kind_reply};

@@ -5,7 +5,8 @@ ghost use Rattle.object_store.specs.Store.{size_of};
 ghost use Rattle.rv32_decode.specs.InRange.{InRange};
 ghost use Rattle.machine_state.specs.State.{state_of, IsOnHart};
 ghost use Rattle.machine_state.specs.Outcome.{process_name};
-ghost use Rattle.machine_state.specs.Came.{Came, Leaves, HasRoom};
+ghost use Rattle.machine_state.specs.Came.{Came, Leaves};
+ghost use Rattle.machine_state.specs.Room.{HasRoom, call_room};
 ghost use Rattle.kernel_core.specs.Instruction.{perform};
 
 use crate::loads::{Wanted, load};
@@ -32,7 +33,7 @@ pub fn perform<T: Translator, L: Ledger>(
     requires there { p < size_of machine.old.objects.items Process }
     requires on_hart { IsOnHart machine.old.queues p }
     requires insn { InRange insn }
-    requires room { HasRoom 40 records.old }
+    requires room { HasRoom call_room records.old }
     ensures came { let outcome = perform (state_of machine.old) p insn in
         Came T.kept T.cost T.after T.without
         outcome machine.old records.old fetches.old machine.new records.new fetches.new }

@@ -6,7 +6,8 @@ ghost use Rattle.invocation.specs.Invocation.{parsed};
 ghost use Rattle.invocation.specs.Target.{bare_callee, IsReached};
 ghost use Rattle.machine_state.specs.State.{state_of, process, IsOnHart};
 ghost use Rattle.machine_state.specs.Outcome.{process_name};
-ghost use Rattle.machine_state.specs.Came.{Came, Leaves, HasRoom};
+ghost use Rattle.machine_state.specs.Came.{Came, Leaves};
+ghost use Rattle.machine_state.specs.Room.{HasRoom, call_room};
 ghost use Rattle.kernel_core.specs.SystemCall.{invoke, received_after, refused_call, busy_call, sent_to, send};
 
 use crate::answering::answer_call;
@@ -30,7 +31,7 @@ pub(crate) fn invoke<T: Translator, L: Ledger>(
 )
     requires there { p < size_of machine.old.objects.items Process }
     requires on_hart { IsOnHart machine.old.queues p }
-    requires room { HasRoom 40 records.old }
+    requires room { HasRoom call_room records.old }
     ensures came { let outcome = invoke (state_of machine.old) p in
         Came T.kept T.cost T.after T.without
         outcome machine.old records.old fetches.old machine.new records.new fetches.new }
@@ -60,7 +61,7 @@ fn send_and_receive<T: Translator, L: Ledger>(
 )
     requires there { p < size_of machine.old.objects.items Process }
     requires on_hart { IsOnHart machine.old.queues p }
-    requires room { HasRoom 40 records.old }
+    requires room { HasRoom call_room records.old }
     requires inv { parsed (process (state_of machine.old) p).regs ≡ Ok inv.now }
     ensures came { let s = state_of machine.old in
         let outcome = received_after p inv.now (send s p inv.now) in
@@ -87,7 +88,7 @@ pub fn send<T: Translator, L: Ledger>(
 ) -> bool
     requires there { p < size_of machine.old.objects.items Process }
     requires on_hart { IsOnHart machine.old.queues p }
-    requires room { HasRoom 40 records.old }
+    requires room { HasRoom call_room records.old }
     requires inv { parsed (process (state_of machine.old) p).regs ≡ Ok inv.now }
     ensures delivered { result ≡ (send (state_of machine.old) p inv.now).delivers }
     ensures on_hart { result ≡ true → IsOnHart machine.new.queues p }
@@ -112,7 +113,7 @@ fn send_to<T: Translator, L: Ledger>(
 ) -> bool
     requires there { p < size_of machine.old.objects.items Process }
     requires on_hart { IsOnHart machine.old.queues p }
-    requires room { HasRoom 40 records.old }
+    requires room { HasRoom call_room records.old }
     requires inv { parsed (process (state_of machine.old) p).regs ≡ Ok inv.now }
     requires reached { IsReached machine.old.objects callee }
     ensures delivered { result ≡

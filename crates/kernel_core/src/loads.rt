@@ -5,7 +5,8 @@ ghost use Rattle.object_store.specs.Store.{size_of};
 ghost use Rattle.rv32_user.specs.Size.{IsSize};
 ghost use Rattle.machine_state.specs.State.{state_of, IsOnHart};
 ghost use Rattle.machine_state.specs.Outcome.{process_name};
-ghost use Rattle.machine_state.specs.Came.{Came, CameUnasked, Leaves, HasRoom};
+ghost use Rattle.machine_state.specs.Came.{Came, CameUnasked, Leaves};
+ghost use Rattle.machine_state.specs.Room.{HasRoom};
 ghost use Rattle.kernel_core.specs.LoadStore.{load, loaded_from};
 
 use cap_format::CapKind;

@@ -8,7 +8,8 @@ ghost use Rattle.string_move.specs.Move.{ArePieces, size_of_pieces};
 ghost use Rattle.messages.specs.Strings.{string_fault_map};
 ghost use Rattle.machine_state.specs.State.{state_of, IsOnHart};
 ghost use Rattle.machine_state.specs.Outcome.{process_name};
-ghost use Rattle.machine_state.specs.Came.{Came, CameUnasked, Leaves, HasRoom};
+ghost use Rattle.machine_state.specs.Came.{Came, CameUnasked, Leaves};
+ghost use Rattle.machine_state.specs.Room.{HasRoom, told_room};
 ghost use Rattle.kernel_core.specs.KernelOperation.{kernlog_op, is_no_log, log_string, logged};
 
 use crate::answering::{answer_call, kind_reply};
@@ -41,7 +42,7 @@ pub(crate) fn kernlog_op<T: Translator, L: Ledger>(
 )
     requires there { p < size_of machine.old.objects.items Process }
     requires on_hart { IsOnHart machine.old.queues p }
-    requires room { HasRoom 18 records.old }
+    requires room { HasRoom told_room records.old }
     ensures came { let outcome = kernlog_op (state_of machine.old) p inv.now (bare cap) in
         Came T.kept T.cost T.after T.without
         outcome machine.old records.old fetches.old machine.new records.new fetches.new }
@@ -77,7 +78,7 @@ fn log_string<T: Translator, L: Ledger>(
     requires there { p < size_of machine.old.objects.items Process }
     requires on_hart { IsOnHart machine.old.queues p }
     requires length { inv.now.length ≤ 256 }
-    requires room { HasRoom 18 records.old }
+    requires room { HasRoom told_room records.old }
     ensures came { let outcome = log_string (state_of machine.old) p inv.now in
         Came T.kept T.cost T.after T.without
         outcome machine.old records.old fetches.old machine.new records.new fetches.new }

@@ -9,7 +9,8 @@ ghost use Rattle.invocation.specs.Invocation.{parsed};
 ghost use Rattle.machine_state.specs.State.{state_of, process, IsOnHart};
 ghost use Rattle.machine_state.specs.Setters.{advance};
 ghost use Rattle.machine_state.specs.Outcome.{process_name};
-ghost use Rattle.machine_state.specs.Came.{Came, Leaves, HasRoom};
+ghost use Rattle.machine_state.specs.Came.{Came, Leaves};
+ghost use Rattle.machine_state.specs.Room.{HasRoom, call_room};
 ghost use Rattle.kernel_core.specs.KernelOperation.{memory_op, kernel_op};
 
 use crate::controlling::control_op;
@@ -34,7 +35,7 @@ pub fn kernel_op<T: Translator, L: Ledger>(
 )
     requires there { p < size_of machine.old.objects.items Process }
     requires on_hart { IsOnHart machine.old.queues p }
-    requires room { HasRoom 40 records.old }
+    requires room { HasRoom call_room records.old }
     requires live { is_live machine.old.objects.items cap ≡ true }
     requires kind { cap.kind ≢ Entry }
     requires inv { parsed (process (state_of machine.old) p).regs ≡ Ok inv.now }

@@ -4,7 +4,8 @@ ghost use Rattle.cap_format.specs.declared.kind.CapKind.TheVariants.{Process};
 ghost use Rattle.object_store.specs.Store.{size_of};
 ghost use Rattle.machine_state.specs.State.{state_of, IsOnHart};
 ghost use Rattle.machine_state.specs.Outcome.{process_name};
-ghost use Rattle.machine_state.specs.Came.{Came, Leaves, HasRoom};
+ghost use Rattle.machine_state.specs.Came.{Came, Leaves};
+ghost use Rattle.machine_state.specs.Room.{HasRoom, call_room};
 ghost use Rattle.kernel_core.specs.SystemCall.{copy_cap, move_cap, system_call};
 
 use crate::cap_accesses::{load_cap, store_cap};
@@ -27,7 +28,7 @@ pub(crate) fn system_call<T: Translator, L: Ledger>(
 )
     requires there { p < size_of machine.old.objects.items Process }
     requires on_hart { IsOnHart machine.old.queues p }
-    requires room { HasRoom 40 records.old }
+    requires room { HasRoom call_room records.old }
     ensures came { let outcome = system_call (state_of machine.old) p in
         Came T.kept T.cost T.after T.without
         outcome machine.old records.old fetches.old machine.new records.new fetches.new }
@@ -55,7 +56,7 @@ pub fn move_cap<T: Translator, L: Ledger>(
 )
     requires there { p < size_of machine.old.objects.items Process }
     requires on_hart { IsOnHart machine.old.queues p }
-    requires room { HasRoom 40 records.old }
+    requires room { HasRoom call_room records.old }
     ensures came { let outcome = move_cap (state_of machine.old) p in
         Came T.kept T.cost T.after T.without
         outcome machine.old records.old fetches.old machine.new records.new fetches.new }

@@ -2,6 +2,7 @@ pub mod Machine
 pub mod State
 pub mod Setters
 pub mod Outcome
+pub mod Room
 pub mod Came
 pub mod Faulting
 pub mod Messaging

@@ -9,6 +9,9 @@ use rv32_decode::Insn;
 use std::marker::Model;
 use walk_meaning::Kind;
 
+/// How many records a list takes.
+const MOST_RECORDS: usize = 64;
+
 /// At most 64 records, in the order in which they arose.
 ///
 /// A record has room for the bytes of a log, and clearing that room costs more than an instruction. So what was cleared
@@ -16,7 +19,7 @@ use walk_meaning::Kind;
 #[derive(Drop)]
 pub struct Records {
     /// The records, and behind them what is left of earlier ones.
-    list: ArrayVec<Record, 64>,
+    list: ArrayVec<Record, MOST_RECORDS>,
     /// How many records there are.
     count: usize,
 }
@@ -38,6 +41,7 @@ impl Model for Records {
 impl Records {
     ghost use Rattle.std.specs.List.{All};
     ghost use Rattle.machine_state.specs.Machine.{IsRecord};
+    ghost use Rattle.machine_state.specs.Room.{most_records};
     ghost use Rattle.std.specs.Prelude.{◌≡◌, ◌≤◌, ◌<◌, ◌++◌, ◌∷◌, [], length};
 
     pub fn new() -> Records
@@ -50,7 +54,7 @@ impl Records {
     }
 
     pub fn push(&mut self, entry: Record)
-        requires room { length self.old < 64 }
+        requires room { length self.old < most_records }
         requires range { IsRecord entry }
         ensures { self.new ≡ self.old ++ entry ∷ [] }
     {
@@ -64,7 +68,7 @@ impl Records {
 
     /// Appends the record of an access, as `push` would.
     pub fn push_access(&mut self, process: u16, kind: Kind, address: u32, number: u16)
-        requires room { length self.old < 64 }
+        requires room { length self.old < most_records }
         ensures { self.new ≡ self.old ++ Access process kind address number ∷ [] }
     {
         if self.count < self.list.len()
@@ -83,7 +87,7 @@ impl Records {
 
     /// Appends the record of an instruction, as `push` would.
     pub fn push_insn(&mut self, process: u16, at: u32, insn: Insn)
-        requires room { length self.old < 64 }
+        requires room { length self.old < most_records }
         requires range { InRange insn }
         ensures { self.new ≡ self.old ++ InsnRead process at insn ∷ [] }
     {
@@ -103,7 +107,7 @@ impl Records {
 
     pub fn as_slice(&self) -> &[Record]
         ensures value { result.now ≡ self.now }
-        ensures bound { length self.now ≤ 64 }
+        ensures bound { length self.now ≤ most_records }
         ensures range { All IsRecord self.now }
     {
         &self.list.as_slice()[..self.count]

@@ -6,7 +6,8 @@ ghost use Rattle.object_store.specs.Meaning.{meaning};
 ghost use Rattle.operations.specs.Meaning.{cap_map};
 ghost use Rattle.machine_state.specs.State.{state_of, IsOnHart};
 ghost use Rattle.machine_state.specs.Outcome.{process_name};
-ghost use Rattle.machine_state.specs.Came.{Came, Leaves, HasRoom};
+ghost use Rattle.machine_state.specs.Came.{Came, Leaves};
+ghost use Rattle.machine_state.specs.Room.{HasRoom};
 ghost use Rattle.messages.specs.Fault.{fault, fault_records, misaligned, malformed};
 
 use cap_format::{Cap, FaultCode};

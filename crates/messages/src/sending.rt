@@ -7,8 +7,10 @@ ghost use Rattle.invocation.specs.Target.{is_receiving};
 ghost use Rattle.string_move.specs.Move.{ArePieces, size_of_pieces};
 ghost use Rattle.machine_state.specs.State.{state_of, IsOnHart};
 ghost use Rattle.machine_state.specs.Outcome.{process_name};
-ghost use Rattle.machine_state.specs.Came.{Came, Leaves, HasRoom};
+ghost use Rattle.machine_state.specs.Came.{Came, Leaves};
+ghost use Rattle.machine_state.specs.Room.{HasRoom, string_room, told_room, call_room};
 ghost use Rattle.messages.specs.Strings.{side_outcome, string_fault_map};
+ghost use Rattle.messages.specs.Laws.{message_records};
 ghost use Rattle.messages.specs.Message.{sent_side, sent_on, sent_by_fault, send_open, is_whole, is_delivered};
 
 use crate::faults::fault;
@@ -41,7 +43,7 @@ pub fn send_open<T: Translator, L: Ledger>(
     requires endpoint { endpoint < size_of machine.old.objects.items Endpoint }
     requires to { to < size_of machine.old.objects.items Process }
     requires receives { is_receiving (process_at machine.old.objects to).state ≡ true }
-    requires room { HasRoom 40 records.old }
+    requires room { HasRoom call_room records.old }
     ensures delivered { result ≡ is_delivered (state_of machine.old) p inv.now }
     ensures came { let outcome = send_open (state_of machine.old) p endpoint to inv.now in
         Came T.kept T.cost T.after T.without
@@ -49,7 +51,7 @@ pub fn send_open<T: Translator, L: Ledger>(
     ensures leaves { let outcome = send_open (state_of machine.old) p endpoint to inv.now in
         Leaves (process_name p ∷ outcome.changed) machine.old machine.new }
     ensures on_hart { result ≡ true → IsOnHart machine.new.queues p }
-    ensures most { length records.new ≤ length records.old + 35 }
+    ensures most { length records.new ≤ length records.old + message_records }
 {
     let found = access_sent(machine, p, records, inv, fetches);
     send_found(machine, p, records, inv, endpoint, to, &found, fetches)
@@ -65,7 +67,7 @@ fn access_sent<T: Translator, L: Ledger>(
 ) -> Found
     requires there { p < size_of machine.old.objects.items Process }
     requires on_hart { IsOnHart machine.old.queues p }
-    requires room { HasRoom 17 records.old }
+    requires room { HasRoom string_room records.old }
     ensures pieces { result.pieces ≡ (sent_side (state_of machine.old) p inv.now).pieces }
     ensures fault { let f = meaning machine.new.objects.items in
         string_fault_map f result.fault ≡ (sent_side (state_of machine.old) p inv.now).fault }
@@ -76,7 +78,7 @@ fn access_sent<T: Translator, L: Ledger>(
         machine.old records.old fetches.old machine.new records.new fetches.new }
     ensures objects { machine.new.objects ≡ machine.old.objects }
     ensures queues { machine.new.queues ≡ machine.old.queues }
-    ensures most { length records.new ≤ length records.old + 17 }
+    ensures most { length records.new ≤ length records.old + string_room }
 {
     let at = inv.at();
     let size = inv.length();
@@ -101,7 +103,7 @@ fn send_found<T: Translator, L: Ledger>(
     requires receives { is_receiving (process_at machine.old.objects to).state ≡ true }
     requires pieces { ArePieces machine.old.objects.items found.now.pieces }
     requires whole { found.now.fault ≡ None → size_of_pieces found.now.pieces ≡ inv.now.length }
-    requires room { HasRoom 18 records.old }
+    requires room { HasRoom told_room records.old }
     ensures delivered { let f = meaning machine.old.objects.items in
         result ≡ is_whole (string_fault_map f found.now.fault) }
     ensures came { let fault =
@@ -116,7 +118,7 @@ fn send_found<T: Translator, L: Ledger>(
         sent_by_fault (state_of machine.old) p endpoint to inv.now found.now.pieces fault in
         Leaves (process_name p ∷ outcome.changed) machine.old machine.new }
     ensures on_hart { result ≡ true → IsOnHart machine.new.queues p }
-    ensures most { length records.new ≤ length records.old + 18 }
+    ensures most { length records.new ≤ length records.old + told_room }
 {
     match found.fault {
         Some(StringFault { address, why }) => {
@@ -157,14 +159,14 @@ fn send_on<T: Translator, L: Ledger>(
     requires receives { is_receiving (process_at machine.old.objects to).state ≡ true }
     requires from { ArePieces machine.old.objects.items from.now }
     requires whole { size_of_pieces from.now ≡ inv.now.length }
-    requires room { HasRoom 18 records.old }
+    requires room { HasRoom told_room records.old }
     ensures came { let outcome = sent_on (state_of machine.old) p endpoint to inv.now from.now in
         Came T.kept T.cost T.after T.without
         outcome machine.old records.old fetches.old machine.new records.new fetches.new }
     ensures leaves { let outcome = sent_on (state_of machine.old) p endpoint to inv.now from.now in
         Leaves (process_name p ∷ outcome.changed) machine.old machine.new }
     ensures on_hart { IsOnHart machine.new.queues p }
-    ensures most { length records.new ≤ length records.old + 18 }
+    ensures most { length records.new ≤ length records.old + told_room }
 {
     let accept = machine.acceptance(to);
     let at = accept.at();

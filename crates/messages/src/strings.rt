@@ -8,7 +8,8 @@ ghost use Rattle.string_move.specs.Spans.{spans, IsInOnePage};
 ghost use Rattle.string_move.specs.Move.{ArePieces, size_of_pieces};
 ghost use Rattle.walk_meaning.specs.Walk.{is_data};
 ghost use Rattle.machine_state.specs.State.{state_of, IsOnHart};
-ghost use Rattle.machine_state.specs.Came.{Came, HasRoom};
+ghost use Rattle.machine_state.specs.Came.{Came};
+ghost use Rattle.machine_state.specs.Room.{HasRoom, string_room};
 ghost use Rattle.messages.specs.Strings.{side, side_outcome, string_fault_map};
 
 use crate::string_fault::StringFault;
@@ -46,7 +47,7 @@ pub fn access_string<T: Translator, L: Ledger>(
     requires data { is_data kind ≡ true }
     requires longest { size ≤ 65536 }
     requires ends { at + size ≤ 2 ^ 32 }
-    requires room { HasRoom 17 records.old }
+    requires room { HasRoom string_room records.old }
     ensures pieces { let side = side (state_of machine.old) q kind (spans at size) in
         result.pieces ≡ side.pieces }
     ensures fault { let side = side (state_of machine.old) q kind (spans at size) in
@@ -60,7 +61,7 @@ pub fn access_string<T: Translator, L: Ledger>(
         outcome machine.old records.old fetches.old machine.new records.new fetches.new }
     ensures objects { machine.new.objects ≡ machine.old.objects }
     ensures queues { machine.new.queues ≡ machine.old.queues }
-    ensures most { length records.new ≤ length records.old + 17 }
+    ensures most { length records.new ≤ length records.old + string_room }
 {
     let spans = cut(at, size);
     access_spans(machine, p, q, kind, &spans, records, fetches)
@@ -81,7 +82,7 @@ fn access_spans<T: Translator, L: Ledger>(
     requires on_hart { IsOnHart machine.old.queues p }
     requires data { is_data kind ≡ true }
     requires in_pages { All IsInOnePage spans.now }
-    requires room { length records.old + length spans.now ≤ 64 }
+    requires room { HasRoom (length spans.now) records.old }
     ensures pieces { result.pieces ≡ (side (state_of machine.old) q kind spans.now).pieces }
     ensures fault { let items = machine.new.objects.items in
         string_fault_map (meaning items) result.fault ≡ (side (state_of machine.old) q kind spans.now).fault }

@@ -10,7 +10,8 @@ ghost use Rattle.invocation.specs.Delivery.{message_map};
 ghost use Rattle.string_move.specs.Move.{ArePieces, size_of_pieces};
 ghost use Rattle.machine_state.specs.State.{state_of, IsOnHart};
 ghost use Rattle.machine_state.specs.Outcome.{process_name};
-ghost use Rattle.machine_state.specs.Came.{CameUnasked, Leaves, HasRoom};
+ghost use Rattle.machine_state.specs.Came.{CameUnasked, Leaves};
+ghost use Rattle.machine_state.specs.Room.{HasRoom};
 ghost use Rattle.messages.specs.Message.{payload_in, message_of, message_record, sent_off, message_told, delivered};
 
 use invocation::{Invocation, Message};
