@@ -14,7 +14,8 @@ use Rattle.messages.specs.Fault.{fault, misaligned, malformed}
 -- a loadcap to register c`to` whose address is aligned
 abbrev pub cap_loaded_from : State → ℕ → ℕ → ℕ → Result Place WalkFault → Outcome
 cap_loaded_from s p at to (Err f) = fault s p f.code at f.handler
-cap_loaded_from s p at to (Ok place) = recorded (cap_reached p CapLoad at place) (done (advance (set_capreg s p to (cap_found s place)) p))
+cap_loaded_from s p at to (Ok place) =
+    recorded (cap_reached p CapLoad at place) (done (advance (set_capreg s p to (cap_found s place)) p))
 
 -- call 1, loadcap: whether there is such a register first, then the alignment, then the walk
 unfoldable pub load_cap : State → ℕ → ℕ → ℕ → Outcome

@@ -30,7 +30,8 @@ fetched_from s p (Ok hit) = recorded (reached p Fetch (pc_of s p) hit) (decoded_
 -- one instruction of a process: its fetch, then what the word says
 unfoldable pub instruction : State → ℕ → Outcome
 instruction s p =
-    changing (process_name p) (touched (data_touch s p (pc_of s p) Fetch) (fetched_from s p (data_access s p (pc_of s p) Fetch)))
+    changing (process_name p)
+    (touched (data_touch s p (pc_of s p) Fetch) (fetched_from s p (data_access s p (pc_of s p) Fetch)))
 
 -- a step of a hart with this process
 abbrev pub stepped : State → Option ℕ → Outcome

@@ -14,7 +14,8 @@ use Rattle.kernel_core.specs.SystemCall.{system_call}
 
 -- what an instruction comes to by its effect (RV32I; faults are Coyotos's)
 abbrev pub performed : State → ℕ → Insn → Effect → Outcome
-performed s p insn (Next pc) = done (set_pc (set_registers s p (registers_after (process s p).regs (pc_of s p) insn)) p pc)
+performed s p insn (Next pc) =
+    done (set_pc (set_registers s p (registers_after (process s p).regs (pc_of s p) insn)) p pc)
 performed s p insn (Load at size signed rd) = load s p at size signed rd
 performed s p insn (Store at size value) = store s p at size value
 performed s p insn Syscall = system_call s p

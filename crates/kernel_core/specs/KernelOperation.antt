@@ -127,7 +127,8 @@ logged_side s p inv = side s p Load (spans inv.at inv.length)
 
 -- by the fault of the string: where there is none its bytes are told; a fault is the process's, and its pc stays
 abbrev pub logged : State → ℕ → InvocationValue → List Piece → Option StringFault → Outcome
-logged s p inv pieces None = recorded (Log p (gathered s.store pieces)) (answered_call s p inv (reply_of (granted nothing)))
+logged s p inv pieces None =
+    recorded (Log p (gathered s.store pieces)) (answered_call s p inv (reply_of (granted nothing)))
 logged s p inv pieces (Some f) = fault s p f.why.code f.address f.why.handler
 
 -- KernLog 8 log, where the string is a log
@@ -150,7 +151,9 @@ kernlog_op s p inv cap =
 abbrev pub asked_for : State → ℕ → InvocationValue → CapKind → Capability → Outcome
 asked_for s p inv KernLog cap = kernlog_op s p inv cap
 asked_for s p inv SysCtl cap = sysctl_op s p inv cap
-asked_for s p inv kind cap = if is_memory kind then memory_op (advance s p) p inv cap else control_op (advance s p) p inv cap
+asked_for s p inv kind cap =
+    if is_memory kind then memory_op (advance s p) p inv cap
+    else control_op (advance s p) p inv cap
 
 -- the operation on a capability that is no entry
 unfoldable pub kernel_op : State → ℕ → InvocationValue → Capability → Outcome

@@ -20,7 +20,8 @@ loaded_from s p at size signed rd (Ok hit) =
 -- a load of so many bytes to register `rd`: alignment first, then the walk (RV32I)
 unfoldable pub load : State → ℕ → ℕ → ℕ → Bool → ℕ → Outcome
 load s p at size signed rd =
-    if at % size == 0 then touched (data_touch s p at Load) (loaded_from s p at size signed rd (data_access s p at Load))
+    if at % size == 0
+    then touched (data_touch s p at Load) (loaded_from s p at size signed rd (data_access s p at Load))
     else misaligned s p at
 
 -- a store that is aligned

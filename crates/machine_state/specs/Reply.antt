@@ -11,7 +11,12 @@ use Rattle.machine_state.specs.Setters.{set_process}
 -- the process with a reply and so many capabilities in x10 to x14: 2 and 65,536 times their number, the code, the words
 unfoldable pub answered : ProcessValue → ℕ → Reply → ProcessValue
 answered q number reply =
-    with_reg (with_reg (with_reg (with_reg (with_reg q 10 (2 + 65536 * number)) 11 (reply_number reply.code)) 12 (slice_index reply.words 0)) 13 (slice_index reply.words 1)) 14 (slice_index reply.words 2)
+    with_reg (with_reg (with_reg (with_reg (with_reg q
+    10 (2 + 65536 * number))
+    11 (reply_number reply.code))
+    12 (slice_index reply.words 0))
+    13 (slice_index reply.words 1))
+    14 (slice_index reply.words 2)
 
 -- a capability of a reply goes to the first accepting register, if there is one
 abbrev pub replied_with : ProcessValue → AcceptValue → Reply → Option Capability → ProcessValue

@@ -38,7 +38,12 @@ received_side s q length = let accept = accept_in s q in side s q Put (spans acc
 
 -- all bytes are read, and then all are written
 abbrev pub bytes_moved : State → List Piece → List Piece → Outcome
-bytes_moved s from to = record { state = set_store s (copied s.store from to); records = []; touches = []; changed = page_names to }
+bytes_moved s from to = record {
+  state = set_store s (copied s.store from to);
+  records = [];
+  touches = [];
+  changed = page_names to;
+}
 
 -- ---- what is told
 
