@@ -19,7 +19,7 @@ use Rattle.confine_check.specs.declared.verdict.Verdict.{Verdict}
 use Rattle.confine_check.specs.declared.verdict.Verdict.TheVariants.{Yes, Capability as CapabilityBreaks, Sleeper}
 use Rattle.confine_check.specs.Full.{AreFull}
 use Rattle.confine_check.specs.Breach.{breach_at, breach_by, breach_of, breach_of_kind, breach_of_object, breach_with, broken_by, cap_in, first_from, found_by, may_hold, object_reads, places_in, reads_in, sleeper_of, verdict_of}
-use Rattle.confine_check.specs.Found.{kinds_before, meant, meant_breach, meant_of, meant_of_kind, meant_of_object, reads_to, verdict_in}
+use Rattle.confine_check.specs.Found.{kinds_before, meant, meant_of, meant_of_kind, meant_of_object, reads_to, verdict_in}
 use Rattle.confine_check.proofs.Decided.{either_holds, verdict_law}
 use Rattle.confine_check.proofs.First.{first_zero, first_suc}
 
@@ -53,6 +53,10 @@ cap_in-state_map s Process n i = by (nat_lt i 3)
     by true = ap (λ (process : ProcessValue). slot_of process i) (process_at-state_map s n) ∙ get_or-map (meaning s.items) (process_at s n).slots i null
     by false = ap (λ (process : ProcessValue). capreg_of process (i - 3)) (process_at-state_map s n) ∙ get_or-map (meaning s.items) (process_at s n).capregs (i - 3) null
 cap_in-state_map s _ n i = refl
+
+-- a capability that breaks a cut by what it means, which has no count
+abbrev meant_breach : Breach → Breach
+meant_breach found = record found { cap = bare found.cap }
 
 -- it breaks the cut where what is stored does
 breach-meant : (cut : Cut) (o : Items) (kind : CapKind) (n i : ℕ) (c : Capability) → breach_by cut kind n i (meaning o c) ≡ option_map meant_breach (breach_by cut kind n i (live o c))

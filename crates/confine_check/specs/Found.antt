@@ -14,10 +14,6 @@ use Rattle.confine_check.specs.Breach.{breach_by, cap_in, first_from, found_by, 
 
 -- ---- by what the objects mean
 
--- a capability that breaks a cut by what it means, which has no count
-abbrev pub meant_breach : Breach → Breach
-meant_breach found = record found { cap = bare found.cap }
-
 -- the first that breaks a cut in an object of the model's map, where each capability stands as it means
 abbrev pub meant_of_object : Cut → Store → CapKind → ℕ → Option Breach
 meant_of_object cut s kind n = first_from (λ i. breach_by cut kind n i (cap_in s kind n i)) 0 (places_in kind)
@@ -79,6 +75,7 @@ kinds_before _ gpts = 0
 -- up to what is found: of a GPT the slots up to its own, and all of those before it; and all slots where nothing is found in
 -- capability pages and GPTs
 abbrev pub reads_to : Verdict → ℕ → ℕ
-reads_to (CapabilityBreaks kind n place cap) gpts = kinds_before kind gpts + object_reads kind * n + reads_in kind * (place + 1)
+reads_to (CapabilityBreaks kind n place cap) gpts =
+    kinds_before kind gpts + object_reads kind * n + reads_in kind * (place + 1)
 reads_to Yes gpts = 16 * gpts
 reads_to (Sleeper process) gpts = 16 * gpts

@@ -10,7 +10,8 @@ use Rattle.invocation.specs.Answerer.{Answer, takes, answered_by, asked, refuses
 use Rattle.invocation.specs.Answerer.Answer.{Dead, Open, Busy}
 use Rattle.invocation.specs.Target.{called_by, called, callee}
 use Rattle.confinement.specs.Cut.{Cut, side_of, MayHold, EachMayHold}
-use Rattle.confinement.specs.Acts.{AnswersOwn, CalleeOwn}
+use Rattle.confinement.specs.Acts.{CalleeOwn}
+use Rattle.confinement.proofs.Own.{AnswersOwn}
 use Rattle.confinement.proofs.Held.{side-process, side-entry}
 
 module _ (cut : Cut) (side : Bool) (s : Store) (each : EachMayHold cut s) where

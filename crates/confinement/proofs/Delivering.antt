@@ -20,7 +20,8 @@ use Rattle.operations.specs.System.{System, Reading, system, with_store, with_ru
 use Rattle.message_path.specs.Messages.{told, waiting, receiving, listening}
 use Rattle.fault_path.specs.Fault.{is_answer, handler_of, fault_message, faulted, answered, heard_by, fault_of}
 use Rattle.confinement.specs.Cut.{Cut, side_of, MayHold, EachMayHold, Holds}
-use Rattle.confinement.specs.Acts.{Acts, ProcessHeld, MayHoldIf, AllMayHold, AnswersOwn}
+use Rattle.confinement.specs.Acts.{Acts, ProcessHeld, MayHoldIf}
+use Rattle.confinement.proofs.Own.{AllMayHold, AnswersOwn}
 use Rattle.confinement.proofs.Held.{may-own}
 use Rattle.confinement.proofs.Sleeping.{each_set, apart-asleep, spares-slept}
 use Rattle.confinement.proofs.Acting.{acts-then, acts-process, acts-endpoint, held-process, acts-queues, acts-left, acts-readied, acts-woken}

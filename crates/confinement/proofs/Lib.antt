@@ -1,3 +1,4 @@
+pub mod Own
 pub mod Sides
 pub mod Held
 pub mod Sleeping

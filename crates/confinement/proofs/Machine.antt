@@ -32,8 +32,9 @@ use Rattle.machine_state.specs.DataAccess.{bytes_of, written}
 use Rattle.machine_state.specs.CapAccess.{cap_found, cap_stored, slot_in}
 use Rattle.machine_state.specs.Operation.{changed_by}
 use Rattle.confinement.specs.Cut.{Cut, side_of, MayHold, Holds}
-use Rattle.confinement.specs.Acts.{Acts, ProcessHeld, AllPermitted, MayHoldIf, AllMayHold, system_of}
+use Rattle.confinement.specs.Acts.{Acts, ProcessHeld, AllPermitted, MayHoldIf, system_of}
 use Rattle.confinement.specs.Reach.{ReadsWeakly, Reaches, Ends}
+use Rattle.confinement.proofs.Own.{AllMayHold}
 use Rattle.confinement.proofs.Held.{may-read}
 use Rattle.confinement.proofs.Placing.{places-dispatched}
 use Rattle.confinement.proofs.Sleeping.{each_set, apart-dispatched, sleepers-dispatched}

@@ -6,7 +6,7 @@ use Rattle.std.proofs.lemmas.List.{get_or-set_same}
 use Rattle.cap_format.specs.declared.kind.CapKind.{CapKind}
 use Rattle.cap_format.specs.declared.kind.CapKind.TheVariants.{Process, Schedule}
 use Rattle.object_store.proofs.Lists.{get_or-set}
-use Rattle.schedules.specs.Queues.{QueuesValue, ready_queue, first_of, rest_of, without, hart_without, left, highest_below, taken_from, dispatched_by, dispatched, hart_of}
+use Rattle.schedules.specs.Queues.{QueuesValue, priorities, ready_queue, first_of, rest_of, without, hart_without, left, highest_below, taken_from, dispatched_by, dispatched, hart_of}
 use Rattle.schedules.specs.Ready.{readied_queues}
 use Rattle.confinement.specs.Cut.{Cut, side_of, same_side}
 use Rattle.confinement.specs.Acts.{others_in, other_on, SparesPlaces}
@@ -29,7 +29,7 @@ pub harts-dispatched : (q : QueuesValue) (hart : ℕ) → length q.harts ≡ len
 harts-dispatched q hart = by (hart_of q hart)
   where
     by : (on : Option ℕ) → length q.harts ≡ length (dispatched_by q hart on).harts
-    by None = taken-size q hart (highest_below q.ready 8)
+    by None = taken-size q hart (highest_below q.ready priorities)
     by (Some p) = refl
 
 -- ---- a hart that finds nobody
@@ -59,13 +59,13 @@ found-first ready (suc n) k is none = on (slice_index_or ready n []) refl (found
 pub dispatched-none : (q : QueuesValue) (hart : ℕ) → hart < length q.harts → hart_of (dispatched q hart) hart ≡ None → dispatched q hart ≡ q
 dispatched-none q hart there none = on (hart_of q hart) none
   where
-    taken : (next : Option ℕ) → highest_below q.ready 8 ≡ next → hart_of (taken_from q hart next) hart ≡ None → taken_from q hart next ≡ q
+    taken : (next : Option ℕ) → highest_below q.ready priorities ≡ next → hart_of (taken_from q hart next) hart ≡ None → taken_from q hart next ≡ q
     taken None found none = refl
     taken (Some k) found none =
         absurd (found-first q.ready 8 k found (sym (get_or-set_same q.harts hart (first_of (ready_queue q k)) None there) ∙ none))
 
     on : (h : Option ℕ) → hart_of (dispatched_by q hart h) hart ≡ None → dispatched_by q hart h ≡ q
-    on None none = taken (highest_below q.ready 8) refl none
+    on None none = taken (highest_below q.ready priorities) refl none
     on (Some p) none = refl
 
 -- ---- one of this side
@@ -158,5 +158,5 @@ module _ (cut : Cut) (side : Bool) where
       }
 
       on : (h : Option ℕ) → hart_of q hart ≡ h → hart_of (dispatched_by q hart h) hart ≡ Some p → SparesPlaces cut side q (dispatched_by q hart h)
-      on None e is = taken e (highest_below q.ready 8) is
+      on None e is = taken e (highest_below q.ready priorities) is
       on (Some x) e is = places-same q

@@ -4,7 +4,7 @@ use Rattle.std.proofs.Math.ListN.{get_or-map}
 use Rattle.cap_format.specs.declared.kind.CapKind.{CapKind}
 use Rattle.cap_format.specs.declared.kind.CapKind.TheVariants.{Process}
 use Rattle.object_store.proofs.Lists.{get_or-set}
-use Rattle.schedules.specs.Queues.{QueuesValue, sleepers_of, without, left, asleep, highest_below, taken_from, dispatched_by, dispatched, hart_of}
+use Rattle.schedules.specs.Queues.{QueuesValue, priorities, sleepers_of, without, left, asleep, highest_below, taken_from, dispatched_by, dispatched, hart_of}
 use Rattle.schedules.specs.Ready.{readied_queues, unslept}
 use Rattle.schedules.proofs.Waking.{sleepers-readied}
 use Rattle.confinement.specs.Cut.{Cut, side_of, AllOn, SleepApart}
@@ -22,7 +22,7 @@ taken-sleepers q hart None = refl
 taken-sleepers q hart (Some priority) = refl
 
 by-sleepers : (q : QueuesValue) (hart : ℕ) (on : Option ℕ) → (dispatched_by q hart on).sleepers ≡ q.sleepers
-by-sleepers q hart None = taken-sleepers q hart (highest_below q.ready 8)
+by-sleepers q hart None = taken-sleepers q hart (highest_below q.ready priorities)
 by-sleepers q hart (Some p) = refl
 
 -- nobody sleeps elsewhere where a hart takes a process

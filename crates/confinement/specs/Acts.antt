@@ -8,8 +8,6 @@ use Rattle.process_objects.specs.Process.{ProcessValue, capreg_of, slot_of}
 use Rattle.object_store.specs.Store.{Store}
 use Rattle.object_store.specs.Object.{SameObject}
 use Rattle.schedules.specs.Queues.{QueuesValue, ready_queue, sleepers_of, hart_of}
-use Rattle.invocation.specs.Answerer.{Answer}
-use Rattle.invocation.specs.Answerer.Answer.{Dead, Open, Busy}
 use Rattle.invocation.specs.declared.callee.Callee.{Callee}
 use Rattle.invocation.specs.declared.callee.Callee.TheVariants.{Kernel, Open as OpenCallee, Busy as BusyCallee, Dead as DeadCallee}
 use Rattle.operations.specs.System.{System, system}
@@ -88,18 +86,8 @@ abbrev pub MayHoldIf : Cut → Bool → Option Capability → Type 0
 MayHoldIf cut side None = Unit {0}
 MayHoldIf cut side (Some c) = MayHold cut side c
 
--- all of these capabilities may be held by this side
-abbrev pub AllMayHold : Cut → Bool → List Capability → Type 0
-AllMayHold cut side [] = Unit {0}
-AllMayHold cut side (c ∷ cs) = MayHold cut side c × AllMayHold cut side cs
-
--- who answers an entry, if anybody does, is of this side, and so is the endpoint
-abbrev pub AnswersOwn : Cut → Bool → Answer → Type 0
-AnswersOwn cut side Dead = Unit {0}
-AnswersOwn cut side (Open e q) = (side_of cut Endpoint e ≡ side) × (side_of cut Process q ≡ side)
-AnswersOwn cut side (Busy q) = side_of cut Process q ≡ side
-
--- the same of what an invocation reaches: the kernel is asked through a capability that this side may hold
+-- whom an invocation reaches, if anybody, is of this side, and so is the endpoint; the kernel is asked through a
+-- capability that this side may hold
 abbrev pub CalleeOwn : Cut → Bool → Callee → Type 0
 CalleeOwn cut side (Kernel c) = MayHold cut side c
 CalleeOwn cut side (OpenCallee e q) = (side_of cut Endpoint e ≡ side) × (side_of cut Process q ≡ side)

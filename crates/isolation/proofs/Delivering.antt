@@ -19,7 +19,8 @@ use Rattle.operations.specs.System.{System, Meant, system, with_store}
 use Rattle.message_path.specs.Messages.{told, waiting, receiving, listening}
 use Rattle.fault_path.specs.Fault.{handler_of, fault_message, faulted, answered, heard_by, fault_of}
 use Rattle.confinement.specs.Cut.{Cut, side_of, MayHold}
-use Rattle.confinement.specs.Acts.{MayHoldIf, AllMayHold, AnswersOwn}
+use Rattle.confinement.specs.Acts.{MayHoldIf}
+use Rattle.confinement.proofs.Own.{AllMayHold, AnswersOwn}
 use Rattle.confinement.proofs.Held.{may-own}
 use Rattle.confinement.proofs.Acting.{held-process}
 use Rattle.confinement.proofs.Answering.{answerer-own}

@@ -35,7 +35,8 @@ use Rattle.messages.specs.Strings.{Side, span_side, side, side_outcome}
 use Rattle.messages.specs.Message.{sent_side, accept_in, received_side, bytes_moved, message_of, message_record, sent_off, message_told, delivered, sent_on, sent_by_fault, send_open, is_whole, is_delivered}
 use Rattle.messages.specs.Waiting.{wait_on, listening_from, listen}
 use Rattle.confinement.specs.Cut.{Cut, side_of}
-use Rattle.confinement.specs.Acts.{MayHoldIf, AllMayHold, system_of}
+use Rattle.confinement.specs.Acts.{MayHoldIf, system_of}
+use Rattle.confinement.proofs.Own.{AllMayHold}
 use Rattle.confinement.proofs.Delivering.{all-sent}
 use Rattle.confinement.proofs.Machine.{PiecesOwn}
 use Rattle.confinement.proofs.Messaging.{StringFaultOwn}

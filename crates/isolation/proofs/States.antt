@@ -32,8 +32,9 @@ use Rattle.machine_state.specs.DataAccess.{number_of, bytes_of, data_access, num
 use Rattle.machine_state.specs.CapAccess.{cap_access, cap_found, cap_stored, slot_in}
 use Rattle.machine_state.specs.Operation.{changed_by}
 use Rattle.confinement.specs.Cut.{Cut, side_of, MayHold}
-use Rattle.confinement.specs.Acts.{ProcessHeld, AllPermitted, MayHoldIf, AllMayHold, system_of}
+use Rattle.confinement.specs.Acts.{ProcessHeld, AllPermitted, MayHoldIf, system_of}
 use Rattle.confinement.specs.Reach.{Ends}
+use Rattle.confinement.proofs.Own.{AllMayHold}
 use Rattle.confinement.proofs.Sleeping.{each_set, sleepers-dispatched}
 use Rattle.confinement.proofs.Acting.{held-process}
 use Rattle.confinement.proofs.Delivering.{held-capreg}
