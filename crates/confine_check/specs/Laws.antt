@@ -11,4 +11,6 @@ use Rattle.confine_check.specs.Full.{AreFull}
 
 -- Nothing breaks a cut exactly where it holds, of what the objects mean.
 abbrev pub VerdictLaw : Type 0
-VerdictLaw = (cut : Cut) (s : Store) (q : QueuesValue) → AreFull s → (verdict_of cut s q ≡ Yes) ↔ Holds cut (system (state_map s) q)
+VerdictLaw = (cut : Cut) (s : Store) (q : QueuesValue)
+    → AreFull s
+    → (verdict_of cut s q ≡ Yes) ↔ Holds cut (system (state_map s) q)

@@ -61,8 +61,12 @@ rights_in sides = count_by not sides
 
 -- how many objects are on the left
 abbrev pub left_count : Sides → ℕ
-left_count sides = lefts_in sides.pages + lefts_in sides.cappages + lefts_in sides.gpts + lefts_in sides.processes + lefts_in sides.endpoints
+left_count sides =
+    lefts_in sides.pages + lefts_in sides.cappages + lefts_in sides.gpts + lefts_in sides.processes
+    + lefts_in sides.endpoints
 
 -- how many objects are on the right
 abbrev pub right_count : Sides → ℕ
-right_count sides = rights_in sides.pages + rights_in sides.cappages + rights_in sides.gpts + rights_in sides.processes + rights_in sides.endpoints
+right_count sides =
+    rights_in sides.pages + rights_in sides.cappages + rights_in sides.gpts + rights_in sides.processes
+    + rights_in sides.endpoints

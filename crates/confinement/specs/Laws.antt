@@ -18,19 +18,33 @@ use Rattle.confinement.specs.Reach.{Ends}
 -- in a fault whose handler the side may hold.
 abbrev pub AccessLaw : Type 0
 AccessLaw = (cut : Cut) (side : Bool) (s : Store) (space : Capability) (address : ℕ) (kind : Kind)
-    → EachMayHold cut s → MayHold cut side space → Ends cut side kind (access s.items space address kind)
+    → EachMayHold cut s
+    → MayHold cut side space
+    → Ends cut side kind (access s.items space address kind)
 
 -- Who answers what a side may hold is of that side.
 abbrev pub AnswerLaw : Type 0
 AnswerLaw = (cut : Cut) (side : Bool) (s : Store) (c : Capability)
-    → EachMayHold cut s → MayHold cut side c → CalleeOwn cut side (callee s c)
+    → EachMayHold cut s
+    → MayHold cut side c
+    → CalleeOwn cut side (callee s c)
 
 -- A permitted change leaves the other side's objects as they are, and the cut as it is.
 abbrev pub ChangeLaw : Type 0
 ChangeLaw = (cut : Cut) (side : Bool) (reading : Reading) (w : System) (change : Change)
-    → Permitted cut side change → Holds cut w → Acts cut side w (applied reading w change)
+    → Permitted cut side change
+    → Holds cut w
+    → Acts cut side w (applied reading w change)
 
 -- What a request does is permitted, and what it gives may be held, where it asks and sends what may be held.
 pub record OperationLaw : Type 0 where
-  pub memory : (cut : Cut) (side : Bool) (s : Store) (c : Capability) (r : Request) → EachMayHold cut s → MayHold cut side c → MayHold cut side r.sent → AnswerPermitted cut side (memory_operation s c r).answer
-  pub control : (cut : Cut) (side : Bool) (reading : Reading) (s : Store) (c : Capability) (r : Request) → EachMayHold cut s → MayHold cut side c → MayHold cut side r.sent → AnswerPermitted cut side (control_operation reading s c r).answer
+  pub memory : (cut : Cut) (side : Bool) (s : Store) (c : Capability) (r : Request)
+      → EachMayHold cut s
+      → MayHold cut side c
+      → MayHold cut side r.sent
+      → AnswerPermitted cut side (memory_operation s c r).answer
+  pub control : (cut : Cut) (side : Bool) (reading : Reading) (s : Store) (c : Capability) (r : Request)
+      → EachMayHold cut s
+      → MayHold cut side c
+      → MayHold cut side r.sent
+      → AnswerPermitted cut side (control_operation reading s c r).answer

@@ -12,7 +12,10 @@ use Rattle.confinement.specs.Acts.{MayHoldIf}
 
 -- through these restrictions nothing can be written, and what is loaded of capabilities is weakened
 abbrev pub ReadsWeakly : Cut → Bool → Place → Type 0
-ReadsWeakly cut side p = (cut.weakly side ≡ true) × (has p.restr.0 1 ≡ true) × (p.kind ≡ CapPage → has p.restr.0 4 ≡ true)
+ReadsWeakly cut side p =
+    (cut.weakly side ≡ true)
+    × (has p.restr.0 1 ≡ true)
+    × (p.kind ≡ CapPage → has p.restr.0 4 ≡ true)
 
 -- a place that is reached from this side: an object of it, or one that is read and no more
 pub record Reaches (cut : Cut) (side : Bool) (kind : Kind) (p : Place) : Type 0 where

@@ -26,9 +26,11 @@ of_side cut side (Some p) has = if same_side (side_of cut Process p) side then h
 -- the turns of this side's processes, in their order
 unfoldable pub turns : Cut → Bool → State → List Event → List Turn
 turns cut side s [] = []
-turns cut side s (e ∷ es) = of_side cut side (performer s e) (λ p. turn_of e p ∷ []) ++ turns cut side (event_of s e).state es
+turns cut side s (e ∷ es) =
+    of_side cut side (performer s e) (λ p. turn_of e p ∷ []) ++ turns cut side (event_of s e).state es
 
 -- the records of the events that this side's processes perform, in their order
 unfoldable pub told : Cut → Bool → State → List Event → List Record
 told cut side s [] = []
-told cut side s (e ∷ es) = of_side cut side (performer s e) (λ p. (event_of s e).records) ++ told cut side (event_of s e).state es
+told cut side s (e ∷ es) =
+    of_side cut side (performer s e) (λ p. (event_of s e).records) ++ told cut side (event_of s e).state es

@@ -45,14 +45,17 @@ run_answer s all = answer_at (counts_of s all.events) all.ending
 abbrev pub count_answer : Scheduled → Replayed
 count_answer all = answer_at (events_alone (length all.events)) all.ending
 
--- these are the events and the answer for all that the lines ask for: all events, or those before the first fault of reading or writing
+-- these are the events and the answer for all that the lines ask for: all events, or those before the first fault of
+-- reading or writing
 abbrev pub Accords : (Scheduled → Replayed) → Replayed → List Event → Scheduled → Type 0
 Accords answer_of answers.ReadFault events all = (rest : List Event) × (all.events ≡ events ++ rest)
 Accords answer_of answers.WriteFault events all = (rest : List Event) × (all.events ≡ events ++ rest)
 Accords answer_of answer events all = (events ≡ all.events) × (answer ≡ answer_of all)
 
 -- reading failed behind whole lines that ask for these events and end nothing; the reader holds no whole line
-pub record FailsBehind (harts : ℕ) (old new : Reader) (held held' : Option (List ℕ)) (events : List Event) : Type 0 where
+pub record FailsBehind (harts : ℕ)
+    (old new : Reader) (held held' : Option (List ℕ))
+    (events : List Event) : Type 0 where
   pub before : old.ended ≡ false
   pub going : new.ended ≡ false
   pub unfinished : IsFront new.rest
@@ -61,13 +64,21 @@ pub record FailsBehind (harts : ℕ) (old new : Reader) (held held' : Option (Li
   pub asks : scheduled harts old.number given ≡ preceded events (ends AtEnd)
 
 -- these events and this answer are what the lines ask for, as far as they are known
-pub record Follows (answer_of : Scheduled → Replayed) (harts : ℕ) (old new : Reader) (held held' : Option (List ℕ)) (events : List Event) (answer : Replayed) : Type 0 where
+pub record Follows (answer_of : Scheduled → Replayed) (harts : ℕ)
+    (old new : Reader) (held held' : Option (List ℕ))
+    (events : List Event) (answer : Replayed) : Type 0 where
   pub lines : OnParts (ahead old held) (λ parts. Accords answer_of answer events (scheduled harts old.number parts))
   pub read : answer ≡ answers.ReadFault → FailsBehind harts old new held held' events
 
 -- a machine ran these events: its state, the slots that it fetched, and what its translator keeps
-pub record Ran {T K : Type 0} (kept : T → K) (cost : K → Items → Capability → ℕ → Kind → ℕ) (after : K → Items → Capability → ℕ → Kind → K) (without : K → Item → K)
-    (m : MachineValue T) (fetches : ℕ) (n : MachineValue T) (fetches' : ℕ) (events : List Event) : Type 0 where
+pub record Ran {T K : Type 0}
+    (kept : T → K)
+    (cost : K → Items → Capability → ℕ → Kind → ℕ)
+    (after : K → Items → Capability → ℕ → Kind → K)
+    (without : K → Item → K)
+    (m : MachineValue T) (fetches : ℕ)
+    (n : MachineValue T) (fetches' : ℕ)
+    (events : List Event) : Type 0 where
   pub state : state_of n ≡ run_state (state_of m) events
   pub counted : fetches' ≡ fetches + spent cost after without (kept m.translator) (run_touches (state_of m) events)
   pub keeps : kept n.translator ≡ kept_after cost after without (kept m.translator) (run_touches (state_of m) events)
@@ -96,8 +107,16 @@ pub record HasReasons (unread unread' unwritten unwritten' : ℕ) (answer : Repl
   pub write_quiet : answer ≢ answers.WriteFault → unwritten' ≡ unwritten
 
 -- which events were run, what was written of them, and that they and the answer are what the lines ask for
-pub record Replays {T K : Type 0} (kept : T → K) (cost : K → Items → Capability → ℕ → Kind → ℕ) (after : K → Items → Capability → ℕ → Kind → K) (without : K → Item → K)
-    (mode : Mode) (m n : MachineValue T) (old new : Reader) (held held' taken taken' : Option (List ℕ)) (fetches fetches' : ℕ) (answer : Replayed) : Type 0 where
+pub record Replays {T K : Type 0}
+    (kept : T → K)
+    (cost : K → Items → Capability → ℕ → Kind → ℕ)
+    (after : K → Items → Capability → ℕ → Kind → K)
+    (without : K → Item → K)
+    (mode : Mode)
+    (m n : MachineValue T)
+    (old new : Reader) (held held' taken taken' : Option (List ℕ))
+    (fetches fetches' : ℕ)
+    (answer : Replayed) : Type 0 where
   pub events : List Event
   pub ran : Ran kept cost after without m fetches n fetches' events
   pub text : WritesRun mode (state_of m) taken taken' events answer
