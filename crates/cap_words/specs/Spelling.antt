@@ -1,7 +1,7 @@
 -- Which words spell a capability, and what they spell: one function for each form of the words. What a kind has not is
 -- 0, and its guard is 12/0. Where there may be names, one may stand in place of an object's number, behind a `$`; the
 -- number is 0 then.
-use Rattle.std.specs.Prelude.{ℕ, ◌≡◌, ◌<◌, ◌+◌, ◌*◌, ◌==◌, ◌||◌, not, nat_le, Bool, false, if◌then◌else◌, List, [], ◌∷◌, length, Option, Some, None, option_map, bytes_eq, codes}
+use Rattle.std.specs.Prelude.{ℕ, ◌≡◌, ◌<◌, ◌+◌, ◌-◌, ◌*◌, ◌==◌, ◌||◌, not, nat_le, Bool, false, if◌then◌else◌, List, [], ◌∷◌, length, Option, Some, None, option_map, bytes_eq, codes}
 use Rattle.coy_text.specs.Numeral.{dec_of, hex_of}
 use Rattle.coy_text.specs.Reading.{◌>>=◌, given}
 use Rattle.coy_text.specs.Words.{cut_at}
@@ -85,10 +85,10 @@ guarded_of word = do
   l2g ← dec_of parts.0
   match_of l2g parts.1 (cut_at 43 parts.1)
 
--- `schedule:P`, P from 0 to 7
+-- `schedule:P`, P from 0 to the highest priority
 unfoldable pub schedule_of : List ℕ → Option Spelled
 schedule_of rest = do
-  priority ← dec_to 7 rest
+  priority ← dec_to (object_limit Schedule - 1) rest
   Some (named Schedule priority)
 
 -- `entry:N:PAYLOAD`, the payload hexadecimal

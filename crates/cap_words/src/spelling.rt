@@ -6,7 +6,7 @@ ghost use Rattle.cap_words.specs.Spelling.{dec_to, named, named_by, object_by, o
 
 use crate::letters::restrictions;
 use crate::name::{Name, called, read_name};
-use cap_format::CapKind;
+use cap_format::{CapKind, PRIORITIES};
 use coy_text::{cut, read_dec, read_hex};
 
 /// A word that is spelled as a capability. Its numbers may be out of range, and what its kind has not is 0.
@@ -177,7 +177,7 @@ fn scheduled(rest: &[u8]) -> Option<Spelled>
     ensures value { result ≡ schedule_of rest.now }
     ensures range { IfSome result IsSpelled }
 {
-    Some(named(CapKind::Schedule, number_to(7, rest)?))
+    Some(named(CapKind::Schedule, number_to(u32::from(PRIORITIES) - 1, rest)?))
 }
 
 #[tactic(auto, unfolding(crate::specs::Spelling::object_at))]

@@ -1,6 +1,6 @@
 -- Where processes stand: on harts, in ready queues, asleep on another.
 use Rattle.std.specs.Prelude.{ℕ, ◌<◌, List, [], ◌∷◌, ◌++◌, length, codes, decimal, flat_map, Option, Some, None}
-use Rattle.schedules.specs.Queues.{QueuesValue, ready_queue, sleepers_of}
+use Rattle.schedules.specs.Queues.{QueuesValue, priorities, ready_queue, sleepers_of}
 use Rattle.coy_io.specs.Lines.{line_feed}
 use Rattle.run_text.specs.declared.standing.Queue.{Queue}
 use Rattle.run_text.specs.declared.standing.Queue.TheVariants.{Ready, Sleepers}
@@ -35,5 +35,5 @@ queue_text name (p ∷ ps) = name ++ (flat_map member_text (p ∷ ps) ++ line_fe
 
 -- there is such a list
 abbrev pub IsQueue : QueuesValue → Queue → Type 0
-IsQueue q (Ready priority) = priority < 8
+IsQueue q (Ready priority) = priority < priorities
 IsQueue q (Sleepers on) = on < length q.sleepers

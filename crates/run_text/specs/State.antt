@@ -3,7 +3,7 @@ use Rattle.std.specs.Prelude.{ℕ, ◌-◌, Bool, if◌then◌else◌, List, [],
 use Rattle.cap_format.specs.declared.kind.CapKind.{CapKind}
 use Rattle.cap_format.specs.declared.kind.CapKind.TheVariants.{Page, CapPage, Gpt, Endpoint, Process}
 use Rattle.object_store.specs.Store.{Store, size_of}
-use Rattle.schedules.specs.Queues.{QueuesValue, hart_of}
+use Rattle.schedules.specs.Queues.{QueuesValue, priorities, hart_of}
 use Rattle.machine_state.specs.State.{State}
 use Rattle.run_text.specs.declared.standing.Queue.{Queue}
 use Rattle.run_text.specs.declared.standing.Queue.TheVariants.{Ready, Sleepers}
@@ -20,9 +20,9 @@ queue_line q queue = queue_text (queue_name queue) (members q queue)
 abbrev pub harts_text : QueuesValue → ℕ → List ℕ
 harts_text q harts = each_below (λ hart. hart_text hart (hart_of q hart)) harts
 
--- each ready queue, from priority 7 down to 0
+-- each ready queue, from the highest priority down to 0
 abbrev pub ready_text : QueuesValue → List ℕ
-ready_text q = each_below (λ k. queue_line q (Ready (7 - k))) 8
+ready_text q = each_below (λ k. queue_line q (Ready (priorities - 1 - k))) priorities
 
 -- the sleepers of each process
 abbrev pub sleepers_text : QueuesValue → ℕ → List ℕ

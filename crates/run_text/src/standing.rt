@@ -1,11 +1,12 @@
 //! Where processes stand.
 ghost use Rattle.std.specs.Prelude.{◌≡◌, ◌≤◌, ◌<◌, ◌+◌, ◌-◌, ◌++◌, length, is_none, slice_get, flat_map};
-ghost use Rattle.schedules.specs.Queues.{hart_of};
+ghost use Rattle.schedules.specs.Queues.{priorities, hart_of};
 ghost use Rattle.run_text.specs.declared.standing.Queue.TheVariants.{Ready};
 ghost use Rattle.run_text.specs.Standing.{occupant_text, hart_text, member_text, queue_name, members, queue_text, IsQueue};
 ghost use Rattle.run_text.specs.State.{queue_line, harts_text, ready_text, sleepers_text};
 ghost use Rattle.coy_io.specs.Written.{WroteTo};
 
+use cap_format::PRIORITIES;
 use coy_io::{Sink, WriteFault, put_bytes, put_text};
 use coy_text::LineBuf;
 use schedules::Queues;
@@ -72,7 +73,7 @@ fn push_occupant(line: &mut LineBuf, occupant: Option<u16>)
     }
 }
 
-/// Writes the line of each ready queue that is not empty, from priority 7 down to 0.
+/// Writes the line of each ready queue that is not empty, from the highest priority down to 0.
 pub(crate) fn put_ready<K: Sink>(
     queues: &Queues,
     line: &mut LineBuf,
@@ -80,7 +81,7 @@ pub(crate) fn put_ready<K: Sink>(
 ) -> Result<(), WriteFault>
     ensures { WroteTo K.taken K.faults output.old output.new result (ready_text queues.now) }
 {
-    'each: for below in 0..8u8 {
+    'each: for below in 0..PRIORITIES {
         put_queue(queues, ready_queue(below), line, output)?;
     }
     Ok(())
@@ -88,10 +89,10 @@ pub(crate) fn put_ready<K: Sink>(
 
 /// The ready queue with so many before it.
 fn ready_queue(below: u8) -> Queue
-    requires { below < 8 }
-    ensures { result ≡ Ready (7 - below) }
+    requires { below < priorities }
+    ensures { result ≡ Ready (priorities - 1 - below) }
 {
-    Queue::Ready(7 - below)
+    Queue::Ready(PRIORITIES - 1 - below)
 }
 
 /// Writes the line of the sleepers of each process on which others sleep.
