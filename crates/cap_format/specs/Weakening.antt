@@ -3,7 +3,7 @@ use Rattle.std.specs.Prelude.{ℕ, Bool, true, false, ◌&&◌}
 use Rattle.std.specs.Int.RustNames.{bit_or}
 use Rattle.cap_format.specs.declared.kind.CapKind.{CapKind}
 use Rattle.cap_format.specs.declared.kind.CapKind.TheVariants.{Null, Page, CapPage, Gpt, Window, LocalWindow, Discrim}
-use Rattle.cap_format.specs.Restr.{has}
+use Rattle.cap_format.specs.Restr.{has, RO, WK, NC}
 use Rattle.cap_format.specs.Capability.{Capability, null}
 
 -- the same with these restrictions too
@@ -29,11 +29,11 @@ weakened c = weakened_kind c.kind c
 abbrev pub harmless_kind : CapKind → ℕ → Bool
 harmless_kind Null restr = true
 harmless_kind Discrim restr = true
-harmless_kind Page restr = has restr 1
-harmless_kind CapPage restr = has restr 1 && has restr 4
-harmless_kind Gpt restr = has restr 1 && has restr 4 && has restr 16
-harmless_kind Window restr = has restr 1 && has restr 4 && has restr 16
-harmless_kind LocalWindow restr = has restr 1 && has restr 4 && has restr 16
+harmless_kind Page restr = has restr RO
+harmless_kind CapPage restr = has restr RO && has restr WK
+harmless_kind Gpt restr = has restr RO && has restr WK && has restr NC
+harmless_kind Window restr = has restr RO && has restr WK && has restr NC
+harmless_kind LocalWindow restr = has restr RO && has restr WK && has restr NC
 harmless_kind _ restr = false
 
 -- nothing can be changed or told through the capability

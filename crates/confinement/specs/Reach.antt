@@ -1,7 +1,7 @@
 -- Where the accesses of a process of one side end. (Own.)
 use Rattle.std.specs.Prelude.{◌≡◌, ◌⊎◌, Bool, true, false, Result, Ok, Err}
 use Rattle.cap_format.specs.declared.kind.CapKind.TheVariants.{CapPage}
-use Rattle.cap_format.specs.Restr.{has}
+use Rattle.cap_format.specs.Restr.{has, RO, WK}
 use Rattle.walk_meaning.specs.declared.kind.Kind.{Kind}
 use Rattle.walk_meaning.specs.declared.place.Place.{Place}
 use Rattle.walk_meaning.specs.declared.place.WalkFault.{WalkFault}
@@ -14,8 +14,8 @@ use Rattle.confinement.specs.Acts.{MayHoldIf}
 abbrev pub ReadsWeakly : Cut → Bool → Place → Type 0
 ReadsWeakly cut side p =
     (cut.weakly side ≡ true)
-    × (has p.restr.0 1 ≡ true)
-    × (p.kind ≡ CapPage → has p.restr.0 4 ≡ true)
+    × (has p.restr.0 RO ≡ true)
+    × (p.kind ≡ CapPage → has p.restr.0 WK ≡ true)
 
 -- a place that is reached from this side: an object of it, or one that is read and no more
 pub record Reaches (cut : Cut) (side : Bool) (kind : Kind) (p : Place) : Type 0 where

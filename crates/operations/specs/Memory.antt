@@ -7,7 +7,7 @@ use Rattle.cap_format.specs.declared.code.Code.{Code}
 use Rattle.cap_format.specs.declared.code.Code.TheVariants.{Ok as OkCode}
 use Rattle.cap_format.specs.declared.request.Request.{Request}
 use Rattle.cap_format.specs.Kind.{number_of, is_window}
-use Rattle.cap_format.specs.Restr.{has}
+use Rattle.cap_format.specs.Restr.{has, RO, OP}
 use Rattle.cap_format.specs.Guard.{GuardValue, guard_of}
 use Rattle.cap_format.specs.Capability.{Capability, window, local_window, with_guard}
 use Rattle.cap_format.specs.Weakening.{reduced}
@@ -24,11 +24,11 @@ use Rattle.operations.specs.Request.{w1, w2, w3, w4}
 
 -- the restrictions that rows ask for
 abbrev pub read_only : Capability → Bool
-read_only c = has c.restr 1
+read_only c = has c.restr RO
 
 -- whether OP is among the restrictions of a capability
 abbrev pub opaque : Capability → Bool
-opaque c = has c.restr 8
+opaque c = has c.restr OP
 
 -- the two numbers are a guard's
 unfoldable pub is_guard : ℕ → ℕ → Bool

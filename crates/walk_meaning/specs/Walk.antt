@@ -3,7 +3,7 @@
 use Rattle.std.specs.Prelude.{ℕ, zero, suc, ◌+◌, ◌/◌, ◌%◌, ◌^◌, min, Bool, true, false, not, ◌&&◌, ◌||◌, ◌==◌, nat_le, nat_lt, if◌then◌else◌, bit_or, Option, Some, None, Result, Ok, Err}
 use Rattle.cap_format.specs.Capability.{Capability}
 use Rattle.cap_format.specs.Kind.{is_memory}
-use Rattle.cap_format.specs.Restr.{has}
+use Rattle.cap_format.specs.Restr.{has, RO, NX, NC}
 use Rattle.cap_format.specs.declared.fault.FaultCode.{FaultCode}
 use Rattle.cap_format.specs.declared.fault.FaultCode.TheVariants.{InvalidDataReference, InvalidCapReference, DataAccessTypeError, CapAccessTypeError, AccessViolation, MalformedSpace}
 use Rattle.cap_format.specs.declared.kind.CapKind.{CapKind}
@@ -34,11 +34,11 @@ invalid kind = if is_data kind then InvalidDataReference else InvalidCapReferenc
 
 -- RO denies the two kinds that write, NX denies fetches
 abbrev pub denied : Kind → ℕ → Bool
-denied Fetch restr = has restr 2
+denied Fetch restr = has restr NX
 denied Load restr = false
-denied Store restr = has restr 1
+denied Store restr = has restr RO
 denied CapLoad restr = false
-denied CapStore restr = has restr 1
+denied CapStore restr = has restr RO
 
 -- the restrictions so far and a capability's own
 abbrev pub restricted : Restr → ℕ → Restr
@@ -78,7 +78,7 @@ is_reserved h i = ((i == 15) && h.ha) || ((i == 14) && h.bg)
 
 -- the handler GPT from this GPT on: itself where it has one and NC was not met
 abbrev pub handler_from : HeaderValue → ℕ → At → Option ℕ
-handler_from h g w = if h.ha && not (has w.restr.0 16) then Some g else w.handler
+handler_from h g w = if h.ha && not (has w.restr.0 NC) then Some g else w.handler
 
 -- the background GPT from this GPT on
 abbrev pub background_from : HeaderValue → ℕ → At → Option ℕ
