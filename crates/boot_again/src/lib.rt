@@ -4,10 +4,7 @@
 #![tactic(auto)]
 
 ghost use Rattle.std.specs.Prelude.{◌≡◌};
-ghost use Rattle.std.specs.List.{All};
 ghost use Rattle.run_ranges.specs.Ranges.{AreInRanges};
-ghost use Rattle.listing_read.specs.Statement.{IsListing};
-ghost use Rattle.statement_text.specs.Typed.{IsTyped};
 ghost use Rattle.image_builder.specs.Boot.{booted};
 ghost use Rattle.read_back.specs.Listable.{IsListable};
 ghost use Rattle.boot_again.specs.Boots.{PrintedObjectsBoot, printed_listing};
@@ -16,7 +13,7 @@ ghost use Rattle.boot_again.specs.Text.{PrintedIsListing};
 ghost use Rattle.boot_again.specs.Ranges.{BootedIsInRanges};
 
 use listing_read::Listing;
-use statement_text::listing_is_typed;
+use statement_text::tell_listing;
 
 /// The statements that are printed of the objects of a state make these objects again, in a machine that is booted with
 /// them: each thing and each count is as it was, and those processes are made ready that ran.
@@ -67,14 +64,4 @@ pub fn listing_boots_in_ranges(listing: &Listing)
 {
     tell_listing(listing);
     booted_is_in_ranges();
-}
-
-/// What every listing keeps. It reads the listing and does nothing else.
-fn tell_listing(listing: &Listing)
-    ensures kept { IsListing listing.now }
-    ensures typed { All IsTyped listing.now.statements }
-{
-    let _sizes = listing.sizes();
-    let _statements = listing.statements();
-    listing_is_typed(listing);
 }

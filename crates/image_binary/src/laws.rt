@@ -4,7 +4,7 @@
 ghost use Rattle.image_binary.specs.Laws.{ImagesAreRead, OnlyImagesAreRead, ImagesDiffer, IsPacked};
 
 use listing_read::Listing;
-use statement_text::listing_is_typed;
+use statement_text::tell_listing;
 
 /// The image of a listing is read as that listing, where it has no more bytes than an input may have; bytes that are read
 /// as a listing are its image; and no two listings have one image.
@@ -18,7 +18,5 @@ pub fn images_are_read()
 pub fn listing_is_packed(listing: &Listing)
     ensures { IsPacked listing.now }
 {
-    let _sizes = listing.sizes();
-    let _statements = listing.statements();
-    listing_is_typed(listing);
+    tell_listing(listing);
 }

@@ -1,11 +1,8 @@
 //! A listing and its schedule, from the first line to the last.
 ghost use Rattle.std.specs.Prelude.{ℕ, ◌≡◌, ◌≢◌, ◌≤◌, [], false, length, IfSome};
 ghost use Rattle.std.specs.Io.KnownBytes.{IsAtEnd};
-ghost use Rattle.std.specs.List.{All};
 ghost use Rattle.coy_io.specs.Lines.{parts_of, whole_lines};
 ghost use Rattle.coy_io.specs.Reader.{TellsEnd, ahead};
-ghost use Rattle.listing_read.specs.Statement.{IsListing};
-ghost use Rattle.statement_text.specs.Typed.{IsTyped};
 ghost use Rattle.schedule_replay.specs.Scheduled.{OnParts};
 ghost use Rattle.courses.specs.Course.{ComesTo, cached, course_output};
 ghost use Rattle.courses.specs.Ending.{HasCauses};
@@ -19,7 +16,7 @@ use courses::{Exit, end_past_limit, read_head, refuse_schedule};
 use coy_io::{LineReader, Sink, Source, WriteFault};
 use listing_read::Listing;
 use schedule_replay::Stop;
-use statement_text::{listing_is_typed, migrated_is_read, write_listing};
+use statement_text::{migrated_is_read, tell_listing, write_listing};
 use std::alloc::Global;
 
 /// Reads a listing and its schedule, and writes their text: a listing of version 2 without names that says the same, once
@@ -98,14 +95,4 @@ fn conclude<K: Sink>(answer: Result<Stop, WriteFault>, output: &mut K) -> Exit
         Ok(Stop::ReadFault) => Exit::ReadFault,
         Err(_) => Exit::WriteFault,
     }
-}
-
-/// What every listing keeps. It reads the listing and does nothing else.
-fn tell_listing(listing: &Listing)
-    ensures kept { IsListing listing.now }
-    ensures typed { All IsTyped listing.now.statements }
-{
-    let _sizes = listing.sizes();
-    let _statements = listing.statements();
-    listing_is_typed(listing);
 }

@@ -14,4 +14,4 @@ pub use cap_words::kind_word;
 pub use event::write_event;
 pub use laws::{capabilities_are_read, migrated_is_read, statements_are_read, texts_are_listed};
 pub use listing::write_listing;
-pub use typed::listing_is_typed;
+pub use typed::tell_listing;

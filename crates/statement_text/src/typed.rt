@@ -3,14 +3,25 @@ ghost use Rattle.std.specs.Prelude.{◌<◌, ◌^◌};
 ghost use Rattle.std.specs.List.{All};
 ghost use Rattle.cap_format.specs.Capability.{IsCapability};
 ghost use Rattle.gpt_objects.specs.Header.{IsHeader};
+ghost use Rattle.listing_read.specs.Statement.{IsListing};
 ghost use Rattle.statement_text.specs.Typed.{IsTyped};
 
 use cap_format::Cap;
 use gpt_objects::GptHeader;
 use listing_read::{Listing, Statement};
 
+/// What every listing keeps by its type and by those of its values. It reads the listing and does nothing else.
+pub fn tell_listing(listing: &Listing)
+    ensures kept { IsListing listing.now }
+    ensures typed { All IsTyped listing.now.statements }
+{
+    let _sizes = listing.sizes();
+    let _statements = listing.statements();
+    listing_is_typed(listing);
+}
+
 /// The values of a listing are in the ranges of their types. It reads them and does nothing else.
-pub fn listing_is_typed(listing: &Listing)
+fn listing_is_typed(listing: &Listing)
     ensures { All IsTyped listing.now.statements }
 {
     'each: for statement in listing.statements() {
