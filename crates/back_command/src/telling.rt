@@ -2,7 +2,7 @@
 ghost use Rattle.std.specs.Prelude.{◌≡◌};
 ghost use Rattle.coy_io.specs.Causes.{HasCause};
 ghost use Rattle.kernel_core.specs.State.{state_of};
-ghost use Rattle.run_text.specs.Written.{Writes};
+ghost use Rattle.coy_io.specs.Written.{Writes};
 ghost use Rattle.courses.specs.Ending.{EndsIn};
 ghost use Rattle.back_command.specs.Back.{back_text, count_text};
 

@@ -6,7 +6,7 @@ use Rattle.cap_format.specs.Capability.{Capability}
 use Rattle.cap_words.specs.Text.{cap_text}
 use Rattle.object_store.specs.Store.{size_of}
 use Rattle.kernel_core.specs.State.{State}
-use Rattle.statement_text.specs.Words.{kind_word}
+use Rattle.cap_words.specs.Kind.{kind_word}
 use Rattle.image_builder.specs.Boot.{booted}
 use Rattle.schedules.specs.Queues.{QueuesValue, sleepers_of}
 use Rattle.confinement.specs.Cut.{Sides, Holds}

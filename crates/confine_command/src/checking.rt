@@ -7,13 +7,12 @@ ghost use Rattle.confine_command.specs.Confine.{told, reads, cut_text, confined_
 ghost use Rattle.courses.specs.Ending.{EndsIn};
 
 use cap_format::{Cap, CapKind};
-use cap_words::push_capability;
+use cap_words::{kind_word, push_capability};
 use confine_check::{Cut, Verdict, confined};
 use courses::{Exit, end_with};
 use coy_io::Sink;
 use coy_text::LineBuf;
 use kernel_core::Machine;
-use statement_text::kind_word;
 use std::sync::ledger::Ledger;
 use steps::Steps;
 use walk_engine::Translator;

@@ -4,7 +4,7 @@ use Rattle.std.specs.Bool.{⊤}
 use Rattle.std.specs.Io.KnownBytes.{Appends}
 use Rattle.std.proofs.KnownBytes.{Appends-trans}
 use Rattle.coy_io.specs.Pieces.{AppendsSome}
-use Rattle.run_text.proofs.Texts.{cut_before, cut_behind}
+use Rattle.coy_io.proofs.Texts.{cut_before, cut_behind}
 use Rattle.courses.specs.declared.exit.Exit.{Exit}
 use Rattle.courses.specs.declared.exit.Exit.TheVariants.{OutOfMemory, ReadFault, WriteFault}
 use Rattle.courses.specs.Exit.{status_of}

@@ -14,7 +14,7 @@ use Rattle.kernel_core.specs.Outcome.{Touch, kept_after, spent}
 use Rattle.kernel_core.proofs.Ran.{run_touches-append, spent-append}
 use Rattle.kernel_core.specs.Run.{run_state, run_touches}
 use Rattle.kernel_core.specs.State.{State, state_of}
-use Rattle.run_text.proofs.Texts.{cut_before}
+use Rattle.coy_io.proofs.Texts.{cut_before}
 use Rattle.schedule_replay.specs.Replay.{Accords, HasReasons, Ran, Replays, StopsInLast, WritesRun, run_answer}
 use Rattle.schedule_replay.specs.Scheduled.{AtEnd, OnParts, Scheduled, ends, preceded, scheduled}
 use Rattle.schedule_replay.specs.Told.{told}

@@ -2,7 +2,7 @@
 ghost use Rattle.std.specs.Prelude.{◌≡◌, ◌≢◌, false, true};
 ghost use Rattle.coy_io.specs.Causes.{HasCause};
 ghost use Rattle.generated_text.specs.Text.{make_text};
-ghost use Rattle.run_text.specs.Written.{Writes};
+ghost use Rattle.coy_io.specs.Written.{Writes};
 ghost use Rattle.courses.specs.Course.{ComesTo, HasEntries, cached};
 ghost use Rattle.courses.specs.Ending.{EndsIn, HasCauses};
 ghost use Rattle.coyotos_cli.specs.Made.{made_left};

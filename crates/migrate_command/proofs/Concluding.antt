@@ -10,7 +10,7 @@ use Rattle.coy_io.specs.Reader.{Reader, ahead}
 use Rattle.listing_read.specs.Statement.{ListingValue}
 use Rattle.listing_read.specs.declared.fault.ScheduleFault.{ScheduleFault}
 use Rattle.listing_read.specs.declared.schedule.Timed.{Timed}
-use Rattle.run_text.proofs.Texts.{cut_before, cut_behind}
+use Rattle.coy_io.proofs.Texts.{cut_before, cut_behind}
 use Rattle.statement_text.specs.Text.{event_text, events_text, listing_text}
 use Rattle.schedule_replay.specs.Asked.{Asked, asked}
 use Rattle.schedule_replay.specs.Scheduled.{AtEnd, AtFault, AtLimit, Ending, OnParts}

@@ -10,7 +10,7 @@ use Rattle.coy_io.specs.Pieces.{AppendsSome}
 use Rattle.coy_io.specs.Reader.{Reader, ahead}
 use Rattle.listing_read.specs.Schedule.{IsTimed}
 use Rattle.listing_read.specs.declared.schedule.Timed.{Timed}
-use Rattle.run_text.proofs.Texts.{cut_behind}
+use Rattle.coy_io.proofs.Texts.{cut_behind}
 use Rattle.statement_text.specs.Text.{event_text, events_text}
 use Rattle.schedule_replay.specs.Asked.{Asked, AskNone, AsksNext, asked, asks_first, asks_none, of_line}
 use Rattle.schedule_replay.specs.Lines.{FailsOn, ReadsOn}

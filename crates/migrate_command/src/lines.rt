@@ -5,7 +5,7 @@ ghost use Rattle.coy_io.specs.Reader.{TellsEnd};
 ghost use Rattle.judged_lines.specs.declared.stop.Stop.{Stop};
 ghost use Rattle.schedule_replay.specs.Asked.{of_line};
 ghost use Rattle.statement_text.specs.Text.{events_text};
-ghost use Rattle.statement_text.specs.Written.{WroteTo};
+ghost use Rattle.coy_io.specs.Written.{WroteTo};
 ghost use Rattle.migrate_command.specs.Migrate.{PutsLines};
 
 use coy_io::{LineReader, Sink, Source, WriteFault, put_all};

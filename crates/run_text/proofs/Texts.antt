@@ -6,7 +6,7 @@ use Rattle.std.specs.Io.KnownBytes.{Appends}
 use Rattle.coy_io.specs.Lines.{line_feed}
 use Rattle.coy_io.specs.Pieces.{AppendsSome}
 use Rattle.coy_io.specs.Written.{Wrote}
-pub use Rattle.coy_io.proofs.Texts.{cut_before, cut_behind, behind, cut, failed, same_text, same_cut, same, go_on, stop, Written, whole}
+use Rattle.coy_io.proofs.Texts.{Written, whole, cut, failed, cut_before, cut_behind}
 use Rattle.coy_io.proofs.Texts.{member_more as one_member_more, member_stops as one_member_stops, members_done as members_all}
 use Rattle.run_text.specs.Each.{each_below}
 use Rattle.run_text.specs.Standing.{member_text, queue_text}

@@ -1,4 +1,3 @@
-pub use Rattle.coy_io.specs.Written
 pub mod Each
 pub mod Names
 pub mod Record

@@ -6,7 +6,7 @@ ghost use Rattle.kernel_core.specs.State.{state_of};
 ghost use Rattle.map_cache.specs.Cache.{kept_of};
 ghost use Rattle.map_cache.specs.Mappings.{mappings_of};
 ghost use Rattle.coy_io.specs.Causes.{HasCause};
-ghost use Rattle.run_text.specs.Written.{Writes};
+ghost use Rattle.coy_io.specs.Written.{Writes};
 ghost use Rattle.schedule_commands.specs.Finished.{tables_text};
 ghost use Rattle.courses.specs.Ending.{EndsIn, Fetches};
 ghost use Rattle.schedule_commands.specs.Tables.{TellsEntries, entry_text, entries_text};

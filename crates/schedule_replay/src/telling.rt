@@ -3,7 +3,7 @@ ghost use Rattle.std.specs.List.{list_all};
 ghost use Rattle.std.specs.Prelude.{◌≡◌};
 ghost use Rattle.coy_io.specs.Causes.{HasCause};
 ghost use Rattle.kernel_core.specs.Machine.{IsRecord};
-ghost use Rattle.run_text.specs.Written.{Writes};
+ghost use Rattle.coy_io.specs.Written.{Writes};
 ghost use Rattle.schedule_replay.specs.Told.{are_untold, is_told, line_of, lines_of};
 ghost use Rattle.untraced_steps.specs.Untraced.{is_detail};
 

@@ -4,5 +4,4 @@ mod Concluding
 mod Judges
 mod Called
 mod Exact
-mod Lists
 mod ReadBelow

@@ -4,7 +4,7 @@ use Rattle.cap_format.specs.declared.kind.CapKind.{CapKind}
 use Rattle.cap_format.specs.Capability.{Capability}
 use Rattle.cap_words.specs.Text.{cap_text}
 use Rattle.kernel_core.specs.State.{State}
-use Rattle.statement_text.specs.Words.{kind_word}
+use Rattle.cap_words.specs.Kind.{kind_word}
 use Rattle.run_text.specs.Each.{each_below}
 use Rattle.separation_policy.specs.DomainSet.{has_domain}
 use Rattle.separation_policy.specs.Making.{object_count, process_count}

@@ -1,16 +1,15 @@
 //! What is told of crossings.
 ghost use Rattle.std.specs.Prelude.{◌≡◌, ◌≤◌, ◌<◌, ◌+◌, ◌++◌, [], length, flat_map, slice_index_or};
-ghost use Rattle.run_text.specs.Written.{WroteTo};
+ghost use Rattle.coy_io.specs.Written.{WroteTo};
 ghost use Rattle.separation_program.specs.Text.{capability_text, crossing_text, crossings_text, head_text, place_text, tail_text, total_text};
 
-use crate::names::{put_line, put_own, put_pair};
+use crate::names::{put_own, put_pair};
 use cap_format::{Cap, CapKind};
-use cap_words::push_capability;
-use coy_io::{Sink, WriteFault};
+use cap_words::{kind_word, push_capability};
+use coy_io::{Sink, WriteFault, put_bytes};
 use coy_text::LineBuf;
 use separation_check::Crossing;
 use separation_policy::Policy;
-use statement_text::kind_word;
 
 /// Writes each crossing, and how many they are.
 #[tactic(auto, unfolding(crate::specs::Text::crossings_text))]
@@ -65,7 +64,7 @@ fn put_head<K: Sink>(crossing: &Crossing, output: &mut K) -> Result<(), WriteFau
 {
     let mut line = LineBuf::new();
     push_head(crossing, &mut line);
-    put_line(&line, output)
+    put_bytes(line.as_bytes(), output)
 }
 
 #[tactic(auto, unfolding(crate::specs::Text::head_text), using(coy_text::proofs::NumeralLaws::length_decimal))]
@@ -141,7 +140,7 @@ fn put_total<K: Sink>(count: usize, output: &mut K) -> Result<(), WriteFault>
 {
     let mut line = LineBuf::new();
     push_total(count, &mut line);
-    put_line(&line, output)
+    put_bytes(line.as_bytes(), output)
 }
 
 #[tactic(auto, unfolding(crate::specs::Text::total_text), using(coy_text::proofs::NumeralLaws::length_decimal))]

@@ -1,27 +1,12 @@
 //! The names of domains, as they are written.
 ghost use Rattle.std.specs.Prelude.{◌≡◌, ◌<◌, ◌≤◌, ◌+◌, ◌++◌, ◌∷◌, length, flat_map, slice_index_or};
-ghost use Rattle.run_text.specs.Written.{WroteTo};
+ghost use Rattle.coy_io.specs.Written.{WroteTo};
 ghost use Rattle.separation_policy.specs.Closure.{IsClosure};
 ghost use Rattle.separation_program.specs.Text.{further_text, name_of, names_text, one_if, own_text, pair_text, read_below, reads_other};
 
 use arrayvec::ArrayVec;
-use coy_io::{Sink, WriteFault, put_all};
-use coy_text::LineBuf;
+use coy_io::{Sink, WriteFault, put_bytes, put_text};
 use separation_policy::{Closure, Policy};
-
-/// Writes a text as it is.
-pub(crate) fn put_text<K: Sink>(text: &str, output: &mut K) -> Result<(), WriteFault>
-    ensures { WroteTo K.taken K.faults output.old output.new result text.now }
-{
-    put_all(output, text.as_bytes())
-}
-
-/// Writes a line, or a part of one, that was made.
-pub(crate) fn put_line<K: Sink>(line: &LineBuf, output: &mut K) -> Result<(), WriteFault>
-    ensures { WroteTo K.taken K.faults output.old output.new result line.now }
-{
-    put_all(output, line.as_bytes())
-}
 
 /// Writes the name of a domain.
 pub(crate) fn put_name<K: Sink>(
@@ -31,7 +16,7 @@ pub(crate) fn put_name<K: Sink>(
 ) -> Result<(), WriteFault>
     ensures { WroteTo K.taken K.faults output.old output.new result (name_of policy.now domain) }
 {
-    put_all(output, policy.name(domain))
+    put_bytes(policy.name(domain), output)
 }
 
 /// Writes from which domain to which something leads, and ends the line.

@@ -1,11 +1,11 @@
 //! What is told of a policy that holds: each domain with what it has and reads.
 ghost use Rattle.std.specs.Prelude.{◌≡◌, ◌≤◌, ◌<◌, ◌+◌, ◌++◌, [], length};
-ghost use Rattle.run_text.specs.Written.{WroteTo};
+ghost use Rattle.coy_io.specs.Written.{WroteTo};
 ghost use Rattle.separation_policy.specs.Closure.{IsClosure};
 ghost use Rattle.separation_program.specs.Text.{count_text, counts_text, domain_text, domains_text, marks_text, said_if, separated_by};
 
-use crate::names::{put_line, put_name, put_read, put_text};
-use coy_io::{Sink, WriteFault};
+use crate::names::{put_name, put_read};
+use coy_io::{Sink, WriteFault, put_bytes, put_text};
 use coy_text::LineBuf;
 use separation_check::Marks;
 use separation_policy::{Closure, Policy};
@@ -32,7 +32,7 @@ fn put_count<K: Sink>(count: u8, output: &mut K) -> Result<(), WriteFault>
 {
     let mut line = LineBuf::new();
     push_count(count, &mut line);
-    put_line(&line, output)
+    put_bytes(line.as_bytes(), output)
 }
 
 #[tactic(auto, unfolding(crate::specs::Text::count_text), using(coy_text::proofs::NumeralLaws::length_decimal))]
@@ -89,7 +89,7 @@ fn put_counts<K: Sink>(policy: &Policy, domain: u8, output: &mut K) -> Result<()
 {
     let mut line = LineBuf::new();
     push_counts(policy, domain, &mut line);
-    put_line(&line, output)
+    put_bytes(line.as_bytes(), output)
 }
 
 #[tactic(auto, unfolding(crate::specs::Text::counts_text), using(coy_text::proofs::NumeralLaws::length_decimal))]
@@ -111,7 +111,7 @@ fn put_marks<K: Sink>(marks: Marks, domain: u8, output: &mut K) -> Result<(), Wr
 {
     let mut line = LineBuf::new();
     push_marks(marks, domain, &mut line);
-    put_line(&line, output)
+    put_bytes(line.as_bytes(), output)
 }
 
 #[tactic(auto, unfolding(crate::specs::Text::marks_text))]

@@ -1,4 +1,3 @@
-pub use Rattle.coy_io.proofs.Texts
 pub mod Printed
 mod Called
 pub mod Capabilities

@@ -1,4 +1,3 @@
-pub use Rattle.coy_io.specs.Written
 pub mod Words
 pub mod Text
 pub mod Typed

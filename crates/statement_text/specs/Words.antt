@@ -1,7 +1,6 @@
 -- The words of a statement, as it is written: those of objects are the words of their lines anywhere.
 use Rattle.std.specs.Prelude.{ℕ, ◌==◌, Bool, if◌then◌else◌, List, [], ◌∷◌, codes, decimal}
 use Rattle.coy_text.specs.Numeral.{hex_text}
-pub use Rattle.cap_words.specs.Kind.{kind_word}
 use Rattle.cap_words.specs.Text.{letters}
 use Rattle.rv32_asm.specs.Text.{words_from}
 use Rattle.object_lines.specs.Words.{count_words, page_words, held_words, gpt_words, endpoint_words, process_words, register_words}

@@ -10,7 +10,6 @@ mod memory_lines;
 mod statement;
 mod typed;
 
-pub use cap_words::kind_word;
 pub use event::write_event;
 pub use laws::{capabilities_are_read, migrated_is_read, statements_are_read, texts_are_listed};
 pub use listing::write_listing;

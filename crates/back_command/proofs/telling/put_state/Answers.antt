@@ -1,6 +1,6 @@
 use Rattle.kernel_core.specs.State.{state_of}
 use Rattle.run_text.specs.State.{state_text}
-use Rattle.run_text.proofs.Texts.{behind}
+use Rattle.coy_io.proofs.Texts.{behind}
 use Rattle.back_command.specs.Back.{count_text}
 use Rattle.back_command.proofs.telling.put_state.Goals as goal
 

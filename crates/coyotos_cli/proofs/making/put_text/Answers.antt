@@ -1,5 +1,5 @@
 use Rattle.std.proofs.Common.{◌∙◌, subst}
-use Rattle.run_text.proofs.Texts.{cut}
+use Rattle.coy_io.proofs.Texts.{cut}
 use Rattle.schedule_replay.specs.Leaves.{Leaves}
 use Rattle.schedule_replay.proofs.Leaves.{leaves_less, leaves_some}
 use Rattle.coyotos_cli.proofs.making.put_text.Goals as goal

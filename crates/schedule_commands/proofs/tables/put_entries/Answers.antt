@@ -1,5 +1,5 @@
 use Rattle.std.proofs.Common.{◌∙◌, refl, subst}
-use Rattle.run_text.proofs.Texts.{cut}
+use Rattle.coy_io.proofs.Texts.{cut}
 use Rattle.schedule_replay.specs.Leaves.{Leaves}
 use Rattle.schedule_commands.proofs.Entries.{entries_text-cons, entries_text-nil}
 use Rattle.schedule_replay.proofs.Leaves.{leaves_less, leaves_none, leaves_some}

@@ -3,8 +3,8 @@ use Rattle.kernel_core.specs.State.{state_of}
 use Rattle.map_cache.specs.Cache.{CacheValue, kept_of}
 use Rattle.map_cache.specs.Held.{held_entries}
 use Rattle.map_cache.specs.Mappings.{mappings_of}
-use Rattle.run_text.proofs.Texts.{behind}
-use Rattle.run_text.specs.Written.{Writes}
+use Rattle.coy_io.proofs.Texts.{behind}
+use Rattle.coy_io.specs.Written.{Writes}
 use Rattle.schedule_commands.specs.Finished.{last_state_text}
 use Rattle.schedule_commands.specs.Tables.{entries_text}
 use Rattle.schedule_commands.proofs.tables.put_tables.Goals as goal

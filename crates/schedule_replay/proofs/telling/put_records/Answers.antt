@@ -1,6 +1,6 @@
 use Rattle.std.proofs.Common.{◌≡◌, ◌∙◌, [], drop, subst, ap}
 use Rattle.std.proofs.lemmas.List.{drop_all}
-use Rattle.run_text.proofs.Texts.{cut, same_cut, same_text}
+use Rattle.coy_io.proofs.Texts.{cut, same_cut, same_text}
 use Rattle.schedule_replay.specs.Leaves.{Leaves}
 use Rattle.schedule_replay.specs.Told.{lines_of}
 use Rattle.schedule_replay.proofs.Leaves.{leaves_less, leaves_none, leaves_some}

@@ -1,4 +1,4 @@
-use Rattle.run_text.proofs.Texts.{go_on, stop}
+use Rattle.coy_io.proofs.Texts.{go_on, stop}
 use Rattle.separation_program.specs.Text.{crossing_text}
 use Rattle.separation_program.proofs.crossing.put_crossing.Goals as goal
 

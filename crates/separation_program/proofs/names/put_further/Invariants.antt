@@ -1,5 +1,5 @@
 use Rattle.std.proofs.Common.{take, flat_map}
-use Rattle.run_text.proofs.Texts.{Written}
+use Rattle.coy_io.proofs.Texts.{Written}
 use Rattle.separation_program.specs.Text.{further_text}
 use Rattle.separation_program.proofs.names.put_further.Given as goal
 

@@ -1,4 +1,4 @@
-use Rattle.run_text.proofs.Texts.{go_on, stop}
+use Rattle.coy_io.proofs.Texts.{go_on, stop}
 use Rattle.separation_program.proofs.names.put_one_further.Goals as goal
 
 pub returns-in_err-put_text : goal.returns-in_err-put_text

@@ -1,5 +1,5 @@
 use Rattle.run_text.specs.Each.{each_below}
-use Rattle.run_text.proofs.Texts.{Written}
+use Rattle.coy_io.proofs.Texts.{Written}
 use Rattle.separation_program.specs.Text.{domain_text}
 use Rattle.separation_program.proofs.telling.put_domains.Given as goal
 

@@ -1,5 +1,5 @@
 use Rattle.std.proofs.Common.{ap}
-use Rattle.run_text.proofs.Texts.{go_on, same, stop}
+use Rattle.coy_io.proofs.Texts.{go_on, same, stop}
 use Rattle.separation_program.specs.Text.{count_text, separated_by}
 use Rattle.separation_program.proofs.telling.put_separated.Goals as goal
 
