@@ -26,11 +26,43 @@ use walk_meaning::Kind;
 #[tactic(auto, unfolding(kernel_core::specs::Event::instruction))]
 pub(crate) fn untraced_instruction<T: Translator, L: Ledger>(
     machine: &mut Machine<T>,
+    hart: u8,
     p: u16,
     decoder: &mut Decoder,
     records: &mut Records,
     fetches: &mut Steps<L>,
 ) -> bool
+    requires hart { hart < machine.old.objects.harts }
+    requires there { p < size_of machine.old.objects.items Process }
+    requires on_hart { IsOnHart machine.old.queues p }
+    requires none { records.old ≡ [] }
+    ensures came { CameUntraced T.kept T.cost T.after T.without (instruction (state_of machine.old) p)
+        machine.old fetches.old machine.new records.new fetches.new }
+    ensures plain { IsTrue result → records.new ≡ [] }
+{
+    let pc = machine.pc(p);
+    match machine.access_kept(hart, p, pc, Kind::Fetch) {
+        Some(hit) => {
+            let word = machine.number_at(hit, 4);
+            untraced_word(machine, hart, p, word, decoder, records, fetches)
+        }
+        None => fetched_anew(machine, hart, p, decoder, records, fetches),
+    }
+}
+
+/// The same where the page of the pc is not kept, so that it is walked to. It is not inlined, so that an instruction whose
+/// page is kept has no room for a fault's handler.
+#[inline(never)]
+#[tactic(auto, unfolding(kernel_core::specs::Event::instruction))]
+fn fetched_anew<T: Translator, L: Ledger>(
+    machine: &mut Machine<T>,
+    hart: u8,
+    p: u16,
+    decoder: &mut Decoder,
+    records: &mut Records,
+    fetches: &mut Steps<L>,
+) -> bool
+    requires hart { hart < machine.old.objects.harts }
     requires there { p < size_of machine.old.objects.items Process }
     requires on_hart { IsOnHart machine.old.queues p }
     requires none { records.old ≡ [] }
@@ -42,7 +74,7 @@ pub(crate) fn untraced_instruction<T: Translator, L: Ledger>(
     match machine.access(p, pc, Kind::Fetch, fetches) {
         Ok(hit) => {
             let word = machine.number_at(hit, 4);
-            untraced_word(machine, p, word, decoder, records, fetches)
+            untraced_word(machine, hart, p, word, decoder, records, fetches)
         }
         Err(why) => {
             fault(machine, p, records, why.code, pc, why.handler, fetches);
@@ -55,12 +87,14 @@ pub(crate) fn untraced_instruction<T: Translator, L: Ledger>(
 #[tactic(auto)]
 fn untraced_word<T: Translator, L: Ledger>(
     machine: &mut Machine<T>,
+    hart: u8,
     p: u16,
     word: u32,
     decoder: &mut Decoder,
     records: &mut Records,
     fetches: &mut Steps<L>,
 ) -> bool
+    requires hart { hart < machine.old.objects.harts }
     requires there { p < size_of machine.old.objects.items Process }
     requires on_hart { IsOnHart machine.old.queues p }
     requires none { records.old ≡ [] }
@@ -70,7 +104,7 @@ fn untraced_word<T: Translator, L: Ledger>(
     ensures plain { IsTrue result → records.new ≡ [] }
 {
     match decoder.decode(word) {
-        Ok(insn) => untraced_insn(machine, p, insn, records, fetches),
+        Ok(insn) => untraced_insn(machine, hart, p, insn, records, fetches),
         Err(_) => {
             let pc = machine.pc(p);
             fault(machine, p, records, FaultCode::BadOpcode, pc, None, fetches);
@@ -83,11 +117,13 @@ fn untraced_word<T: Translator, L: Ledger>(
 #[tactic(auto, unfolding(kernel_core::specs::Instruction::perform))]
 fn untraced_insn<T: Translator, L: Ledger>(
     machine: &mut Machine<T>,
+    hart: u8,
     p: u16,
     insn: Insn,
     records: &mut Records,
     fetches: &mut Steps<L>,
 ) -> bool
+    requires hart { hart < machine.old.objects.harts }
     requires there { p < size_of machine.old.objects.items Process }
     requires on_hart { IsOnHart machine.old.queues p }
     requires insn { InRange insn }
@@ -108,9 +144,9 @@ fn untraced_insn<T: Translator, L: Ledger>(
             size,
             signed,
             rd,
-        } => { untraced_load(machine, p, at, size, signed, rd, records, fetches) }
+        } => { untraced_load(machine, hart, p, at, size, signed, rd, records, fetches) }
         Effect::Store { at, size, value } => {
-            untraced_store(machine, p, at, size, value, records, fetches)
+            untraced_store(machine, hart, p, at, size, value, records, fetches)
         }
         Effect::Syscall | Effect::Break | Effect::Misaligned(_) => {
             perform(machine, p, records, insn, fetches);

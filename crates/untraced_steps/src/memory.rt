@@ -1,5 +1,5 @@
 //! Loads and stores.
-ghost use Rattle.std.specs.Prelude.{◌≡◌, ◌<◌, ◌≤◌, ◌+◌, ◌*◌, ◌^◌, ◌%◌, ◌==◌, [], IsTrue};
+ghost use Rattle.std.specs.Prelude.{◌≡◌, ◌<◌, ◌≤◌, ◌+◌, ◌*◌, ◌^◌, ◌%◌, ◌==◌, [], true, IsTrue};
 ghost use Rattle.cap_format.specs.declared.kind.CapKind.TheVariants.{Process};
 ghost use Rattle.object_store.specs.Store.{size_of};
 ghost use Rattle.rv32_user.specs.Size.{IsSize};
@@ -24,6 +24,7 @@ use walk_meaning::Kind;
 #[tactic(auto, unfolding(kernel_core::specs::LoadStore::load))]
 pub(crate) fn untraced_load<T: Translator, L: Ledger>(
     machine: &mut Machine<T>,
+    hart: u8,
     p: u16,
     at: u32,
     size: u8,
@@ -32,6 +33,7 @@ pub(crate) fn untraced_load<T: Translator, L: Ledger>(
     records: &mut Records,
     fetches: &mut Steps<L>,
 ) -> bool
+    requires hart { hart < machine.old.objects.harts }
     requires there { p < size_of machine.old.objects.items Process }
     requires on_hart { IsOnHart machine.old.queues p }
     requires size { IsSize size }
@@ -47,6 +49,41 @@ pub(crate) fn untraced_load<T: Translator, L: Ledger>(
         misaligned(machine, p, records, at, fetches);
         return false;
     }
+    match machine.access_kept(hart, p, at, Kind::Load) {
+        Some(hit) => {
+            load_from(machine, p, size, signed, rd, hit);
+            true
+        }
+        None => load_anew(machine, p, at, size, signed, rd, records, fetches),
+    }
+}
+
+/// The same at an address that is aligned, where its page is not kept. It is not inlined, so that a load whose page is kept
+/// has no room for a fault's handler.
+#[inline(never)]
+#[tactic(auto, unfolding(kernel_core::specs::LoadStore::load))]
+fn load_anew<T: Translator, L: Ledger>(
+    machine: &mut Machine<T>,
+    p: u16,
+    at: u32,
+    size: u8,
+    signed: bool,
+    rd: u8,
+    records: &mut Records,
+    fetches: &mut Steps<L>,
+) -> bool
+    requires there { p < size_of machine.old.objects.items Process }
+    requires on_hart { IsOnHart machine.old.queues p }
+    requires size { IsSize size }
+    requires register { rd < 32 }
+    requires aligned { (at % size == 0) ≡ true }
+    requires none { records.old ≡ [] }
+    ensures came { let outcome =
+        load (state_of machine.old) p at size signed rd in
+        CameUntraced T.kept T.cost T.after T.without outcome
+        machine.old fetches.old machine.new records.new fetches.new }
+    ensures plain { IsTrue result → records.new ≡ [] }
+{
     match machine.access(p, at, Kind::Load, fetches) {
         Ok(hit) => {
             load_from(machine, p, size, signed, rd, hit);
@@ -89,6 +126,7 @@ fn load_from<T: Translator>(
 #[tactic(auto, unfolding(kernel_core::specs::LoadStore::store))]
 pub(crate) fn untraced_store<T: Translator, L: Ledger>(
     machine: &mut Machine<T>,
+    hart: u8,
     p: u16,
     at: u32,
     size: u8,
@@ -96,6 +134,7 @@ pub(crate) fn untraced_store<T: Translator, L: Ledger>(
     records: &mut Records,
     fetches: &mut Steps<L>,
 ) -> bool
+    requires hart { hart < machine.old.objects.harts }
     requires there { p < size_of machine.old.objects.items Process }
     requires on_hart { IsOnHart machine.old.queues p }
     requires size { IsSize size }
@@ -110,6 +149,39 @@ pub(crate) fn untraced_store<T: Translator, L: Ledger>(
         misaligned(machine, p, records, at, fetches);
         return false;
     }
+    match machine.access_kept(hart, p, at, Kind::Store) {
+        Some(hit) => {
+            store_to(machine, p, size, value, hit);
+            true
+        }
+        None => store_anew(machine, p, at, size, value, records, fetches),
+    }
+}
+
+/// The same at an address that is aligned, where its page is not kept. It is not inlined, so that a store whose page is kept
+/// has no room for a fault's handler.
+#[inline(never)]
+#[tactic(auto, unfolding(kernel_core::specs::LoadStore::store))]
+fn store_anew<T: Translator, L: Ledger>(
+    machine: &mut Machine<T>,
+    p: u16,
+    at: u32,
+    size: u8,
+    value: u32,
+    records: &mut Records,
+    fetches: &mut Steps<L>,
+) -> bool
+    requires there { p < size_of machine.old.objects.items Process }
+    requires on_hart { IsOnHart machine.old.queues p }
+    requires size { IsSize size }
+    requires fits { value < 2 ^ (8 * size) }
+    requires aligned { (at % size == 0) ≡ true }
+    requires none { records.old ≡ [] }
+    ensures came { let outcome = store (state_of machine.old) p at size value in
+        CameUntraced T.kept T.cost T.after T.without outcome
+        machine.old fetches.old machine.new records.new fetches.new }
+    ensures plain { IsTrue result → records.new ≡ [] }
+{
     match machine.access(p, at, Kind::Store, fetches) {
         Ok(hit) => {
             store_to(machine, p, size, value, hit);

@@ -92,7 +92,7 @@ fn step_running<T: Translator, L: Ledger>(
     ensures plain { IsTrue result → records.new ≡ [] }
 {
     match machine.dispatch(hart) {
-        Some(p) => untraced_instruction(machine, p, decoder, records, fetches),
+        Some(p) => untraced_instruction(machine, hart, p, decoder, records, fetches),
         None => true,
     }
 }
