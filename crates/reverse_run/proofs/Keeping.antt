@@ -1,5 +1,5 @@
 -- What is kept of a machine, one object after the other.
-use Rattle.std.proofs.Common.{◌≡◌, ◌≢◌, ℕ, ◌<◌, ◌⊎◌, inl, inr, List, [], ◌∷◌, ◌++◌, Option, Some, None, refl, sym, ap, ◌∙◌, subst, arith}
+use Rattle.std.proofs.Common.{◌≡◌, ◌≢◌, ℕ, ◌<◌, true, false, ◌⊎◌, inl, inr, List, [], ◌∷◌, ◌++◌, Option, Some, None, refl, sym, ap, ◌∙◌, subst, arith}
 use Rattle.std.specs.Prelude.{IfSome}
 use Rattle.std.proofs.lemmas.List.Elements.{All-cons, All-push}
 use Rattle.cap_format.specs.declared.kind.CapKind.{CapKind}
@@ -14,12 +14,13 @@ use Rattle.object_store.proofs.Stays.{among_front, among_back}
 use Rattle.object_store.proofs.Same.{size_in_store}
 use Rattle.machine_state.specs.declared.places.Place.{Place}
 use Rattle.machine_state.specs.Machine.{MachineValue}
+use Rattle.machine_state.specs.State.{State}
 use Rattle.machine_state.specs.Outcome.{process_name, page_name}
 use Rattle.machine_state.specs.Past.{PastValue, names_in, used, same_kind, next_place, room_of, IsFor, Holds}
 use Rattle.event_reach.specs.Reach.{Covers}
 use Rattle.event_reach.specs.declared.plain.PlainInsn.{PlainInsn}
 use Rattle.event_reach.specs.Plain.{stored_names, plain_names, IsThere}
-use Rattle.reverse_run.specs.Remembered.{StandsFor, Remembers, HasPlace}
+use Rattle.reverse_run.specs.Remembered.{StandsFor, LeadsBack, Remembers, HasPlace}
 
 -- ---- places
 
@@ -137,15 +138,25 @@ there_plain s i is = All-cons (λ (x : ObjectName). x.number < size_of s.items x
     by None there = λ i d within. absurd (omega (arith, within))
     by (Some n) there = All-cons (λ (x : ObjectName). x.number < size_of s.items x.kind) (page_name n) [] there (λ i d within. absurd (omega (arith, within)))
 
--- a past of these objects alone stands for the machine
-pub stands_plain : {T : Type 0} (past : PastValue) (m : MachineValue T) (i : PlainInsn) → IsThere m.objects i → IsFor past (sizes_of m.objects) → Holds past m.objects → names_in past ≡ plain_names i
-    → past.queues ≡ m.queues → past.halted ≡ m.halted → StandsFor past m
-stands_plain past m i is sizes holds names queues halted = record {
+-- a past of these objects alone leads back, where the queues and the flag have stayed
+pub leads_plain : {T : Type 0} (past : PastValue) (m : MachineValue T) (after : State) (i : PlainInsn) → IsThere m.objects i → IsFor past (sizes_of m.objects) → Holds past m.objects → names_in past ≡ plain_names i
+    → after.queues ≡ m.queues → after.halted ≡ m.halted → LeadsBack (record { past = past; whole = false }) m after
+leads_plain past m after i is sizes holds names queues halted = record {
   sizes = sizes;
   holds = holds;
   there = rw names (there_plain m.objects i is);
   queues = queues;
   halted = halted;
+}
+
+-- a past that stands for the machine leads back, whatever becomes of the queues
+pub leads_whole : {T : Type 0} (past : PastValue) (m : MachineValue T) (after : State) → StandsFor past m → LeadsBack (record { past = past; whole = true }) m after
+leads_whole past m after stands = record {
+  sizes = stands.sizes;
+  holds = stands.holds;
+  there = stands.there;
+  queues = stands.queues;
+  halted = stands.halted;
 }
 
 -- and remembers them

@@ -10,7 +10,6 @@ use Rattle.object_store.specs.Store.{Store, size_of, sizes_of}
 use Rattle.object_store.specs.Object.{ObjectName, SameObject, IsAmong, Stays, IsEven}
 use Rattle.object_store.specs.Saved.{Saved, restored, AreThere}
 use Rattle.object_store.proofs.Restored.{size_of_same, there_same, restored_same, sizes_restored}
-use Rattle.schedules.specs.Queues.{QueuesValue}
 use Rattle.gpt_objects.specs.Gpt.{empty_gpt}
 use Rattle.page_store.specs.Page.{empty_page}
 use Rattle.page_store.specs.CapPage.{empty_cappage}
@@ -22,7 +21,7 @@ use Rattle.machine_state.specs.State.{State, state_of}
 use Rattle.kernel_core.specs.Event.{event_of}
 use Rattle.machine_state.specs.Past.{PastValue, names_in, saved_in, IsFor}
 use Rattle.machine_state.proofs.Saved.{saved_holds}
-use Rattle.reverse_run.specs.Remembered.{StandsFor, Remembers}
+use Rattle.reverse_run.specs.Remembered.{MementoValue, LeadsBack, Remembers, queues_before, halted_before}
 use Rattle.reverse_run.specs.Moments.{Moment, moment_of, state_at, moment_before, unwound, CanUnwind, AreKept, ReversibleValue, moments_of}
 use Rattle.reverse_run.specs.History.{history_of, after_event, remembered}
 
@@ -81,38 +80,46 @@ stays_remembered past s t changed even even_too sizes remembers stays = record {
 
 -- Of a machine that stands as it was remembered but for objects that are remembered, the store is as it was once these are
 -- back.
-pub restored_event : {T : Type 0} (past : PastValue) (m : MachineValue T) (t : Store) (changed : List ObjectName) → IsEven m.objects → IsEven t → sizes_of t ≡ sizes_of m.objects
-    → StandsFor past m → Remembers past m.objects changed → Stays changed m.objects t → restored (saved_in past) t ≡ m.objects
-restored_event past m t changed even even_too sizes stands remembers stays =
-    ap (λ (saved : List Saved). restored saved t) (saved_holds past m.objects stands.holds)
-    ∙ restored_same m.objects t (names_in past) even even_too sizes (there_same t m.objects (names_in past) sizes stands.there) (stays_remembered past m.objects t changed even even_too (sym sizes) remembers stays)
+pub restored_event : {T : Type 0} (kept : MementoValue) (m : MachineValue T) (after : State) (t : Store) (changed : List ObjectName) → IsEven m.objects → IsEven t → sizes_of t ≡ sizes_of m.objects
+    → LeadsBack kept m after → Remembers kept.past m.objects changed → Stays changed m.objects t → restored (saved_in kept.past) t ≡ m.objects
+restored_event kept m after t changed even even_too sizes leads remembers stays =
+    ap (λ (saved : List Saved). restored saved t) (saved_holds kept.past m.objects leads.holds)
+    ∙ restored_same m.objects t (names_in kept.past) even even_too sizes (there_same t m.objects (names_in kept.past) sizes leads.there) (stays_remembered kept.past m.objects t changed even even_too (sym sizes) remembers stays)
+
+-- so from the machine behind the event it leads back to the moment before it
+pub moment_event : {T : Type 0} (kept : MementoValue) (m n : MachineValue T) (after : State) → LeadsBack kept m after → state_of n ≡ after → restored (saved_in kept.past) n.objects ≡ m.objects → moment_before (moment_of n) kept ≡ moment_of m
+moment_event kept m n after leads is back =
+    let queues : queues_before kept n.queues ≡ m.queues = ap (λ (s : State). queues_before kept s.queues) is ∙ leads.queues in
+    let halted : halted_before kept n.halted ≡ m.halted = ap (λ (s : State). halted_before kept s.halted) is ∙ leads.halted in
+    rw (back, queues, halted) refl
 
 -- ---- the events before it
 
 -- what leads back, leads back by fewer
-pub can_unwind_take : (s : Store) (k : ℕ) (pasts : List PastValue) → CanUnwind s pasts → CanUnwind s (take k pasts)
-can_unwind_take s zero pasts can = tt
-can_unwind_take s (suc k) [] can = tt
-can_unwind_take s (suc k) (past ∷ pasts) can = (can.0, can.1, can_unwind_take (restored (saved_in past) s) k pasts can.2)
+pub can_unwind_take : (m : Moment) (k : ℕ) (pasts : List MementoValue) → CanUnwind m pasts → CanUnwind m (take k pasts)
+can_unwind_take m zero pasts can = tt
+can_unwind_take m (suc k) [] can = tt
+can_unwind_take m (suc k) (kept ∷ pasts) can = (can.0, can.1, can_unwind_take (moment_before m kept) k pasts can.2)
 
 -- the first moments are those of the first pasts
-pub unwound_take : (s : Store) (k : ℕ) (pasts : List PastValue) → unwound s (take k pasts) ≡ take k (unwound s pasts)
-unwound_take s zero pasts = refl
-unwound_take s (suc k) [] = refl
-unwound_take s (suc k) (past ∷ pasts) = ap (λ (rest : List Moment). moment_before s past ∷ rest) (unwound_take (restored (saved_in past) s) k pasts)
+pub unwound_take : (m : Moment) (k : ℕ) (pasts : List MementoValue) → unwound m (take k pasts) ≡ take k (unwound m pasts)
+unwound_take m zero pasts = refl
+unwound_take m (suc k) [] = refl
+unwound_take m (suc k) (kept ∷ pasts) = ap (λ (rest : List Moment). moment_before m kept ∷ rest) (unwound_take (moment_before m kept) k pasts)
 
 -- there are as many moments as pasts
-pub length_unwound : (s : Store) (pasts : List PastValue) → length (unwound s pasts) ≡ length pasts
-length_unwound s [] = refl
-length_unwound s (past ∷ pasts) = ap suc (length_unwound (restored (saved_in past) s) pasts)
+pub length_unwound : (m : Moment) (pasts : List MementoValue) → length (unwound m pasts) ≡ length pasts
+length_unwound m [] = refl
+length_unwound m (kept ∷ pasts) = ap suc (length_unwound (moment_before m kept) pasts)
 
 -- from behind the event it leads back to before it, and from there on
-pub can_unwind_event : (past : PastValue) (s t : Store) (q : QueuesValue) (pasts : List PastValue) → AreThere t (names_in past) → restored (saved_in past) t ≡ s → past.queues ≡ q → IsMachine s q → CanUnwind s pasts → CanUnwind t (past ∷ pasts)
-can_unwind_event past s t q pasts there back queues machine can = (there, rw (back, queues) machine, rw back can)
+pub can_unwind_event : (kept : MementoValue) (m t : Moment) (pasts : List MementoValue) → AreThere t.objects (names_in kept.past) → moment_before t kept ≡ m → IsMachine m.objects m.queues → CanUnwind m pasts → CanUnwind t (kept ∷ pasts)
+can_unwind_event kept m t pasts there back machine can =
+    (there, subst (λ (b : Moment). IsMachine b.objects b.queues) (sym back) machine, subst (λ (b : Moment). CanUnwind b pasts) (sym back) can)
 
 -- the moments from behind the event are that before it, and those before that
-pub unwound_event : {T : Type 0} (past : PastValue) (m : MachineValue T) (t : Store) (pasts : List PastValue) → StandsFor past m → restored (saved_in past) t ≡ m.objects → unwound t (past ∷ pasts) ≡ moment_of m ∷ unwound m.objects pasts
-unwound_event past m t pasts stands back = rw (back, stands.queues, stands.halted) refl
+pub unwound_event : (kept : MementoValue) (m t : Moment) (pasts : List MementoValue) → moment_before t kept ≡ m → unwound t (kept ∷ pasts) ≡ m ∷ unwound m pasts
+unwound_event kept m t pasts back = ap (λ (b : Moment). b ∷ unwound b pasts) back
 
 -- ---- what a machine with its history keeps
 
@@ -122,19 +129,19 @@ take_front zero x xs least = absurd (omega (arith, least))
 take_front (suc depth) x xs least = let is : suc depth - 1 ≡ depth = omega arith in rw is refl
 
 -- after an event: the past of this event in front of all but the oldest, or with one spare past less
-pub kept_event : (s t : Store) (past : PastValue) (pasts spare pasts1 spare1 : List PastValue) (room spare_room : ℕ) → AreKept s pasts spare room spare_room → sizes_of t ≡ sizes_of s
-    → IsFor past (sizes_of s) → pasts1 ≡ take (length pasts + length spare - 1) pasts → spare1 ≡ take (length spare - 1) spare → length pasts1 + length spare1 + 1 ≡ length pasts + length spare
-    → CanUnwind t (past ∷ pasts1) → AreKept t (past ∷ pasts1) spare1 room spare_room
-kept_event s t past pasts spare pasts1 spare1 room spare_room kept sizes is first fewer number unwinds =
-    let Made : List PastValue → Type 0 = λ ps. All (λ (p : PastValue). IsFor p (sizes_of s)) ps in
-    let in_use : Made pasts1 = subst Made (sym first) (All-take (λ (p : PastValue). IsFor p (sizes_of s)) (length pasts + length spare - 1) pasts kept.in_use) in
-    let not_in_use : Made spare1 = subst Made (sym fewer) (All-take (λ (p : PastValue). IsFor p (sizes_of s)) (length spare - 1) spare kept.not_in_use) in
-    let a = kept.fit in
-    let b = kept.spare_fit in
-    let d = kept.least in
-    let e = kept.most in
+pub kept_event : (m t : Moment) (kept : MementoValue) (pasts spare pasts1 spare1 : List MementoValue) (room spare_room : ℕ) → AreKept m pasts spare room spare_room → sizes_of t.objects ≡ sizes_of m.objects
+    → IsFor kept.past (sizes_of m.objects) → pasts1 ≡ take (length pasts + length spare - 1) pasts → spare1 ≡ take (length spare - 1) spare → length pasts1 + length spare1 + 1 ≡ length pasts + length spare
+    → CanUnwind t (kept ∷ pasts1) → AreKept t (kept ∷ pasts1) spare1 room spare_room
+kept_event m t kept pasts spare pasts1 spare1 room spare_room are sizes is first fewer number unwinds =
+    let Made : List MementoValue → Type 0 = λ ps. All (λ (k : MementoValue). IsFor k.past (sizes_of m.objects)) ps in
+    let in_use : Made pasts1 = subst Made (sym first) (All-take (λ (k : MementoValue). IsFor k.past (sizes_of m.objects)) (length pasts + length spare - 1) pasts are.in_use) in
+    let not_in_use : Made spare1 = subst Made (sym fewer) (All-take (λ (k : MementoValue). IsFor k.past (sizes_of m.objects)) (length spare - 1) spare are.not_in_use) in
+    let a = are.fit in
+    let b = are.spare_fit in
+    let d = are.least in
+    let e = are.most in
     record {
-      in_use = rw sizes (All-cons (λ (p : PastValue). IsFor p (sizes_of s)) past pasts1 is in_use);
+      in_use = rw sizes (All-cons (λ (k : MementoValue). IsFor k.past (sizes_of m.objects)) kept pasts1 is in_use);
       not_in_use = rw sizes not_in_use;
       fit = omega (arith, number, a);
       spare_fit = omega (arith, number, b);
@@ -144,30 +151,30 @@ kept_event s t past pasts spare pasts1 spare1 room spare_room kept sizes is firs
     }
 
 -- after an undo: the past of that event is spare
-pub kept_undo : (s : Store) (past : PastValue) (pasts spare : List PastValue) (room spare_room : ℕ) → AreKept s (past ∷ pasts) spare room spare_room → AreKept (restored (saved_in past) s) pasts (spare ++ past ∷ []) room spare_room
-kept_undo s past pasts spare room spare_room kept =
-    let one = length_push spare past in
-    let a = kept.fit in
-    let b = kept.spare_fit in
-    let d = kept.least in
-    let e = kept.most in
-    let sizes = sizes_restored (saved_in past) s in
+pub kept_undo : (m : Moment) (kept : MementoValue) (pasts spare : List MementoValue) (room spare_room : ℕ) → AreKept m (kept ∷ pasts) spare room spare_room → AreKept (moment_before m kept) pasts (spare ++ kept ∷ []) room spare_room
+kept_undo m kept pasts spare room spare_room are =
+    let one = length_push spare kept in
+    let a = are.fit in
+    let b = are.spare_fit in
+    let d = are.least in
+    let e = are.most in
+    let sizes = sizes_restored (saved_in kept.past) m.objects in
     record {
-      in_use = rw sizes (All-tail (λ (p : PastValue). IsFor p (sizes_of s)) past pasts kept.in_use);
-      not_in_use = rw sizes (All-push (λ (p : PastValue). IsFor p (sizes_of s)) spare past kept.not_in_use (kept.in_use 0 past (omega arith)));
+      in_use = rw sizes (All-tail (λ (k : MementoValue). IsFor k.past (sizes_of m.objects)) kept pasts are.in_use);
+      not_in_use = rw sizes (All-push (λ (k : MementoValue). IsFor k.past (sizes_of m.objects)) spare kept are.not_in_use (are.in_use 0 kept (omega arith)));
       fit = omega (arith, one, a);
       spare_fit = omega (arith, one, b);
       least = omega (arith, one, d);
       most = omega (arith, one, e);
-      unwinds = kept.unwinds.2;
+      unwinds = are.unwinds.2;
     }
 
 -- the moments after an event are that before it, and of those before that the latest
-pub moments_event : {T : Type 0} (past : PastValue) (m : MachineValue T) (t : Store) (pasts : List PastValue) (depth : ℕ) → 1 ≤ depth → StandsFor past m → restored (saved_in past) t ≡ m.objects
-    → unwound t (past ∷ take (depth - 1) pasts) ≡ take depth (moment_of m ∷ unwound m.objects pasts)
-moments_event past m t pasts depth least stands back =
-    unwound_event past m t (take (depth - 1) pasts) stands back
-    ∙ (ap (λ (rest : List Moment). moment_of m ∷ rest) (unwound_take m.objects (depth - 1) pasts) ∙ sym (take_front depth (moment_of m) (unwound m.objects pasts) least))
+pub moments_event : (kept : MementoValue) (m t : Moment) (pasts : List MementoValue) (depth : ℕ) → 1 ≤ depth → moment_before t kept ≡ m
+    → unwound t (kept ∷ take (depth - 1) pasts) ≡ take depth (m ∷ unwound m pasts)
+moments_event kept m t pasts depth least back =
+    unwound_event kept m t (take (depth - 1) pasts) back
+    ∙ (ap (λ (rest : List Moment). m ∷ rest) (unwound_take m (depth - 1) pasts) ∙ sym (take_front depth m (unwound m pasts) least))
 
 -- the states of moments are those of all of them, as far as they go
 states_taken : (depth : ℕ) (ms : List Moment) → map state_at (take depth ms) ≡ take depth (map state_at ms)
@@ -183,4 +190,4 @@ history_event r n e state moments =
 
 -- and it has as many events as there are pasts
 pub remembered_pasts : {T : Type 0} (r : ReversibleValue T) → remembered (history_of r) ≡ length r.pasts
-remembered_pasts r = length-map (moments_of r) state_at ∙ length_unwound r.machine.objects r.pasts
+remembered_pasts r = length-map (moments_of r) state_at ∙ length_unwound (moment_of r.machine) r.pasts

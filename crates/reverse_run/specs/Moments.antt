@@ -8,7 +8,8 @@ use Rattle.object_store.specs.Saved.{restored, AreThere}
 use Rattle.schedules.specs.Queues.{QueuesValue}
 use Rattle.machine_state.specs.Machine.{MachineValue, IsMachine}
 use Rattle.machine_state.specs.State.{State}
-use Rattle.machine_state.specs.Past.{PastValue, names_in, saved_in, IsFor}
+use Rattle.machine_state.specs.Past.{names_in, saved_in, IsFor}
+use Rattle.reverse_run.specs.Remembered.{MementoValue, queues_before, halted_before}
 
 -- a machine without its translator, as it is stored
 pub record Moment : Type 0 where
@@ -24,38 +25,38 @@ moment_of m = record { objects = m.objects; queues = m.queues; halted = m.halted
 abbrev pub state_at : Moment → State
 state_at m = record { store = state_map m.objects; queues = m.queues; halted = m.halted }
 
--- the moment for which a past stands, from a later store
-abbrev pub moment_before : Store → PastValue → Moment
-moment_before s past = record { objects = restored (saved_in past) s; queues = past.queues; halted = past.halted }
+-- the moment before an event, by what is remembered of the event and the moment behind it
+abbrev pub moment_before : Moment → MementoValue → Moment
+moment_before m kept = record { objects = restored (saved_in kept.past) m.objects; queues = queues_before kept m.queues; halted = halted_before kept m.halted }
 
--- the moments for which pasts stand, from a later store back: the latest past comes first
-abbrev pub unwound : Store → List PastValue → List Moment
-unwound s [] = []
-unwound s (past ∷ pasts) = moment_before s past ∷ unwound (restored (saved_in past) s) pasts
+-- the moments before events, from a later moment back: the latest event comes first
+abbrev pub unwound : Moment → List MementoValue → List Moment
+unwound m [] = []
+unwound m (kept ∷ pasts) = moment_before m kept ∷ unwound (moment_before m kept) pasts
 
 -- each of these moments, one after the other, is that of a machine
-abbrev pub CanUnwind : Store → List PastValue → Type 0
-CanUnwind s [] = Unit {0}
-CanUnwind s (past ∷ pasts) =
-    AreThere s (names_in past) × IsMachine (restored (saved_in past) s) past.queues × CanUnwind (restored (saved_in past) s) pasts
+abbrev pub CanUnwind : Moment → List MementoValue → Type 0
+CanUnwind m [] = Unit {0}
+CanUnwind m (kept ∷ pasts) =
+    AreThere m.objects (names_in kept.past) × IsMachine (moment_before m kept).objects (moment_before m kept).queues × CanUnwind (moment_before m kept) pasts
 
--- a machine, the pasts of the events that are remembered, the latest first, and how many there is room for
+-- a machine, what is remembered of events, the latest first, and of how many there is room for it
 pub record ReversibleValue (T : Type 0) : Type 0 where
   pub machine : MachineValue T
-  pub pasts : List PastValue
+  pub pasts : List MementoValue
   pub depth : ℕ
 
 -- the moments before each event that is remembered, the latest first
 abbrev pub moments_of : {T : Type 0} → ReversibleValue T → List Moment
-moments_of r = unwound r.machine.objects r.pasts
+moments_of r = unwound (moment_of r.machine) r.pasts
 
 -- what is kept of pasts in use, the latest first, and of spare ones, with room for so many of either: all were made for the
 -- machine's sizes, all fit on either side, there are 1 to 256, and those in use lead back
-pub record AreKept (s : Store) (pasts spare : List PastValue) (room spare_room : ℕ) : Type 0 where
-  pub in_use : All (λ past. IsFor past (sizes_of s)) pasts
-  pub not_in_use : All (λ past. IsFor past (sizes_of s)) spare
+pub record AreKept (m : Moment) (pasts spare : List MementoValue) (room spare_room : ℕ) : Type 0 where
+  pub in_use : All (λ kept. IsFor kept.past (sizes_of m.objects)) pasts
+  pub not_in_use : All (λ kept. IsFor kept.past (sizes_of m.objects)) spare
   pub fit : length pasts + length spare ≤ room
   pub spare_fit : length pasts + length spare ≤ spare_room
   pub least : 1 ≤ length pasts + length spare
   pub most : length pasts + length spare ≤ 256
-  pub unwinds : CanUnwind s pasts
+  pub unwinds : CanUnwind m pasts

@@ -5,6 +5,7 @@
 #![tactic(auto)]
 
 mod calls;
+mod memento;
 mod pasts;
 mod remembering;
 mod reversible;

@@ -11,8 +11,9 @@ ghost use Rattle.machine_state.specs.Past.{names_in, used, same_kind, IsFor, Hol
 ghost use Rattle.kernel_core.specs.Event.{event_of};
 ghost use Rattle.event_reach.specs.Reach.{names_of};
 ghost use Rattle.event_reach.specs.Plain.{plain_names, IsThere};
-ghost use Rattle.reverse_run.specs.Remembered.{StandsFor, Remembers, HasPlace};
+ghost use Rattle.reverse_run.specs.Remembered.{StandsFor, LeadsBack, Remembers, HasPlace};
 
+use crate::memento::Memento;
 use cap_format::CapKind;
 use event_reach::{PlainInsn, Reach, plain_of_event, reach_of_event};
 use machine_state::{Event, Machine, Past};
@@ -21,8 +22,60 @@ use steps::Steps;
 use string_move::Pieces;
 use walk_engine::Translator;
 
+/// Remembers what an event may change: of a plain instruction its process and the page of its store, and of any other
+/// event all that `remember` does.
+///
+/// It walks as the event will; no bound on the slots that it reads is claimed.
+pub(crate) fn keep_event<T: Translator, L: Ledger>(
+    machine: &Machine<T>,
+    e: Event,
+    kept: &mut Memento,
+    fetches: &mut Steps<L>,
+)
+    requires hart { hart_in e < machine.now.objects.harts }
+    requires sizes { IsFor kept.old.past (sizes_of machine.now.objects) }
+    ensures back { let after = (event_of (state_of machine.now) e).state in
+        LeadsBack kept.new machine.now after }
+    ensures remembers { let changed = (event_of (state_of machine.now) e).changed in
+        Remembers kept.new.past machine.now.objects changed }
+{
+    match plain_of_event(machine, e, fetches) {
+        Some(plain) => {
+            kept.whole = false;
+            keep_plain(machine, plain, &mut kept.past, fetches);
+        }
+        None => {
+            kept.whole = true;
+            remember(machine, e, &mut kept.past, fetches);
+        }
+    }
+}
+
+/// Keeps what a plain instruction changes, and no other object: the process that performs it, and the page of its store.
+fn keep_plain<T: Translator, L: Ledger>(
+    machine: &Machine<T>,
+    plain: PlainInsn,
+    past: &mut Past,
+    fetches: &mut Steps<L>,
+)
+    requires there { IsThere machine.now.objects plain }
+    requires sizes { IsFor past.old (sizes_of machine.now.objects) }
+    ensures sizes { IsFor past.new (sizes_of machine.now.objects) }
+    ensures holds { Holds past.new machine.now.objects }
+    ensures names { names_in past.new ≡ plain_names plain }
+    ensures queues { past.new.queues ≡ past.old.queues }
+    ensures halted { past.new.halted ≡ past.old.halted }
+{
+    past.forget_objects();
+    past.keep(machine, CapKind::Process, plain.process, fetches);
+    match plain.page {
+        None => {}
+        Some(page) => past.keep(machine, CapKind::Page, page, fetches),
+    }
+}
+
 /// The past then stands for the machine's present state, and for objects among which is each of which the event changes
-/// what is stored or the count. Of a plain instruction these are its process and the page of its store.
+/// what is stored or the count. All processes are, since an event may wake any number of them.
 ///
 /// It walks as the event will; no bound on the slots that it reads is claimed.
 pub fn remember<T: Translator, L: Ledger>(
@@ -38,50 +91,6 @@ pub fn remember<T: Translator, L: Ledger>(
         Remembers past.new machine.now.objects changed }
 {
     past.begin(machine);
-    match plain_of_event(machine, e, fetches) {
-        Some(plain) => keep_plain(machine, plain, past, fetches),
-        None => keep_all(machine, e, past, fetches),
-    }
-}
-
-/// Keeps what a plain instruction changes: the process that performs it, and the page of its store.
-fn keep_plain<T: Translator, L: Ledger>(
-    machine: &Machine<T>,
-    plain: PlainInsn,
-    past: &mut Past,
-    fetches: &mut Steps<L>,
-)
-    requires there { IsThere machine.now.objects plain }
-    requires none { past.old.places ≡ [] }
-    requires sizes { IsFor past.old (sizes_of machine.now.objects) }
-    requires holds { Holds past.old machine.now.objects }
-    ensures sizes { IsFor past.new (sizes_of machine.now.objects) }
-    ensures holds { Holds past.new machine.now.objects }
-    ensures names { names_in past.new ≡ plain_names plain }
-    ensures queues { past.new.queues ≡ past.old.queues }
-    ensures halted { past.new.halted ≡ past.old.halted }
-{
-    past.keep(machine, CapKind::Process, plain.process, fetches);
-    match plain.page {
-        None => {}
-        Some(page) => past.keep(machine, CapKind::Page, page, fetches),
-    }
-}
-
-/// Keeps what any event may change. All processes are kept, since it may wake any number of them.
-fn keep_all<T: Translator, L: Ledger>(
-    machine: &Machine<T>,
-    e: Event,
-    past: &mut Past,
-    fetches: &mut Steps<L>,
-)
-    requires hart { hart_in e < machine.now.objects.harts }
-    requires none { past.old.places ≡ [] }
-    requires stands { StandsFor past.old machine.now }
-    ensures stands { StandsFor past.new machine.now }
-    ensures remembers { let changed = (event_of (state_of machine.now) e).changed in
-        Remembers past.new machine.now.objects changed }
-{
     keep_processes(machine, past, fetches);
     let reach = reach_of_event(machine, e, fetches);
     keep_reach(machine, &reach, past, fetches);

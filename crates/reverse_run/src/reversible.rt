@@ -2,16 +2,20 @@
 ghost use Rattle.std.specs.Prelude.{◌≡◌, ◌<◌, ◌≤◌, [], ◌∷◌, take, length, true, false, IfOk};
 ghost use Rattle.machine_state.specs.State.{state_of};
 ghost use Rattle.object_store.specs.Object.{IsEven};
+ghost use Rattle.object_store.specs.Saved.{restored, AreThere};
 ghost use Rattle.machine_state.specs.Machine.{hart_in, IsMachine};
 ghost use Rattle.machine_state.specs.Outcome.{kept_after};
+ghost use Rattle.machine_state.specs.Past.{names_in, saved_in};
 ghost use Rattle.kernel_core.specs.Event.{event_of};
-ghost use Rattle.reverse_run.specs.Moments.{moment_of, moments_of};
+ghost use Rattle.reverse_run.specs.Remembered.{queues_before, halted_before};
+ghost use Rattle.reverse_run.specs.Moments.{moment_of, moment_before, moments_of};
 ghost use Rattle.reverse_run.specs.History.{begun, remembered, after_event, after_undo, can_undo, history_of};
 
+use crate::memento::Memento;
 use crate::pasts::{make_pasts, take_past};
-use crate::remembering::remember;
+use crate::remembering::keep_event;
 use cap_format::OutOfMemory;
-use machine_state::{Event, Machine, Past, Records};
+use machine_state::{Event, Machine, Records};
 use std::alloc::Global;
 use std::collections::VecDeque;
 use std::marker::Model;
@@ -24,22 +28,22 @@ use walk_engine::Translator;
 pub struct Reversible<T: Translator> {
     machine: Machine<T>,
     /// Of the events that are remembered, the latest first.
-    pasts: VecDeque<Past>,
+    pasts: VecDeque<Memento>,
     /// Of no event.
-    spare: Vec<Past>,
+    spare: Vec<Memento>,
 }
 
 impl<T: Translator> Model for Reversible<T> {
     ghost use Rattle.std.specs.Prelude.{◌+◌, length};
     ghost use Rattle.std.specs.Vec.{vec_capacity};
     ghost use Rattle.std.specs.VecDeque.{deque_capacity};
-    ghost use Rattle.reverse_run.specs.Moments.{ReversibleValue, AreKept};
+    ghost use Rattle.reverse_run.specs.Moments.{ReversibleValue, moment_of, AreKept};
 
     ghost Value = { ReversibleValue T };
 
     ghost view = { λ r. record { machine = r.machine; pasts = r.pasts.items; depth = length r.pasts.items + length r.spare.items } };
 
-    ghost invariant = { λ r. AreKept r.machine.objects r.pasts.items r.spare.items (deque_capacity r.pasts) (vec_capacity r.spare) };
+    ghost invariant = { λ r. AreKept (moment_of r.machine) r.pasts.items r.spare.items (deque_capacity r.pasts) (vec_capacity r.spare) };
 }
 
 impl<T: Translator> Reversible<T> {
@@ -107,12 +111,12 @@ impl<T: Translator> Reversible<T> {
         ensures depth { self.new.depth ≡ self.old.depth }
         ensures harts { self.new.machine.objects.harts ≡ self.old.machine.objects.harts }
     {
-        let mut past = take_past(&mut self.pasts, &mut self.spare);
-        remember(&self.machine, e, &mut past, fetches);
+        let mut kept = take_past(&mut self.pasts, &mut self.spare);
+        keep_event(&self.machine, e, &mut kept, fetches);
         tell_machine(&self.machine);
         kernel_core::event_into(&mut self.machine, e, records, fetches);
         tell_machine(&self.machine);
-        self.pasts.push_front_reserved(past);
+        self.pasts.push_front_reserved(kept);
     }
 
     /// Undoes the last event that is remembered, and forgets it: all is stored as it was then. False where none is
@@ -128,12 +132,35 @@ impl<T: Translator> Reversible<T> {
     {
         match self.pasts.pop_front() {
             None => false,
-            Some(past) => {
-                self.machine.restore(&past, fetches);
-                self.spare.push_reserved(past);
+            Some(kept) => {
+                put_back(&mut self.machine, &kept, fetches);
+                self.spare.push_reserved(kept);
                 true
             }
         }
+    }
+}
+
+/// Brings a machine back to the moment before the event of which this is remembered.
+#[tactic(auto, using(object_store::proofs::Restored::sizes_restored))]
+fn put_back<T: Translator, L: Ledger>(
+    machine: &mut Machine<T>,
+    kept: &Memento,
+    fetches: &mut Steps<L>,
+)
+    requires there { AreThere machine.old.objects (names_in kept.now.past) }
+    requires machine { let before = moment_before (moment_of machine.old) kept.now in
+        IsMachine before.objects before.queues }
+    ensures objects { machine.new.objects ≡
+        restored (saved_in kept.now.past) machine.old.objects }
+    ensures queues { machine.new.queues ≡ queues_before kept.now machine.old.queues }
+    ensures harts { machine.new.objects.harts ≡ machine.old.objects.harts }
+    ensures halted { machine.new.halted ≡ halted_before kept.now machine.old.halted }
+{
+    if kept.whole {
+        machine.restore(&kept.past, fetches);
+    } else {
+        machine.restore_objects(&kept.past, fetches);
     }
 }
 

@@ -1,12 +1,12 @@
-use Rattle.std.proofs.Common.{◌∙◌}
-use Rattle.event_reach.specs.Plain.{plain_names}
-use Rattle.reverse_run.proofs.Keeping.{stands_plain, remembers_names}
+use Rattle.cap_format.specs.declared.kind.CapKind.TheVariants.{Process}
+use Rattle.machine_state.specs.State.{state_of}
+use Rattle.kernel_core.specs.Event.{event_of}
+use Rattle.event_reach.specs.Reach.{names_of}
+use Rattle.reverse_run.proofs.Keeping.{remembers_covered}
 use Rattle.reverse_run.proofs.remembering.remember.Goals as goal
 
-pub returns-in-Some-clause-stands : goal.returns-in-Some-clause-stands
-returns-in-Some-clause-stands g c =
-    let kept = c.keep_plain.ensures in
-    stands_plain c.keep_plain.new.past c.args.machine.now c.in-Some.plain c.in-Some.ensures.there kept.sizes kept.holds kept.names (kept.queues ∙ c.begin.ensures.queues) (kept.halted ∙ c.begin.ensures.halted)
-
-pub returns-in-Some-clause-remembers : goal.returns-in-Some-clause-remembers
-returns-in-Some-clause-remembers g c = rw c.in-Some.ensures.alone.changed (remembers_names c.keep_plain.new.past c.args.machine.now.objects (plain_names c.in-Some.plain) c.keep_plain.ensures.names)
+pub returns-clause-remembers : goal.returns-clause-remembers
+returns-clause-remembers g c =
+    let kept = c.keep_reach.ensures in
+    remembers_covered c.keep_reach.new.past c.args.machine.now.objects (names_of c.reach_of_event-reach.result) (event_of (state_of c.args.machine.now) c.args.e).changed
+    (λ n there. kept.more Process n (c.keep_processes.ensures.all n there)) kept.kept c.reach_of_event-reach.ensures
