@@ -177,7 +177,10 @@ fn scheduled(rest: &[u8]) -> Option<Spelled>
     ensures value { result ≡ schedule_of rest.now }
     ensures range { IfSome result IsSpelled }
 {
-    Some(named(CapKind::Schedule, number_to(u32::from(PRIORITIES) - 1, rest)?))
+    Some(named(
+        CapKind::Schedule,
+        number_to(u32::from(PRIORITIES) - 1, rest)?,
+    ))
 }
 
 #[tactic(auto, unfolding(crate::specs::Spelling::object_at))]
