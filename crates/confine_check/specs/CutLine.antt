@@ -1,9 +1,6 @@
 -- A line of a cut: which objects it puts on the left, or its first fault. (Own.)
-use Rattle.std.specs.Prelude.{ℕ, ◌==◌, ◌||◌, nat_le, nat_lt, if◌then◌else◌, List, length, bytes_eq, codes, ok_or, Option, Some, None, Result, Ok, Err}
-use Rattle.cap_format.specs.declared.kind.CapKind.{CapKind}
-use Rattle.cap_format.specs.declared.kind.CapKind.TheVariants as kinds
+use Rattle.std.specs.Prelude.{ℕ, ◌==◌, ◌||◌, nat_le, if◌then◌else◌, List, length, bytes_eq, codes, Option, Some, None, Result, Ok, Err}
 use Rattle.coy_io.specs.declared.TheConstants.{LINE_LIMIT}
-use Rattle.coy_text.specs.Numeral.{dec_of}
 use Rattle.coy_text.specs.Line.{is_visible_line, is_skipped}
 use Rattle.coy_text.specs.Words.{words_of, field}
 use Rattle.listing_read.specs.Faults.{◌>>=◌, ensured}
@@ -11,37 +8,29 @@ use Rattle.confinement.specs.Cut.{Sides, sides_of}
 use Rattle.confine_check.specs.declared.block.Block.{Block}
 use Rattle.confine_check.specs.declared.fault.CutFault.{CutFault}
 use Rattle.confine_check.specs.declared.fault.CutFault.TheVariants.{LineTooLong, BadByte, UnknownCut, WrongWords, BadValue, BadNumber, NoObject, BadOrder}
+use Rattle.confine_check.specs.declared.fault.FieldFault.{FieldFault}
+use Rattle.confine_check.specs.declared.fault.FieldFault.TheVariants as fields
+use Rattle.confine_check.specs.Fields.{kind_of, named_block}
 use Rattle.confine_check.specs.Sides.{with_left}
 
--- KIND
-unfoldable pub kind_of : List ℕ → Result CapKind CutFault
-kind_of word =
-    if bytes_eq word (codes "page") then Ok kinds.Page
-    else (if bytes_eq word (codes "cappage") then Ok kinds.CapPage
-    else (if bytes_eq word (codes "gpt") then Ok kinds.Gpt
-    else (if bytes_eq word (codes "endpoint") then Ok kinds.Endpoint
-    else (if bytes_eq word (codes "process") then Ok kinds.Process else Err BadValue))))
+-- a fault of fields, as one of the line
+abbrev pub cut_fault : FieldFault → CutFault
+cut_fault fields.BadValue = BadValue
+cut_fault fields.BadNumber = BadNumber
+cut_fault fields.NoObject = NoObject
+cut_fault fields.BadOrder = BadOrder
 
--- N and M: the number of an object of which there are `size`
-unfoldable pub object_of : ℕ → List ℕ → Result ℕ CutFault
-object_of size word = do
-  number ← ok_or (dec_of word) BadNumber
-  _ ← ensured (nat_lt number size) NoObject
-  Ok number
-
--- the last object: M where it stands, and otherwise the first is the last
-unfoldable pub last_of : ℕ → ℕ → List (List ℕ) → Result ℕ CutFault
-last_of size from words = if length words == 4 then object_of size (field words 3) else Ok from
+-- what fields say, or their fault as one of the line
+abbrev pub as_cut : {A : Type 0} → Result A FieldFault → Result A CutFault
+as_cut (Ok said) = Ok said
+as_cut (Err fault) = Err (cut_fault fault)
 
 -- `left KIND N` or `left KIND N M`
 unfoldable pub left_line : Sides → List (List ℕ) → Result Block CutFault
 left_line sides words = do
   _ ← ensured (length words == 3 || length words == 4) WrongWords
-  kind ← kind_of (field words 1)
-  from ← object_of (length (sides_of sides kind)) (field words 2)
-  to ← last_of (length (sides_of sides kind)) from words
-  _ ← ensured (nat_le from to) BadOrder
-  Ok (record { kind = kind; from = from; to = to })
+  kind ← as_cut (kind_of (field words 1))
+  as_cut (named_block kind (length (sides_of sides kind)) 2 words)
 
 -- a line by its first word
 unfoldable pub block_line : Sides → List (List ℕ) → Result Block CutFault

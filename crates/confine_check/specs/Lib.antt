@@ -1,4 +1,5 @@
 pub mod Sides
+pub mod Fields
 pub mod CutLine
 pub mod Breach
 pub mod Found

@@ -2,7 +2,8 @@
 //!
 //! A cut gives each object a side, by lines that are read one at a time. `confined` says whether the cut holds; where it
 //! does, no event of any run leads across it. The passage over all places for capabilities is public by its parts, for
-//! other questions about a machine. Nothing here runs a machine or prints.
+//! other questions about a machine, and so are the fields that name objects, for other lines. Nothing here runs a machine or
+//! prints.
 #![tactic(auto)]
 
 mod block;
@@ -10,15 +11,18 @@ mod breach;
 mod checking;
 mod cut;
 mod fault;
+mod fields;
 mod laws;
 mod line;
 mod sleeping;
 mod verdict;
 
+pub use block::Block;
 pub use breach::{cap_in, places, size};
 pub use checking::{confined, tell_full};
 pub use cut::Cut;
-pub use fault::CutFault;
+pub use fault::{CutFault, FieldFault};
+pub use fields::{read_block, read_kind};
 pub use laws::{verdict_in_law, verdict_law};
 pub use line::read_cut;
 pub use verdict::Verdict;

@@ -4,14 +4,14 @@ ghost use Rattle.coy_text.specs.Words.{words_of};
 ghost use Rattle.listing_read.specs.Faults.{ensured};
 ghost use Rattle.confinement.specs.Cut.{sides_of};
 ghost use Rattle.confine_check.specs.declared.fault.CutFault.TheVariants.{WrongWords};
-ghost use Rattle.confine_check.specs.CutLine.{kind_of, object_of, last_of, left_line, block_line, asked_by, cut_line, after_line, refusal};
+ghost use Rattle.confine_check.specs.CutLine.{left_line, block_line, asked_by, cut_line, after_line, refusal};
 
 use crate::block::Block;
 use crate::cut::Cut;
 use crate::fault::CutFault;
-use cap_format::CapKind;
+use crate::fields::{read_block, read_kind};
 use coy_io::LINE_LIMIT;
-use coy_text::{is_skipped, is_visible, read_dec, word, word_count};
+use coy_text::{is_skipped, is_visible, word, word_count};
 
 /// Puts the objects that a line names on the left. After a fault, and after a line that is skipped, the cut is as before.
 pub fn read_cut(line: &[u8], cut: &mut Cut) -> Result<(), CutFault>
@@ -73,13 +73,8 @@ fn left(line: &[u8], cut: &Cut) -> Result<Block, CutFault>
     ensures there { IfOk result (λ block. block.to < length (sides_of cut.now block.kind)) }
 {
     has_words(line)?;
-    let kind = object_kind(word(line, 1))?;
-    let from = object(cut.size(kind), word(line, 2))?;
-    let to = last(cut.size(kind), from, line)?;
-    if to < from {
-        return Err(CutFault::BadOrder);
-    }
-    Ok(Block { kind, from, to })
+    let kind = read_kind(word(line, 1))?;
+    Ok(read_block(kind, cut.size(kind), line, 2)?)
 }
 
 fn has_words(line: &[u8]) -> Result<(), CutFault>
@@ -91,57 +86,4 @@ fn has_words(line: &[u8]) -> Result<(), CutFault>
         return Err(CutFault::WrongWords);
     }
     Ok(())
-}
-
-#[tactic(auto, unfolding(crate::specs::CutLine::kind_of))]
-fn object_kind(word: &[u8]) -> Result<CapKind, CutFault>
-    ensures { result ≡ kind_of word.now }
-{
-    if word == b"page".as_slice() {
-        return Ok(CapKind::Page);
-    }
-    if word == b"cappage".as_slice() {
-        return Ok(CapKind::CapPage);
-    }
-    if word == b"gpt".as_slice() {
-        return Ok(CapKind::Gpt);
-    }
-    if word == b"endpoint".as_slice() {
-        return Ok(CapKind::Endpoint);
-    }
-    if word == b"process".as_slice() {
-        return Ok(CapKind::Process);
-    }
-    Err(CutFault::BadValue)
-}
-
-/// The number of an object of which there are `size`.
-#[tactic(auto, unfolding(crate::specs::CutLine::object_of))]
-fn object(size: usize, word: &[u8]) -> Result<u16, CutFault>
-    requires { size < 65536 }
-    ensures value { result ≡ object_of size word.now }
-    ensures there { IfOk result (λ n. n < size) }
-{
-    let number = match read_dec(word) {
-        Ok(value) => value,
-        Err(_) => return Err(CutFault::BadNumber),
-    };
-    if number as usize >= size {
-        return Err(CutFault::NoObject);
-    }
-    Ok(number as u16)
-}
-
-/// The last object: the fourth word, where there is one, and otherwise the first object.
-#[tactic(auto, unfolding(crate::specs::CutLine::last_of))]
-fn last(size: usize, from: u16, line: &[u8]) -> Result<u16, CutFault>
-    requires small { size < 65536 }
-    requires there { from < size }
-    ensures value { result ≡ last_of size from (words_of line.now) }
-    ensures there { IfOk result (λ n. n < size) }
-{
-    if word_count(line) == 4 {
-        return object(size, word(line, 3));
-    }
-    Ok(from)
 }

@@ -1,4 +1,5 @@
 //! What can be wrong with a line of a policy.
+use confine_check::FieldFault;
 
 /// What is wrong with a line of a policy. Where several hold, the first of the line counts.
 #[derive(Clone, Copy)]
@@ -27,6 +28,22 @@ pub enum PolicyFault {
     Taken,
     /// No line before made a domain of this name.
     NoDomain,
+}
+
+impl From<FieldFault> for PolicyFault {
+    ghost use Rattle.std.specs.Prelude.{◌≡◌};
+    ghost use Rattle.separation_lines.specs.Fields.{policy_fault};
+
+    ghost from_gives = { λ fault e. e ≡ policy_fault fault };
+
+    fn from(fault: FieldFault) -> PolicyFault {
+        match fault {
+            FieldFault::BadValue => PolicyFault::BadValue,
+            FieldFault::BadNumber => PolicyFault::BadNumber,
+            FieldFault::NoObject => PolicyFault::NoObject,
+            FieldFault::BadOrder => PolicyFault::BadOrder,
+        }
+    }
 }
 
 /// Why a line of a policy is not taken in.

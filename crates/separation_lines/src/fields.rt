@@ -2,13 +2,12 @@
 ghost use Rattle.std.specs.Prelude.{◌≡◌, ◌<◌, ◌≤◌, length, IfOk};
 ghost use Rattle.coy_text.specs.Words.{words_of};
 ghost use Rattle.separation_policy.specs.Policy.{assigned_of};
-ghost use Rattle.separation_lines.specs.Fields.{block_from, domain_from, domain_numbered, kind_from, last_from, name_from, object_from, objects_from};
+ghost use Rattle.separation_lines.specs.Fields.{block_from, domain_from, domain_numbered, name_from, objects_from};
 
-use crate::block::Block;
 use crate::fault::PolicyFault;
-use cap_format::CapKind;
 use cap_words::{Name, read_name};
-use coy_text::{read_dec, word, word_count};
+use confine_check::{Block, read_block, read_kind};
+use coy_text::word;
 use separation_policy::{DOMAIN_LIMIT, Policy};
 
 /// The name that a word is.
@@ -71,64 +70,6 @@ fn block(line: &[u8], policy: &Policy) -> Result<Block, PolicyFault>
     ensures there { IfOk result (λ block.
         block.to < length (assigned_of policy.now.assigned block.kind)) }
 {
-    let kind = object_kind(word(line, 2))?;
-    let from = object(policy.size(kind), word(line, 3))?;
-    let to = last(policy.size(kind), from, line)?;
-    if to < from {
-        return Err(PolicyFault::BadOrder);
-    }
-    Ok(Block { kind, from, to })
-}
-
-#[tactic(auto, unfolding(crate::specs::Fields::kind_from))]
-fn object_kind(word: &[u8]) -> Result<CapKind, PolicyFault>
-    ensures { result ≡ kind_from word.now }
-{
-    if word == b"page".as_slice() {
-        return Ok(CapKind::Page);
-    }
-    if word == b"cappage".as_slice() {
-        return Ok(CapKind::CapPage);
-    }
-    if word == b"gpt".as_slice() {
-        return Ok(CapKind::Gpt);
-    }
-    if word == b"endpoint".as_slice() {
-        return Ok(CapKind::Endpoint);
-    }
-    if word == b"process".as_slice() {
-        return Ok(CapKind::Process);
-    }
-    Err(PolicyFault::BadValue)
-}
-
-/// The number of an object of which there are `size`.
-#[tactic(auto, unfolding(crate::specs::Fields::object_from))]
-fn object(size: usize, word: &[u8]) -> Result<u16, PolicyFault>
-    requires { size < 65536 }
-    ensures value { result ≡ object_from size word.now }
-    ensures there { IfOk result (λ n. n < size) }
-{
-    let number = match read_dec(word) {
-        Ok(value) => value,
-        Err(_) => return Err(PolicyFault::BadNumber),
-    };
-    if number as usize >= size {
-        return Err(PolicyFault::NoObject);
-    }
-    Ok(number as u16)
-}
-
-/// The last object: the fifth word, where there is one, and otherwise the first object.
-#[tactic(auto, unfolding(crate::specs::Fields::last_from))]
-fn last(size: usize, from: u16, line: &[u8]) -> Result<u16, PolicyFault>
-    requires small { size < 65536 }
-    requires there { from < size }
-    ensures value { result ≡ last_from size from (words_of line.now) }
-    ensures there { IfOk result (λ n. n < size) }
-{
-    if word_count(line) == 5 {
-        return object(size, word(line, 4));
-    }
-    Ok(from)
+    let kind = read_kind(word(line, 2))?;
+    Ok(read_block(kind, policy.size(kind), line, 3)?)
 }

@@ -3,7 +3,6 @@
 //! A policy is read a line at a time, and a line `end` ends it. Nothing here knows of machines, or when a policy holds.
 #![tactic(auto)]
 
-mod block;
 mod fault;
 mod fields;
 mod line;

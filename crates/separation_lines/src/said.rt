@@ -1,6 +1,6 @@
 //! What a line of a policy says.
-use crate::block::Block;
 use cap_words::Name;
+use confine_check::Block;
 
 /// What the next line belongs to.
 #[derive(Clone, Copy)]
