@@ -6,19 +6,12 @@ use Rattle.coy_text.specs.Words.{words_of, field}
 use Rattle.listing_read.specs.Faults.{◌>>=◌, ensured}
 use Rattle.confinement.specs.Cut.{Sides, sides_of}
 use Rattle.confine_check.specs.declared.block.Block.{Block}
-use Rattle.confine_check.specs.declared.fault.CutFault.{CutFault}
-use Rattle.confine_check.specs.declared.fault.CutFault.TheVariants.{LineTooLong, BadByte, UnknownCut, WrongWords, BadValue, BadNumber, NoObject, BadOrder}
-use Rattle.confine_check.specs.declared.fault.FieldFault.{FieldFault}
-use Rattle.confine_check.specs.declared.fault.FieldFault.TheVariants as fields
+use Rattle.listing_read.specs.declared.object_fault.CutFault.{CutFault}
+use Rattle.listing_read.specs.declared.object_fault.CutFault.TheVariants.{LineTooLong, BadByte, UnknownCut, WrongWords, BadValue, BadNumber, NoObject, BadOrder}
+use Rattle.listing_read.specs.declared.object_fault.FieldFault.{FieldFault}
+use Rattle.listing_read.specs.ObjectFaults.{cut_fault}
 use Rattle.confine_check.specs.Fields.{kind_of, named_block}
 use Rattle.confine_check.specs.Sides.{with_left}
-
--- a fault of fields, as one of the line
-abbrev pub cut_fault : FieldFault → CutFault
-cut_fault fields.BadValue = BadValue
-cut_fault fields.BadNumber = BadNumber
-cut_fault fields.NoObject = NoObject
-cut_fault fields.BadOrder = BadOrder
 
 -- what fields say, or their fault as one of the line
 abbrev pub as_cut : {A : Type 0} → Result A FieldFault → Result A CutFault

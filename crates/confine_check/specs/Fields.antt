@@ -6,8 +6,8 @@ use Rattle.coy_text.specs.Numeral.{dec_of}
 use Rattle.coy_text.specs.Words.{field}
 use Rattle.listing_read.specs.Faults.{◌>>=◌, ensured}
 use Rattle.confine_check.specs.declared.block.Block.{Block}
-use Rattle.confine_check.specs.declared.fault.FieldFault.{FieldFault}
-use Rattle.confine_check.specs.declared.fault.FieldFault.TheVariants.{BadValue, BadNumber, NoObject, BadOrder}
+use Rattle.listing_read.specs.declared.object_fault.FieldFault.{FieldFault}
+use Rattle.listing_read.specs.declared.object_fault.FieldFault.TheVariants.{BadValue, BadNumber, NoObject, BadOrder}
 
 -- KIND
 unfoldable pub kind_of : List ℕ → Result CapKind FieldFault

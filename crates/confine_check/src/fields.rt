@@ -4,9 +4,9 @@ ghost use Rattle.coy_text.specs.Words.{words_of};
 ghost use Rattle.confine_check.specs.Fields.{kind_of, last_of, named_block, object_of};
 
 use crate::block::Block;
-use crate::fault::FieldFault;
 use cap_format::CapKind;
 use coy_text::{read_dec, word, word_count};
+use listing_read::FieldFault;
 
 /// The kind of objects that a word is.
 #[tactic(auto, unfolding(crate::specs::Fields::kind_of))]

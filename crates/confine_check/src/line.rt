@@ -3,15 +3,15 @@ ghost use Rattle.std.specs.Prelude.{◌≡◌, ◌==◌, ◌||◌, ◌<◌, ◌�
 ghost use Rattle.coy_text.specs.Words.{words_of};
 ghost use Rattle.listing_read.specs.Faults.{ensured};
 ghost use Rattle.confinement.specs.Cut.{sides_of};
-ghost use Rattle.confine_check.specs.declared.fault.CutFault.TheVariants.{WrongWords};
+ghost use Rattle.listing_read.specs.declared.object_fault.CutFault.TheVariants.{WrongWords};
 ghost use Rattle.confine_check.specs.CutLine.{left_line, block_line, asked_by, cut_line, after_line, refusal};
 
 use crate::block::Block;
 use crate::cut::Cut;
-use crate::fault::CutFault;
 use crate::fields::{read_block, read_kind};
 use coy_io::LINE_LIMIT;
 use coy_text::{is_skipped, is_visible, word, word_count};
+use listing_read::CutFault;
 
 /// Puts the objects that a line names on the left. After a fault, and after a line that is skipped, the cut is as before.
 pub fn read_cut(line: &[u8], cut: &mut Cut) -> Result<(), CutFault>

@@ -6,7 +6,7 @@ use Rattle.coy_io.specs.Causes.{Rose}
 use Rattle.coy_io.specs.Lines.{Part}
 use Rattle.coy_io.specs.Reader.{Reader, ahead}
 use Rattle.kernel_core.specs.State.{State}
-use Rattle.confine_check.specs.declared.fault.CutFault.{CutFault}
+use Rattle.listing_read.specs.declared.object_fault.CutFault.{CutFault}
 use Rattle.confinement.specs.Cut.{Sides}
 use Rattle.judged_lines.specs.declared.stop.Stop.{Stop}
 use Rattle.judged_lines.specs.declared.stop.Stop.TheVariants as stops

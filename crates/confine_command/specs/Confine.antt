@@ -15,7 +15,7 @@ use Rattle.confine_check.specs.declared.verdict.Breach.{Breach}
 use Rattle.confine_check.specs.declared.verdict.Verdict.TheVariants as verdicts
 use Rattle.confine_check.specs.Found.{meant_of, reads_to, verdict_in}
 use Rattle.confine_check.specs.Sides.{all_right, cut_of, left_count, right_count}
-use Rattle.confine_check.specs.declared.fault.CutFault.{CutFault}
+use Rattle.listing_read.specs.declared.object_fault.CutFault.{CutFault}
 use Rattle.judged_lines.specs.declared.stop.Stop.{Stop}
 use Rattle.judged_lines.specs.declared.stop.Stop.TheVariants as stops
 use Rattle.courses.specs.Course.{Course, ends_in}

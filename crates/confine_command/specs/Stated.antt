@@ -6,8 +6,8 @@ use Rattle.coy_io.specs.Reader.{Reader, ahead}
 use Rattle.confinement.specs.Cut.{Sides}
 use Rattle.confine_check.specs.CutLine.{after_line, cut_line, refusal}
 use Rattle.confine_check.specs.declared.block.Block.{Block}
-use Rattle.confine_check.specs.declared.fault.CutFault.{CutFault}
-use Rattle.confine_check.specs.declared.fault.CutFault.TheVariants.{LineTooLong}
+use Rattle.listing_read.specs.declared.object_fault.CutFault.{CutFault}
+use Rattle.listing_read.specs.declared.object_fault.CutFault.TheVariants.{LineTooLong}
 use Rattle.judged_lines.specs.declared.stop.Stop.{Stop}
 use Rattle.judged_lines.specs.declared.stop.Stop.TheVariants as stops
 use Rattle.schedule_replay.specs.Lines.{FailsOn}

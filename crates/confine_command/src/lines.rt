@@ -2,7 +2,7 @@
 ghost use Rattle.std.specs.Prelude.{◌≡◌, ◌≢◌, false, true};
 ghost use Rattle.coy_io.specs.Causes.{Rose};
 ghost use Rattle.coy_io.specs.Reader.{TellsEnd};
-ghost use Rattle.confine_check.specs.declared.fault.CutFault.TheVariants.{LineTooLong};
+ghost use Rattle.listing_read.specs.declared.object_fault.CutFault.TheVariants.{LineTooLong};
 ghost use Rattle.confine_command.specs.Stated.{JudgesCut, StatesRest};
 
 use confine_check::{Cut, CutFault, read_cut};

@@ -3,10 +3,10 @@ use Rattle.std.specs.Prelude.{◌≡◌, ◌≢◌, ◌≤◌, ◌+◌, ◌⊎�
 use Rattle.std.specs.Io.KnownBytes.{Keeps, Appends}
 use Rattle.coy_io.specs.Causes.{Rose}
 use Rattle.coy_io.specs.Pieces.{AppendsSome}
-use Rattle.confine_check.specs.declared.fault.CutFault.{CutFault}
+use Rattle.listing_read.specs.declared.object_fault.CutFault.{CutFault}
 use Rattle.image_binary.specs.declared.fault.ImageWord.{ImageWord}
 use Rattle.image_binary.specs.declared.fault.ImageWord.TheVariants.{Cut}
-use Rattle.separation_lines.specs.declared.fault.PolicyFault.{PolicyFault}
+use Rattle.listing_read.specs.declared.object_fault.PolicyFault.{PolicyFault}
 use Rattle.listing_read.specs.declared.fault.Fault.{Fault}
 use Rattle.listing_read.specs.declared.fault.ScheduleFault.{ScheduleFault}
 use Rattle.courses.specs.Names.{fault_name, schedule_fault_name, image_word_name, cut_fault_name, policy_fault_name}

@@ -1,9 +1,9 @@
 -- The names of faults, as a refusal prints them.
 use Rattle.std.specs.Prelude.{ℕ, List, codes}
-use Rattle.confine_check.specs.declared.fault.CutFault.{CutFault}
-use Rattle.confine_check.specs.declared.fault.CutFault.TheVariants as cuts
-use Rattle.separation_lines.specs.declared.fault.PolicyFault.{PolicyFault}
-use Rattle.separation_lines.specs.declared.fault.PolicyFault.TheVariants as policies
+use Rattle.listing_read.specs.declared.object_fault.CutFault.{CutFault}
+use Rattle.listing_read.specs.declared.object_fault.CutFault.TheVariants as cuts
+use Rattle.listing_read.specs.declared.object_fault.PolicyFault.{PolicyFault}
+use Rattle.listing_read.specs.declared.object_fault.PolicyFault.TheVariants as policies
 use Rattle.image_binary.specs.declared.fault.ImageWord.{ImageWord}
 use Rattle.image_binary.specs.declared.fault.ImageWord.TheVariants as images
 use Rattle.listing_read.specs.declared.fault.Fault.{Fault}

@@ -4,12 +4,10 @@ ghost use Rattle.courses.specs.Names.{fault_name, schedule_fault_name, image_wor
 ghost use Rattle.courses.specs.Ending.{IsGiven, EndsIn, refusal_text, offset_text, refused_listing, refused_schedule, refused_image, refused_cut, refused_policy, too_long};
 
 use crate::exit::Exit;
-use confine_check::CutFault;
 use coy_io::{Sink, put_all};
 use coy_text::LineBuf;
 use image_binary::ImageWord;
-use listing_read::{Fault, ScheduleFault};
-use separation_lines::PolicyFault;
+use listing_read::{CutFault, Fault, PolicyFault, ScheduleFault};
 
 /// Writes the last bytes of the program.
 pub fn end_with<K: Sink>(bytes: &[u8], exit: Exit, output: &mut K) -> Exit

@@ -2,10 +2,8 @@
 ghost use Rattle.std.specs.Prelude.{◌≡◌};
 ghost use Rattle.courses.specs.Exit.{status_of};
 
-use confine_check::CutFault;
 use image_binary::ImageWord;
-use listing_read::{Fault, ScheduleFault};
-use separation_lines::PolicyFault;
+use listing_read::{CutFault, Fault, PolicyFault, ScheduleFault};
 
 /// How the program ends.
 #[derive(Clone, Copy)]

@@ -1,4 +1,5 @@
 pub mod Faults
+pub mod ObjectFaults
 pub mod Names
 pub mod Terms
 pub mod Fields

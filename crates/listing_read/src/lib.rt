@@ -12,6 +12,7 @@ mod hex_bytes;
 mod listing;
 mod memory_statements;
 mod names;
+mod object_fault;
 mod page_bytes;
 mod place;
 mod schedule;
@@ -21,6 +22,7 @@ mod terms;
 
 pub use fault::{Fault, ListingFault, ScheduleFault};
 pub use listing::{Listing, read_listing};
+pub use object_fault::{CutFault, FieldFault, PolicyFault};
 pub use page_bytes::PageBytes;
 pub use schedule::{Timed, read_event, read_eventless};
 pub use statement::Statement;

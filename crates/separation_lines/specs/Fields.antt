@@ -6,11 +6,11 @@ use Rattle.coy_text.specs.Words.{field}
 use Rattle.separation_policy.specs.Making.{domain_called, is_assigned_other}
 use Rattle.separation_policy.specs.Policy.{PolicyValue, assigned_of}
 use Rattle.confine_check.specs.declared.block.Block.{Block}
-use Rattle.confine_check.specs.declared.fault.FieldFault.{FieldFault}
-use Rattle.confine_check.specs.declared.fault.FieldFault.TheVariants as fields
+use Rattle.listing_read.specs.declared.object_fault.FieldFault.{FieldFault}
+use Rattle.listing_read.specs.ObjectFaults.{policy_fault}
 use Rattle.confine_check.specs.Fields.{kind_of, named_block}
-use Rattle.separation_lines.specs.declared.fault.PolicyFault.{PolicyFault}
-use Rattle.separation_lines.specs.declared.fault.PolicyFault.TheVariants.{BadName, TooManyDomains, BadValue, BadNumber, NoObject, BadOrder, Taken, NoDomain}
+use Rattle.listing_read.specs.declared.object_fault.PolicyFault.{PolicyFault}
+use Rattle.listing_read.specs.declared.object_fault.PolicyFault.TheVariants.{BadName, TooManyDomains, BadValue, BadNumber, NoObject, BadOrder, Taken, NoDomain}
 
 -- NAME: a name as version 2 of listings has them
 abbrev pub name_from : List ℕ → Result (List ℕ) PolicyFault
@@ -30,13 +30,6 @@ unfoldable pub domain_from : PolicyValue → List ℕ → Result ℕ PolicyFault
 domain_from policy word = do
   name ← name_from word
   ok_or (domain_called policy name) NoDomain
-
--- a fault of fields that name objects, as one of the line
-abbrev pub policy_fault : FieldFault → PolicyFault
-policy_fault fields.BadValue = BadValue
-policy_fault fields.BadNumber = BadNumber
-policy_fault fields.NoObject = NoObject
-policy_fault fields.BadOrder = BadOrder
 
 -- what such fields say, or their fault as one of the line
 abbrev pub as_policy : {A : Type 0} → Result A FieldFault → Result A PolicyFault

@@ -7,8 +7,8 @@ use Rattle.listing_read.specs.Faults.{◌>>=◌, ensured}
 use Rattle.separation_policy.specs.Making.{with_assigned, with_made, with_reading}
 use Rattle.separation_policy.specs.Policy.{PolicyValue, assigned_of}
 use Rattle.separation_lines.specs.Fields.{domain_from, domain_numbered, name_from, objects_from}
-use Rattle.separation_lines.specs.declared.fault.PolicyFault.{PolicyFault}
-use Rattle.separation_lines.specs.declared.fault.PolicyFault.TheVariants.{LineTooLong, BadByte, UnknownPolicy, WrongWords}
+use Rattle.listing_read.specs.declared.object_fault.PolicyFault.{PolicyFault}
+use Rattle.listing_read.specs.declared.object_fault.PolicyFault.TheVariants.{LineTooLong, BadByte, UnknownPolicy, WrongWords}
 use Rattle.separation_lines.specs.declared.fault.Untaken.{Untaken}
 use Rattle.separation_lines.specs.declared.fault.Untaken.TheVariants.{Refused}
 use Rattle.separation_lines.specs.declared.said.Next.{Next}

@@ -4,10 +4,10 @@ ghost use Rattle.coy_text.specs.Words.{words_of};
 ghost use Rattle.separation_policy.specs.Policy.{assigned_of};
 ghost use Rattle.separation_lines.specs.Fields.{block_from, domain_from, domain_numbered, name_from, objects_from};
 
-use crate::fault::PolicyFault;
 use cap_words::{Name, read_name};
 use confine_check::{Block, read_block, read_kind};
 use coy_text::word;
+use listing_read::PolicyFault;
 use separation_policy::{DOMAIN_LIMIT, Policy};
 
 /// The name that a word is.

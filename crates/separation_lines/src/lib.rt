@@ -8,6 +8,7 @@ mod fields;
 mod line;
 mod said;
 
-pub use fault::{PolicyFault, Untaken};
+pub use fault::Untaken;
 pub use line::read_policy;
+pub use listing_read::PolicyFault;
 pub use said::Next;

@@ -3,7 +3,7 @@ ghost use Rattle.std.specs.Prelude.{◌≡◌, ◌≢◌, ◌<◌, ◌≤◌, le
 ghost use Rattle.coy_text.specs.Words.{words_of};
 ghost use Rattle.separation_lines.specs.PolicyLine.{after_line, after_said, answered, as_untaken, domain_line, end_line, next_of, policy_line, reads_line, said_by, IsSaid};
 
-use crate::fault::{PolicyFault, Untaken};
+use crate::fault::Untaken;
 use crate::fields::{made, name, numbered, objects};
 use crate::said::{Next, Said};
 use cap_format::OutOfMemory;
@@ -11,6 +11,7 @@ use cap_words::Name;
 use confine_check::Block;
 use coy_io::LINE_LIMIT;
 use coy_text::{is_skipped, is_visible, word, word_count};
+use listing_read::PolicyFault;
 use separation_policy::Policy;
 
 /// Takes a line in, and answers what the next line belongs to. After a fault, and where memory is wanting, the policy is as

@@ -4,8 +4,8 @@ use Rattle.coy_io.specs.Lines.{Part, Line, LongLine, PastLimit}
 use Rattle.coy_io.specs.Reader.{Reader, Advances, Begins, IsDone, IsLine, IsNext, IsSpent, ahead, bytes_ahead}
 use Rattle.separation_policy.specs.Policy.{PolicyValue}
 use Rattle.separation_lines.specs.PolicyLine.{after_line, answered, as_untaken, policy_line}
-use Rattle.separation_lines.specs.declared.fault.PolicyFault.{PolicyFault}
-use Rattle.separation_lines.specs.declared.fault.PolicyFault.TheVariants.{LineTooLong}
+use Rattle.listing_read.specs.declared.object_fault.PolicyFault.{PolicyFault}
+use Rattle.listing_read.specs.declared.object_fault.PolicyFault.TheVariants.{LineTooLong}
 use Rattle.separation_lines.specs.declared.said.Said.{Said}
 use Rattle.separation_lines.specs.declared.said.Said.TheVariants as says
 use Rattle.separation_lines.specs.declared.said.Next.{Next}

@@ -6,8 +6,8 @@ use Rattle.coy_io.specs.Reader.{Reader, ahead}
 use Rattle.listing_read.specs.Reads.{IsStopped}
 use Rattle.separation_policy.specs.Policy.{PolicyValue}
 use Rattle.separation_lines.specs.PolicyLine.{after_line, answered, policy_line}
-use Rattle.separation_lines.specs.declared.fault.PolicyFault.{PolicyFault}
-use Rattle.separation_lines.specs.declared.fault.PolicyFault.TheVariants.{LineTooLong}
+use Rattle.listing_read.specs.declared.object_fault.PolicyFault.{PolicyFault}
+use Rattle.listing_read.specs.declared.object_fault.PolicyFault.TheVariants.{LineTooLong}
 use Rattle.separation_lines.specs.declared.fault.Untaken.{Untaken}
 use Rattle.separation_lines.specs.declared.fault.Untaken.TheVariants.{Refused, OutOfMemory}
 use Rattle.separation_lines.specs.declared.said.Next.{Next}

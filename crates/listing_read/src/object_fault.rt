@@ -1,0 +1,96 @@
+//! What can be wrong with a line behind a listing that names objects: of a cut, or of a policy.
+
+/// What is wrong with fields that name objects. Where several hold, the first of the line counts.
+#[derive(Clone, Copy)]
+pub enum FieldFault {
+    /// A word is that of no kind of objects.
+    BadValue,
+    /// A field is no number.
+    BadNumber,
+    /// The machine has no object of this number.
+    NoObject,
+    /// The last object stands before the first.
+    BadOrder,
+}
+
+/// What is wrong with a line of a cut. Where several hold, the first of the line counts.
+#[derive(Clone, Copy, Debug)]
+pub enum CutFault {
+    /// The line has more than 512 bytes.
+    LineTooLong,
+    /// A byte is neither a space nor a visible character of ASCII.
+    BadByte,
+    /// The first word is not `left`.
+    UnknownCut,
+    /// The line has another number of words.
+    WrongWords,
+    /// The second word is that of no kind of objects.
+    BadValue,
+    /// A field is no number.
+    BadNumber,
+    /// The machine has no object of this number.
+    NoObject,
+    /// The last object stands before the first.
+    BadOrder,
+}
+
+impl From<FieldFault> for CutFault {
+    ghost use Rattle.std.specs.Prelude.{◌≡◌};
+    ghost use Rattle.listing_read.specs.ObjectFaults.{cut_fault};
+
+    ghost from_gives = { λ fault e. e ≡ cut_fault fault };
+
+    fn from(fault: FieldFault) -> CutFault {
+        match fault {
+            FieldFault::BadValue => CutFault::BadValue,
+            FieldFault::BadNumber => CutFault::BadNumber,
+            FieldFault::NoObject => CutFault::NoObject,
+            FieldFault::BadOrder => CutFault::BadOrder,
+        }
+    }
+}
+
+/// What is wrong with a line of a policy. Where several hold, the first of the line counts.
+#[derive(Clone, Copy)]
+pub enum PolicyFault {
+    /// The line has more than 512 bytes.
+    LineTooLong,
+    /// A byte is neither a space nor a visible character of ASCII.
+    BadByte,
+    /// The first word is none of `domain`, `reads` and `end`.
+    UnknownPolicy,
+    /// The line has another number of words.
+    WrongWords,
+    /// A word is no name of a domain.
+    BadName,
+    /// The domain would be one more than 64.
+    TooManyDomains,
+    /// A word is that of no kind of objects.
+    BadValue,
+    /// A field is no number.
+    BadNumber,
+    /// The machine has no object of this number.
+    NoObject,
+    /// The last object stands before the first.
+    BadOrder,
+    /// A line gave one of the objects to another domain.
+    Taken,
+    /// No line before made a domain of this name.
+    NoDomain,
+}
+
+impl From<FieldFault> for PolicyFault {
+    ghost use Rattle.std.specs.Prelude.{◌≡◌};
+    ghost use Rattle.listing_read.specs.ObjectFaults.{policy_fault};
+
+    ghost from_gives = { λ fault e. e ≡ policy_fault fault };
+
+    fn from(fault: FieldFault) -> PolicyFault {
+        match fault {
+            FieldFault::BadValue => PolicyFault::BadValue,
+            FieldFault::BadNumber => PolicyFault::BadNumber,
+            FieldFault::NoObject => PolicyFault::NoObject,
+            FieldFault::BadOrder => PolicyFault::BadOrder,
+        }
+    }
+}
