@@ -5,3 +5,4 @@ mod Leaves
 mod Plain
 mod Rows
 mod Tables
+mod Usage

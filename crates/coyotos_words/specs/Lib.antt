@@ -1,3 +1,4 @@
 pub mod Command
 pub mod Forms
 pub mod Matches
+pub mod Usage

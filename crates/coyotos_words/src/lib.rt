@@ -8,9 +8,11 @@
 mod command;
 mod dashes;
 mod forms;
+mod laws;
 mod matches;
 mod places;
 mod reading;
 
 pub use command::Command;
+pub use laws::words_law;
 pub use reading::read_command;
