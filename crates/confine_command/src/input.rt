@@ -1,14 +1,12 @@
 //! A listing and the lines of a cut, from the first line to the last.
-ghost use Rattle.std.specs.Prelude.{◌≡◌, ◌≢◌, [], false, IfSome};
-ghost use Rattle.std.specs.Io.KnownBytes.{IsAtEnd};
-ghost use Rattle.coy_io.specs.Lines.{parts_of, whole_lines};
+ghost use Rattle.std.specs.Prelude.{◌≡◌, false, IfSome};
+ghost use Rattle.coy_io.specs.Lines.{parts_of};
 ghost use Rattle.coy_io.specs.Reader.{TellsEnd, ahead};
 ghost use Rattle.kernel_core.specs.State.{state_of};
 ghost use Rattle.schedule_replay.specs.Scheduled.{OnParts};
-ghost use Rattle.courses.specs.Course.{ComesTo, cached, course_output};
-ghost use Rattle.courses.specs.Ending.{HasCauses};
+ghost use Rattle.courses.specs.Course.{cached, course_output};
 ghost use Rattle.courses.specs.Listed.{lines_course};
-ghost use Rattle.courses.specs.Sure.{StandsOn, StandsSure};
+ghost use Rattle.courses.specs.Taken.{TakesLines, TakesListing};
 ghost use Rattle.confine_command.specs.Confine.{checked, confine_course, Concludes, NobodySleeps};
 ghost use Rattle.confine_command.specs.Decided.{DecidesStated, IsDecided};
 ghost use Rattle.confine_command.specs.Stated.{stated};
@@ -33,25 +31,12 @@ pub fn confine<S: Source, K: Sink, L: Ledger>(
     output: &mut K,
     fetches: &mut Steps<L>,
 ) -> Exit
-    // What the known bytes come to, and where the source stands then.
-    ensures comes { IfSome (S.held input.old) (λ bytes.
-        ComesTo (K.taken output.old) (K.taken output.new) fetches.old fetches.new result cached
-        (lines_course confine_course (parts_of bytes))) }
-    ensures end { result ≡ Exit.Done → IsAtEnd (S.held input.new) }
-    ensures sure { result ≡ Exit.ReadFault →
-        StandsSure (S.held input.old) (S.held input.new) (K.taken output.old) (K.taken output.new)
-        fetches.old fetches.new cached (λ bytes. lines_course confine_course (whole_lines [] bytes)) }
+    ensures course { TakesListing S.held S.faults K.taken K.faults input.old input.new output.old output.new
+        fetches.old fetches.new result cached confine_course }
 
     // What it tells of the cut is so of the listing's machine, for good.
     ensures decided { result ≡ Exit.Done → IfSome (S.held input.old) (λ bytes.
         IsDecided bytes (course_output (lines_course confine_course (parts_of bytes))).text) }
-
-    // Why it may end otherwise.
-    ensures usage { result ≢ Exit.Usage }
-    ensures causes { HasCauses (S.faults input.old) (S.faults input.new)
-        (K.faults output.old) (K.faults output.new) result }
-    ensures unwritten { result ≡ Exit.OutOfMemory → K.taken output.new ≡ K.taken output.old }
-    ensures unspent { result ≡ Exit.OutOfMemory → fetches.new ≡ fetches.old }
 {
     let mut lines = LineReader::new();
     let listing = match read_head(alloc, &mut lines, input, output) {
@@ -79,22 +64,13 @@ fn check_lines<T: Translator, S: Source, K: Sink, L: Ledger>(
     requires reader { lines.old.failed ≡ false }
     requires told { TellsEnd lines.old (S.held input.old) }
     requires awake { NobodySleeps machine.now.queues }
-    ensures comes { OnParts (ahead lines.old (S.held input.old)) (λ parts.
-        ComesTo (K.taken output.old) (K.taken output.new) fetches.old fetches.new result cached
-        (checked (state_of machine.now) (stated cut.old lines.old.number parts))) }
-    ensures end { result ≡ Exit.Done → IsAtEnd (S.held input.new) }
-    ensures sure { result ≡ Exit.ReadFault →
-        StandsOn lines.old lines.new (S.held input.old) (S.held input.new)
-        (K.taken output.old) (K.taken output.new) fetches.old fetches.new cached
+    ensures course { TakesLines S.held S.faults K.taken K.faults lines.old lines.new
+        input.old input.new output.old output.new fetches.old fetches.new result cached
         (λ parts. checked (state_of machine.now) (stated cut.old lines.old.number parts)) }
     ensures decided { result ≡ Exit.Done → OnParts (ahead lines.old (S.held input.old)) (λ parts.
         DecidesStated (state_of machine.now) (stated cut.old lines.old.number parts)
         (course_output (checked (state_of machine.now)
         (stated cut.old lines.old.number parts))).text) }
-    ensures usage { result ≢ Exit.Usage }
-    ensures memory { result ≢ Exit.OutOfMemory }
-    ensures causes { HasCauses (S.faults input.old) (S.faults input.new)
-        (K.faults output.old) (K.faults output.new) result }
 {
     let stop = read_sides(lines, input, cut);
     conclude(stop, machine, cut, output, fetches)

@@ -3,5 +3,6 @@ pub mod Lasts
 pub mod Sound
 pub mod Bytes
 pub mod Unlisted
+pub mod Taken
 pub mod Running
 pub mod Flushed

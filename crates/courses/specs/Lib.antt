@@ -7,5 +7,6 @@ pub mod Bounds
 pub mod Listed
 pub mod Running
 pub mod Sure
+pub mod Taken
 pub mod Head
 pub mod Flush

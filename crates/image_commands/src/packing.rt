@@ -1,14 +1,13 @@
 //! The command `pack`.
-ghost use Rattle.std.specs.Prelude.{ℕ, ◌≡◌, ◌≢◌, [], false, IfSome};
-ghost use Rattle.std.specs.Io.KnownBytes.{IsAtEnd};
-ghost use Rattle.coy_io.specs.Lines.{parts_of, whole_lines};
+ghost use Rattle.std.specs.Prelude.{ℕ, ◌≡◌, false, IfSome};
+ghost use Rattle.coy_io.specs.Lines.{parts_of};
 ghost use Rattle.coy_io.specs.Reader.{TellsEnd, ahead};
 ghost use Rattle.image_binary.specs.Image.{image_of};
 ghost use Rattle.schedule_replay.specs.Scheduled.{AtEnd, OnParts};
-ghost use Rattle.courses.specs.Course.{ComesTo, cached, course_output};
-ghost use Rattle.courses.specs.Ending.{EndsIn, HasCauses};
+ghost use Rattle.courses.specs.Course.{cached, course_output};
+ghost use Rattle.courses.specs.Ending.{EndsIn};
 ghost use Rattle.courses.specs.Listed.{lines_course};
-ghost use Rattle.courses.specs.Sure.{StandsOn, StandsSure};
+ghost use Rattle.courses.specs.Taken.{TakesLines, TakesListing};
 ghost use Rattle.image_commands.specs.Passed.{passed};
 ghost use Rattle.image_commands.specs.Packed.{pack_course, Concludes};
 ghost use Rattle.image_commands.specs.Same.{IsImageOf};
@@ -24,24 +23,12 @@ use std::alloc::Global;
 /// Reads a listing, behind which no event may stand, to the end of the source, and writes its image. No slot is
 /// fetched.
 pub fn answer_pack<S: Source, K: Sink>(alloc: Global, input: &mut S, output: &mut K) -> Exit
-    // What the known bytes come to, and where the source stands then.
-    ensures comes { (fetches : ℕ) → IfSome (S.held input.old) (λ bytes.
-        ComesTo (K.taken output.old) (K.taken output.new) fetches fetches result cached
-        (lines_course pack_course (parts_of bytes))) }
-    ensures end { result ≡ Exit.Done → IsAtEnd (S.held input.new) }
-    ensures sure { result ≡ Exit.ReadFault → (fetches : ℕ) →
-        StandsSure (S.held input.old) (S.held input.new) (K.taken output.old) (K.taken output.new)
-        fetches fetches cached (λ bytes. lines_course pack_course (whole_lines [] bytes)) }
+    ensures course { (fetches : ℕ) → TakesListing S.held S.faults K.taken K.faults
+        input.old input.new output.old output.new fetches fetches result cached pack_course }
 
     // What was written is an image for which `unpack` writes what `migrate` writes for the input.
     ensures packed { result ≡ Exit.Done → IfSome (S.held input.old) (λ bytes.
         IsImageOf bytes (course_output (lines_course pack_course (parts_of bytes))).text) }
-
-    // Why it may end otherwise.
-    ensures usage { result ≢ Exit.Usage }
-    ensures causes { HasCauses (S.faults input.old) (S.faults input.new)
-        (K.faults output.old) (K.faults output.new) result }
-    ensures unwritten { result ≡ Exit.OutOfMemory → K.taken output.new ≡ K.taken output.old }
 {
     let mut lines = LineReader::new();
     let listing = match read_head(alloc, &mut lines, input, output) {
@@ -62,20 +49,11 @@ fn pack_all<S: Source, K: Sink>(
 ) -> Exit
     requires reader { lines.old.failed ≡ false }
     requires told { TellsEnd lines.old (S.held input.old) }
-    ensures comes { (fetches : ℕ) → OnParts (ahead lines.old (S.held input.old)) (λ parts.
-        ComesTo (K.taken output.old) (K.taken output.new) fetches fetches result cached
-        (pack_course listing.now lines.old.number parts)) }
-    ensures end { result ≡ Exit.Done → IsAtEnd (S.held input.new) }
-    ensures sure { result ≡ Exit.ReadFault → (fetches : ℕ) →
-        StandsOn lines.old lines.new (S.held input.old) (S.held input.new)
-        (K.taken output.old) (K.taken output.new) fetches fetches cached
+    ensures course { (fetches : ℕ) → TakesLines S.held S.faults K.taken K.faults lines.old lines.new
+        input.old input.new output.old output.new fetches fetches result cached
         (pack_course listing.now lines.old.number) }
     ensures passed { result ≡ Exit.Done → OnParts (ahead lines.old (S.held input.old)) (λ parts.
         passed lines.old.number parts ≡ AtEnd) }
-    ensures usage { result ≢ Exit.Usage }
-    ensures memory { result ≢ Exit.OutOfMemory }
-    ensures causes { HasCauses (S.faults input.old) (S.faults input.new)
-        (K.faults output.old) (K.faults output.new) result }
 {
     let stop = pass_lines(lines, input);
     conclude(stop, listing, output)

@@ -1,10 +1,9 @@
 //! The command `unpack`.
-ghost use Rattle.std.specs.Prelude.{ℕ, ◌≡◌, ◌≢◌, IfSome};
-ghost use Rattle.std.specs.Io.KnownBytes.{IsAtEnd};
+ghost use Rattle.std.specs.Prelude.{ℕ};
 ghost use Rattle.statement_text.specs.Text.{listing_text};
-ghost use Rattle.courses.specs.Course.{ComesTo, cached};
-ghost use Rattle.courses.specs.Ending.{EndsIn, HasCauses};
-ghost use Rattle.courses.specs.Sure.{StandsSure};
+ghost use Rattle.courses.specs.Course.{cached};
+ghost use Rattle.courses.specs.Ending.{EndsIn};
+ghost use Rattle.courses.specs.Taken.{TakesInput};
 ghost use Rattle.image_commands.specs.Unpacked.{image_course, read_course, TellsImage};
 
 use courses::{Exit, end_past_limit, refuse_image};
@@ -17,20 +16,9 @@ use std::alloc::Global;
 /// Reads an image to the end of the source, and writes the text of its listing: one of version 2 without names. No slot
 /// is fetched.
 pub fn answer_unpack<S: Source, K: Sink>(alloc: Global, input: &mut S, output: &mut K) -> Exit
-    // What the known bytes come to, and where the source stands then.
-    ensures comes { (fetches : ℕ) → IfSome (S.held input.old) (λ bytes.
-        ComesTo (K.taken output.old) (K.taken output.new) fetches fetches result cached
-        (image_course bytes)) }
-    ensures end { result ≡ Exit.Done → IsAtEnd (S.held input.new) }
-    ensures sure { result ≡ Exit.ReadFault → (fetches : ℕ) →
-        StandsSure (S.held input.old) (S.held input.new) (K.taken output.old) (K.taken output.new)
-        fetches fetches cached read_course }
-
-    // Why it may end otherwise.
-    ensures usage { result ≢ Exit.Usage }
-    ensures causes { HasCauses (S.faults input.old) (S.faults input.new)
-        (K.faults output.old) (K.faults output.new) result }
-    ensures unwritten { result ≡ Exit.OutOfMemory → K.taken output.new ≡ K.taken output.old }
+    ensures { (fetches : ℕ) → TakesInput S.held S.faults K.taken K.faults
+        input.old input.new output.old output.new fetches fetches result cached
+        image_course read_course }
 {
     let answer = unpack(alloc, input);
     tell_image(answer, output)

@@ -1,11 +1,9 @@
 //! A listing and its schedule, from the first line to the last. Here, and nowhere else, a translator is chosen.
-ghost use Rattle.std.specs.Prelude.{◌≡◌, ◌≢◌, [], false, IfSome};
-ghost use Rattle.std.specs.Io.KnownBytes.{IsAtEnd};
-ghost use Rattle.coy_io.specs.Lines.{parts_of, whole_lines};
-ghost use Rattle.courses.specs.Course.{ComesTo, HasEntries, cached};
-ghost use Rattle.courses.specs.Ending.{HasCauses};
+ghost use Rattle.std.specs.Prelude.{◌≡◌, false, IfSome};
+ghost use Rattle.coy_io.specs.Lines.{parts_of};
+ghost use Rattle.courses.specs.Course.{HasEntries, cached};
 ghost use Rattle.courses.specs.Listed.{lines_course};
-ghost use Rattle.courses.specs.Sure.{StandsSure};
+ghost use Rattle.courses.specs.Taken.{TakesListing};
 ghost use Rattle.schedule_commands.specs.Finished.{schedule_course};
 ghost use Rattle.schedule_commands.specs.Runs.{runs};
 
@@ -27,28 +25,15 @@ pub fn answer_schedule<S: Source, K: Sink, L: Ledger>(
     output: &mut K,
     fetches: &mut Steps<L>,
 ) -> Exit
-    // What the known bytes come to, and where the source stands then.
-    ensures comes { IfSome (S.held input.old) (λ bytes.
-        ComesTo (K.taken output.old) (K.taken output.new) fetches.old fetches.new result cached
-        (lines_course (schedule_course command) (parts_of bytes))) }
-    ensures end { result ≡ Exit.Done → IsAtEnd (S.held input.new) }
-    ensures sure { result ≡ Exit.ReadFault →
-        StandsSure (S.held input.old) (S.held input.new) (K.taken output.old) (K.taken output.new)
-        fetches.old fetches.new cached (λ bytes. lines_course (schedule_course command) (whole_lines [] bytes)) }
+    ensures course { TakesListing S.held S.faults K.taken K.faults input.old input.new output.old output.new
+        fetches.old fetches.new result cached (schedule_course command) }
 
     // What the entries of the mapping cache say then.
     ensures entries { result ≡ Exit.Done → IfSome (S.held input.old) (λ bytes.
         HasEntries (lines_course (schedule_course command) (parts_of bytes))) }
 
-    // Why it may end otherwise.
-    ensures usage { result ≢ Exit.Usage }
-    ensures causes { HasCauses (S.faults input.old) (S.faults input.new)
-        (K.faults output.old) (K.faults output.new) result }
-    ensures unwritten { result ≡ Exit.OutOfMemory → K.taken output.new ≡ K.taken output.old }
-
     // Where no slot is fetched.
     ensures stays { runs command ≡ false → fetches.new ≡ fetches.old }
-    ensures unspent { result ≡ Exit.OutOfMemory → fetches.new ≡ fetches.old }
 {
     let mut lines = LineReader::new();
     let listing = match read_head(alloc, &mut lines, input, output) {

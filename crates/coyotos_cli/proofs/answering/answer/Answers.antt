@@ -41,10 +41,10 @@ returns-in-Make-clause-stays g c = λ off. c.make.ensures.stays (sym (ap (λ com
 -- ---- a schedule
 
 pub returns-in-Check-clause-comes : goal.returns-in-Check-clause-comes
-returns-in-Check-clause-comes g c = rw c.in-Check.is (comes-known Check _ _ _ _ _ cached refl _ _ c.answer_schedule.ensures.comes)
+returns-in-Check-clause-comes g c = rw c.in-Check.is (comes-known Check _ _ _ _ _ cached refl _ _ c.answer_schedule.ensures.course.comes)
 
 pub returns-in-Check-clause-sure : goal.returns-in-Check-clause-sure
-returns-in-Check-clause-sure g c = λ fault. rw c.in-Check.is (stands-told (Some Check) _ _ _ _ _ _ cached refl _ (c.answer_schedule.ensures.sure fault))
+returns-in-Check-clause-sure g c = λ fault. rw c.in-Check.is (stands-told (Some Check) _ _ _ _ _ _ cached refl _ (c.answer_schedule.ensures.course.sure fault))
 
 pub returns-in-Check-clause-entries : goal.returns-in-Check-clause-entries
 returns-in-Check-clause-entries g c = λ done has. rw c.in-Check.is (c.answer_schedule.ensures.entries done)
@@ -53,37 +53,37 @@ pub returns-in-Check-clause-stays : goal.returns-in-Check-clause-stays
 returns-in-Check-clause-stays g c = λ off. c.answer_schedule.ensures.stays refl
 
 pub returns-in-Run-clause-comes : goal.returns-in-Run-clause-comes
-returns-in-Run-clause-comes g c = rw c.in-Run.is (comes-known Run _ _ _ _ _ cached refl _ _ c.answer_schedule-in-Run.ensures.comes)
+returns-in-Run-clause-comes g c = rw c.in-Run.is (comes-known Run _ _ _ _ _ cached refl _ _ c.answer_schedule-in-Run.ensures.course.comes)
 
 pub returns-in-Run-clause-sure : goal.returns-in-Run-clause-sure
-returns-in-Run-clause-sure g c = λ fault. rw c.in-Run.is (stands-told (Some Run) _ _ _ _ _ _ cached refl _ (c.answer_schedule-in-Run.ensures.sure fault))
+returns-in-Run-clause-sure g c = λ fault. rw c.in-Run.is (stands-told (Some Run) _ _ _ _ _ _ cached refl _ (c.answer_schedule-in-Run.ensures.course.sure fault))
 
 pub returns-in-Run-clause-entries : goal.returns-in-Run-clause-entries
 returns-in-Run-clause-entries g c = λ done has. rw c.in-Run.is (c.answer_schedule-in-Run.ensures.entries done)
 
 pub returns-in-Trace-clause-comes : goal.returns-in-Trace-clause-comes
-returns-in-Trace-clause-comes g c = rw c.in-Trace.is (comes-known Trace _ _ _ _ _ cached refl _ _ c.answer_schedule-in-Trace.ensures.comes)
+returns-in-Trace-clause-comes g c = rw c.in-Trace.is (comes-known Trace _ _ _ _ _ cached refl _ _ c.answer_schedule-in-Trace.ensures.course.comes)
 
 pub returns-in-Trace-clause-sure : goal.returns-in-Trace-clause-sure
-returns-in-Trace-clause-sure g c = λ fault. rw c.in-Trace.is (stands-told (Some Trace) _ _ _ _ _ _ cached refl _ (c.answer_schedule-in-Trace.ensures.sure fault))
+returns-in-Trace-clause-sure g c = λ fault. rw c.in-Trace.is (stands-told (Some Trace) _ _ _ _ _ _ cached refl _ (c.answer_schedule-in-Trace.ensures.course.sure fault))
 
 pub returns-in-Trace-clause-entries : goal.returns-in-Trace-clause-entries
 returns-in-Trace-clause-entries g c = λ done has. rw c.in-Trace.is (c.answer_schedule-in-Trace.ensures.entries done)
 
 pub returns-in-Tables-clause-comes : goal.returns-in-Tables-clause-comes
-returns-in-Tables-clause-comes g c = rw c.in-Tables.is (comes-known Tables _ _ _ _ _ cached refl _ _ c.answer_schedule-in-Tables.ensures.comes)
+returns-in-Tables-clause-comes g c = rw c.in-Tables.is (comes-known Tables _ _ _ _ _ cached refl _ _ c.answer_schedule-in-Tables.ensures.course.comes)
 
 pub returns-in-Tables-clause-sure : goal.returns-in-Tables-clause-sure
-returns-in-Tables-clause-sure g c = λ fault. rw c.in-Tables.is (stands-told (Some Tables) _ _ _ _ _ _ cached refl _ (c.answer_schedule-in-Tables.ensures.sure fault))
+returns-in-Tables-clause-sure g c = λ fault. rw c.in-Tables.is (stands-told (Some Tables) _ _ _ _ _ _ cached refl _ (c.answer_schedule-in-Tables.ensures.course.sure fault))
 
 pub returns-in-Tables-clause-entries : goal.returns-in-Tables-clause-entries
 returns-in-Tables-clause-entries g c = λ done has. rw c.in-Tables.is (c.answer_schedule-in-Tables.ensures.entries done)
 
 pub returns-in-Walk-clause-comes : goal.returns-in-Walk-clause-comes
-returns-in-Walk-clause-comes g c = rw c.in-Walk.is (comes-known (Walk c.in-Walk.process c.in-Walk.kind c.in-Walk.address) _ _ _ _ _ cached refl _ _ c.answer_schedule-in-Walk.ensures.comes)
+returns-in-Walk-clause-comes g c = rw c.in-Walk.is (comes-known (Walk c.in-Walk.process c.in-Walk.kind c.in-Walk.address) _ _ _ _ _ cached refl _ _ c.answer_schedule-in-Walk.ensures.course.comes)
 
 pub returns-in-Walk-clause-sure : goal.returns-in-Walk-clause-sure
-returns-in-Walk-clause-sure g c = λ fault. rw c.in-Walk.is (stands-told (Some (Walk c.in-Walk.process c.in-Walk.kind c.in-Walk.address)) _ _ _ _ _ _ cached refl _ (c.answer_schedule-in-Walk.ensures.sure fault))
+returns-in-Walk-clause-sure g c = λ fault. rw c.in-Walk.is (stands-told (Some (Walk c.in-Walk.process c.in-Walk.kind c.in-Walk.address)) _ _ _ _ _ _ cached refl _ (c.answer_schedule-in-Walk.ensures.course.sure fault))
 
 pub returns-in-Walk-clause-entries : goal.returns-in-Walk-clause-entries
 returns-in-Walk-clause-entries g c = λ done has. rw c.in-Walk.is (c.answer_schedule-in-Walk.ensures.entries done)
@@ -91,46 +91,82 @@ returns-in-Walk-clause-entries g c = λ done has. rw c.in-Walk.is (c.answer_sche
 -- ---- what is no schedule over the mapping cache
 
 pub returns-in-Pack-clause-comes : goal.returns-in-Pack-clause-comes
-returns-in-Pack-clause-comes g c = rw c.in-Pack.is (comes-known Pack _ _ _ _ _ cached refl _ _ (c.answer_pack.ensures.comes _))
+returns-in-Pack-clause-comes g c = rw c.in-Pack.is (comes-known Pack _ _ _ _ _ cached refl _ _ (c.answer_pack.ensures.course _).comes)
 
 pub returns-in-Pack-clause-sure : goal.returns-in-Pack-clause-sure
-returns-in-Pack-clause-sure g c = λ fault. rw c.in-Pack.is (stands-told (Some Pack) _ _ _ _ _ _ cached refl _ (c.answer_pack.ensures.sure fault _))
+returns-in-Pack-clause-sure g c = λ fault. rw c.in-Pack.is (stands-told (Some Pack) _ _ _ _ _ _ cached refl _ ((c.answer_pack.ensures.course _).sure fault))
 
 pub returns-in-Pack-clause-entries : goal.returns-in-Pack-clause-entries
 returns-in-Pack-clause-entries g c = λ done has. rw c.in-Pack.is (known-pack _)
 
+pub returns-in-Pack-clause-end : goal.returns-in-Pack-clause-end
+returns-in-Pack-clause-end g c = λ done asks. (c.answer_pack.ensures.course 0).end done
+
+pub returns-in-Pack-clause-usage : goal.returns-in-Pack-clause-usage
+returns-in-Pack-clause-usage g c = (c.answer_pack.ensures.course 0).usage
+
+pub returns-in-Pack-clause-causes : goal.returns-in-Pack-clause-causes
+returns-in-Pack-clause-causes g c = (c.answer_pack.ensures.course 0).causes
+
+pub returns-in-Pack-clause-unwritten : goal.returns-in-Pack-clause-unwritten
+returns-in-Pack-clause-unwritten g c = (c.answer_pack.ensures.course 0).unwritten
+
 pub returns-in-Unpack-clause-comes : goal.returns-in-Unpack-clause-comes
-returns-in-Unpack-clause-comes g c = rw c.in-Unpack.is (comes-known Unpack _ _ _ _ _ cached refl _ _ (c.answer_unpack.ensures.comes _))
+returns-in-Unpack-clause-comes g c = rw c.in-Unpack.is (comes-known Unpack _ _ _ _ _ cached refl _ _ (c.answer_unpack.ensures _).comes)
 
 pub returns-in-Unpack-clause-sure : goal.returns-in-Unpack-clause-sure
-returns-in-Unpack-clause-sure g c = λ fault. rw c.in-Unpack.is (stands-told (Some Unpack) _ _ _ _ _ _ cached refl _ (c.answer_unpack.ensures.sure fault _))
+returns-in-Unpack-clause-sure g c = λ fault. rw c.in-Unpack.is (stands-told (Some Unpack) _ _ _ _ _ _ cached refl _ ((c.answer_unpack.ensures _).sure fault))
 
 pub returns-in-Unpack-clause-entries : goal.returns-in-Unpack-clause-entries
 returns-in-Unpack-clause-entries g c = λ done has. rw c.in-Unpack.is (known-unpack _)
 
+pub returns-in-Unpack-clause-end : goal.returns-in-Unpack-clause-end
+returns-in-Unpack-clause-end g c = λ done asks. (c.answer_unpack.ensures 0).end done
+
+pub returns-in-Unpack-clause-usage : goal.returns-in-Unpack-clause-usage
+returns-in-Unpack-clause-usage g c = (c.answer_unpack.ensures 0).usage
+
+pub returns-in-Unpack-clause-causes : goal.returns-in-Unpack-clause-causes
+returns-in-Unpack-clause-causes g c = (c.answer_unpack.ensures 0).causes
+
+pub returns-in-Unpack-clause-unwritten : goal.returns-in-Unpack-clause-unwritten
+returns-in-Unpack-clause-unwritten g c = (c.answer_unpack.ensures 0).unwritten
+
 pub returns-in-Migrate-clause-comes : goal.returns-in-Migrate-clause-comes
-returns-in-Migrate-clause-comes g c = rw c.in-Migrate.is (comes-known Migrate _ _ _ _ _ cached refl _ _ (c.migrate.ensures.comes _))
+returns-in-Migrate-clause-comes g c = rw c.in-Migrate.is (comes-known Migrate _ _ _ _ _ cached refl _ _ (c.migrate.ensures.course _).comes)
 
 pub returns-in-Migrate-clause-sure : goal.returns-in-Migrate-clause-sure
-returns-in-Migrate-clause-sure g c = λ fault. rw c.in-Migrate.is (stands-told (Some Migrate) _ _ _ _ _ _ cached refl _ (c.migrate.ensures.sure fault _))
+returns-in-Migrate-clause-sure g c = λ fault. rw c.in-Migrate.is (stands-told (Some Migrate) _ _ _ _ _ _ cached refl _ ((c.migrate.ensures.course _).sure fault))
 
 pub returns-in-Migrate-clause-entries : goal.returns-in-Migrate-clause-entries
 returns-in-Migrate-clause-entries g c = λ done has. rw c.in-Migrate.is (known-migrate _)
 
+pub returns-in-Migrate-clause-end : goal.returns-in-Migrate-clause-end
+returns-in-Migrate-clause-end g c = λ done asks. (c.migrate.ensures.course 0).end done
+
+pub returns-in-Migrate-clause-usage : goal.returns-in-Migrate-clause-usage
+returns-in-Migrate-clause-usage g c = (c.migrate.ensures.course 0).usage
+
+pub returns-in-Migrate-clause-causes : goal.returns-in-Migrate-clause-causes
+returns-in-Migrate-clause-causes g c = (c.migrate.ensures.course 0).causes
+
+pub returns-in-Migrate-clause-unwritten : goal.returns-in-Migrate-clause-unwritten
+returns-in-Migrate-clause-unwritten g c = (c.migrate.ensures.course 0).unwritten
+
 pub returns-in-Confine-clause-comes : goal.returns-in-Confine-clause-comes
-returns-in-Confine-clause-comes g c = rw c.in-Confine.is (comes-known Confine _ _ _ _ _ cached refl _ _ c.confine.ensures.comes)
+returns-in-Confine-clause-comes g c = rw c.in-Confine.is (comes-known Confine _ _ _ _ _ cached refl _ _ c.confine.ensures.course.comes)
 
 pub returns-in-Confine-clause-sure : goal.returns-in-Confine-clause-sure
-returns-in-Confine-clause-sure g c = λ fault. rw c.in-Confine.is (stands-told (Some Confine) _ _ _ _ _ _ cached refl _ (c.confine.ensures.sure fault))
+returns-in-Confine-clause-sure g c = λ fault. rw c.in-Confine.is (stands-told (Some Confine) _ _ _ _ _ _ cached refl _ (c.confine.ensures.course.sure fault))
 
 pub returns-in-Confine-clause-entries : goal.returns-in-Confine-clause-entries
 returns-in-Confine-clause-entries g c = λ done has. rw c.in-Confine.is (known-confine _)
 
 pub returns-in-Share-clause-comes : goal.returns-in-Share-clause-comes
-returns-in-Share-clause-comes g c = rw c.in-Share.is (comes-known Share _ _ _ _ _ shared_fetched refl _ _ c.share.ensures.comes)
+returns-in-Share-clause-comes g c = rw c.in-Share.is (comes-known Share _ _ _ _ _ shared_fetched refl _ _ c.share.ensures.course.comes)
 
 pub returns-in-Share-clause-sure : goal.returns-in-Share-clause-sure
-returns-in-Share-clause-sure g c = λ fault. rw c.in-Share.is (stands-told (Some Share) _ _ _ _ _ _ shared_fetched refl _ (c.share.ensures.sure fault))
+returns-in-Share-clause-sure g c = λ fault. rw c.in-Share.is (stands-told (Some Share) _ _ _ _ _ _ shared_fetched refl _ (c.share.ensures.course.sure fault))
 
 pub returns-in-Share-clause-entries : goal.returns-in-Share-clause-entries
 returns-in-Share-clause-entries g c = λ done has. cache-shared c.args.command c.in-Share.is has

@@ -1,81 +1,73 @@
-use Rattle.std.proofs.Common.{◌∙◌, refl, sym, ap}
+use Rattle.std.proofs.Common.{◌∙◌, List, refl, sym, ap}
+use Rattle.coy_io.specs.Lines.{Part}
 use Rattle.kernel_core.specs.State.{state_of}
 use Rattle.map_cache.specs.Cache.{kept_of}
 use Rattle.map_cache.specs.Kept.{cost_of, kept_after, kept_without, nothing}
-use Rattle.schedule_replay.specs.Scheduled.{scheduled}
-use Rattle.courses.specs.Course.{ComesTo, cached}
-use Rattle.courses.proofs.Bytes.{on_parts-same, stands_on-same}
+use Rattle.schedule_replay.specs.Scheduled.{Scheduled, scheduled}
+use Rattle.courses.specs.Course.{cached}
 use Rattle.courses.proofs.Running.{comes-run, concludes-causes, concludes-done, concludes-memory, concludes-usage, sure-run}
+use Rattle.courses.proofs.Taken.{takes-same}
+use Rattle.courses.specs.Running.{running}
 use Rattle.schedule_commands.specs.Finished.{runner_of}
 use Rattle.schedule_commands.proofs.Concluding.{comes-count, count-entries, counted-harts, counted-reasons, course-runs, replays-mode, run-entries, sure-count}
 use Rattle.schedule_commands.proofs.schedule.answer_lines.Goals as goal
 
 -- ---- a count
 
-pub returns-then-not-runs-clause-comes : goal.returns-then-not-runs-clause-comes
-returns-then-not-runs-clause-comes g c =
+pub returns-then-not-runs-clause-course : goal.returns-then-not-runs-clause-course
+returns-then-not-runs-clause-course g c =
     let k = g.K.Sink in
+    let s = state_of c.args.machine.now in
+    let kept = kept_of c.args.machine.now.translator in
     let off = sym c.runs.ensures ∙ c.if-not-runs.true in
     let harts = ap (λ sizes. sizes.harts) c.sizes-harts.ensures.value ∙ ap (λ objects. objects.harts) c.objects.ensures in
-    let counted = counted-harts _ _ _ _ _ _ _ harts c.count_lines-counted.ensures.counted in
-    comes-count k.taken k.faults c.args.command (state_of c.args.machine.now) _ _ _ _ _ _ _ _ _ _ _ _ c.requires.nothing cached refl off (c.conclude.ensures.stays off) counted c.conclude.ensures.concludes
-
-pub returns-then-not-runs-clause-end : goal.returns-then-not-runs-clause-end
-returns-then-not-runs-clause-end g c =
-    let k = g.K.Sink in
-    λ done. let ended = concludes-done k.taken k.faults (runner_of c.args.command) (state_of c.args.machine.now) (kept_of c.args.machine.now.translator) _ _ _ _ _ _ c.conclude.ensures.concludes done in
-    c.count_lines-counted.ensures.told c.requires.told (c.count_lines-counted.ensures.end ended.counts ended.is)
-
-pub returns-then-not-runs-clause-sure : goal.returns-then-not-runs-clause-sure
-returns-then-not-runs-clause-sure g c =
-    let k = g.K.Sink in
-    let off = sym c.runs.ensures ∙ c.if-not-runs.true in
-    let harts = ap (λ sizes. sizes.harts) c.sizes-harts.ensures.value ∙ ap (λ objects. objects.harts) c.objects.ensures in
-    let counted = counted-harts _ _ _ _ _ _ _ harts c.count_lines-counted.ensures.counted in
-    sure-count k.taken k.faults c.args.command (state_of c.args.machine.now) _ _ _ _ _ _ _ _ _ _ _ _ c.requires.nothing cached refl off (c.conclude.ensures.stays off) counted c.conclude.ensures.concludes
+    let l = c.count_lines-counted.ensures in
+    let counted = counted-harts _ _ _ _ _ _ _ harts l.counted in
+    let e = c.conclude.ensures in
+    record {
+      comes = comes-count k.taken k.faults c.args.command s _ _ _ _ _ _ _ _ _ _ _ _ c.requires.nothing cached refl off (e.stays off) counted e.concludes;
+      end = λ done.
+          let ended = concludes-done k.taken k.faults (runner_of c.args.command) s kept _ _ _ _ _ _ e.concludes done in
+          l.told c.requires.told (l.end ended.counts ended.is);
+      sure = sure-count k.taken k.faults c.args.command s _ _ _ _ _ _ _ _ _ _ _ _ c.requires.nothing cached refl off (e.stays off) counted e.concludes;
+      usage = concludes-usage k.taken k.faults (runner_of c.args.command) s kept _ _ _ _ _ _ e.concludes;
+      memory = concludes-memory k.taken k.faults (runner_of c.args.command) s kept _ _ _ _ _ _ e.concludes;
+      causes = concludes-causes k.taken k.faults (runner_of c.args.command) s kept _ _ _ _ _ _ _ _ _ (counted-reasons _ _ _ _ l.counted.written l.reasons) e.concludes;
+    }
 
 pub returns-then-not-runs-clause-entries : goal.returns-then-not-runs-clause-entries
 returns-then-not-runs-clause-entries g c =
     λ done. count-entries c.args.command (state_of c.args.machine.now) _ _ _ (sym c.runs.ensures ∙ c.if-not-runs.true)
 
-pub returns-then-not-runs-clause-usage : goal.returns-then-not-runs-clause-usage
-returns-then-not-runs-clause-usage g c = concludes-usage g.K.Sink.taken g.K.Sink.faults (runner_of c.args.command) (state_of c.args.machine.now) (kept_of c.args.machine.now.translator) _ _ _ _ _ _ c.conclude.ensures.concludes
-
-pub returns-then-not-runs-clause-memory : goal.returns-then-not-runs-clause-memory
-returns-then-not-runs-clause-memory g c = concludes-memory g.K.Sink.taken g.K.Sink.faults (runner_of c.args.command) (state_of c.args.machine.now) (kept_of c.args.machine.now.translator) _ _ _ _ _ _ c.conclude.ensures.concludes
-
-pub returns-then-not-runs-clause-causes : goal.returns-then-not-runs-clause-causes
-returns-then-not-runs-clause-causes g c =
-    let counted = c.count_lines-counted.ensures in
-    concludes-causes g.K.Sink.taken g.K.Sink.faults (runner_of c.args.command) (state_of c.args.machine.now) (kept_of c.args.machine.now.translator) _ _ _ _ _ _ _ _ _
-    (counted-reasons _ _ _ _ counted.counted.written counted.reasons) c.conclude.ensures.concludes
-
 -- ---- a run
 
-pub returns-clause-comes : goal.returns-clause-comes
-returns-clause-comes g c =
+pub returns-clause-course : goal.returns-clause-course
+returns-clause-course g c =
     let k = g.K.Sink in
+    let s = state_of c.replay-replayed.new.machine in
+    let kept = kept_of c.replay-replayed.new.machine.translator in
     let on = sym c.runs.ensures ∙ c.if-not-runs.false in
-    let replays = replays-mode kept_of cost_of kept_after kept_without _ _ _ _ _ _ _ _ _ _ _ _ _ c.mode_of.ensures c.replay-replayed.ensures.replays in
-    on_parts-same _ _ _ (ComesTo _ _ _ _ _ cached) (λ parts. sym (course-runs c.args.command (state_of c.args.machine.now) (scheduled c.args.machine.now.objects.harts c.args.lines.now.number parts) on))
-    (comes-run kept_of cost_of kept_after kept_without nothing (runner_of c.args.command) c.args.machine.now c.replay-replayed.new.machine c.requires.nothing
-    k.taken k.faults _ _ _ _ _ _ _ _ _ _ _ _ replays c.conclude-2.ensures.concludes)
-
-pub returns-clause-end : goal.returns-clause-end
-returns-clause-end g c =
-    let k = g.K.Sink in
-    λ done. let ended = concludes-done k.taken k.faults (runner_of c.args.command) (state_of c.replay-replayed.new.machine) (kept_of c.replay-replayed.new.machine.translator) _ _ _ _ _ _ c.conclude-2.ensures.concludes done in
-    c.replay-replayed.ensures.told c.requires.told (c.replay-replayed.ensures.end ended.counts ended.is)
-
-pub returns-clause-sure : goal.returns-clause-sure
-returns-clause-sure g c =
-    let k = g.K.Sink in
-    let on = sym c.runs.ensures ∙ c.if-not-runs.false in
-    let replays = replays-mode kept_of cost_of kept_after kept_without _ _ _ _ _ _ _ _ _ _ _ _ _ c.mode_of.ensures c.replay-replayed.ensures.replays in
-    λ fault. stands_on-same _ _ _ _ _ _ _ _ _ _ _
-    (λ parts. sym (course-runs c.args.command (state_of c.args.machine.now) (scheduled c.args.machine.now.objects.harts c.args.lines.now.number parts) on))
-    (sure-run kept_of cost_of kept_after kept_without nothing (runner_of c.args.command) c.args.machine.now c.replay-replayed.new.machine c.requires.nothing
-    k.taken k.faults _ _ _ _ _ _ _ _ _ _ _ _ replays c.conclude-2.ensures.concludes fault)
+    let l = c.replay-replayed.ensures in
+    let replays = replays-mode kept_of cost_of kept_after kept_without _ _ _ _ _ _ _ _ _ _ _ _ _ c.mode_of.ensures l.replays in
+    let e = c.conclude-2.ensures.concludes in
+    let asked : List Part → Scheduled = scheduled c.args.machine.now.objects.harts c.args.lines.now.number in
+    takes-same g.S.Source.held g.S.Source.faults k.taken k.faults _ _ _ _ _ _ _ _ _ cached
+    (λ parts. running cost_of kept_after kept_without nothing (runner_of c.args.command) (state_of c.args.machine.now) (asked parts)) _
+    (λ parts. sym (course-runs c.args.command (state_of c.args.machine.now) (asked parts) on))
+    (record {
+      comes =
+          comes-run kept_of cost_of kept_after kept_without nothing (runner_of c.args.command) c.args.machine.now c.replay-replayed.new.machine c.requires.nothing
+          k.taken k.faults _ _ _ _ _ _ _ _ _ _ _ _ replays e;
+      end = λ done.
+          let ended = concludes-done k.taken k.faults (runner_of c.args.command) s kept _ _ _ _ _ _ e done in
+          l.told c.requires.told (l.end ended.counts ended.is);
+      sure =
+          sure-run kept_of cost_of kept_after kept_without nothing (runner_of c.args.command) c.args.machine.now c.replay-replayed.new.machine c.requires.nothing
+          k.taken k.faults _ _ _ _ _ _ _ _ _ _ _ _ replays e;
+      usage = concludes-usage k.taken k.faults (runner_of c.args.command) s kept _ _ _ _ _ _ e;
+      memory = concludes-memory k.taken k.faults (runner_of c.args.command) s kept _ _ _ _ _ _ e;
+      causes = concludes-causes k.taken k.faults (runner_of c.args.command) s kept _ _ _ _ _ _ _ _ _ l.reasons e;
+    })
 
 pub returns-clause-entries : goal.returns-clause-entries
 returns-clause-entries g c =
@@ -84,13 +76,3 @@ returns-clause-entries g c =
     let replays = replays-mode kept_of cost_of kept_after kept_without _ _ _ _ _ _ _ _ _ _ _ _ _ c.mode_of.ensures c.replay-replayed.ensures.replays in
     λ done. let ended = concludes-done k.taken k.faults (runner_of c.args.command) (state_of c.replay-replayed.new.machine) (kept_of c.replay-replayed.new.machine.translator) _ _ _ _ _ _ c.conclude-2.ensures.concludes done in
     run-entries c.args.command c.args.machine.now _ _ _ _ _ _ _ _ _ ended.counts _ ended.is c.requires.nothing on replays c.tell_entries.ensures
-
-pub returns-clause-usage : goal.returns-clause-usage
-returns-clause-usage g c = concludes-usage g.K.Sink.taken g.K.Sink.faults (runner_of c.args.command) (state_of c.replay-replayed.new.machine) (kept_of c.replay-replayed.new.machine.translator) _ _ _ _ _ _ c.conclude-2.ensures.concludes
-
-pub returns-clause-memory : goal.returns-clause-memory
-returns-clause-memory g c = concludes-memory g.K.Sink.taken g.K.Sink.faults (runner_of c.args.command) (state_of c.replay-replayed.new.machine) (kept_of c.replay-replayed.new.machine.translator) _ _ _ _ _ _ c.conclude-2.ensures.concludes
-
-pub returns-clause-causes : goal.returns-clause-causes
-returns-clause-causes g c =
-    concludes-causes g.K.Sink.taken g.K.Sink.faults (runner_of c.args.command) (state_of c.replay-replayed.new.machine) (kept_of c.replay-replayed.new.machine.translator) _ _ _ _ _ _ _ _ _ c.replay-replayed.ensures.reasons c.conclude-2.ensures.concludes

@@ -5,27 +5,24 @@ use Rattle.courses.proofs.Running.{comes-run, concludes-causes, concludes-done, 
 use Rattle.share_command.specs.Share.{share_runner}
 use Rattle.share_command.proofs.input.answer_lines.Goals as goal
 
-pub returns-clause-comes : goal.returns-clause-comes
-returns-clause-comes g c =
-    comes-run kept_of cost_of kept_after kept_without nothing share_runner c.args.machine.now c.replay-replayed.new.machine c.requires.nothing
-    g.K.Sink.taken g.K.Sink.faults _ _ _ _ _ _ _ _ _ _ _ _ c.replay-replayed.ensures.replays (c.conclude.ensures _)
-
-pub returns-clause-end : goal.returns-clause-end
-returns-clause-end g c =
-    λ done. let ended = concludes-done g.K.Sink.taken g.K.Sink.faults share_runner (state_of c.replay-replayed.new.machine) (kept_of c.replay-replayed.new.machine.translator) _ _ 0 0 _ _ (c.conclude.ensures 0) done in
-    c.replay-replayed.ensures.told c.requires.told (c.replay-replayed.ensures.end ended.counts ended.is)
-
-pub returns-clause-sure : goal.returns-clause-sure
-returns-clause-sure g c =
-    sure-run kept_of cost_of kept_after kept_without nothing share_runner c.args.machine.now c.replay-replayed.new.machine c.requires.nothing
-    g.K.Sink.taken g.K.Sink.faults _ _ _ _ _ _ _ _ _ _ _ _ c.replay-replayed.ensures.replays (c.conclude.ensures _)
-
-pub returns-clause-usage : goal.returns-clause-usage
-returns-clause-usage g c = concludes-usage g.K.Sink.taken g.K.Sink.faults share_runner (state_of c.replay-replayed.new.machine) (kept_of c.replay-replayed.new.machine.translator) _ _ 0 0 _ _ (c.conclude.ensures 0)
-
-pub returns-clause-memory : goal.returns-clause-memory
-returns-clause-memory g c = concludes-memory g.K.Sink.taken g.K.Sink.faults share_runner (state_of c.replay-replayed.new.machine) (kept_of c.replay-replayed.new.machine.translator) _ _ 0 0 _ _ (c.conclude.ensures 0)
-
-pub returns-clause-causes : goal.returns-clause-causes
-returns-clause-causes g c =
-    concludes-causes g.K.Sink.taken g.K.Sink.faults share_runner (state_of c.replay-replayed.new.machine) (kept_of c.replay-replayed.new.machine.translator) _ _ 0 0 _ _ _ _ _ c.replay-replayed.ensures.reasons (c.conclude.ensures 0)
+pub returns : goal.returns
+returns g c =
+    let taken = g.K.Sink.taken in
+    let faults = g.K.Sink.faults in
+    let s = state_of c.replay-replayed.new.machine in
+    let kept = kept_of c.replay-replayed.new.machine.translator in
+    let l = c.replay-replayed.ensures in
+    record {
+      comes =
+          comes-run kept_of cost_of kept_after kept_without nothing share_runner c.args.machine.now c.replay-replayed.new.machine c.requires.nothing
+          taken faults _ _ _ _ _ _ _ _ _ _ _ _ l.replays (c.conclude.ensures _);
+      end = λ done.
+          let ended = concludes-done taken faults share_runner s kept _ _ 0 0 _ _ (c.conclude.ensures 0) done in
+          l.told c.requires.told (l.end ended.counts ended.is);
+      sure =
+          sure-run kept_of cost_of kept_after kept_without nothing share_runner c.args.machine.now c.replay-replayed.new.machine c.requires.nothing
+          taken faults _ _ _ _ _ _ _ _ _ _ _ _ l.replays (c.conclude.ensures _);
+      usage = concludes-usage taken faults share_runner s kept _ _ 0 0 _ _ (c.conclude.ensures 0);
+      memory = concludes-memory taken faults share_runner s kept _ _ 0 0 _ _ (c.conclude.ensures 0);
+      causes = concludes-causes taken faults share_runner s kept _ _ 0 0 _ _ _ _ _ l.reasons (c.conclude.ensures 0);
+    }
