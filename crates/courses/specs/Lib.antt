@@ -10,3 +10,4 @@ pub mod Sure
 pub mod Taken
 pub mod Head
 pub mod Flush
+pub mod Migrated

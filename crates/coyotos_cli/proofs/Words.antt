@@ -24,7 +24,7 @@ use Rattle.schedule_commands.proofs.Bounded.{schedule-sound}
 use Rattle.image_builder.specs.Boot.{booted}
 use Rattle.schedule_commands.specs.Finished.{course_of, schedule_course}
 use Rattle.confine_command.specs.Confine.{confine_course}
-use Rattle.migrate_command.specs.Migrate.{migrate_course}
+use Rattle.courses.specs.Migrated.{migrate_course}
 use Rattle.migrate_command.specs.Same.{Says, SaySame}
 use Rattle.migrate_command.proofs.Sound.{migrate-entries, migrate-sound}
 use Rattle.confine_command.proofs.Sound.{confine-entries, confine-sound}

@@ -10,7 +10,7 @@ use Rattle.schedule_commands.specs.Finished.{schedule_course}
 use Rattle.schedule_commands.specs.declared.command.ScheduleCommand.{ScheduleCommand}
 use Rattle.schedule_commands.specs.declared.command.ScheduleCommand.TheVariants as schedule
 use Rattle.confine_command.specs.Confine.{confine_course}
-use Rattle.migrate_command.specs.Migrate.{migrate_course}
+use Rattle.courses.specs.Migrated.{migrate_course}
 use Rattle.image_commands.specs.Packed.{pack_course}
 use Rattle.image_commands.specs.Unpacked.{unpack_course}
 use Rattle.back_command.specs.Back.{back_course}

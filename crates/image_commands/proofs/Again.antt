@@ -24,7 +24,7 @@ use Rattle.courses.specs.Course.{course_output}
 use Rattle.courses.specs.Ending.{Output}
 use Rattle.courses.specs.Listed.{listed_course, lines_course}
 use Rattle.courses.specs.declared.exit.Exit.TheVariants.{Done}
-use Rattle.migrate_command.specs.Migrate.{migrate_course, migrated}
+use Rattle.courses.specs.Migrated.{migrate_course, migrated}
 use Rattle.image_commands.specs.Packed.{pack_course, pack_output}
 use Rattle.image_commands.specs.Passed.{passed, passed_with}
 use Rattle.image_commands.specs.Same.{IsImageOf}

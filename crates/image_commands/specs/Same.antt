@@ -4,7 +4,7 @@ use Rattle.coy_io.specs.Lines.{parts_of}
 use Rattle.coy_io.specs.declared.TheConstants.{INPUT_LIMIT}
 use Rattle.courses.specs.Course.{course_output}
 use Rattle.courses.specs.Listed.{lines_course}
-use Rattle.migrate_command.specs.Migrate.{migrate_course}
+use Rattle.courses.specs.Migrated.{migrate_course}
 use Rattle.image_commands.specs.Unpacked.{image_course}
 
 -- bytes are the image of an input where `unpack` writes for them what `migrate` writes for the input, and ends as that does, if

@@ -18,7 +18,8 @@ use Rattle.schedule_replay.specs.Scheduled.{AtEnd, OnParts, scheduled}
 use Rattle.schedule_replay.proofs.Asked.{asked-end, asked-line, events_of, scheduled-asked_for}
 use Rattle.courses.specs.Course.{course_output}
 use Rattle.courses.specs.Listed.{listed_course, lines_course}
-use Rattle.migrate_command.specs.Migrate.{Accords, PutsLines, migrate_course, migrated}
+use Rattle.courses.specs.Migrated.{migrate_course, migrated}
+use Rattle.migrate_command.specs.Migrate.{Accords, PutsLines}
 use Rattle.schedule_replay.proofs.Reading.{on_all}
 use Rattle.listing_read.specs.declared.fault.ScheduleFault.{ScheduleFault}
 use Rattle.judged_lines.specs.declared.stop.Stop.{Stop}

@@ -24,7 +24,8 @@ use Rattle.courses.specs.declared.exit.Exit.{Exit}
 use Rattle.courses.specs.declared.exit.Exit.TheVariants.{Done, Usage, ReadFault, WriteFault, OutOfMemory}
 use Rattle.courses.proofs.Endings.{outputs_behind, outputs_none}
 use Rattle.courses.proofs.Lasts.{IsLast, last-causes, last-done, last-memory, last-read, last-usage}
-use Rattle.migrate_command.specs.Migrate.{Accords, Concludes, PutsLines, WritesLines, last_of, migrate_course, migrated}
+use Rattle.courses.specs.Migrated.{last_of, migrate_course, migrated}
+use Rattle.migrate_command.specs.Migrate.{Accords, Concludes, PutsLines, WritesLines}
 use Rattle.migrate_command.proofs.Putting.{on_each}
 
 -- nothing is written behind the lines of all that was asked for

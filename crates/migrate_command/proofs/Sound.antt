@@ -5,7 +5,7 @@ use Rattle.listing_read.specs.Statement.{ListingValue}
 use Rattle.courses.specs.Course.{HasEntries}
 use Rattle.courses.proofs.Lasts.{none-entries}
 use Rattle.courses.proofs.Sound.{IsSound}
-use Rattle.migrate_command.specs.Migrate.{migrate_course}
+use Rattle.courses.specs.Migrated.{migrate_course}
 
 -- what the command does with a listing is within the bounds
 pub migrate-sound : (listing : ListingValue) (last : ℕ) (rest : List Part) → IsSound (migrate_course listing last rest)

@@ -1,42 +1,21 @@
--- What `migrate` comes to (this project's own).
-use Rattle.std.specs.Prelude.{◌≡◌, ℕ, List, [], ◌++◌, Option, Result, Ok, Err}
+-- Lines as `migrate` writes them, and how it ends (this project's own).
+use Rattle.std.specs.Prelude.{◌≡◌, ℕ, List, ◌++◌, Option, Result, Ok, Err}
 use Rattle.std.specs.List.{All}
 use Rattle.std.specs.Io.KnownBytes.{Appends}
-use Rattle.coy_io.specs.Lines.{Part}
 use Rattle.coy_io.specs.Pieces.{AppendsSome}
 use Rattle.coy_io.specs.Reader.{Reader, ahead}
 use Rattle.listing_read.specs.Schedule.{IsTimed}
-use Rattle.listing_read.specs.Statement.{ListingValue}
 use Rattle.listing_read.specs.declared.schedule.Timed.{Timed}
-use Rattle.statement_text.specs.Text.{events_text, listing_text}
+use Rattle.statement_text.specs.Text.{events_text}
 use Rattle.schedule_replay.specs.Asked.{Asked, asked}
 use Rattle.schedule_replay.specs.Lines.{FailsOn}
-use Rattle.schedule_replay.specs.Scheduled.{Ending, AtEnd, AtFault, AtLimit, OnParts}
+use Rattle.schedule_replay.specs.Scheduled.{AtEnd, AtFault, AtLimit, OnParts}
 use Rattle.listing_read.specs.declared.fault.ScheduleFault.{ScheduleFault}
 use Rattle.judged_lines.specs.declared.stop.Stop.{Stop}
 use Rattle.judged_lines.specs.declared.stop.Stop.TheVariants as stops
-use Rattle.courses.specs.Course.{Course, ends_in}
-use Rattle.courses.specs.Ending.{Output, EndsIn, refused_schedule, too_long}
-use Rattle.courses.specs.Listed.{Behind}
+use Rattle.courses.specs.Ending.{EndsIn, refused_schedule, too_long}
 use Rattle.courses.specs.declared.exit.Exit.{Exit}
 use Rattle.courses.specs.declared.exit.Exit.TheVariants.{Done, ReadFault, WriteFault}
-
--- what is written behind the lines, by the place where they end: nothing where all of them were read
-abbrev pub last_of : Ending → Output
-last_of AtEnd = record { text = []; exit = Done }
-last_of (AtFault line fault) = refused_schedule line fault
-last_of AtLimit = too_long
-
--- what the command comes to, by what the lines behind a listing ask for: the listing's text, and a line for each of them
--- that is not skipped
-abbrev pub migrated : ListingValue → Asked → Course
-migrated listing all = record (ends_in (last_of all.ending)) { records = listing_text listing ++ events_text all.lines }
-
--- what it comes to with a listing, the number of its line `end` and the lines behind that: nothing runs
-abbrev pub migrate_course : Behind
-migrate_course listing last rest = migrated listing (asked listing.sizes.harts last rest)
-
--- ---- lines as they are written
 
 -- this is what was asked for up to here, and why there was no further line; or writing failed in its last line
 abbrev pub Accords : {E : Type 0} → Result (Stop ScheduleFault) E → List Timed → Asked → Type 0

@@ -6,7 +6,8 @@ ghost use Rattle.schedule_replay.specs.Scheduled.{OnParts};
 ghost use Rattle.courses.specs.Course.{cached, course_output};
 ghost use Rattle.courses.specs.Listed.{lines_course};
 ghost use Rattle.courses.specs.Taken.{TakesLines, TakesListing};
-ghost use Rattle.migrate_command.specs.Migrate.{Concludes, migrate_course};
+ghost use Rattle.courses.specs.Migrated.{migrate_course};
+ghost use Rattle.migrate_command.specs.Migrate.{Concludes};
 ghost use Rattle.migrate_command.specs.Same.{IsMigrated, ReadsAgain};
 
 use crate::lines::put_lines;

@@ -1,7 +1,7 @@
 use Rattle.std.proofs.Common.{refl}
 use Rattle.courses.proofs.Taken.{takes-listing, takes-unlisted}
 use Rattle.courses.specs.Course.{cached}
-use Rattle.migrate_command.specs.Migrate.{migrate_course}
+use Rattle.courses.specs.Migrated.{migrate_course}
 use Rattle.migrate_command.proofs.Again.{bytes-migrated}
 use Rattle.migrate_command.proofs.input.migrate.Goals as goal
 
