@@ -18,6 +18,7 @@ use Rattle.share_command.specs.Share.{share_course}
 use Rattle.coyotos_words.specs.declared.command.Command.{Command}
 use Rattle.coyotos_words.specs.declared.command.Command.TheVariants.{Help, Check, Run, Trace, Tables, Walk, Make, Pack, Unpack, Migrate, Confine, Share, Back}
 use Rattle.coyotos_words.specs.Command.{command_of}
+use Rattle.coyotos_words.specs.Usage.{usage_line}
 use Rattle.coyotos_cli.specs.Command.{count_of}
 use Rattle.coyotos_cli.specs.Input.{Input, read_input, whole_input}
 use Rattle.courses.specs.declared.exit.Exit.{Exit}
@@ -25,9 +26,7 @@ use Rattle.courses.specs.declared.exit.Exit.TheVariants.{Done, Usage}
 
 -- how the program is used
 abbrev pub usage_text : List ℕ
-usage_text =
-    codes "usage: coyotos check | run | trace | tables | walk P KIND ADDR | make N [summary]"
-    ++ codes " | pack | unpack | migrate | confine | share | back N" ++ codes "\n"
+usage_text = usage_line ++ codes "\n"
 
 -- how the program is used is written, and it ends so
 abbrev pub tells_usage : Exit → Course
