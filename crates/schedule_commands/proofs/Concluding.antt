@@ -1,10 +1,9 @@
 -- From the answer of the lines to what a command comes to, and what the entries of the mapping cache are then.
-use Rattle.std.proofs.Common.{◌≡◌, ◌≢◌, ◌+◌, ◌∙◌, [], ℕ, List, true, false, if◌then◌else◌, Option, Some, None, refl, sym, ap, subst, arith}
+use Rattle.std.proofs.Common.{◌≡◌, ◌≢◌, ◌∙◌, [], ℕ, List, true, if◌then◌else◌, Option, refl, sym, ap, subst, arith}
 use Rattle.std.specs.Io.KnownBytes.{Appends}
 use Rattle.std.proofs.KnownBytes.{Appends-nil}
 use Rattle.cap_format.specs.Capability.{Capability}
 use Rattle.cap_format.specs.declared.item.Item.{Item}
-use Rattle.coy_io.specs.Lines.{Part}
 use Rattle.coy_io.specs.Reader.{Reader, ahead}
 use Rattle.object_store.specs.Store.{Items}
 use Rattle.walk_meaning.specs.declared.kind.Kind.{Kind}
@@ -15,16 +14,19 @@ use Rattle.kernel_core.specs.Run.{run_state, run_touches}
 use Rattle.kernel_core.specs.State.{State, state_of}
 use Rattle.map_cache.specs.Cache.{CacheValue, kept_of}
 use Rattle.map_cache.specs.Held.{AreRight, held_entries}
-use Rattle.map_cache.specs.Kept.{KeptValue, cost_of, kept_after, kept_without, nothing}
+use Rattle.map_cache.specs.Kept.{cost_of, kept_after, kept_without, nothing}
 use Rattle.map_cache.specs.Mappings.{mappings_of}
 use Rattle.fetch_economy.proofs.Entries.{covered_have_entries}
 use Rattle.fetch_economy.specs.Counts.{kept_by}
 use Rattle.fetch_economy.specs.Laws.{HasEntry}
 use Rattle.map_cache.specs.Kept.{counted as counted_space}
 use Rattle.run_economy.proofs.Events.{run-ages}
+use Rattle.schedule_commands.specs.declared.command.RunCommand.{RunCommand}
+use Rattle.schedule_commands.specs.declared.command.RunCommand.TheVariants as running
 use Rattle.schedule_commands.specs.declared.command.ScheduleCommand.{ScheduleCommand}
-use Rattle.schedule_commands.specs.Runs.{runs, mode_of}
-use Rattle.courses.specs.Course.{Course, ComesTo, HasEntries, course_output, ends_in}
+use Rattle.schedule_commands.specs.declared.command.ScheduleCommand.TheVariants.{Check}
+use Rattle.schedule_commands.specs.Runs.{as_command, mode_of, runs}
+use Rattle.courses.specs.Course.{ComesTo, HasEntries, course_output, ends_in}
 use Rattle.schedule_commands.specs.Finished.{course_behind, course_of, finished, runner_of}
 use Rattle.courses.specs.Running.{ConcludesBy}
 use Rattle.courses.specs.Sure.{StandsOn}
@@ -40,18 +42,24 @@ use Rattle.schedule_replay.specs.declared.mode.Mode.{Mode}
 use Rattle.schedule_replay.specs.declared.replayed.Replayed.{Replayed}
 use Rattle.schedule_replay.specs.declared.replayed.Replayed.TheVariants as answers
 use Rattle.courses.proofs.Endings.{outputs_none}
-use Rattle.courses.proofs.Lasts.{none-entries}
+use Rattle.courses.proofs.Lasts.{comes-last}
 use Rattle.schedule_replay.proofs.Reading.{on_all}
 
 -- ---- a run
 
--- a command that lets the machine run comes to what its run comes to
-pub course-runs : (command : ScheduleCommand) (s : State) (all : Scheduled) → runs command ≡ true → course_of command s all ≡ course_behind command s all.events (run_answer s all)
-course-runs command s all on = ap (λ b. if b then course_behind command s all.events (run_answer s all) else ends_in (finished command s nothing (count_answer all))) on
+-- a command that runs the events is among those that do
+pub runs-all : (command : RunCommand) → runs (as_command command) ≡ true
+runs-all running.Run = refl
+runs-all running.Trace = refl
+runs-all running.Tables = refl
+runs-all (running.Walk process kind address) = refl
+runs-all running.Summary = refl
 
--- and `check` to what it counts
-course-counts : (command : ScheduleCommand) (s : State) (all : Scheduled) → runs command ≡ false → course_of command s all ≡ ends_in (finished command s nothing (count_answer all))
-course-counts command s all off = ap (λ b. if b then course_behind command s all.events (run_answer s all) else ends_in (finished command s nothing (count_answer all))) off
+-- so it comes to what its run comes to
+pub course-runs : (command : RunCommand) (s : State) (all : Scheduled)
+    → course_of (as_command command) s all ≡ course_behind (as_command command) s all.events (run_answer s all)
+course-runs command s all =
+    ap (λ b. if b then course_behind (as_command command) s all.events (run_answer s all) else ends_in (finished (as_command command) s nothing (count_answer all))) (runs-all command)
 
 -- ---- the entries
 
@@ -75,82 +83,67 @@ module _ (command : ScheduleCommand) (m n : MachineValue CacheValue) (f g : ℕ)
       }
 
 -- so are those of the course of the known lines, where all of these were run
-pub run-entries : (command : ScheduleCommand) (m n : MachineValue CacheValue) (lines lines' : Reader) (held held' start taken' : Option (List ℕ)) (f g : ℕ) (counts : Counts) (answer : Replayed)
-    → answer ≡ answers.Ended counts → kept_of m.translator ≡ nothing → runs command ≡ true
-    → Replays kept_of cost_of kept_after kept_without (mode_of command) m n lines lines' held held' start taken' f g answer → TellsEntries n.translator (state_of n).store.items
-    → OnParts (ahead lines held) (λ parts. HasEntries (course_of command (state_of m) (scheduled m.objects.harts lines.number parts)))
-run-entries command m n lines lines' held held' start taken' f g counts answer is none on r tells =
+pub run-entries : (command : RunCommand) (m n : MachineValue CacheValue) (lines lines' : Reader) (held held' start taken' : Option (List ℕ)) (f g : ℕ) (counts : Counts) (answer : Replayed)
+    → answer ≡ answers.Ended counts → kept_of m.translator ≡ nothing
+    → Replays kept_of cost_of kept_after kept_without (mode_of (as_command command)) m n lines lines' held held' start taken' f g answer → TellsEntries n.translator (state_of n).store.items
+    → OnParts (ahead lines held) (λ parts. HasEntries (course_of (as_command command) (state_of m) (scheduled m.objects.harts lines.number parts)))
+run-entries command m n lines lines' held held' start taken' f g counts answer is none r tells =
     on_all (ahead lines held) _ _
     (λ parts accords. by (scheduled m.objects.harts lines.number parts) (subst (λ a. Accords (run_answer (state_of m)) a r.events (scheduled m.objects.harts lines.number parts)) is accords)) r.follows.lines
   where
-    by : (all : Scheduled) → Accords (run_answer (state_of m)) (answers.Ended counts) r.events all → HasEntries (course_of command (state_of m) all)
+    by : (all : Scheduled) → Accords (run_answer (state_of m)) (answers.Ended counts) r.events all → HasEntries (course_of (as_command command) (state_of m) all)
     by all accords =
-        subst HasEntries (sym (course-runs command (state_of m) all on))
-        (subst (λ es. HasEntries (course_behind command (state_of m) es (run_answer (state_of m) all))) accords.0
-        (behind-entries command m n f g r.events none r.ran tells (run_answer (state_of m) all)))
-
--- and where they were counted
-pub count-entries : (command : ScheduleCommand) (s : State) (harts number : ℕ) (left : Option (List Part)) → runs command ≡ false
-    → OnParts left (λ parts. HasEntries (course_of command s (scheduled harts number parts)))
-count-entries command s harts number None off = tt
-count-entries command s harts number (Some parts) off =
-    subst HasEntries (sym (course-counts command s (scheduled harts number parts) off)) (none-entries (finished command s nothing (count_answer (scheduled harts number parts))))
+        subst HasEntries (sym (course-runs command (state_of m) all))
+        (subst (λ es. HasEntries (course_behind (as_command command) (state_of m) es (run_answer (state_of m) all))) accords.0
+        (behind-entries (as_command command) m n f g r.events none r.ran tells (run_answer (state_of m) all)))
 
 -- ---- a count
 
-module _ {S : Type 0} (taken : S → Option (List ℕ)) (faults : S → ℕ) (command : ScheduleCommand) (s : State) (harts : ℕ) (lines lines' : Reader) (held held' : Option (List ℕ)) (old new : S) (f h : ℕ)
-    (exit : Exit) (answer : Replayed) (k : KeptValue) (is : k ≡ nothing) (count : List Touch → ℕ) (none : count [] ≡ 0) (off : runs command ≡ false) (still : h ≡ f)
-    (r : Counted harts lines lines' held held' answer) (c : ConcludesBy taken faults (runner_of command) s k answer old new f h exit) where
-  abbrev Comes_in : Course → Type 0
-  Comes_in course = ComesTo (taken old) (taken new) f h exit count course
+-- what `check` comes to is the same whatever the state: nothing runs, and its last text is of the answer alone
+module _ {S : Type 0} (taken : S → Option (List ℕ)) (faults : S → ℕ) (s : State) (harts : ℕ) (lines lines' : Reader) (held held' : Option (List ℕ)) (old new : S) (f : ℕ)
+    (exit : Exit) (answer : Replayed) (count : List Touch → ℕ) (none : count [] ≡ 0)
+    (r : Counted harts lines lines' held held' answer) (c : ConcludesBy taken faults (runner_of Check) s nothing answer old new f f exit) where
+  abbrev Comes_in : Scheduled → Type 0
+  Comes_in all = ComesTo (taken old) (taken new) f f exit count (course_of Check s all)
 
-  counts-at : (answer : Replayed) (all : Scheduled) → answer ≡ count_answer all → Ends (taken old) (taken new) (faults old) (faults new) exit (finished command s k answer)
-      → Comes_in (course_of command s all)
+  counts-at : (answer : Replayed) (all : Scheduled) → answer ≡ count_answer all → Ends (taken old) (taken new) (faults old) (faults new) exit (finished Check s nothing answer)
+      → Comes_in all
   counts-at answer all by e =
-      subst Comes_in (sym (course-counts command s all off))
-      (subst (λ x. Comes_in (ends_in (finished command s x (count_answer all)))) is
-      (subst (λ a. Comes_in (ends_in (finished command s k a))) by
-      (record { output = e.output; fetched = record { whole = λ given. omega (arith, none, still); most = omega (arith, none, still) } })))
+      comes-last (taken old) (taken new) (faults old) (faults new) f f exit count (finished Check s nothing (count_answer all))
+      (subst (λ a. Ends (taken old) (taken new) (faults old) (faults new) exit (finished Check s nothing a)) by e) refl none
 
   counts-accord : (answer : Replayed) (events : List Event) (all : Scheduled) → answer ≢ answers.WriteFault → Accords count_answer answer events all
-      → ConcludesBy taken faults (runner_of command) s k answer old new f h exit → Comes_in (course_of command s all)
+      → ConcludesBy taken faults (runner_of Check) s nothing answer old new f f exit → Comes_in all
   counts-accord (answers.Ended counts) events all written a c = counts-at (answers.Ended counts) all a.1 c.0
   counts-accord (answers.Refused line fault) events all written a c = counts-at (answers.Refused line fault) all a.1 c.0
   counts-accord answers.TooLong events all written a c = counts-at answers.TooLong all a.1 c.0
-  counts-accord answers.ReadFault events all written a c =
-      subst Comes_in (sym (course-counts command s all off))
-      (record {
-        output = subst (λ e. Outputs (taken old) (taken new) e (course_output (ends_in (finished command s nothing (count_answer all))))) (sym c.0) (outputs_none (taken old) (taken new) _);
-        fetched = record { whole = λ given. absurd (given.read c.0); most = omega (arith, none, still) };
-      })
+  counts-accord answers.ReadFault events all written a c = record {
+    output = subst (λ e. Outputs (taken old) (taken new) e (course_output (course_of Check s all))) (sym c.0) (outputs_none (taken old) (taken new) _);
+    fetched = record { whole = λ given. absurd (given.read c.0); most = omega (arith, none) };
+  }
   counts-accord answers.WriteFault events all written a c = absurd (written refl)
 
   -- a count and its last text are what the known lines come to
-  pub comes-count : OnParts (ahead lines held) (λ parts. Comes_in (course_of command s (scheduled harts lines.number parts)))
+  pub comes-count : OnParts (ahead lines held) (λ parts. Comes_in (scheduled harts lines.number parts))
   comes-count =
       on_all (ahead lines held) _ _
       (λ parts accords. counts-accord answer r.events (scheduled harts lines.number parts) r.written accords c) r.follows.lines
 
   -- where reading failed, nothing was done
   pub sure-count : exit ≡ ReadFault
-      → StandsOn lines lines' held held' (taken old) (taken new) f h count (λ parts. course_of command s (scheduled harts lines.number parts))
+      → StandsOn lines lines' held held' (taken old) (taken new) f f count (λ parts. course_of Check s (scheduled harts lines.number parts))
   sure-count read =
-      let fault = concludes-read taken faults (runner_of command) s k old new f h exit answer c read in
+      let fault = concludes-read taken faults (runner_of Check) s nothing old new f f exit answer c read in
       let fails = r.follows.read fault.is in
-      let course = course-counts command s (scheduled harts lines.number fails.given) off in
       record {
         before = fails.before;
         going = fails.going;
         unfinished = fails.unfinished;
         given = fails.given;
         gives = fails.gives;
-        goes_on =
-            subst (λ (course : Course). course.last.exit ≡ Done) (sym course)
-            (subst (λ (all : Scheduled). (finished command s nothing (count_answer all)).exit ≡ Done) (sym fails.asks) refl);
-        written =
-            subst (λ (course : Course). Appends (taken old) (taken new) course.records) (sym course)
-            (subst (λ k. Appends (taken old) (taken k) []) (sym fault.output) (Appends-nil (taken old)));
-        fetched = subst (λ (course : Course). h ≡ f + count course.touches) (sym course) (omega (arith, none, still));
+        goes_on = subst (λ (all : Scheduled). (course_of Check s all).last.exit ≡ Done) (sym fails.asks) refl;
+        written = subst (λ k. Appends (taken old) (taken k) []) (sym fault.output) (Appends-nil (taken old));
+        fetched = omega (arith, none);
       }
 
 -- why a count ends as it does, beside a sink that it leaves alone

@@ -1,5 +1,7 @@
 -- Which commands run the events of a schedule, and which of their records they write.
 use Rattle.std.specs.Prelude.{Bool, true, false}
+use Rattle.schedule_commands.specs.declared.command.RunCommand.{RunCommand}
+use Rattle.schedule_commands.specs.declared.command.RunCommand.TheVariants as running
 use Rattle.schedule_commands.specs.declared.command.ScheduleCommand.{ScheduleCommand}
 use Rattle.schedule_commands.specs.declared.command.ScheduleCommand.TheVariants.{Check, Run, Trace as Traced, Tables, Walk, Summary}
 use Rattle.schedule_replay.specs.declared.mode.Mode.{Mode}
@@ -22,3 +24,11 @@ mode_of Traced = Trace
 mode_of Tables = Records
 mode_of (Walk process kind address) = Silent
 mode_of Summary = Silent
+
+-- a command that runs the events, among all commands
+abbrev pub as_command : RunCommand → ScheduleCommand
+as_command running.Run = Run
+as_command running.Trace = Traced
+as_command running.Tables = Tables
+as_command (running.Walk process kind address) = Walk process kind address
+as_command running.Summary = Summary

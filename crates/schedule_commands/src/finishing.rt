@@ -1,10 +1,10 @@
 //! What comes behind the records.
-ghost use Rattle.std.specs.Prelude.{◌≡◌, ◌<◌, ◌≤◌, ◌+◌, ◌*◌, ◌++◌, [], decimal, length, false};
+ghost use Rattle.std.specs.Prelude.{◌≡◌, ◌<◌, ◌≤◌, ◌+◌, ◌*◌, ◌++◌, [], decimal, length};
 ghost use Rattle.kernel_core.specs.State.{state_of, space_of};
-ghost use Rattle.schedule_commands.specs.Runs.{runs};
+ghost use Rattle.schedule_commands.specs.Runs.{as_command};
 ghost use Rattle.courses.specs.Ending.{EndsIn, Fetches};
 ghost use Rattle.courses.specs.Running.{ConcludesBy};
-ghost use Rattle.schedule_commands.specs.Finished.{finished, count_text, summary_text, access_text, last_state_text, fetches_for, runner_of};
+ghost use Rattle.schedule_commands.specs.Finished.{finished, summary_text, access_text, last_state_text, fetches_for, runner_of};
 ghost use Rattle.map_cache.specs.Cache.{kept_of};
 ghost use Rattle.walk_meaning.specs.Trail.{slots};
 ghost use Rattle.walk_meaning.specs.Walk.{access};
@@ -13,7 +13,7 @@ ghost use Rattle.object_store.specs.Meaning.{meaning};
 ghost use Rattle.object_store.specs.Store.{size_of};
 ghost use Rattle.cap_format.specs.declared.kind.CapKind.TheVariants.{Gpt, Process};
 
-use crate::command::ScheduleCommand;
+use crate::command::RunCommand;
 use crate::tables::tables;
 use cap_format::Cap;
 use courses::{Exit, end_past_limit, end_with, refuse_schedule};
@@ -30,16 +30,15 @@ use walk_meaning::Kind;
 
 /// Writes what comes behind the records, by the answer of the lines.
 pub(crate) fn conclude<K: Sink, L: Ledger>(
-    command: ScheduleCommand,
+    command: RunCommand,
     answer: Replayed,
     machine: &Machine<MapCache>,
     output: &mut K,
     fetches: &mut Steps<L>,
 ) -> Exit
     ensures concludes { let kept = kept_of machine.now.translator in
-        ConcludesBy K.taken K.faults (runner_of command) (state_of machine.now) kept answer
+        ConcludesBy K.taken K.faults (runner_of (as_command command)) (state_of machine.now) kept answer
         output.old output.new fetches.old fetches.new result }
-    ensures stays { runs command ≡ false → fetches.new ≡ fetches.old }
 {
     match answer {
         Replayed::Ended(counts) => finish(command, counts, machine, output, fetches),
@@ -50,10 +49,10 @@ pub(crate) fn conclude<K: Sink, L: Ledger>(
     }
 }
 
-/// Writes what comes last where all lines were read: the number of events, the counts, the last state with the entries of
-/// the mapping cache or without, or where a walk ends.
+/// Writes what comes last where all lines were read: the counts, the last state with the entries of the mapping cache or
+/// without, or where a walk ends.
 fn finish<K: Sink, L: Ledger>(
-    command: ScheduleCommand,
+    command: RunCommand,
     counts: Counts,
     machine: &Machine<MapCache>,
     output: &mut K,
@@ -61,35 +60,20 @@ fn finish<K: Sink, L: Ledger>(
 ) -> Exit
     ensures ends { let kept = kept_of machine.now.translator in
         EndsIn K.taken K.faults output.old output.new result
-        (finished command (state_of machine.now) kept (Replayed.Ended counts)) }
+        (finished (as_command command) (state_of machine.now) kept (Replayed.Ended counts)) }
     ensures fetched { Fetches fetches.old fetches.new result
-        (fetches_for command (state_of machine.now)) }
-    ensures stays { runs command ≡ false → fetches.new ≡ fetches.old }
+        (fetches_for (as_command command) (state_of machine.now)) }
 {
     match command {
-        ScheduleCommand::Check => count(counts.events, output),
-        ScheduleCommand::Walk {
+        RunCommand::Walk {
             process,
             kind,
             address,
         } => access(machine, process as u16, kind, address, output, fetches),
-        ScheduleCommand::Tables => tables(machine, output, fetches),
-        ScheduleCommand::Summary => summary(counts, output),
-        ScheduleCommand::Run | ScheduleCommand::Trace => last_state(machine, output, fetches),
+        RunCommand::Tables => tables(machine, output, fetches),
+        RunCommand::Summary => summary(counts, output),
+        RunCommand::Run | RunCommand::Trace => last_state(machine, output, fetches),
     }
-}
-
-/// Writes the number of events.
-#[tactic(auto, using(coy_text::proofs::NumeralLaws::length_decimal))]
-fn count<K: Sink>(events: u64, output: &mut K) -> Exit
-    ensures { EndsIn K.taken K.faults output.old output.new result
-        (record { text = count_text events; exit = Exit.Done }) }
-{
-    let mut line = LineBuf::new();
-    line.push_word("ok events=");
-    line.push_dec(events);
-    line.push_word("\n");
-    end_with(line.as_bytes(), Exit::Done, output)
 }
 
 /// Writes the counts of a run.
@@ -138,7 +122,7 @@ fn access<T: Translator, K: Sink, L: Ledger>(
 ) -> Exit
     ensures ends { EndsIn K.taken K.faults output.old output.new result
         (record { text = access_text (state_of machine.now) process kind address; exit = Exit.Done }) }
-    ensures counted { let command = ScheduleCommand.Walk process kind address in
+    ensures counted { let command = as_command (RunCommand.Walk process kind address) in
         fetches.new ≡ fetches.old + fetches_for command (state_of machine.now) }
 {
     let mut line = LineBuf::new();

@@ -8,6 +8,7 @@ ghost use Rattle.schedule_commands.specs.Finished.{schedule_course};
 ghost use Rattle.schedule_commands.specs.Runs.{runs};
 
 use crate::command::ScheduleCommand;
+use crate::counting::count_schedule;
 use crate::schedule::answer_lines;
 use courses::{Exit, read_head};
 use coy_io::{LineReader, Sink, Source};
@@ -39,6 +40,9 @@ pub fn answer_schedule<S: Source, K: Sink, L: Ledger>(
     let listing = match read_head(alloc, &mut lines, input, output) {
         Ok(listing) => listing,
         Err(exit) => return exit,
+    };
+    let Some(command) = command.to_run() else {
+        return count_schedule(&listing, &mut lines, input, output);
     };
     let Ok(cache) = MapCache::new(alloc, listing.sizes().harts) else {
         return Exit::OutOfMemory;

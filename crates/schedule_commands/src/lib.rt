@@ -4,6 +4,7 @@
 #![tactic(auto)]
 
 mod command;
+mod counting;
 mod finishing;
 mod input;
 mod schedule;

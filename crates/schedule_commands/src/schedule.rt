@@ -4,26 +4,26 @@ ghost use Rattle.coy_io.specs.Reader.{TellsEnd, ahead};
 ghost use Rattle.map_cache.specs.Cache.{kept_of};
 ghost use Rattle.map_cache.specs.Kept.{nothing};
 ghost use Rattle.kernel_core.specs.State.{state_of};
-ghost use Rattle.schedule_commands.specs.Runs.{mode_of, runs};
+ghost use Rattle.schedule_commands.specs.Runs.{as_command, mode_of};
 ghost use Rattle.courses.specs.Course.{HasEntries, cached};
 ghost use Rattle.courses.specs.Taken.{TakesLines};
 ghost use Rattle.schedule_commands.specs.Finished.{course_of};
 ghost use Rattle.schedule_replay.specs.Scheduled.{OnParts, scheduled};
 
-use crate::command::ScheduleCommand;
+use crate::command::RunCommand;
 use crate::finishing::conclude;
 use crate::tables::tell_entries;
 use courses::Exit;
 use coy_io::{LineReader, Sink, Source};
 use kernel_core::Machine;
 use map_cache::MapCache;
-use schedule_replay::{Mode, count_lines, replay};
+use schedule_replay::{Mode, replay};
 use std::sync::ledger::Ledger;
 use steps::Steps;
 
-/// Runs the lines behind a listing, or counts their events, and writes what the command says.
+/// Runs the lines behind a listing, and writes what the command says.
 pub(crate) fn answer_lines<S: Source, K: Sink, L: Ledger>(
-    command: ScheduleCommand,
+    command: RunCommand,
     machine: &mut Machine<MapCache>,
     lines: &mut LineReader,
     input: &mut S,
@@ -36,48 +36,26 @@ pub(crate) fn answer_lines<S: Source, K: Sink, L: Ledger>(
 
     ensures course { TakesLines S.held S.faults K.taken K.faults lines.old lines.new
         input.old input.new output.old output.new fetches.old fetches.new result cached (λ parts.
-        course_of command (state_of machine.old) (scheduled machine.old.objects.harts lines.old.number parts)) }
+        course_of (as_command command) (state_of machine.old)
+        (scheduled machine.old.objects.harts lines.old.number parts)) }
 
     // What the entries of the mapping cache say then.
     ensures entries { result ≡ Exit.Done → OnParts (ahead lines.old (S.held input.old)) (λ parts.
-        HasEntries (course_of command (state_of machine.old) (scheduled machine.old.objects.harts lines.old.number parts))) }
-
-    // Where no slot is fetched.
-    ensures stays { runs command ≡ false → fetches.new ≡ fetches.old }
+        HasEntries (course_of (as_command command) (state_of machine.old)
+        (scheduled machine.old.objects.harts lines.old.number parts))) }
 {
-    if !runs(command) {
-        let harts = machine.objects().sizes().harts;
-        let counted = count_lines(lines, input, harts);
-        return conclude(command, counted, machine, output, fetches);
-    }
     let replayed = replay(machine, lines, input, mode_of(command), output, fetches);
     tell_entries(machine);
     conclude(command, replayed, machine, output, fetches)
 }
 
-/// Whether the events of the lines are run for a command.
-fn runs(command: ScheduleCommand) -> bool
-    ensures { result ≡ runs command }
-{
-    match command {
-        ScheduleCommand::Check => false,
-        ScheduleCommand::Run
-        | ScheduleCommand::Trace
-        | ScheduleCommand::Tables
-        | ScheduleCommand::Walk { .. }
-        | ScheduleCommand::Summary => true,
-    }
-}
-
 /// The records of the run that a command writes.
-fn mode_of(command: ScheduleCommand) -> Mode
-    ensures { result ≡ mode_of command }
+fn mode_of(command: RunCommand) -> Mode
+    ensures { result ≡ mode_of (as_command command) }
 {
     match command {
-        ScheduleCommand::Run | ScheduleCommand::Tables => Mode::Records,
-        ScheduleCommand::Trace => Mode::Trace,
-        ScheduleCommand::Check | ScheduleCommand::Walk { .. } | ScheduleCommand::Summary => {
-            Mode::Silent
-        }
+        RunCommand::Run | RunCommand::Tables => Mode::Records,
+        RunCommand::Trace => Mode::Trace,
+        RunCommand::Walk { .. } | RunCommand::Summary => Mode::Silent,
     }
 }

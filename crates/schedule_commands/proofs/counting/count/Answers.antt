@@ -2,7 +2,7 @@ use Rattle.std.proofs.Common.{◌≡◌, codes, append_assoc}
 use Rattle.std.specs.Prelude.{decimal}
 use Rattle.schedule_commands.specs.Finished.{count_text}
 use Rattle.courses.proofs.Endings.{ends_text}
-use Rattle.schedule_commands.proofs.finishing.count.Goals as goal
+use Rattle.schedule_commands.proofs.counting.count.Goals as goal
 
 pub returns : goal.returns
 returns g c =
