@@ -1,4 +1,5 @@
 mod CapWords
+mod NameIndex
 mod Pairs
 mod Causes
 mod Follows

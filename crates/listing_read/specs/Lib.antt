@@ -1,6 +1,7 @@
 pub mod Faults
 pub mod ObjectFaults
 pub mod Names
+pub mod NameIndex
 pub mod Terms
 pub mod Fields
 pub mod CapWord

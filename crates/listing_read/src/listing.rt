@@ -113,7 +113,7 @@ pub fn read_listing<S: Source>(
         match judge(alloc, &place, lines.line()) {
             Ok(Said::Nothing) => {}
             Ok(Said::Opens(next)) => place = next,
-            Ok(Said::Calls(naming)) => place.call(naming)?,
+            Ok(Said::Calls(naming)) => place.call(alloc, naming)?,
             Ok(Said::Says(statement)) => statements.push(statement)?,
             Ok(Said::Ends(sizes)) => return Ok(Listing { sizes, statements }),
             Err(fault) => return Err(refused(number, fault)),

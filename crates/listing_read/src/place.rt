@@ -16,7 +16,7 @@ use cap_format::{CAPPAGES, ENDPOINTS, GPTS, HARTS, PAGES, PROCESSES};
 use cap_words::number_to;
 use coy_text::{LineWords, is_skipped, is_visible};
 use object_store::Sizes;
-use std::alloc::{AllocFailed, Global};
+use std::alloc::{AllocError, Global};
 
 /// What the next line that is not skipped has to be.
 #[derive(Drop)]
@@ -57,11 +57,11 @@ impl Place {
     }
 
     /// Goes on behind a line that gave a name, which stands among the statements.
-    pub(crate) fn call(&mut self, naming: Naming) -> Result<(), AllocFailed<Naming>>
+    pub(crate) fn call(&mut self, alloc: Global, naming: Naming) -> Result<(), AllocError>
         ensures { OnOk result (self.new ≡ place_with naming self.old) }
     {
         match self {
-            Place::Statements(terms) => terms.names.push(naming),
+            Place::Statements(terms) => terms.names.push(alloc, naming),
             _ => Ok(()),
         }
     }
