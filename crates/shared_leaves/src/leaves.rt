@@ -45,6 +45,7 @@ impl Leaves {
     }
 
     /// The leaf of the page of an address, which the hart holds afterwards.
+    #[inline(always)]
     pub fn find(&mut self, hart: u8, space: Cap, va: u32) -> Option<Leaf>
         requires kept { IsKept self.old }
         requires hart { hart < length self.old.tlbs.items }

@@ -204,6 +204,7 @@ impl Translator for SharedLeaves {
         )
     }
 
+    #[inline(always)]
     fn find_kept(
         &mut self,
         objects: &Objects,

@@ -75,6 +75,7 @@ impl Leaves {
 
     /// The answer of `translate` where a page is kept that allows the access: no slot is fetched then. The hart holds the
     /// page afterwards, and nothing else changes.
+    #[inline(always)]
     pub fn find_kept(
         &mut self,
         objects: &Objects,
@@ -204,6 +205,7 @@ impl Leaves {
     }
 
     /// The leaf of the page of an address, where it allows the access. The hart holds it then.
+    #[inline(always)]
     fn find_allowed(&mut self, hart: u8, space: Cap, va: u32, kind: Kind) -> Option<Leaf>
         requires kept { IsKept self.old }
         requires hart { hart < length self.old.tlbs.items }
