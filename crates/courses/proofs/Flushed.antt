@@ -1,17 +1,20 @@
 -- What is known of the exit that a flush leaves, and of what went out.
-use Rattle.std.proofs.Common.{◌≡◌, ℕ, List, [], ◌++◌, take, drop, Option, None, Some, Result, Ok, Err, IfSome, OnOk, refl, sym, ap, subst, ◌∙◌, inl, inr, append_assoc, append-nil, take-append-drop, arith}
+use Rattle.std.proofs.Common.{◌≡◌, ◌≤◌, ℕ, List, [], ◌++◌, take, drop, Option, None, Some, Result, Ok, Err, IfSome, OnOk, refl, sym, ap, subst, ◌∙◌, inl, inr, append_assoc, append-nil, take-append-drop, arith}
 use Rattle.std.specs.Prelude.{◌≢◌}
 use Rattle.std.specs.Io.KnownBytes.{Appends, Keeps, append_known}
 use Rattle.std.proofs.KnownBytes.{Appends-kept, Keeps-trans}
-use Rattle.coy_io.specs.Causes.{HasCause}
+use Rattle.std.specs.declared.io.buffered.BufWriter.{BufWriter}
+use Rattle.coy_io.specs.Buffered.{gone_out, taken_in}
+use Rattle.coy_io.specs.Causes.{HasCause, Rose, counted}
 use Rattle.coy_io.specs.Pieces.{AppendsSome}
+use Rattle.coy_io.specs.declared.adapters.WriteSink.{WriteSink}
 use Rattle.courses.specs.Course.{Course}
 use Rattle.courses.specs.Sure.{WritesSure}
 use Rattle.courses.specs.declared.exit.Exit.{Exit}
 use Rattle.courses.specs.declared.exit.Exit.TheVariants.{ReadFault, WriteFault, OutOfMemory}
 use Rattle.courses.specs.Exit.{status_of}
 use Rattle.courses.specs.Ending.{Output, IsGiven, Outputs}
-use Rattle.courses.specs.Flush.{exit_after, AreFront, GoesOut, GoesOutSure, Reaches}
+use Rattle.courses.specs.Flush.{exit_after, AnswersFor, AreFront, EndsFlushed, GoesOut, GoesOutFor, GoesOutSure, Reaches}
 
 -- what a sink took, of which some is still in its buffer
 front_of : (old mid sent : Option (List ℕ)) (buffer front behind text : List ℕ) → Appends old mid front → text ≡ front ++ behind → Keeps mid (append_known sent buffer)
@@ -70,7 +73,7 @@ module _ (old mid sent : Option (List ℕ)) (buffer : List ℕ) (o : Output) (ke
   flushed_out T E exit (Err fault) told out = failed T E exit fault told
 
 -- where the bytes are told, what went out is the output
-pub goes_out : (T E : Type 0) (old mid sent : Option (List ℕ)) (buffer : List ℕ) (output : List ℕ → Output) (held : Option (List ℕ)) (exit : Exit) (flushed : Result T E)
+goes_out : (T E : Type 0) (old mid sent : Option (List ℕ)) (buffer : List ℕ) (output : List ℕ → Output) (held : Option (List ℕ)) (exit : Exit) (flushed : Result T E)
     → IfSome held (λ bytes. Outputs old mid exit (output bytes)) → OnOk flushed (Keeps mid sent) → Keeps mid (append_known sent buffer)
     → IfSome held (λ bytes. GoesOut old sent (exit_after exit flushed) (output bytes))
 goes_out T E old mid sent buffer output None exit flushed told out kept = tt
@@ -89,7 +92,7 @@ reaches T E old mid sent buffer text faults faults' (Err fault) took out kept ca
     inr (cause.rose, front_of old mid sent buffer text [] text took (sym (append-nil text)) kept)
 
 -- where reading failed, what went out are the records that are sure, or a front of them
-pub sure_out : (T E : Type 0) (held held' old mid sent : Option (List ℕ)) (buffer : List ℕ) (course : List ℕ → Course) (before faults faults' : ℕ) (exit : Exit) (flushed : Result T E)
+sure_out : (T E : Type 0) (held held' old mid sent : Option (List ℕ)) (buffer : List ℕ) (course : List ℕ → Course) (before faults faults' : ℕ) (exit : Exit) (flushed : Result T E)
     → (exit ≡ ReadFault → WritesSure held held' old mid course) → (exit ≢ WriteFault → faults ≡ before)
     → OnOk flushed (Keeps mid sent) → Keeps mid (append_known sent buffer) → HasCause faults faults' flushed
     → exit_after exit flushed ≡ ReadFault → GoesOutSure held held' old sent before faults' course
@@ -104,3 +107,44 @@ sure_out T E held held' old mid sent buffer course before faults faults' exit fl
       got = subst (λ n. Reaches old sent n faults' (course writes.bytes).records) since
           (reaches T E old mid sent buffer (course writes.bytes).records faults faults' flushed writes.written out kept cause);
     }
+
+-- a fault of reading is told behind every flush
+read_after : (T E : Type 0) (exit : Exit) (flushed : Result T E) → exit ≡ ReadFault → exit_after exit flushed ≡ ReadFault
+read_after T E exit (Ok done) same = same
+read_after T E ReadFault (Err fault) same = refl
+read_after T E other (Err fault) same = let bad : other ≡ ReadFault = same in cc
+
+-- a flush that failed counted a fault, and so did the writing that failed before
+rose_after : (before faults faults' : ℕ) (exit : Exit) → (exit ≡ WriteFault → Rose before faults) → (exit ≢ WriteFault → faults ≡ before)
+    → faults ≤ faults' → Rose faults faults' → Rose before faults'
+rose_after before faults faults' WriteFault wrote quiet later rose = let first : counted before ≤ faults = wrote refl in omega (arith, first, later)
+rose_after before faults faults' other wrote quiet later rose = subst (λ n. Rose n faults') (quiet (λ same. cc)) rose
+
+-- what a program did is so of the writer behind the buffer, once that was flushed
+module _ {S W A : Type 0} (held : S → Option (List ℕ)) (source_faults : S → ℕ) (contents : W → Option (List ℕ)) (input input' : S) (old mid new : WriteSink (BufWriter W A)) (exit : Exit)
+    (read_of : Option (List ℕ) → Option (List ℕ)) (out : List ℕ → Output) (sure_of : List ℕ → Course)
+    (a : AnswersFor held source_faults (taken_in contents) (λ sink. sink.faults) input input' old mid exit read_of out sure_of) where
+  write_after : (T E : Type 0) (flushed : Result T E) → HasCause mid.faults new.faults flushed → exit_after exit flushed ≡ WriteFault → Rose old.faults new.faults
+  write_after T E (Ok done) c same = subst (λ n. Rose old.faults n) (sym c.quiet) (a.causes.write same)
+  write_after T E (Err fault) c same = rose_after old.faults mid.faults new.faults exit a.causes.write a.causes.write_quiet c.later c.rose
+
+  quiet_after : (T E : Type 0) (flushed : Result T E) → HasCause mid.faults new.faults flushed → exit_after exit flushed ≢ WriteFault → exit_after exit flushed ≢ ReadFault
+      → new.faults ≡ old.faults
+  quiet_after T E (Ok done) c written read = c.quiet ∙ a.causes.write_quiet written
+  quiet_after T E (Err fault) c written read = absurd (told exit written read)
+    where
+      told : (exit : Exit) → exit_after {T = T} {E = E} exit (Err fault) ≢ WriteFault → exit_after {T = T} {E = E} exit (Err fault) ≢ ReadFault → ⊥
+      told ReadFault written read = read refl
+      told other written read = written refl
+
+  pub goes-out-for : (exit' : Exit) → EndsFlushed (taken_in contents mid) (taken_in contents new) (gone_out contents new) mid.faults new.faults exit exit'
+      → GoesOutFor held source_faults contents input input' old new exit' read_of out sure_of
+  goes-out-for exit' e =
+      subst (λ x. GoesOutFor held source_faults contents input input' old new x read_of out sure_of) (sym e.ends) (record {
+        written = goes_out _ _ _ _ _ _ out _ _ e.flushed a.written e.out e.kept;
+        sure = sure_out _ _ _ _ _ _ _ _ sure_of _ _ _ _ e.flushed a.sure a.causes.write_quiet e.out e.kept e.cause;
+        read = λ same. a.causes.read (read_before _ _ exit e.flushed same);
+        read_quiet = λ other. a.causes.read_quiet (λ same. other (read_after _ _ exit e.flushed same));
+        write = write_after _ _ e.flushed e.cause;
+        write_quiet = quiet_after _ _ e.flushed e.cause;
+      })

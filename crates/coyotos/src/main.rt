@@ -1,15 +1,11 @@
 //! The program: standard input, standard output and the words after the program's name.
 #![tactic(auto)]
 
-ghost use Rattle.std.specs.Prelude.{◌≡◌, ◌≢◌, IfSome, map, string_bytes};
-ghost use Rattle.coy_io.specs.Buffered.{taken_in, gone_out};
-ghost use Rattle.coy_io.specs.Causes.{Rose};
+ghost use Rattle.std.specs.Prelude.{◌≡◌, map, string_bytes};
 ghost use Rattle.coyotos_words.specs.Command.{command_of};
-ghost use Rattle.courses.specs.Ending.{HasCauses};
-ghost use Rattle.courses.specs.Flush.{GoesOut, GoesOutSure};
-ghost use Rattle.courses.specs.Sure.{WritesSure};
+ghost use Rattle.courses.specs.Flush.{AnswersFor, GoesOutFor};
 ghost use Rattle.coyotos_cli.specs.Program.{out, sure};
-ghost use Rattle.coyotos_cli.specs.Contract.{bytes_for, Answers, HasForm, ReadsInput};
+ghost use Rattle.coyotos_cli.specs.Contract.{bytes_for, HasForm, ReadsInput};
 ghost use Rattle.steps.specs.Permit.{permit_for};
 
 use courses::flush_after;
@@ -58,28 +54,14 @@ fn run_and_flush<S: Source, W: Write + Drop, L: Ledger>(
 ) -> Exit
     requires ledger { permit ≡ permit_for L.name L.parts }
 
-    // What the writer behind the buffer gets, and how it ends, where the bytes that are read are told.
+    // What the writer behind the buffer gets, how the program ends, and why.
     ensures output { let words = map string_bytes words.now in
-        IfSome (bytes_for (command_of words) (S.held input.old)) (λ bytes.
-        let old = taken_in W.contents output.old in let new = gone_out W.contents output.new in
-        GoesOut old new result (out words bytes)) }
+        GoesOutFor S.held S.faults W.contents input.old input.new output.old output.new result
+        (bytes_for (command_of words)) (out words) (sure words) }
 
-    // What the writer gets where reading failed: the records of the whole lines that were read.
-    ensures sure { let course = sure (map string_bytes words.now) in
-        let old = taken_in W.contents output.old in let new = gone_out W.contents output.new in
-        result ≡ Exit.ReadFault →
-        GoesOutSure (S.held input.old) (S.held input.new) old new output.old.faults output.new.faults course }
-
-    // How much of the input is read.
+    // How much of the input is read, and to which words Usage is answered.
     ensures reads { ReadsInput S.held (map string_bytes words.now) input.old input.new result }
-
-    // Why it ends as it does.
     ensures form { HasForm (map string_bytes words.now) result }
-    ensures read { result ≡ Exit.ReadFault → Rose (S.faults input.old) (S.faults input.new) }
-    ensures read_quiet { result ≢ Exit.ReadFault → S.faults input.new ≡ S.faults input.old }
-    ensures write { result ≡ Exit.WriteFault → Rose output.old.faults output.new.faults }
-    ensures write_quiet { result ≢ Exit.WriteFault → result ≢ Exit.ReadFault →
-        output.new.faults ≡ output.old.faults }
 {
     let exit = counted::<_, _, L>(alloc, words, input, output, permit);
     flush_after(exit, output)
@@ -95,21 +77,11 @@ fn counted<S: Source, K: Sink, L: Ledger>(
 ) -> Exit
     requires ledger { permit ≡ permit_for L.name L.parts }
 
-    // What is written, and how it ends, where the bytes that are read are told.
-    ensures answers { Answers (map string_bytes words.now) (S.held input.old)
-        (K.taken output.old) (K.taken output.new) result }
-
-    // Where reading failed, no whole line that was read ended the call, and the records of these lines were written.
-    ensures sure { let course = sure (map string_bytes words.now) in result ≡ Exit.ReadFault →
-        WritesSure (S.held input.old) (S.held input.new) (K.taken output.old) (K.taken output.new) course }
-
-    // How much of the input is read.
+    ensures answers { let words = map string_bytes words.now in
+        AnswersFor S.held S.faults K.taken K.faults input.old input.new output.old output.new result
+        (bytes_for (command_of words)) (out words) (sure words) }
     ensures reads { ReadsInput S.held (map string_bytes words.now) input.old input.new result }
-
-    // Why it ends as it does.
     ensures form { HasForm (map string_bytes words.now) result }
-    ensures causes { HasCauses (S.faults input.old) (S.faults input.new)
-        (K.faults output.old) (K.faults output.new) result }
 {
     let mut fetches = Steps::<L>::new(permit);
     coyotos(alloc, words, input, output, &mut fetches)

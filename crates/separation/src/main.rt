@@ -1,12 +1,8 @@
 //! The program `separation`: standard input, standard output and the words after the program's name.
 #![tactic(auto)]
 
-ghost use Rattle.std.specs.Prelude.{◌≡◌, ◌≢◌, IfSome, map, string_bytes};
-ghost use Rattle.coy_io.specs.Buffered.{taken_in, gone_out};
-ghost use Rattle.coy_io.specs.Causes.{Rose};
-ghost use Rattle.courses.specs.Ending.{HasCauses, Outputs};
-ghost use Rattle.courses.specs.Flush.{GoesOut, GoesOutSure};
-ghost use Rattle.courses.specs.Sure.{WritesSure};
+ghost use Rattle.std.specs.Prelude.{◌≡◌, IfSome, map, string_bytes};
+ghost use Rattle.courses.specs.Flush.{AnswersFor, GoesOutFor};
 ghost use Rattle.separation_program.specs.Judged.{HasJudged, judged};
 ghost use Rattle.separation_program.specs.Program.{asked_by, bytes_for, out, sure, HasForm, ReadsInput};
 ghost use Rattle.separation_program.specs.Theorem.{IsSeparated, IsViolated};
@@ -68,17 +64,11 @@ fn run_and_flush<S: Source, W: Write + Drop, L: Ledger>(
 ) -> Exit
     requires ledger { permit ≡ permit_for L.name L.parts }
 
-    // What the writer behind the buffer gets, and how it ends, where the bytes that are read are told.
+    // What the writer behind the buffer gets, how the program ends, and why. Where reading failed it gets nothing, as nothing
+    // is told before the last line.
     ensures output { let words = map string_bytes words.now in
-        IfSome (bytes_for (asked_by words) (S.held input.old)) (λ bytes.
-        let old = taken_in W.contents output.old in let new = gone_out W.contents output.new in
-        GoesOut old new result (out words bytes)) }
-
-    // What the writer gets where reading failed: nothing, as nothing is told before the last line.
-    ensures sure { let course = sure (map string_bytes words.now) in
-        let old = taken_in W.contents output.old in let new = gone_out W.contents output.new in
-        result ≡ Exit.ReadFault →
-        GoesOutSure (S.held input.old) (S.held input.new) old new output.old.faults output.new.faults course }
+        GoesOutFor S.held S.faults W.contents input.old input.new output.old output.new result
+        (bytes_for (asked_by words)) (out words) (sure words) }
 
     // The theorem: where it told that the policy holds, so it does of the state that was judged.
     ensures separated { asked_by (map string_bytes words.now) ≡ Some Judge → result ≡ Exit.Done →
@@ -86,16 +76,9 @@ fn run_and_flush<S: Source, W: Write + Drop, L: Ledger>(
     ensures violated { result ≡ Exit.Crossings →
         IfSome (S.held input.old) (λ bytes. HasJudged IsViolated (judged bytes)) }
 
-    // How much of the input is read.
+    // How much of the input is read, and to which words Usage is answered.
     ensures reads { ReadsInput S.held (map string_bytes words.now) input.old input.new result }
-
-    // Why it ends as it does.
     ensures form { HasForm (map string_bytes words.now) result }
-    ensures read { result ≡ Exit.ReadFault → Rose (S.faults input.old) (S.faults input.new) }
-    ensures read_quiet { result ≢ Exit.ReadFault → S.faults input.new ≡ S.faults input.old }
-    ensures write { result ≡ Exit.WriteFault → Rose output.old.faults output.new.faults }
-    ensures write_quiet { result ≢ Exit.WriteFault → result ≢ Exit.ReadFault →
-        output.new.faults ≡ output.old.faults }
 {
     let exit = counted::<_, _, L>(alloc, words, input, output, permit);
     flush_after(exit, output)
@@ -111,28 +94,15 @@ fn counted<S: Source, K: Sink, L: Ledger>(
 ) -> Exit
     requires ledger { permit ≡ permit_for L.name L.parts }
 
-    // What is written, and how it ends, where the bytes that are read are told.
     ensures answers { let words = map string_bytes words.now in
-        IfSome (bytes_for (asked_by words) (S.held input.old)) (λ bytes.
-        Outputs (K.taken output.old) (K.taken output.new) result (out words bytes)) }
-
-    // The theorem: what is so of the state that was judged.
+        AnswersFor S.held S.faults K.taken K.faults input.old input.new output.old output.new result
+        (bytes_for (asked_by words)) (out words) (sure words) }
     ensures separated { asked_by (map string_bytes words.now) ≡ Some Judge → result ≡ Exit.Done →
         IfSome (S.held input.old) (λ bytes. HasJudged IsSeparated (judged bytes)) }
     ensures violated { result ≡ Exit.Crossings →
         IfSome (S.held input.old) (λ bytes. HasJudged IsViolated (judged bytes)) }
-
-    // Where reading failed, nothing was written, and no whole line that was read ended the call.
-    ensures sure { let course = sure (map string_bytes words.now) in result ≡ Exit.ReadFault →
-        WritesSure (S.held input.old) (S.held input.new) (K.taken output.old) (K.taken output.new) course }
-
-    // How much of the input is read.
     ensures reads { ReadsInput S.held (map string_bytes words.now) input.old input.new result }
-
-    // Why it ends as it does.
     ensures form { HasForm (map string_bytes words.now) result }
-    ensures causes { HasCauses (S.faults input.old) (S.faults input.new)
-        (K.faults output.old) (K.faults output.new) result }
 {
     let mut fetches = Steps::<L>::new(permit);
     separation(alloc, words, input, output, &mut fetches)
