@@ -22,13 +22,12 @@ use Rattle.object_store.specs.Store.{Store, sizes_of}
 use Rattle.object_store.specs.Ranges.{IsTable, IsWithinLimits}
 use Rattle.object_store.specs.Meaning.{meaning, gpt_map, process_map, endpoint_map, state_map}
 use Rattle.listing_read.specs.CapWord.{IsStated}
-use Rattle.listing_read.specs.Statement.{ListingValue, IsListing, IsStatement, is_recipient}
+use Rattle.listing_read.specs.Statement.{ListingValue, IsListing, IsStatement, IsTyped, is_recipient}
 use Rattle.listing_read.specs.declared.statement.Statement.{Statement}
 use Rattle.image_builder.specs.Given.{last_given, listed, with_object_count, count_given, byte_given, cap_given, header_given, slot_given, endpoint_given, pc_given, place_given, reg_given, capreg_given, final_cap, final_gpt, final_endpoint, final_process}
 use Rattle.image_builder.specs.Boot.{objects_of}
 use Rattle.read_back.specs.Laws.{runs_of}
 use Rattle.read_back.specs.Listable.{IsListable}
-use Rattle.statement_text.specs.Typed.{IsTyped}
 use Rattle.boot_again.proofs.Kept.{Holds, IsKept, IsKeptEndpoint, kept-null, last_kept, count_kept, byte_kept, cap_kept, header_kept, slot_kept, endpoint_kept, pc_kept, place_kept, reg_kept, capreg_kept, x0_kept, c0_kept}
 use Rattle.boot_again.proofs.Stands.{returned}
 

@@ -16,11 +16,10 @@ use Rattle.cap_format.specs.declared.restr.Restr.{Restr}
 use Rattle.object_store.specs.declared.sizes.Sizes.{Sizes}
 use Rattle.object_store.specs.Ranges.{IsWithinLimits}
 use Rattle.listing_read.specs.CapWord.{IsStated}
-use Rattle.listing_read.specs.Statement.{IsStatement, is_recipient}
+use Rattle.listing_read.specs.Statement.{IsStatement, IsTyped, is_recipient}
 use Rattle.listing_read.specs.declared.statement.Statement.{Statement}
 use Rattle.listing_read.specs.declared.statement.Statement.TheVariants as says
 use Rattle.image_builder.specs.Given.{last_given, instruction_bytes, byte_in, count_given, byte_given, cap_given, header_given, region_cap, is_among, slot_given, endpoint_given, pc_given, slot_among, place_given, reg_given, capreg_given}
-use Rattle.statement_text.specs.Typed.{IsTyped}
 
 -- ---- what stands in the end
 

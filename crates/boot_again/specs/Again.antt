@@ -2,11 +2,10 @@
 use Rattle.std.specs.Prelude.{◌≡◌, true}
 use Rattle.std.specs.List.{All}
 use Rattle.std.specs.Option.{is_some}
-use Rattle.listing_read.specs.Statement.{ListingValue, IsListing}
+use Rattle.listing_read.specs.Statement.{ListingValue, IsTyped, IsListing}
 use Rattle.image_builder.specs.Boot.{booted}
 use Rattle.read_back.specs.Laws.{runs_of}
 use Rattle.read_back.specs.Listable.{IsListable}
-use Rattle.statement_text.specs.Typed.{IsTyped}
 use Rattle.boot_again.specs.Boots.{printed_listing}
 
 -- each process of the machine of a listing runs or was stopped: none was refused for want of a schedule

@@ -1,9 +1,8 @@
 -- The machine of a listing starts in its ranges.
 use Rattle.std.specs.List.{All}
 use Rattle.run_ranges.specs.Ranges.{AreInRanges}
-use Rattle.listing_read.specs.Statement.{ListingValue, IsListing}
+use Rattle.listing_read.specs.Statement.{ListingValue, IsTyped, IsListing}
 use Rattle.image_builder.specs.Boot.{booted}
-use Rattle.statement_text.specs.Typed.{IsTyped}
 
 -- where the values of a listing are in the ranges of their types, all that the objects of its machine hold is in its
 -- ranges

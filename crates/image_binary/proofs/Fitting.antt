@@ -11,10 +11,9 @@ use Rattle.object_store.specs.Ranges.{IsWithinLimits}
 use Rattle.object_store.specs.Sizes.{size_in}
 use Rattle.rv32_decode.proofs.RoundTrip.{reads_back}
 use Rattle.listing_read.specs.CapWord.{IsStated}
-use Rattle.listing_read.specs.Statement.{IsStatement}
+use Rattle.listing_read.specs.Statement.{IsStatement, IsTyped}
 use Rattle.listing_read.specs.declared.statement.Statement.{Statement}
 use Rattle.listing_read.specs.declared.statement.Statement.TheVariants as says
-use Rattle.statement_text.specs.Typed.{IsTyped}
 use Rattle.image_binary.specs.Values.{is_there}
 use Rattle.image_binary.proofs.ValueLaws.{IsUncounted}
 use Rattle.image_binary.proofs.StatementLaws.{IsObject, IsBetween, IsWord, Fits}

@@ -10,9 +10,8 @@ use Rattle.coy_io.specs.declared.TheConstants.{INPUT_LIMIT}
 use Rattle.object_store.specs.declared.sizes.Sizes.{Sizes}
 use Rattle.object_store.specs.Ranges.{IsWithinLimits}
 use Rattle.listing_read.specs.Faults.{◌>>=◌}
-use Rattle.listing_read.specs.Statement.{IsStatement, ListingValue}
+use Rattle.listing_read.specs.Statement.{IsStatement, IsTyped, ListingValue}
 use Rattle.listing_read.specs.declared.statement.Statement.{Statement}
-use Rattle.statement_text.specs.Typed.{IsTyped}
 use Rattle.image_binary.specs.declared.fault.ImageWord.TheVariants.{BadMachine}
 use Rattle.image_binary.specs.declared.head.Head.{Head}
 use Rattle.image_binary.specs.declared.stop.Stop.TheVariants.{Short, Wrong}

@@ -3,8 +3,7 @@
 use Rattle.std.specs.Prelude.{◌≡◌, ◌≤◌, ◌<◌, ℕ, List, length, Ok}
 use Rattle.std.specs.List.{All}
 use Rattle.coy_io.specs.declared.TheConstants.{INPUT_LIMIT}
-use Rattle.listing_read.specs.Statement.{IsListing, ListingValue}
-use Rattle.statement_text.specs.Typed.{IsTyped}
+use Rattle.listing_read.specs.Statement.{IsTyped, IsListing, ListingValue}
 use Rattle.image_binary.specs.Image.{image_of, unpacked}
 
 -- numbers of eight bits

@@ -16,7 +16,7 @@ use Rattle.listing_read.specs.declared.place.Place.TheVariants.{Header, Machine,
 use Rattle.listing_read.specs.declared.place.Said.{Said}
 use Rattle.listing_read.specs.declared.place.Said.TheVariants.{Nothing, Opens, Calls, Says, Ends}
 use Rattle.listing_read.specs.declared.statement.Statement.{Statement}
-use Rattle.listing_read.specs.Statement.{IsStatement, IsListing, ListingValue}
+use Rattle.listing_read.specs.Statement.{IsStatement, IsTyped, IsListing, ListingValue}
 use Rattle.listing_read.specs.Listing.{Listed, Good, Refused, Past, with_front, place_behind, place_with, listed_by, judged, listing_of, fault_at_end, IsListed, IsCause, IsPlace, IsSaid}
 use Rattle.listing_read.specs.Reads.{ReadsLine, IsStopped, GivesListing, GivesFront}
 
@@ -215,7 +215,7 @@ module _ (old mid new : Reader) (held held' held'' : Option (List ℕ)) (stateme
 abbrev pub HoldsIn : Place → List Statement → Type 0
 HoldsIn Header statements = statements ≡ []
 HoldsIn (Machine version) statements = statements ≡ []
-HoldsIn (Statements terms) statements = IsWithinLimits terms.sizes × All (IsStatement terms.sizes) statements
+HoldsIn (Statements terms) statements = IsWithinLimits terms.sizes × All (IsStatement terms.sizes) statements × All IsTyped statements
 
 -- the sizes of the place are within their limits
 pub place_held : (place : Place) (statements : List Statement) → HoldsIn place statements → IsPlace place
@@ -230,7 +230,7 @@ holds_opens Header (Machine version) statements said held = held
 holds_opens Header (Statements terms) statements said held = absurd said
 holds_opens (Machine version) Header statements said held = absurd said
 holds_opens (Machine version) (Machine other) statements said held = absurd said
-holds_opens (Machine version) (Statements terms) statements said held = (said, subst (All (IsStatement terms.sizes)) (sym held) (All-nil (IsStatement terms.sizes)))
+holds_opens (Machine version) (Statements terms) statements said held = (said, subst (All (IsStatement terms.sizes)) (sym held) (All-nil (IsStatement terms.sizes)), subst (All IsTyped) (sym held) (All-nil IsTyped))
 holds_opens (Statements terms) Header statements said held = absurd said
 holds_opens (Statements terms) (Machine version) statements said held = absurd said
 holds_opens (Statements terms) (Statements other) statements said held = absurd said
@@ -241,15 +241,20 @@ holds_calls Header naming statements held = held
 holds_calls (Machine version) naming statements held = held
 holds_calls (Statements terms) naming statements held = held
 
+-- elements that each have a property, with one more behind them
+all_with : {A : Type 0} (P : A → Type 0) (xs : List A) (x : A) → All P xs → P x → All P (xs ++ x ∷ [])
+all_with P xs x each is = All-append P xs (x ∷ []) each (All-cons P x [] is (All-nil P))
+
 -- behind one more statement
-pub holds_says : (place : Place) (statements : List Statement) (statement : Statement) → IsSaid place (Says statement) → HoldsIn place statements → HoldsIn place (statements ++ statement ∷ [])
-holds_says Header statements statement said held = absurd said
-holds_says (Machine version) statements statement said held = absurd said
-holds_says (Statements terms) statements statement said held = (held.0, All-append (IsStatement terms.sizes) statements (statement ∷ []) held.1 (All-cons (IsStatement terms.sizes) statement [] said (All-nil (IsStatement terms.sizes))))
+pub holds_says : (place : Place) (statements : List Statement) (statement : Statement) → IsSaid place (Says statement) → IsTyped statement → HoldsIn place statements → HoldsIn place (statements ++ statement ∷ [])
+holds_says Header statements statement said typed held = absurd said
+holds_says (Machine version) statements statement said typed held = absurd said
+holds_says (Statements terms) statements statement said typed held =
+    (held.0, all_with (IsStatement terms.sizes) statements statement held.1 said, all_with IsTyped statements statement held.2 typed)
 
 -- at the end
 pub listing_kept : (place : Place) (statements : List Statement) (sizes : Sizes) → IsSaid place (Ends sizes) → HoldsIn place statements → length statements < 2 ^ 32
     → IsListing (record { sizes = sizes; statements = statements })
 listing_kept Header statements sizes said held few = absurd said
 listing_kept (Machine version) statements sizes said held few = absurd said
-listing_kept (Statements terms) statements sizes said held few = subst (λ (z : Sizes). IsListing (record { sizes = z; statements = statements })) (sym said) (record { limits = held.0; statements = held.1; few = few })
+listing_kept (Statements terms) statements sizes said held few = subst (λ (z : Sizes). IsListing (record { sizes = z; statements = statements })) (sym said) (record { limits = held.0; statements = held.1; typed = held.2; few = few })

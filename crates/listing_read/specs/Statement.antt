@@ -1,9 +1,11 @@
 -- What a listing may say of a machine of some sizes.
-use Rattle.std.specs.Prelude.{◌≡◌, ◌+◌, ◌%◌, ◌^◌, ◌<◌, ◌≤◌, Bool, true, false, List, [], ◌∷◌, ◌++◌, length}
+use Rattle.std.specs.Prelude.{◌≡◌, ◌+◌, ◌%◌, ◌^◌, ◌<◌, ◌≤◌, Bool, true, false, List, [], ◌∷◌, ◌++◌, length, ⊤}
 use Rattle.std.specs.List.{All}
+use Rattle.cap_format.specs.Capability.{IsCapability}
 use Rattle.cap_format.specs.Kind.{is_object}
 use Rattle.cap_format.specs.declared.kind.CapKind.{CapKind}
 use Rattle.cap_format.specs.declared.kind.CapKind.TheVariants as kinds
+use Rattle.gpt_objects.specs.Header.{IsHeader}
 use Rattle.object_store.specs.Ranges.{IsWithinLimits}
 use Rattle.object_store.specs.declared.sizes.Sizes.{Sizes}
 use Rattle.rv32_decode.specs.InRange.{InRange}
@@ -36,6 +38,23 @@ IsStatement sizes (Count kind number count) = (number < size_in sizes kind) × (
 IsStatement sizes (Region gpt slot count page restr) =
     (gpt < sizes.gpts) × (slot + count ≤ 16) × (1 ≤ count) × (page + count ≤ sizes.pages) × (restr.0 < 32)
 
+-- the values of a statement are in the ranges that their types keep: there are at most 64 bytes at once, which have 8
+-- bits, as has the slot of a capability page; a pc, an id, a payload and the value of a register have 32; and
+-- capabilities and headers are what they are everywhere
+abbrev pub IsTyped : Statement → Type 0
+IsTyped (Page number at bytes) = All (λ byte. byte < 256) bytes × (length bytes ≤ 64)
+IsTyped (Code number at insn) = ⊤
+IsTyped (CapSlot number slot cap) = IsCapability cap × (slot < 256)
+IsTyped (Gpt number header) = IsHeader header
+IsTyped (GptSlot number slot cap) = IsCapability cap
+IsTyped (Endpoint number recipient id payload matching) = IsCapability recipient × (id < 2 ^ 32) × (payload < 2 ^ 32)
+IsTyped (Process number pc space schedule handler runs) =
+    (pc < 2 ^ 32) × IsCapability space × IsCapability schedule × IsCapability handler
+IsTyped (Reg number index value) = value < 2 ^ 32
+IsTyped (CapReg number index cap) = IsCapability cap
+IsTyped (Count kind number count) = ⊤
+IsTyped (Region gpt slot count page restr) = ⊤
+
 -- a listing: the sizes of its machine and its statements
 pub record ListingValue : Type 0 where
   pub sizes : Sizes
@@ -53,4 +72,5 @@ saying listing statement = record listing { statements = listing.statements ++ s
 pub record IsListing (listing : ListingValue) : Type 0 where
   pub limits : IsWithinLimits listing.sizes
   pub statements : All (IsStatement listing.sizes) listing.statements
+  pub typed : All IsTyped listing.statements
   pub few : length listing.statements < 2 ^ 32

@@ -19,6 +19,7 @@ mod schedule;
 mod statement;
 mod statements;
 mod terms;
+mod typed;
 
 pub use fault::{Fault, ListingFault, ScheduleFault};
 pub use listing::{Listing, read_listing};

@@ -6,13 +6,14 @@ ghost use Rattle.coy_io.specs.Causes.{Rose};
 ghost use Rattle.coy_io.specs.Reader.{ahead, TellsEnd};
 ghost use Rattle.object_store.specs.Ranges.{IsWithinLimits};
 ghost use Rattle.listing_read.specs.declared.place.Place.TheVariants.{Header};
-ghost use Rattle.listing_read.specs.Statement.{IsStatement, saying, silent};
+ghost use Rattle.listing_read.specs.Statement.{IsStatement, IsTyped, saying, silent};
 ghost use Rattle.listing_read.specs.Listing.{IsListed, IsCause, is_end};
 ghost use Rattle.listing_read.specs.Reads.{ReadsLine, IsStopped, GivesListing, GivesFront};
 
 use crate::fault::{Fault, ListingFault};
 use crate::place::{Place, Said, judge};
 use crate::statement::Statement;
+use crate::typed::statement_is_typed;
 use cap_format::OutOfMemory;
 use coy_io::{LineFault, LineReader, Source};
 use object_store::Sizes;
@@ -55,6 +56,7 @@ impl Listing {
         ensures ok { OnOk result (self.new ≡ saying self.old statement) }
         ensures err { OnErr result (self.new ≡ self.old) }
     {
+        statement_is_typed(&statement);
         self.statements.push(statement)?;
         Ok(())
     }
@@ -70,6 +72,7 @@ impl Listing {
     pub fn statements(&self) -> &[Statement]
         ensures value { result.now ≡ self.now.statements }
         ensures range { All (IsStatement self.now.sizes) self.now.statements }
+        ensures typed { All IsTyped self.now.statements }
         ensures few { length self.now.statements < 2 ^ 32 }
     {
         self.statements.as_slice()
@@ -114,7 +117,10 @@ pub fn read_listing<S: Source>(
             Ok(Said::Nothing) => {}
             Ok(Said::Opens(next)) => place = next,
             Ok(Said::Calls(naming)) => place.call(alloc, naming)?,
-            Ok(Said::Says(statement)) => statements.push(statement)?,
+            Ok(Said::Says(statement)) => {
+                statement_is_typed(&statement);
+                statements.push(statement)?;
+            }
             Ok(Said::Ends(sizes)) => return Ok(Listing { sizes, statements }),
             Err(fault) => return Err(refused(number, fault)),
         }

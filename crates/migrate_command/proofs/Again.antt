@@ -8,11 +8,10 @@ use Rattle.coy_io.specs.declared.TheConstants.{INPUT_LIMIT}
 use Rattle.listing_read.specs.Listing.{Listed, Good, IsListed, listing_of}
 use Rattle.listing_read.specs.declared.place.Place.TheVariants.{Header}
 use Rattle.listing_read.specs.Schedule.{IsTimed, schedule_line}
-use Rattle.listing_read.specs.Statement.{IsListing, ListingValue}
+use Rattle.listing_read.specs.Statement.{IsTyped, IsListing, ListingValue}
 use Rattle.listing_read.specs.declared.schedule.Timed.{Timed}
 use Rattle.statement_text.specs.Laws.{event_part, EventsAreRead, MigratedIsRead}
 use Rattle.statement_text.specs.Text.{event_line, events_text, listing_text}
-use Rattle.statement_text.specs.Typed.{IsTyped}
 use Rattle.schedule_replay.specs.Asked.{Asked, asked, asks_first, asks_none, asks_with, of_line}
 use Rattle.schedule_replay.specs.Scheduled.{AtEnd, OnParts, scheduled}
 use Rattle.schedule_replay.proofs.Asked.{asked-end, asked-line, events_of, scheduled-asked_for}

@@ -12,13 +12,12 @@ use Rattle.process_objects.proofs.Ranges.{IsCapability-slot_of}
 use Rattle.object_store.specs.declared.sizes.Sizes.{Sizes}
 use Rattle.object_store.specs.Ranges.{IsWithinLimits}
 use Rattle.listing_read.specs.Terms.{terms_of}
-use Rattle.listing_read.specs.Statement.{IsStatement}
+use Rattle.listing_read.specs.Statement.{IsStatement, IsTyped}
 use Rattle.listing_read.specs.declared.statement.Statement.{Statement}
 use Rattle.listing_read.specs.declared.statement.Statement.TheVariants as says
 use Rattle.listing_read.specs.declared.terms.Version.TheVariants.{One}
 use Rattle.statement_text.specs.Words.{run_word}
 use Rattle.statement_text.specs.Text.{statement_text}
-use Rattle.statement_text.specs.Typed.{IsTyped}
 use Rattle.statement_text.specs.ReadsBack.{ReadsBack, IsSayable}
 use Rattle.statement_text.proofs.Statements.{statement_reads}
 use Rattle.run_text.specs.Objects.{count_text, row_text, slot_text, header_text, endpoint_text, process_text, register_text, state_word}

@@ -15,7 +15,7 @@ use Rattle.cap_words.specs.Spelling.{dec_to}
 use Rattle.coy_text.specs.Line.{says_nothing}
 use Rattle.listing_read.specs.Machine.{version_of, machine_of}
 use Rattle.listing_read.specs.Terms.{terms_of}
-use Rattle.listing_read.specs.Statement.{IsStatement, ListingValue}
+use Rattle.listing_read.specs.Statement.{IsStatement, IsTyped, ListingValue}
 use Rattle.listing_read.specs.declared.place.Place.{Place}
 use Rattle.listing_read.specs.declared.place.Place.TheVariants.{Header, Machine, Statements}
 use Rattle.listing_read.specs.declared.place.Said.TheVariants.{Opens, Says, Ends}
@@ -27,7 +27,6 @@ use Rattle.listing_read.specs.declared.terms.Version.TheVariants.{One, Two}
 use Rattle.listing_read.specs.Listing.{Listed, Good, Refused, Past, listing_of, with_front, judged, said_by, header_line, machine_line, further_line, end_line}
 use Rattle.coy_text.specs.Spaced.{line_of}
 use Rattle.statement_text.specs.Text.{format_text, machine_text, end_text, statement_text, statements_text}
-use Rattle.statement_text.specs.Typed.{IsTyped}
 use Rattle.statement_text.specs.ReadsBack.{IsSayable}
 use Rattle.statement_text.specs.Lists.{Lists}
 use Rattle.statement_text.specs.Laws.{TextsAreListed, NothingIsListed, BothAreListed, ListedIsListing}

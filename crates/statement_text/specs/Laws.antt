@@ -15,12 +15,11 @@ use Rattle.listing_read.specs.declared.terms.Terms.{Terms}
 use Rattle.listing_read.specs.declared.terms.Version.{Version}
 use Rattle.listing_read.specs.CapWord.{cap_of, IsStated}
 use Rattle.listing_read.specs.Terms.{terms_of}
-use Rattle.listing_read.specs.Statement.{IsStatement, IsListing, ListingValue}
+use Rattle.listing_read.specs.Statement.{IsStatement, IsTyped, IsListing, ListingValue}
 use Rattle.listing_read.specs.Schedule.{IsTimed, schedule_line}
 use Rattle.listing_read.specs.Listing.{Good, listing_of}
 use Rattle.cap_words.specs.Text.{cap_text}
 use Rattle.statement_text.specs.Text.{format_text, machine_text, statement_text, end_text, listing_text, event_line, events_text}
-use Rattle.statement_text.specs.Typed.{IsTyped}
 use Rattle.statement_text.specs.ReadsBack.{ReadsBack, IsSayable}
 use Rattle.statement_text.specs.Lists.{Lists}
 

@@ -72,7 +72,7 @@ lines-preserved g c =
       quiet = search rules;
       told = λ told. next.told (before.told told);
       follows = rw items (follows_says _ c.lines.lines c.next_line.new.lines _ _ _ c.lines.statements.items c.lines.place c.in-Ok-Says.statement before.follows next.reads said);
-      holds = rw items (holds_says _ _ _ e.range before.holds);
+      holds = rw items (holds_says _ _ _ e.range c.statement_is_typed.ensures before.holds);
       few = omega (arith, before.few, next.reads.counted, length_items);
     }
 
