@@ -1,24 +1,47 @@
 -- Line by line, what the lines of a policy state.
-use Rattle.std.proofs.Common.{◌≡◌, ◌≢◌, ◌+◌, ◌∙◌, ◌∷◌, ◌++◌, [], ℕ, List, true, false, Option, Some, None, Result, Ok, Err, refl, sym, ap, subst}
+use Rattle.std.proofs.Common.{◌≡◌, ◌+◌, ◌∙◌, ◌∷◌, ◌++◌, [], ℕ, List, true, false, Option, Some, None, Result, Ok, Err, refl, sym, ap, subst, inl, inr}
 use Rattle.coy_io.specs.Lines.{Part, Line, LongLine, PastLimit}
-use Rattle.coy_io.specs.Reader.{Reader, Advances, Begins, IsDone, IsLine, IsNext, IsSpent, ahead, bytes_ahead}
+use Rattle.coy_io.specs.Reader.{Reader, Advances, Begins, IsDone, ahead}
+use Rattle.listing_read.specs.Reads.{ReadsLine}
+use Rattle.judged_lines.specs.Judged.{JudgesNext, NoneLeft, Refuses}
+use Rattle.judged_lines.specs.declared.stop.Stop.{Stop}
+use Rattle.judged_lines.specs.declared.stop.Stop.TheVariants as stops
 use Rattle.separation_policy.specs.Policy.{PolicyValue}
 use Rattle.separation_lines.specs.PolicyLine.{after_line, answered, as_untaken, policy_line}
 use Rattle.listing_read.specs.declared.object_fault.PolicyFault.{PolicyFault}
 use Rattle.listing_read.specs.declared.object_fault.PolicyFault.TheVariants.{LineTooLong}
+use Rattle.separation_lines.specs.declared.fault.Untaken.{Untaken}
+use Rattle.separation_lines.specs.declared.fault.Untaken.TheVariants.{Refused, OutOfMemory}
 use Rattle.separation_lines.specs.declared.said.Said.{Said}
 use Rattle.separation_lines.specs.declared.said.Said.TheVariants as says
 use Rattle.separation_lines.specs.declared.said.Next.{Next}
 use Rattle.separation_lines.specs.declared.said.Next.TheVariants as nexts
 use Rattle.schedule_replay.specs.Lines.{FailsOn, ReadsOn}
-use Rattle.schedule_replay.proofs.ReadOn.{fails_on, on_lines, reads_on-line, reads_on-trans}
-use Rattle.schedule_replay.proofs.Reading.{gave, gave_none, on_begun, on_given}
-use Rattle.separation_program.specs.Stated.{AreStated, IsOver, PastEnd, RefusedAt, StateAll, States, StatesNext, StatesRest, stated, stated_with, taken_at}
-use Rattle.separation_program.specs.declared.lines.PolicyStop.{PolicyStop}
-use Rattle.separation_program.specs.declared.lines.PolicyStop.TheVariants as stops
+use Rattle.schedule_replay.proofs.ReadOn.{fails_on, on_lines, reads_on-trans}
+use Rattle.schedule_replay.proofs.Reading.{on_begun, on_given}
+use Rattle.separation_program.specs.Stated.{AreStated, IsOver, JudgesPolicyLine, PastEnd, RefusedAt, StateAll, States, StatesRest, stated, stated_with}
+
+-- ---- one line
+
+-- what is told of a line, unless memory is wanting, is what it answers
+answered-next : (answer : Result Next PolicyFault) (next : Next) → Ok next ≡ as_untaken answer → answer ≡ Ok next
+answered-next (Ok other) next same = let one : next ≡ other = cc in ap Ok (sym one)
+answered-next (Err fault) next same = cc
+
+answered-fault : (answer : Result Next PolicyFault) (fault : PolicyFault) → Err (Refused fault) ≡ as_untaken answer → answer ≡ Err fault
+answered-fault (Ok next) fault same = cc
+answered-fault (Err other) fault same = let one : fault ≡ other = cc in ap Err (sym one)
+
+-- a line that ends the policy leaves it as it was
+unchanged : (first : PolicyValue) (told : Result Said PolicyFault) → answered told ≡ Ok nexts.Schedule → after_line first told ≡ first
+unchanged first (Ok says.Nothing) ends = refl
+unchanged first (Ok (says.Objects domain name block)) ends = cc
+unchanged first (Ok (says.Reads reader read)) ends = cc
+unchanged first (Ok says.Ends) ends = refl
+unchanged first (Err fault) ends = refl
 
 module _ (policy : PolicyValue) (n : ℕ) where
-  pub stated-end : stated policy n [] ≡ States policy n []
+  stated-end : stated policy n [] ≡ States policy n []
   unfolding stated
   stated-end = refl
 
@@ -35,6 +58,44 @@ module _ (policy : PolicyValue) (n : ℕ) where
       ≡ stated_with policy (n + 1) parts (answered (policy_line policy line)) (stated (after_line policy (policy_line policy line)) (n + 1) parts)
   unfolding stated
   stated-line line parts = refl
+
+  -- by what it answers
+  stated-answered : (line : List ℕ) (parts : List Part) (answer : Result Next PolicyFault) → answered (policy_line policy line) ≡ answer
+      → stated policy n (Line line ∷ parts) ≡ stated_with policy (n + 1) parts answer (stated (after_line policy (policy_line policy line)) (n + 1) parts)
+  stated-answered line parts answer is =
+      stated-line line parts ∙ ap (λ a. stated_with policy (n + 1) parts a (stated (after_line policy (policy_line policy line)) (n + 1) parts)) is
+
+  -- one that is taken in leaves it to those behind it what is stated
+  stated-taken : (policy' : PolicyValue) (line : List ℕ) (parts : List Part) → JudgesPolicyLine policy line (Ok nexts.Policy) policy' → stated policy n (Line line ∷ parts) ≡ stated policy' (n + 1) parts
+  stated-taken policy' line parts judged =
+      stated-answered line parts (Ok nexts.Policy) (answered-next (answered (policy_line policy line)) nexts.Policy (judged.answer (λ same. cc)))
+      ∙ ap (λ (x : PolicyValue). stated x (n + 1) parts) (sym (judged.after (λ same. cc)))
+
+  -- one that ends the policy states it
+  stated-over : (policy' : PolicyValue) (line : List ℕ) (parts : List Part) → JudgesPolicyLine policy line (Ok nexts.Schedule) policy' → stated policy n (Line line ∷ parts) ≡ States policy' (n + 1) parts
+  stated-over policy' line parts judged =
+      let ends : answered (policy_line policy line) ≡ Ok nexts.Schedule = answered-next (answered (policy_line policy line)) nexts.Schedule (judged.answer (λ same. cc)) in
+      stated-answered line parts (Ok nexts.Schedule) ends
+      ∙ ap (λ (x : PolicyValue). States x (n + 1) parts) (sym (judged.after (λ same. cc) ∙ unchanged policy (policy_line policy line) ends))
+
+  -- and one that is refused ends the lines
+  stated-refused : (policy' : PolicyValue) (line : List ℕ) (fault : PolicyFault) (parts : List Part) → JudgesPolicyLine policy line (Err (Refused fault)) policy'
+      → stated policy n (Line line ∷ parts) ≡ RefusedAt (n + 1) fault
+  stated-refused policy' line fault parts judged =
+      stated-answered line parts (Err fault) (answered-fault (answered (policy_line policy line)) fault (judged.answer (λ same. cc)))
+
+-- ---- the lines that were read
+
+-- one line, of which this is made
+reads_on-read : {M : Type 0} (was is : List Part → M) (old new : Reader) (held held' : Option (List ℕ)) → ReadsLine old new held held' → ((rest : List Part) → was (Line new.line ∷ rest) ≡ is rest)
+    → ReadsOn was is old new held held'
+reads_on-read was is old new held held' reads makes = record {
+  given = Line new.line ∷ [];
+  lines = reads.line;
+  before = λ going. reads.before;
+  bytes = reads.given;
+  makes = makes;
+}
 
 -- ---- the policy is over
 
@@ -58,103 +119,84 @@ are_stated-on first last n k None new given lines makes = tt
 are_stated-on first last n k (Some parts) None given lines makes = absurd lines
 are_stated-on first last n k (Some parts) (Some rest) given lines makes = ap (stated first n) lines ∙ makes rest
 
--- a line that ends the policy leaves it as it was
-unchanged : (first : PolicyValue) (told : Result Said PolicyFault) → answered told ≡ Ok nexts.Schedule → after_line first told ≡ first
-unchanged first (Ok says.Nothing) ends = refl
-unchanged first (Ok (says.Objects domain name block)) ends = cc
-unchanged first (Ok (says.Reads reader read)) ends = cc
-unchanged first (Ok says.Ends) ends = refl
-unchanged first (Err fault) ends = refl
-
--- ---- the next line
-
--- the reader at the end
+-- a reader at the end
 abbrev at_end : Reader → Reader
 at_end old = record old { rest = []; ended = true }
 
+-- ---- the next line
+
 -- there is none
-pub states-end : (policy : PolicyValue) (old new : Reader) (held held' : Option (List ℕ)) → new ≡ at_end old
-    → IsDone (ahead old held) × IsDone (ahead new held') → IsOver policy policy old new held held'
-states-end policy old new held held' left = subst (λ r. IsDone (ahead old held) × IsDone (ahead r held') → IsOver policy policy old r held held') (sym left) here
+over-end : (policy : PolicyValue) (old new : Reader) (held held' : Option (List ℕ)) → NoneLeft old new held held' → IsOver policy policy old new held held'
+over-end policy old new held held' left = subst (λ (r : Reader). IsDone (ahead r held') → IsOver policy policy old r held held') (sym left.reader) here left.still
   where
-    here : IsDone (ahead old held) × IsDone (ahead (at_end old) held') → IsOver policy policy old (at_end old) held held'
-    here none = record {
-      known = are_stated-end policy old.number (ahead old held) _ none.0 none.1;
+    here : IsDone (ahead (at_end old) held') → IsOver policy policy old (at_end old) held held'
+    here still = record {
+      known = are_stated-end policy old.number (ahead old held) _ left.none still;
       given = λ going. let bad : true ≡ false = going in cc;
     }
 
--- it is too long
-pub states-long : (policy : PolicyValue) (n : ℕ) (old : Reader) (held : Option (List ℕ)) → n ≡ old.number → Begins (ahead old held) LongLine
-    → StateAll policy old held (RefusedAt (n + 1) LineTooLong)
-states-long policy n old held is long =
-    on_begun (ahead old held) LongLine (λ parts. stated policy old.number parts ≡ RefusedAt (n + 1) LineTooLong) long
-    (λ rest. stated-long policy old.number rest ∙ ap (λ k. RefusedAt (k + 1) LineTooLong) (sym is))
-
 -- it is past the limit
-pub states-past : (policy : PolicyValue) (old : Reader) (held : Option (List ℕ)) → Begins (ahead old held) PastLimit → StateAll policy old held PastEnd
+states-past : (policy : PolicyValue) (old : Reader) (held : Option (List ℕ)) → Begins (ahead old held) PastLimit → StateAll policy old held PastEnd
 states-past policy old held past =
     on_begun (ahead old held) PastLimit (λ parts. stated policy old.number parts ≡ PastEnd) past (λ rest. stated-past policy old.number rest)
 
--- it is taken in, ends the policy, or is refused
-pub states-line : {X : Type 0} (first policy : PolicyValue) (n k : ℕ) (old new : Reader) (held held' : Option (List ℕ)) (line : List ℕ) (answer : Result (Unit {0}) PolicyStop)
-    → k ≡ old.number → line ≡ new.line → (answer ≢ Err stops.OutOfMemory → answer ≡ taken_at (k + 1) (as_untaken (answered (policy_line first line))))
-    → (answer ≢ Err stops.OutOfMemory → policy ≡ after_line first (policy_line first line))
-    → IsNext (Ok (Some n)) new.line (ahead old held) (ahead new held') → IsSpent (Ok (Some n)) new (bytes_ahead old held) (bytes_ahead new held')
-    → IsLine n new.line → (old.ended ≡ true → (gave n ≡ gave_none) × X) → new.number ≡ old.number + 1
-    → StatesNext first policy old new held held' answer
-states-line first policy n k old new held held' line answer is same by after next spent whole ended number = by_answer answer by after
-  where
-    made : (told : Result Next PolicyFault) → answered (policy_line first line) ≡ told → (rest : List Part)
-        → stated first old.number (Line new.line ∷ rest)
-        ≡ stated_with first (old.number + 1) rest told (stated (after_line first (policy_line first line)) (old.number + 1) rest)
-    made told states rest =
-        stated-line first old.number new.line rest
-        ∙ ap (λ l. stated_with first (old.number + 1) rest (answered (policy_line first l)) (stated (after_line first (policy_line first l)) (old.number + 1) rest)) (sym same)
-        ∙ ap (λ t. stated_with first (old.number + 1) rest t (stated (after_line first (policy_line first line)) (old.number + 1) rest)) states
+module _ (first policy : PolicyValue) (old new : Reader) (held held' : Option (List ℕ)) where
+  -- what reading it came to
+  abbrev Came : Result Next (Stop Untaken) → Type 0
+  Came answer = JudgesNext JudgesPolicyLine (Refused LineTooLong) first policy old new held held' answer
 
-    taken : (told : Result Next PolicyFault) → answered (policy_line first line) ≡ told → policy ≡ after_line first (policy_line first line)
-        → StatesNext first policy old new held held' (taken_at (k + 1) (as_untaken told))
-    taken (Ok nexts.Policy) states here =
-        reads_on-line (stated first old.number) (stated policy new.number) n old new held held' next spent whole ended
-        (λ rest. made (Ok nexts.Policy) states rest ∙ ap (λ (x : PolicyValue). stated x (old.number + 1) rest) (sym here) ∙ ap (λ m. stated policy m rest) (sym number))
-    taken (Ok nexts.Schedule) states here =
-        let all : (rest : List Part) → stated first old.number (Line new.line ∷ rest) ≡ States policy new.number rest =
-        λ rest. made (Ok nexts.Schedule) states rest ∙ ap (λ m. States first m rest) (sym number) ∙ ap (λ (x : PolicyValue). States x new.number rest) (sym (here ∙ unchanged first (policy_line first line) states)) in
-        record {
-          known = are_stated-on first policy old.number new.number (ahead old held) (ahead new held') (Line new.line ∷ []) next all;
-          given = λ going. reads_on-line (stated first old.number) (States policy new.number) n old new held held' next spent whole ended all;
-        }
-    taken (Err fault) states here =
-        on_given (ahead old held) (ahead new held') (Line new.line ∷ []) (λ parts. stated first old.number parts ≡ RefusedAt (k + 1) fault) next
-        (λ rest all. made (Err fault) states rest ∙ ap (λ m. RefusedAt (m + 1) fault) (sym is))
+  -- it is taken in
+  pub reads-line : Came (Ok nexts.Policy) → ReadsOn (stated first old.number) (stated policy new.number) old new held held'
+  reads-line next =
+      reads_on-read (stated first old.number) (stated policy new.number) old new held held' next.0
+      (λ rest. stated-taken first old.number policy new.line rest next.1 ∙ ap (λ m. stated policy m rest) (sym next.0.counted))
 
-    given : (a : Result (Unit {0}) PolicyStop) → a ≢ Err stops.OutOfMemory → (a ≢ Err stops.OutOfMemory → a ≡ taken_at (k + 1) (as_untaken (answered (policy_line first line))))
-        → (a ≢ Err stops.OutOfMemory → policy ≡ after_line first (policy_line first line)) → StatesNext first policy old new held held' a
-    given a other by after = subst (StatesNext first policy old new held held') (sym (by other)) (taken (answered (policy_line first line)) refl (after other))
+  -- it ends the policy
+  over-line : Came (Ok nexts.Schedule) → IsOver first policy old new held held'
+  over-line next =
+      let all : (rest : List Part) → stated first old.number (Line new.line ∷ rest) ≡ States policy new.number rest =
+      λ rest. stated-over first old.number policy new.line rest next.1 ∙ ap (λ m. States policy m rest) (sym next.0.counted) in
+      record {
+        known = are_stated-on first policy old.number new.number (ahead old held) (ahead new held') (Line new.line ∷ []) next.0.line all;
+        given = λ going. reads_on-read (stated first old.number) (States policy new.number) old new held held' next.0 all;
+      }
 
-    by_answer : (a : Result (Unit {0}) PolicyStop) → (a ≢ Err stops.OutOfMemory → a ≡ taken_at (k + 1) (as_untaken (answered (policy_line first line))))
-        → (a ≢ Err stops.OutOfMemory → policy ≡ after_line first (policy_line first line)) → StatesNext first policy old new held held' a
-    by_answer (Err stops.OutOfMemory) by after = tt
-    by_answer (Ok done) by after = given (Ok done) (λ same. cc) by after
-    by_answer (Err stops.Over) by after = given (Err stops.Over) (λ same. cc) by after
-    by_answer (Err (stops.Refused line fault)) by after = given (Err (stops.Refused line fault)) (λ same. cc) by after
-    by_answer (Err stops.TooLong) by after = given (Err stops.TooLong) (λ same. cc) by after
-    by_answer (Err stops.ReadFault) by after = given (Err stops.ReadFault) (λ same. cc) by after
+  -- it is refused
+  states-refused : (line : ℕ) (fault : PolicyFault) → Came (Err (stops.Refused line (Refused fault))) → StateAll first old held (RefusedAt line fault)
+  states-refused line fault next = by_cause next.1
+    where
+      by_cause : Refuses JudgesPolicyLine (Refused LineTooLong) first policy old new held held' (Refused fault) → StateAll first old held (RefusedAt line fault)
+      by_cause (inl long) =
+          let told : Refused fault ≡ Refused LineTooLong = long.1 in
+          let same : fault ≡ LineTooLong = cc in
+          on_begun (ahead old held) LongLine (λ parts. stated first old.number parts ≡ RefusedAt line fault) long.0
+          (λ rest. stated-long first old.number rest ∙ ap (RefusedAt (old.number + 1)) (sym same) ∙ ap (λ n. RefusedAt n fault) (sym next.0))
+      by_cause (inr r) =
+          on_given (ahead old held) (ahead new held') (Line new.line ∷ []) (λ parts. stated first old.number parts ≡ RefusedAt line fault) r.reads.line
+          (λ rest same. stated-refused first old.number policy new.line fault rest r.judges ∙ ap (λ n. RefusedAt n fault) (sym next.0))
 
 -- ---- all lines
 
--- lines were read, and then they end
-pub states-rest : (first mid last : PolicyValue) (old now new : Reader) (held held' held'' : Option (List ℕ)) (stop : PolicyStop)
-    → ReadsOn (stated first old.number) (stated mid now.number) old now held held' → StatesNext mid last now new held' held'' (Err stop)
-    → StatesRest first last old new held held'' stop
-states-rest first mid last old now new held held' held'' stops.Over r next = record {
-  known = are_stated-behind first mid last old.number now.number new.number (ahead old held) (ahead now held') (ahead new held'') r.given r.lines r.makes next.known;
-  given = λ going. reads_on-trans (stated first old.number) (stated mid now.number) (States last new.number) old now new held held' held'' r (next.given going);
-}
-states-rest first mid last old now new held held' held'' (stops.Refused line fault) r next = on_lines _ _ old now held held' (λ s. s ≡ RefusedAt line fault) r next
-states-rest first mid last old now new held held' held'' stops.TooLong r next = on_lines _ _ old now held held' (λ s. s ≡ PastEnd) r next
-states-rest first mid last old now new held held' held'' stops.ReadFault r next =
-    subst (λ made. FailsOn (stated first old.number) made old new held held'')
-    (stated-end mid now.number ∙ ap (λ n. States mid n []) (sym next.0.counted) ∙ ap (λ (p : PolicyValue). States p new.number []) (sym next.1))
-    (fails_on (stated first old.number) (stated mid now.number) old now new held held' held'' r next.0)
-states-rest first mid last old now new held held' held'' stops.OutOfMemory r next = tt
+module _ (first mid last : PolicyValue) (old now new : Reader) (held held' held'' : Option (List ℕ)) (r : ReadsOn (stated first old.number) (stated mid now.number) old now held held') where
+  -- lines were read, and then the policy is over
+  over-behind : IsOver mid last now new held' held'' → IsOver first last old new held held''
+  over-behind over = record {
+    known = are_stated-behind first mid last old.number now.number new.number (ahead old held) (ahead now held') (ahead new held'') r.given r.lines r.makes over.known;
+    given = λ going. reads_on-trans (stated first old.number) (stated mid now.number) (States last new.number) old now new held held' held'' r (over.given going);
+  }
+
+  -- a line ends it
+  pub states-over : Came mid last now new held' held'' (Ok nexts.Schedule) → IsOver first last old new held held''
+  states-over next = over-behind (over-line mid last now new held' held'' next)
+
+  -- there is no further line
+  pub states-rest : (stop : Stop Untaken) → Came mid last now new held' held'' (Err stop) → StatesRest first last old new held held'' stop
+  states-rest stops.End next = over-behind (subst (λ (p : PolicyValue). IsOver mid p now new held' held'') (sym next.1) (over-end mid now new held' held'' next.0))
+  states-rest (stops.Refused line (Refused fault)) next =
+      on_lines _ _ old now held held' (λ s. s ≡ RefusedAt line fault) r (states-refused mid last now new held' held'' line fault next)
+  states-rest (stops.Refused line OutOfMemory) next = tt
+  states-rest stops.TooLong next = on_lines _ _ old now held held' (λ s. s ≡ PastEnd) r (states-past mid now held' next.0)
+  states-rest stops.ReadFault next =
+      subst (λ made. FailsOn (stated first old.number) made old new held held'')
+      (stated-end mid now.number ∙ ap (λ n. States mid n []) (sym next.0.counted) ∙ ap (λ (p : PolicyValue). States p new.number []) (sym next.1))
+      (fails_on (stated first old.number) (stated mid now.number) old now new held held' held'' r next.0)

@@ -1,21 +1,20 @@
 -- What the lines behind a listing state: a policy, and the lines of a schedule behind it; or the first line that is refused
 -- (this project's own).
-use Rattle.std.specs.Prelude.{◌≡◌, ℕ, ◌+◌, false, List, [], ◌∷◌, Option, Some, None, Result, Ok, Err, ⊤}
+use Rattle.std.specs.Prelude.{◌≡◌, ◌≢◌, ℕ, ◌+◌, false, List, [], ◌∷◌, Option, Some, None, Result, Ok, Err, ⊤}
 use Rattle.coy_io.specs.Lines.{Part, Line, LongLine, PastLimit}
 use Rattle.coy_io.specs.Reader.{Reader, ahead}
-use Rattle.listing_read.specs.Reads.{IsStopped}
 use Rattle.separation_policy.specs.Policy.{PolicyValue}
-use Rattle.separation_lines.specs.PolicyLine.{after_line, answered, policy_line}
+use Rattle.separation_lines.specs.PolicyLine.{after_line, answered, as_untaken, policy_line}
 use Rattle.listing_read.specs.declared.object_fault.PolicyFault.{PolicyFault}
 use Rattle.listing_read.specs.declared.object_fault.PolicyFault.TheVariants.{LineTooLong}
 use Rattle.separation_lines.specs.declared.fault.Untaken.{Untaken}
 use Rattle.separation_lines.specs.declared.fault.Untaken.TheVariants.{Refused, OutOfMemory}
 use Rattle.separation_lines.specs.declared.said.Next.{Next}
 use Rattle.separation_lines.specs.declared.said.Next.TheVariants as nexts
+use Rattle.judged_lines.specs.declared.stop.Stop.{Stop}
+use Rattle.judged_lines.specs.declared.stop.Stop.TheVariants as stops
 use Rattle.schedule_replay.specs.Lines.{FailsOn, ReadsOn}
 use Rattle.schedule_replay.specs.Scheduled.{OnParts}
-use Rattle.separation_program.specs.declared.lines.PolicyStop.{PolicyStop}
-use Rattle.separation_program.specs.declared.lines.PolicyStop.TheVariants as stops
 
 -- what lines state: this policy, with the number of its last line and the lines of the schedule behind it, which are none
 -- where no line `end` stands; or nothing, since a line is refused or the input goes on behind the last byte that is read
@@ -38,6 +37,12 @@ stated policy n (PastLimit ∷ parts) = PastEnd
 stated policy n (Line line ∷ parts) =
     stated_with policy (n + 1) parts (answered (policy_line policy line)) (stated (after_line policy (policy_line policy line)) (n + 1) parts)
 
+-- how a line is judged by itself: what is told of it, and the policy after it; where memory is wanting the policy is as before
+pub record JudgesPolicyLine (policy : PolicyValue) (line : List ℕ) (told : Result Next Untaken) (policy' : PolicyValue) : Type 0 where
+  pub answer : told ≢ Err OutOfMemory → told ≡ as_untaken (answered (policy_line policy line))
+  pub after : told ≢ Err OutOfMemory → policy' ≡ after_line policy (policy_line policy line)
+  pub before : told ≡ Err OutOfMemory → policy' ≡ policy
+
 -- ---- lines as they are read
 
 -- the known lines state this policy, the last line of it is this one, and these lines are left
@@ -56,26 +61,10 @@ pub record IsOver (first policy : PolicyValue) (old new : Reader) (held held' : 
 abbrev pub StateAll : PolicyValue → Reader → Option (List ℕ) → Stated → Type 0
 StateAll first old held all = OnParts (ahead old held) (λ parts. stated first old.number parts ≡ all)
 
--- what reading one line more came to, where the policy was the first before and is the second now
-abbrev pub StatesNext : PolicyValue → PolicyValue → Reader → Reader → Option (List ℕ) → Option (List ℕ) → Result (Unit {0}) PolicyStop → Type 0
-StatesNext first policy old new held held' (Ok done) = ReadsOn (stated first old.number) (stated policy new.number) old new held held'
-StatesNext first policy old new held held' (Err stops.Over) = IsOver first policy old new held held'
-StatesNext first policy old new held held' (Err (stops.Refused line fault)) = StateAll first old held (RefusedAt line fault)
-StatesNext first policy old new held held' (Err stops.TooLong) = StateAll first old held PastEnd
-StatesNext first policy old new held held' (Err stops.ReadFault) = IsStopped old new held held' × (policy ≡ first)
-StatesNext first policy old new held held' (Err stops.OutOfMemory) = ⊤
-
--- how line `n` is taken, where it is read by itself
-abbrev pub taken_at : ℕ → Result Next Untaken → Result (Unit {0}) PolicyStop
-taken_at n (Ok nexts.Policy) = Ok tt
-taken_at n (Ok nexts.Schedule) = Err stops.Over
-taken_at n (Err (Refused fault)) = Err (stops.Refused n fault)
-taken_at n (Err OutOfMemory) = Err stops.OutOfMemory
-
 -- what reading all lines came to, up to where they end
-abbrev pub StatesRest : PolicyValue → PolicyValue → Reader → Reader → Option (List ℕ) → Option (List ℕ) → PolicyStop → Type 0
-StatesRest first policy old new held held' stops.Over = IsOver first policy old new held held'
-StatesRest first policy old new held held' (stops.Refused line fault) = StateAll first old held (RefusedAt line fault)
+abbrev pub StatesRest : PolicyValue → PolicyValue → Reader → Reader → Option (List ℕ) → Option (List ℕ) → Stop Untaken → Type 0
+StatesRest first policy old new held held' stops.End = IsOver first policy old new held held'
+StatesRest first policy old new held held' (stops.Refused line (Refused fault)) = StateAll first old held (RefusedAt line fault)
+StatesRest first policy old new held held' (stops.Refused line OutOfMemory) = ⊤
 StatesRest first policy old new held held' stops.TooLong = StateAll first old held PastEnd
 StatesRest first policy old new held held' stops.ReadFault = FailsOn (stated first old.number) (States policy new.number []) old new held held'
-StatesRest first policy old new held held' stops.OutOfMemory = ⊤

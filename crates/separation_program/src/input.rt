@@ -13,12 +13,14 @@ ghost use Rattle.separation_program.specs.Stated.{stated};
 ghost use Rattle.separation_program.specs.Theorem.{IsSeparated, IsViolated};
 
 use crate::judging::judge;
-use crate::lines::{PolicyStop, read_policies};
+use crate::lines::read_policies;
 use cap_format::OutOfMemory;
 use courses::{Exit, end_past_limit, read_head, refuse_policy};
 use coy_io::{LineReader, Sink, Source};
 use image_builder::boot;
+use judged_lines::Stop;
 use kernel_core::Machine;
+use separation_lines::Untaken;
 use separation_policy::Policy;
 use std::alloc::Global;
 use std::sync::ledger::Ledger;
@@ -107,10 +109,16 @@ fn judge_lines<T: Translator, S: Source, K: Sink, L: Ledger>(
         (λ parts. judged_by (state_of m) m.objects.harts (stated policy.old lines.old.number parts)) }
 {
     match read_policies(lines, input, policy) {
-        PolicyStop::Over => judge(alloc, machine, policy, lines, input, output, fetches),
-        PolicyStop::Refused { line, fault } => Ok(refuse_policy(line, fault, output)),
-        PolicyStop::TooLong => Ok(end_past_limit(output)),
-        PolicyStop::ReadFault => Ok(Exit::ReadFault),
-        PolicyStop::OutOfMemory => Err(OutOfMemory),
+        Stop::End => judge(alloc, machine, policy, lines, input, output, fetches),
+        Stop::Refused {
+            line,
+            fault: Untaken::Refused(fault),
+        } => Ok(refuse_policy(line, fault, output)),
+        Stop::Refused {
+            fault: Untaken::OutOfMemory,
+            ..
+        } => Err(OutOfMemory),
+        Stop::TooLong => Ok(end_past_limit(output)),
+        Stop::ReadFault => Ok(Exit::ReadFault),
     }
 }
