@@ -28,6 +28,7 @@ pub enum Action {
 }
 
 /// What the instruction at `pc` does with these registers, one row an instruction.
+#[inline(always)]
 #[tactic(auto, unfolding(crate::specs::Table::action_of))]
 pub fn prepare(regs: &[u32; 32], pc: u32, insn: Insn) -> Action
     requires { InRange insn }

@@ -23,6 +23,7 @@ pub struct Outcome {
 }
 
 /// What the instruction at `pc` comes to over these registers. The operands are in their ranges.
+#[inline(always)]
 #[tactic(auto, unfolding(crate::specs::Step::effect_of, crate::specs::Step::registers_after))]
 pub fn evaluate(regs: &[u32; 32], pc: u32, insn: Insn) -> Outcome
     requires { InRange insn }
