@@ -1,2 +1,3 @@
 pub mod Reach
+pub mod Looked
 pub mod Plain

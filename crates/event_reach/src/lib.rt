@@ -1,10 +1,11 @@
 //! What an event may change: the objects, besides processes, that are found before it is performed.
 //!
-//! Each call looks at a machine and changes nothing of it. It walks where the event will walk, and finds at least the
-//! objects that the outcome of its part names, or exactly those of a plain instruction. Nothing here knows of copies, or of
-//! what becomes of an object.
+//! Each call looks at a machine and leaves it as it is, and what its translator keeps. It walks where the event will walk,
+//! or asks for a page that is kept, and finds at least the objects that the outcome of its part names, or exactly those of
+//! a plain instruction. Nothing here knows of copies, or of what becomes of an object.
 #![tactic(auto)]
 
+mod accesses;
 mod events;
 mod faults;
 mod instructions;

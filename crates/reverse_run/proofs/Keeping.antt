@@ -14,13 +14,16 @@ use Rattle.object_store.proofs.Stays.{among_front, among_back}
 use Rattle.object_store.proofs.Same.{size_in_store}
 use Rattle.machine_state.specs.declared.places.Place.{Place}
 use Rattle.machine_state.specs.Machine.{MachineValue}
-use Rattle.machine_state.specs.State.{State}
+use Rattle.machine_state.specs.declared.event.Event.{Event}
+use Rattle.machine_state.specs.State.{State, state_of}
 use Rattle.machine_state.specs.Outcome.{process_name, page_name}
 use Rattle.machine_state.specs.Past.{PastValue, names_in, used, same_kind, next_place, room_of, IsFor, Holds}
+use Rattle.kernel_core.specs.Event.{event_of}
 use Rattle.event_reach.specs.Reach.{Covers}
+use Rattle.event_reach.specs.Looked.{Looked}
 use Rattle.event_reach.specs.declared.plain.PlainInsn.{PlainInsn}
 use Rattle.event_reach.specs.Plain.{stored_names, plain_names, IsThere}
-use Rattle.reverse_run.specs.Remembered.{StandsFor, LeadsBack, Remembers, HasPlace}
+use Rattle.reverse_run.specs.Remembered.{MementoValue, StandsFor, LeadsBack, Remembers, HasPlace, queues_before, halted_before}
 
 -- ---- places
 
@@ -162,3 +165,19 @@ leads_whole past m after stands = record {
 -- and remembers them
 pub remembers_names : (past : PastValue) (s : Store) (names : List ObjectName) → names_in past ≡ names → Remembers past s names
 remembers_names past s names is = record { each = λ kind n there among. rw is among }
+
+-- ---- a look at the machine
+
+-- what leads back to the machine behind a look leads back to the one before it
+pub leads_looked : {T K C : Type 0} (kept : T → K) (cache : T → ℕ → C) (hart : ℕ) (m n : MachineValue T) (past : MementoValue) (e : Event) → Looked kept cache hart m n
+    → LeadsBack past n (event_of (state_of n) e).state → LeadsBack past m (event_of (state_of m) e).state
+leads_looked kept cache hart m n past e looked leads =
+    let Queues : State → Type 0 = λ s. queues_before past (event_of s e).state.queues ≡ m.queues in
+    let Halted : State → Type 0 = λ s. halted_before past (event_of s e).state.halted ≡ m.halted in
+    record {
+      sizes = subst (λ (o : Store). IsFor past.past (sizes_of o)) looked.objects leads.sizes;
+      holds = subst (λ (o : Store). Holds past.past o) looked.objects leads.holds;
+      there = subst (λ (o : Store). AreThere o (names_in past.past)) looked.objects leads.there;
+      queues = subst Queues looked.state (leads.queues ∙ looked.queues);
+      halted = subst Halted looked.state (leads.halted ∙ ap (λ (s : State). s.halted) looked.state);
+    }

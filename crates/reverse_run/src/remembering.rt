@@ -10,6 +10,7 @@ ghost use Rattle.machine_state.specs.Machine.{hart_in};
 ghost use Rattle.machine_state.specs.Past.{names_in, used, same_kind, IsFor, Holds};
 ghost use Rattle.kernel_core.specs.Event.{event_of};
 ghost use Rattle.event_reach.specs.Reach.{names_of};
+ghost use Rattle.event_reach.specs.Looked.{Looked};
 ghost use Rattle.event_reach.specs.Plain.{plain_names, IsThere};
 ghost use Rattle.reverse_run.specs.Remembered.{StandsFor, LeadsBack, Remembers, HasPlace};
 
@@ -23,21 +24,22 @@ use string_move::Pieces;
 use walk_engine::Translator;
 
 /// Remembers what an event may change: of a plain instruction its process and the page of its store, and of any other
-/// event all that `remember` does.
+/// event all that `remember` does. The machine stays as it is, and so does what its translator keeps.
 ///
-/// It walks as the event will; no bound on the slots that it reads is claimed.
+/// It walks as the event will, but not to a page that is kept; no bound on the slots that it reads is claimed.
 pub(crate) fn keep_event<T: Translator, L: Ledger>(
-    machine: &Machine<T>,
+    machine: &mut Machine<T>,
     e: Event,
     kept: &mut Memento,
     fetches: &mut Steps<L>,
 )
-    requires hart { hart_in e < machine.now.objects.harts }
-    requires sizes { IsFor kept.old.past (sizes_of machine.now.objects) }
-    ensures back { let after = (event_of (state_of machine.now) e).state in
-        LeadsBack kept.new machine.now after }
-    ensures remembers { let changed = (event_of (state_of machine.now) e).changed in
-        Remembers kept.new.past machine.now.objects changed }
+    requires hart { hart_in e < machine.old.objects.harts }
+    requires sizes { IsFor kept.old.past (sizes_of machine.old.objects) }
+    ensures back { let after = (event_of (state_of machine.old) e).state in
+        LeadsBack kept.new machine.old after }
+    ensures remembers { let changed = (event_of (state_of machine.old) e).changed in
+        Remembers kept.new.past machine.old.objects changed }
+    ensures looked { Looked T.kept T.cache (hart_in e) machine.old machine.new }
 {
     match plain_of_event(machine, e, fetches) {
         Some(plain) => {

@@ -112,8 +112,8 @@ impl<T: Translator> Reversible<T> {
         ensures harts { self.new.machine.objects.harts ≡ self.old.machine.objects.harts }
     {
         let mut kept = take_past(&mut self.pasts, &mut self.spare);
-        keep_event(&self.machine, e, &mut kept, fetches);
         tell_machine(&self.machine);
+        keep_event(&mut self.machine, e, &mut kept, fetches);
         kernel_core::event_into(&mut self.machine, e, records, fetches);
         tell_machine(&self.machine);
         self.pasts.push_front_reserved(kept);
