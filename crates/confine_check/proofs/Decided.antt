@@ -9,6 +9,7 @@ use Rattle.cap_format.specs.declared.kind.CapKind.TheVariants.{Null, Page, CapPa
 use Rattle.cap_format.specs.Kind.{is_counted, object_kind}
 use Rattle.cap_format.specs.Capability.{Capability, null, bare}
 use Rattle.cap_format.specs.Weakening.{is_harmless}
+use Rattle.confinement.specs.declared.cut_side.CutSide.{CutSide}
 use Rattle.confinement.specs.Cut.{Cut, side_of, same_side, MayHold, EachMayHold, AllOn, SleepApart}
 use Rattle.gpt_objects.specs.Gpt.{GptValue, slot_of as gpt_slot_of, empty_gpt, empty_slots as empty_gpt_slots}
 use Rattle.page_store.specs.CapPage.{cap_at, empty_cappage}
@@ -47,7 +48,7 @@ is_range-kind Discrim e = absurd (cc (e))
 is_range-kind KernLog e = absurd (cc (e))
 is_range-kind SysCtl e = absurd (cc (e))
 
-module _ (cut : Cut) (side : Bool) (c : Capability) where
+module _ (cut : Cut) (side : CutSide) (c : Capability) where
   -- the test, by its four answers
   abbrev tested : Bool → Bool → Bool → Bool → Bool
   tested range counted own cross = if range then false else (if counted then own || cross else true)
@@ -88,7 +89,7 @@ module _ (cut : Cut) (side : Bool) (c : Capability) where
 
 -- ---- stored capabilities and their meanings
 
-module _ (cut : Cut) (side : Bool) (o : Items) (c : Capability) where
+module _ (cut : Cut) (side : CutSide) (o : Items) (c : Capability) where
   means-may : (b : Bool) → MayHold cut side (if b then c else null) → MayHold cut side (if b then bare c else null)
   means-may true m = record { no_range = m.no_range; own = m.own }
   means-may false m = m
@@ -210,18 +211,18 @@ module _ (cut : Cut) (s : Store) where
   null_at (suc n) (suc i) = null_at n i
 
   -- Null may stand where there is no place
-  null-held : (side : Bool) (c : Capability) → c ≡ null → MayHold cut side (Means c)
+  null-held : (side : CutSide) (c : Capability) → c ≡ null → MayHold cut side (Means c)
   null-held side c e = subst (λ (d : Capability). MayHold cut side (Means d)) (sym e) (may-null cut side)
 
   -- what is read of a list of meanings is the meaning of what is read
-  read-meaning : (side : Bool) (xs : List Capability) (i : ℕ) → MayHold cut side (Means (get_or xs i null)) → MayHold cut side (get_or (map Means xs) i null)
+  read-meaning : (side : CutSide) (xs : List Capability) (i : ℕ) → MayHold cut side (Means (get_or xs i null)) → MayHold cut side (get_or (map Means xs) i null)
   read-meaning side xs i m = subst (λ (c : Capability). MayHold cut side c) (sym (get_or-map Means xs i null)) m
 
-  meaning-read : (side : Bool) (xs : List Capability) (i : ℕ) → MayHold cut side (get_or (map Means xs) i null) → MayHold cut side (Means (get_or xs i null))
+  meaning-read : (side : CutSide) (xs : List Capability) (i : ℕ) → MayHold cut side (get_or (map Means xs) i null) → MayHold cut side (Means (get_or xs i null))
   meaning-read side xs i m = subst (λ (c : Capability). MayHold cut side c) (get_or-map Means xs i null) m
 
   -- of a list of `n` capabilities those at places below `n` are known, and the others are Null
-  below : (side : Bool) (n : ℕ) (xs : List Capability) (i : ℕ) → length xs ≡ n → (i < n → MayHold cut side (Means (get_or xs i null))) → MayHold cut side (Means (get_or xs i null))
+  below : (side : CutSide) (n : ℕ) (xs : List Capability) (i : ℕ) → length xs ≡ n → (i < n → MayHold cut side (Means (get_or xs i null))) → MayHold cut side (Means (get_or xs i null))
   below side n xs i size known = elim (cases_lt i n) [
     | inl there ↦ known there
     | inr past ↦ null-held side (get_or xs i null) (get_or_past xs i null (omega (arith, size, past)))
@@ -343,11 +344,11 @@ module _ (cut : Cut) (s : Store) where
 -- ---- sleepers
 
 module _ (cut : Cut) where
-  all_on : (side : Bool) (xs : List ℕ) → ((i : ℕ) → i < length xs → side_of cut Process (get_or xs i 0) ≡ side) → AllOn cut side xs
+  all_on : (side : CutSide) (xs : List ℕ) → ((i : ℕ) → i < length xs → side_of cut Process (get_or xs i 0) ≡ side) → AllOn cut side xs
   all_on side [] all = tt
   all_on side (x ∷ xs) all = (all 0 (omega arith), all_on side xs (λ i lt. all (suc i) (omega (arith, lt))))
 
-  on_at : (side : Bool) (xs : List ℕ) (i : ℕ) → AllOn cut side xs → i < length xs → side_of cut Process (get_or xs i 0) ≡ side
+  on_at : (side : CutSide) (xs : List ℕ) (i : ℕ) → AllOn cut side xs → i < length xs → side_of cut Process (get_or xs i 0) ≡ side
   on_at side [] i all lt = absurd (omega (arith, lt))
   on_at side (x ∷ xs) zero all lt = all.0
   on_at side (x ∷ xs) (suc i) all lt = on_at side xs i all.1 (omega (arith, lt))

@@ -12,6 +12,7 @@ use Rattle.process_objects.specs.Process.{capreg_of, slot_of}
 use Rattle.object_store.specs.Store.{Store, size_of, slot_at, cappage_at, process_at, endpoint_at}
 use Rattle.object_store.specs.Meaning.{live}
 use Rattle.schedules.specs.Queues.{QueuesValue, sleepers_of}
+use Rattle.confinement.specs.declared.cut_side.CutSide.{CutSide}
 use Rattle.confinement.specs.Cut.{Cut, side_of, same_side}
 use Rattle.confine_check.specs.declared.verdict.Breach.{Breach}
 use Rattle.confine_check.specs.declared.verdict.Verdict.{Verdict}
@@ -31,7 +32,7 @@ is_range _ = false
 
 -- whether an object of this side may hold a capability: one that names nothing, or what is of this side, or that is
 -- harmless; and no Range
-abbrev pub may_hold : Cut → Bool → Capability → Bool
+abbrev pub may_hold : Cut → CutSide → Capability → Bool
 may_hold cut side c =
     if is_range c.kind then false
     else (if is_counted c.kind then same_side (side_of cut (object_kind c.kind) c.object) side || (cut.weakly side && is_harmless c)

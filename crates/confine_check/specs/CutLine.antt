@@ -7,7 +7,7 @@ use Rattle.listing_read.specs.Faults.{◌>>=◌, ensured}
 use Rattle.confinement.specs.Cut.{Sides, sides_of}
 use Rattle.confine_check.specs.declared.block.Block.{Block}
 use Rattle.listing_read.specs.declared.object_fault.CutFault.{CutFault}
-use Rattle.listing_read.specs.declared.object_fault.CutFault.TheVariants.{LineTooLong, BadByte, UnknownCut, WrongWords, BadValue, BadNumber, NoObject, BadOrder}
+use Rattle.listing_read.specs.declared.object_fault.CutFault.TheVariants.{LineTooLong, BadByte, UnknownCut, WrongWords}
 use Rattle.listing_read.specs.declared.object_fault.FieldFault.{FieldFault}
 use Rattle.listing_read.specs.ObjectFaults.{cut_fault}
 use Rattle.confine_check.specs.Fields.{kind_of, named_block}

@@ -1,14 +1,16 @@
 -- The sides that lines give to the objects of a machine. (Own.)
-use Rattle.std.specs.Prelude.{ℕ, ◌+◌, ◌-◌, ◌<◌, ◌^◌, Bool, true, false, not, List, ◌++◌, length, take, drop, replicate}
+use Rattle.std.specs.Prelude.{ℕ, ◌+◌, ◌-◌, ◌<◌, ◌^◌, true, List, ◌++◌, length, take, drop, replicate}
 use Rattle.std.specs.List.{count_by}
 use Rattle.cap_format.specs.declared.kind.CapKind.{CapKind}
 use Rattle.cap_format.specs.declared.kind.CapKind.TheVariants.{Page, CapPage, Gpt, Endpoint, Process}
 use Rattle.object_store.specs.declared.sizes.Sizes.{Sizes}
-use Rattle.confinement.specs.Cut.{Sides, Cut}
+use Rattle.confinement.specs.declared.cut_side.CutSide.{CutSide}
+use Rattle.confinement.specs.declared.cut_side.CutSide.TheVariants.{Left, Right}
+use Rattle.confinement.specs.Cut.{Sides, Cut, same_side}
 use Rattle.confine_check.specs.declared.block.Block.{Block}
 
 -- the sides of all objects, by the lists of the five kinds
-abbrev pub sides_by_kind : List Bool → List Bool → List Bool → List Bool → List Bool → Sides
+abbrev pub sides_by_kind : List CutSide → List CutSide → List CutSide → List CutSide → List CutSide → Sides
 sides_by_kind pages cappages gpts processes endpoints =
     record { pages = pages; cappages = cappages; gpts = gpts; processes = processes; endpoints = endpoints }
 
@@ -27,16 +29,16 @@ pub record AreSized (sides : Sides) : Type 0 where
 -- all objects of a machine of these sizes are on the right
 abbrev pub all_right : Sizes → Sides
 all_right sizes = record {
-  pages = replicate sizes.pages false;
-  cappages = replicate sizes.cappages false;
-  gpts = replicate sizes.gpts false;
-  processes = replicate sizes.processes false;
-  endpoints = replicate sizes.endpoints false;
+  pages = replicate sizes.pages Right;
+  cappages = replicate sizes.cappages Right;
+  gpts = replicate sizes.gpts Right;
+  processes = replicate sizes.processes Right;
+  endpoints = replicate sizes.endpoints Right;
 }
 
 -- the elements from `from` to `to` are on the left
-abbrev pub left_between : List Bool → ℕ → ℕ → List Bool
-left_between sides from to = take from sides ++ replicate (to + 1 - from) true ++ drop (to + 1) sides
+abbrev pub left_between : List CutSide → ℕ → ℕ → List CutSide
+left_between sides from to = take from sides ++ replicate (to + 1 - from) Left ++ drop (to + 1) sides
 
 -- the objects of these numbers of a kind are on the left
 abbrev pub with_left_of : Sides → CapKind → ℕ → ℕ → Sides
@@ -52,12 +54,12 @@ abbrev pub with_left : Sides → Block → Sides
 with_left sides block = with_left_of sides block.kind block.from block.to
 
 -- how many of these are on the left
-abbrev pub lefts_in : List Bool → ℕ
-lefts_in sides = count_by (λ side. side) sides
+abbrev pub lefts_in : List CutSide → ℕ
+lefts_in sides = count_by (λ side. same_side side Left) sides
 
 -- how many are on the right
-abbrev pub rights_in : List Bool → ℕ
-rights_in sides = count_by not sides
+abbrev pub rights_in : List CutSide → ℕ
+rights_in sides = count_by (λ side. same_side side Right) sides
 
 -- how many objects are on the left
 abbrev pub left_count : Sides → ℕ

@@ -3,7 +3,6 @@ ghost use Rattle.std.specs.Prelude.{ℕ, ◌≡◌, ◌<◌, ◌≤◌, ◌+◌,
 ghost use Rattle.cap_format.specs.declared.kind.CapKind.TheVariants.{Gpt};
 ghost use Rattle.process_objects.specs.Process.{slot_of, capreg_of};
 ghost use Rattle.object_store.specs.Store.{size_of};
-ghost use Rattle.confinement.specs.Cut.{same_side};
 ghost use Rattle.confine_check.specs.Sides.{cut_of};
 ghost use Rattle.confine_check.specs.Breach.{may_hold, places_in, cap_in, breach_at, breach_of_object, breach_of_kind, breach_of, broken_by, reads_in, object_reads};
 ghost use Rattle.confine_check.specs.Found.{kinds_before, reads_to};
@@ -11,20 +10,14 @@ ghost use Rattle.confine_check.specs.Found.{kinds_before, reads_to};
 use crate::cut::Cut;
 use crate::verdict::Breach;
 use cap_format::{Cap, CapKind, is_harmless};
+use confinement::CutSide;
 use object_store::Objects;
 use process_objects::Process;
 use std::sync::ledger::Ledger;
 use steps::Steps;
 
-/// Whether two sides are one.
-pub(crate) fn is_same(one: bool, other: bool) -> bool
-    ensures { result ≡ same_side one other }
-{
-    if one { other } else { !other }
-}
-
 /// Whether an object of this side may hold a capability.
-fn may_hold(cut: &Cut, side: bool, cap: Cap) -> bool
+fn may_hold(cut: &Cut, side: CutSide, cap: Cap) -> bool
     ensures { result ≡ may_hold (cut_of cut.now) side cap }
 {
     let kind = cap.kind();
@@ -34,7 +27,7 @@ fn may_hold(cut: &Cut, side: bool, cap: Cap) -> bool
     if !kind.is_counted() {
         return true;
     }
-    is_same(cut.is_left(kind.object_kind(), cap.object()), side) || is_harmless(cap)
+    cut.side_of(kind.object_kind(), cap.object()) == side || is_harmless(cap)
 }
 
 /// How many places for capabilities an object of a kind has, none where it is no kind of objects that hold any.
@@ -101,7 +94,7 @@ fn breach_at<L: Ledger>(
     ensures counted { fetches.new ≡ fetches.old + reads_in kind }
 {
     let cap = objects.live(cap_in(objects, kind, n, i, fetches));
-    if may_hold(cut, cut.is_left(kind, n as u32), cap) {
+    if may_hold(cut, cut.side_of(kind, n as u32), cap) {
         return None;
     }
     Some(Breach {

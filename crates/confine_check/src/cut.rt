@@ -5,18 +5,19 @@ ghost use Rattle.confine_check.specs.Sides.{cut_of, all_right, with_left, left_b
 
 use crate::block::Block;
 use cap_format::{CapKind, OutOfMemory};
+use confinement::CutSide;
 use object_store::Sizes;
 use std::alloc::Global;
 use std::marker::Model;
 
-/// One side for each object, by its kind and number: true is left.
+/// One side for each object, by its kind and number.
 #[derive(Drop)]
 pub struct Cut {
-    pages: Vec<bool>,
-    cappages: Vec<bool>,
-    gpts: Vec<bool>,
-    processes: Vec<bool>,
-    endpoints: Vec<bool>,
+    pages: Vec<CutSide>,
+    cappages: Vec<CutSide>,
+    gpts: Vec<CutSide>,
+    processes: Vec<CutSide>,
+    endpoints: Vec<CutSide>,
 }
 
 impl Model for Cut {
@@ -38,16 +39,16 @@ impl Cut {
         ensures { IfOk result (λ cut. cut ≡ all_right sizes) }
     {
         Ok(Cut {
-            pages: vec![in alloc; false; sizes.pages as usize]?,
-            cappages: vec![in alloc; false; sizes.cappages as usize]?,
-            gpts: vec![in alloc; false; sizes.gpts as usize]?,
-            processes: vec![in alloc; false; sizes.processes as usize]?,
-            endpoints: vec![in alloc; false; sizes.endpoints as usize]?,
+            pages: vec![in alloc; CutSide::Right; sizes.pages as usize]?,
+            cappages: vec![in alloc; CutSide::Right; sizes.cappages as usize]?,
+            gpts: vec![in alloc; CutSide::Right; sizes.gpts as usize]?,
+            processes: vec![in alloc; CutSide::Right; sizes.processes as usize]?,
+            endpoints: vec![in alloc; CutSide::Right; sizes.endpoints as usize]?,
         })
     }
 
     /// The sides of the objects of a kind, none where it is no kind of objects.
-    fn of(&self, kind: CapKind) -> &[bool]
+    fn of(&self, kind: CapKind) -> &[CutSide]
         ensures value { result.now ≡ sides_of self.now kind }
         ensures small { length result.now < 65536 }
     {
@@ -70,12 +71,12 @@ impl Cut {
     }
 
     /// The side of an object. One that has none is on the right.
-    pub fn is_left(&self, kind: CapKind, number: u32) -> bool
+    pub fn side_of(&self, kind: CapKind, number: u32) -> CutSide
         ensures { result ≡ side_of (cut_of self.now) kind number }
     {
         match self.of(kind).get(number as usize) {
             Some(side) => *side,
-            None => false,
+            None => CutSide::Right,
         }
     }
 
@@ -121,28 +122,28 @@ impl Cut {
 }
 
 /// Puts the elements from `from` to `to` on the left.
-fn put_between(sides: &mut [bool], from: usize, to: usize)
+fn put_between(sides: &mut [CutSide], from: usize, to: usize)
     requires order { from ≤ to }
     requires there { to < length sides.old }
     ensures { sides.new ≡ left_between sides.old from to }
 {
-    sides[from..=to].fill(true);
+    sides[from..=to].fill(CutSide::Left);
 }
 
 /// How many of these are on the left.
-fn lefts(sides: &[bool]) -> u32
+fn lefts(sides: &[CutSide]) -> u32
     requires { length sides.now < 65536 }
     ensures value { result ≡ lefts_in sides.now }
     ensures most { result ≤ length sides.now }
 {
-    sides.iter().filter(|side| **side).count() as u32
+    sides.iter().filter(|side| **side == CutSide::Left).count() as u32
 }
 
 /// How many of these are on the right.
-fn rights(sides: &[bool]) -> u32
+fn rights(sides: &[CutSide]) -> u32
     requires { length sides.now < 65536 }
     ensures value { result ≡ rights_in sides.now }
     ensures most { result ≤ length sides.now }
 {
-    sides.iter().filter(|side| !**side).count() as u32
+    sides.iter().filter(|side| **side == CutSide::Right).count() as u32
 }

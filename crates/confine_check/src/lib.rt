@@ -19,6 +19,7 @@ mod verdict;
 pub use block::Block;
 pub use breach::{cap_in, places, size};
 pub use checking::{confined, tell_full};
+pub use confinement::CutSide;
 pub use cut::Cut;
 pub use fields::{read_block, read_kind};
 pub use laws::{verdict_in_law, verdict_law};

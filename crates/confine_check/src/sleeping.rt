@@ -3,7 +3,6 @@ ghost use Rattle.std.specs.Prelude.{◌≡◌, ◌<◌, length};
 ghost use Rattle.confine_check.specs.Sides.{cut_of};
 ghost use Rattle.confine_check.specs.Breach.{lesser, across, least_on, sleeper_of};
 
-use crate::breach::is_same;
 use crate::cut::Cut;
 use cap_format::CapKind;
 use schedules::Queues;
@@ -25,8 +24,7 @@ fn lesser(one: Option<u16>, other: Option<u16>) -> Option<u16>
 fn across(cut: &Cut, on: u16, p: u16) -> Option<u16>
     ensures { result ≡ across (cut_of cut.now) on p }
 {
-    let side = cut.is_left(CapKind::Process, p as u32);
-    if is_same(side, cut.is_left(CapKind::Process, on as u32)) {
+    if cut.side_of(CapKind::Process, p as u32) == cut.side_of(CapKind::Process, on as u32) {
         return None;
     }
     Some(p)

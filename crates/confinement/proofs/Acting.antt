@@ -1,5 +1,5 @@
 -- What a process of one side may make of objects and queues: one law for each write.
-use Rattle.std.proofs.Common.{◌≡◌, ℕ, inl, inr, Bool, List, [], ◌∷◌, length, get_or, refl, sym, ◌∙◌, ap, subst, length-set}
+use Rattle.std.proofs.Common.{◌≡◌, ℕ, inl, inr, List, [], ◌∷◌, length, get_or, refl, sym, ◌∙◌, ap, subst, length-set}
 use Rattle.cap_format.specs.declared.kind.CapKind.{CapKind}
 use Rattle.cap_format.specs.declared.kind.CapKind.TheVariants.{Page, CapPage, Gpt, Endpoint, Process}
 use Rattle.cap_format.specs.Capability.{Capability, null}
@@ -16,6 +16,7 @@ use Rattle.schedules.specs.Queues.{QueuesValue, sleepers_of, without, left}
 use Rattle.schedules.specs.Ready.{readied, readied_process, readied_queues, readied_all, unslept, woken, runs_of}
 use Rattle.schedules.proofs.Waking.{sleepers-readied}
 use Rattle.operations.specs.System.{System, system, with_store, with_runs}
+use Rattle.confinement.specs.declared.cut_side.CutSide.{CutSide}
 use Rattle.confinement.specs.Cut.{Cut, side_of, MayHold, AllOn, SleepApart, Holds}
 use Rattle.confinement.specs.Acts.{Spares, SparesSleepers, SparesPlaces, SameSizes, Acts, ProcessHeld}
 use Rattle.confinement.proofs.Placing.{places-same, places-then, places-left, places-readied}
@@ -42,7 +43,7 @@ sizes-then w v u first second = record {
   sleepers = first.sleepers ∙ second.sleepers;
 }
 
-module _ (cut : Cut) (side : Bool) where
+module _ (cut : Cut) (side : CutSide) where
   -- these names are of objects of this side
   abbrev pub AllNamed : List ObjectName → Type 0
   AllNamed [] = Unit {0}
@@ -213,7 +214,7 @@ module _ (cut : Cut) (side : Bool) where
     sizes = sizes-by w (system w.store q) refl refl refl refl refl size;
   }
 
-module _ (cut : Cut) (side : Bool) where
+module _ (cut : Cut) (side : CutSide) where
   -- ---- made ready
 
   held-readied : (k : CapKind) (v : ProcessValue) → ProcessHeld cut side v → ProcessHeld cut side (readied_process k v)

@@ -9,12 +9,13 @@ use Rattle.object_store.specs.Store.{Store, process_at, endpoint_at}
 use Rattle.invocation.specs.Answerer.{Answer, takes, answered_by, asked, refuses, entered, answered, answerer}
 use Rattle.invocation.specs.Answerer.Answer.{Dead, Open, Busy}
 use Rattle.invocation.specs.Target.{called_by, called, callee}
+use Rattle.confinement.specs.declared.cut_side.CutSide.{CutSide}
 use Rattle.confinement.specs.Cut.{Cut, side_of, MayHold, EachMayHold}
 use Rattle.confinement.specs.Acts.{CalleeOwn}
 use Rattle.confinement.proofs.Own.{AnswersOwn}
 use Rattle.confinement.proofs.Held.{side-process, side-entry}
 
-module _ (cut : Cut) (side : Bool) (s : Store) (each : EachMayHold cut s) where
+module _ (cut : Cut) (side : CutSide) (s : Store) (each : EachMayHold cut s) where
   by-own : (state : State) (id e q : ℕ) → side_of cut Endpoint e ≡ side → side_of cut Process q ≡ side → AnswersOwn cut side (answered_by state id e q)
   by-own (Receiving accept) id e q endpoint process = by (takes accept.wait id)
     where

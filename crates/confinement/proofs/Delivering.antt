@@ -19,6 +19,7 @@ use Rattle.invocation.specs.Delivery.{passed, passed_at, accepted, accepting, nu
 use Rattle.operations.specs.System.{System, Reading, system, with_store, with_runs, schedule_by, count_in}
 use Rattle.message_path.specs.Messages.{told, waiting, receiving, listening}
 use Rattle.fault_path.specs.Fault.{is_answer, handler_of, fault_message, faulted, answered, heard_by, fault_of}
+use Rattle.confinement.specs.declared.cut_side.CutSide.{CutSide}
 use Rattle.confinement.specs.Cut.{Cut, side_of, MayHold, EachMayHold, Holds}
 use Rattle.confinement.specs.Acts.{Acts, ProcessHeld, MayHoldIf}
 use Rattle.confinement.proofs.Own.{AllMayHold, AnswersOwn}
@@ -27,7 +28,7 @@ use Rattle.confinement.proofs.Sleeping.{each_set, apart-asleep, spares-slept}
 use Rattle.confinement.proofs.Acting.{acts-then, acts-process, acts-endpoint, held-process, acts-queues, acts-left, acts-readied, acts-woken}
 use Rattle.confinement.proofs.Answering.{answerer-own}
 
-module _ (cut : Cut) (side : Bool) where
+module _ (cut : Cut) (side : CutSide) where
   -- ---- what a process holds
 
   -- another state

@@ -51,6 +51,7 @@ use Rattle.kernel_core.specs.declared.system_call.SystemCall.TheVariants.{Invoke
 use Rattle.kernel_core.specs.SystemCall.{call_with, copied, copy_cap, moved, move_cap, Sending, refused_call, sent_to, send, received_after, invoked, invoke, called, system_call}
 use Rattle.kernel_core.specs.Instruction.{performed, perform}
 use Rattle.kernel_core.specs.Event.{decoded_to, fetched_from, instruction}
+use Rattle.confinement.specs.declared.cut_side.CutSide.{CutSide}
 use Rattle.confinement.specs.Cut.{Cut, side_of, MayHold, Holds}
 use Rattle.confinement.specs.Acts.{Acts, ProcessHeld, MayHoldIf, AnswerPermitted, CalleeOwn, system_of}
 use Rattle.confinement.specs.Reach.{Ends}
@@ -62,7 +63,7 @@ use Rattle.confinement.proofs.Operating.{memory_operation-may, control_operation
 use Rattle.confinement.proofs.Machine.{acts-next, may-capreg, acts-set_pc, acts-advance, acts-set_registers, acts-set_capreg, acts-yielded, acts-changed_by, ends-here, ends-hit, EndsHit, acts-written, may-found, acts-cap_stored}
 use Rattle.confinement.proofs.Messaging.{StringFaultOwn, side-own, acts-fault_part, acts-misaligned, acts-malformed, acts-wait_on, acts-listen, acts-send_open}
 
-module _ (cut : Cut) (side : Bool) (p : ℕ) (own : side_of cut Process p ≡ side) where
+module _ (cut : Cut) (side : CutSide) (p : ℕ) (own : side_of cut Process p ≡ side) where
   -- from state `s` this side made state `t`, in which the cut holds
   abbrev Moves : State → State → Type 0
   Moves s t = Acts cut side (system_of s) (system_of t)

@@ -12,6 +12,7 @@ use Rattle.cap_format.specs.Guard.{GuardValue}
 use Rattle.cap_format.specs.Capability.{Capability, null, with_guard}
 use Rattle.cap_format.specs.Weakening.{reduced, weakened_kind, weakened, harmless_kind, is_harmless}
 use Rattle.operations.specs.Weak.{read_through}
+use Rattle.confinement.specs.declared.cut_side.CutSide.{CutSide}
 use Rattle.confinement.specs.Cut.{Cut, side_of, MayHold}
 
 -- ---- restrictions
@@ -66,7 +67,7 @@ harmless_kind-weakened _ c e = refl
 pub is_harmless-weakened : (c : Capability) → is_harmless (weakened c) ≡ true
 is_harmless-weakened c = harmless_kind-weakened c.kind c refl
 
-module _ (cut : Cut) (side : Bool) where
+module _ (cut : Cut) (side : CutSide) where
   -- Null may be held by each side
   pub may-null : MayHold cut side null
   may-null = record { no_range = λ e. cc; own = inl (λ e. absurd (cc (e))) }
@@ -166,6 +167,6 @@ module _ (cut : Cut) (side : Bool) where
   side-entry c e m = side_named c Entry e refl refl m
 
   -- the side's own read, or one through WK
-  pub may-read : (holder : Bool) (restr : ℕ) (c : Capability) → MayHold cut holder c → (holder ≡ side) ⊎ ((cut.weakly side ≡ true) × (has restr 4 ≡ true)) → MayHold cut side (read_through restr c)
+  pub may-read : (holder : CutSide) (restr : ℕ) (c : Capability) → MayHold cut holder c → (holder ≡ side) ⊎ ((cut.weakly side ≡ true) × (has restr 4 ≡ true)) → MayHold cut side (read_through restr c)
   may-read holder restr c m (inl own) = may-read_own restr c (subst (λ b. MayHold cut b c) own m)
   may-read holder restr c m (inr weak) = may-read_weak restr c weak.0 weak.1

@@ -1,5 +1,5 @@
 -- What a process of one side makes of a state by one change, one access or one message stays on its side.
-use Rattle.std.proofs.Common.{◌≡◌, ℕ, ◌⊎◌, inl, inr, Bool, true, false, List, [], ◌∷◌, length, get_or, take, drop, Option, Some, Result, Ok, Err, sym, ◌∙◌, ap, subst}
+use Rattle.std.proofs.Common.{◌≡◌, ℕ, ◌⊎◌, inl, inr, true, false, List, [], ◌∷◌, length, get_or, take, drop, Option, Some, Result, Ok, Err, sym, ◌∙◌, ap, subst}
 use Rattle.cap_format.specs.declared.fault.FaultCode.{FaultCode}
 use Rattle.cap_format.specs.declared.kind.CapKind.{CapKind}
 use Rattle.cap_format.specs.declared.kind.CapKind.TheVariants.{Page, CapPage, Endpoint, Process}
@@ -31,6 +31,7 @@ use Rattle.machine_state.specs.Messaging.{told_state, waiting_state, listening_s
 use Rattle.machine_state.specs.DataAccess.{bytes_of, written}
 use Rattle.machine_state.specs.CapAccess.{cap_found, cap_stored, slot_in}
 use Rattle.machine_state.specs.Operation.{changed_by}
+use Rattle.confinement.specs.declared.cut_side.CutSide.{CutSide}
 use Rattle.confinement.specs.Cut.{Cut, side_of, MayHold, Holds}
 use Rattle.confinement.specs.Acts.{Acts, ProcessHeld, AllPermitted, MayHoldIf, system_of}
 use Rattle.confinement.specs.Reach.{ReadsWeakly, Reaches, Ends}
@@ -43,7 +44,7 @@ use Rattle.confinement.proofs.Walks.{access_ends}
 use Rattle.confinement.proofs.Delivering.{held-capreg, acts-told, acts-waiting, acts-listening, acts-fault}
 use Rattle.confinement.proofs.Operating.{acts-applied_all}
 
-module _ (cut : Cut) (side : Bool) where
+module _ (cut : Cut) (side : CutSide) where
   -- one change of a state after another
   pub acts-next : (s t u : State) → Acts cut side (system_of s) (system_of t) → (Holds cut (system_of t) → Acts cut side (system_of t) (system_of u)) → Acts cut side (system_of s) (system_of u)
   acts-next s t u first second = acts-then cut side (system_of s) (system_of t) (system_of u) first second
@@ -189,7 +190,7 @@ pub holds-dispatch : (cut : Cut) (s : State) (hart : ℕ) → Holds cut (system_
 holds-dispatch cut s hart holds = record { each = holds.each; sleepers = apart-dispatched cut s.queues hart holds.sleepers }
 
 -- which is of this side: nobody sleeps elsewhere, and the others stand where they stood
-pub acts-dispatch : (cut : Cut) (side : Bool) (s : State) (hart p : ℕ) → side_of cut Process p ≡ side → hart_of (dispatch s hart).queues hart ≡ Some p → Holds cut (system_of s)
+pub acts-dispatch : (cut : Cut) (side : CutSide) (s : State) (hart p : ℕ) → side_of cut Process p ≡ side → hart_of (dispatch s hart).queues hart ≡ Some p → Holds cut (system_of s)
     → Acts cut side (system_of s) (system_of (dispatch s hart))
 acts-dispatch cut side s hart p own performs holds =
     let same = sleepers-dispatched s.queues hart in

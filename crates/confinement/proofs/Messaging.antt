@@ -24,13 +24,14 @@ use Rattle.messages.specs.Fault.{fault, misaligned, malformed}
 use Rattle.messages.specs.Strings.{Side, span_side, side}
 use Rattle.messages.specs.Message.{sent_side, accept_in, received_side, bytes_moved, message_of, sent_off, message_told, delivered, sent_on, sent_by_fault, send_open}
 use Rattle.messages.specs.Waiting.{wait_on, listening_from, listen}
+use Rattle.confinement.specs.declared.cut_side.CutSide.{CutSide}
 use Rattle.confinement.specs.Cut.{Cut, side_of, Holds}
 use Rattle.confinement.specs.Acts.{Acts, MayHoldIf, system_of}
 use Rattle.confinement.proofs.Delivering.{all-sent}
 use Rattle.confinement.proofs.Acting.{acts-same, held-process}
 use Rattle.confinement.proofs.Machine.{acts-next, acts-advance, acts-set_registers, acts-fault_state, acts-told_state, acts-waiting_state, acts-listening_state, acts-copied, ends-here, ends-hit, EndsHit, PiecesOwn}
 
-module _ (cut : Cut) (side_is : Bool) where
+module _ (cut : Cut) (side_is : CutSide) where
   -- the fault of a string has a handler that this side may hold
   abbrev pub StringFaultOwn : Option StringFault → Type 0
   StringFaultOwn None = Unit {0}

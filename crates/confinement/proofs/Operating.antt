@@ -27,6 +27,7 @@ use Rattle.operations.specs.Memory as memory
 use Rattle.operations.specs.Memory.{read_only, opaque, window_of, window_is_local, window_local_slot, window_restr, window_l2g}
 use Rattle.operations.specs.Control as control
 use Rattle.operations.specs.Control.{endpoint_of, process_of, number_in, with_number, tells_state, is_null}
+use Rattle.confinement.specs.declared.cut_side.CutSide.{CutSide}
 use Rattle.confinement.specs.Cut.{Cut, side_of, MayHold, EachMayHold, Holds}
 use Rattle.confinement.specs.Acts.{Acts, ProcessHeld, Permitted, AllPermitted, AnswerPermitted}
 use Rattle.confinement.proofs.Held.{may-null, may-uncounted, may-own, may-reduced, may-with_guard, may-read, side-page, side-cappage, side-gpt, side-process, side-endpoint}
@@ -34,7 +35,7 @@ use Rattle.confinement.proofs.Sleeping.{each_set}
 use Rattle.confinement.proofs.Acting.{acts-same, acts-then, acts-process, acts-page, acts-cappage, acts-slot, acts-header, acts-endpoint, acts-left, acts-readied, acts-woken}
 use Rattle.confinement.proofs.Delivering.{held-state, held-capreg, held-slot}
 
-module _ (cut : Cut) (side : Bool) where
+module _ (cut : Cut) (side : CutSide) where
   -- ---- changes
 
   -- a permitted change stays on its side

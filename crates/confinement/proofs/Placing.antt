@@ -8,6 +8,7 @@ use Rattle.cap_format.specs.declared.kind.CapKind.TheVariants.{Process, Schedule
 use Rattle.object_store.proofs.Lists.{get_or-set}
 use Rattle.schedules.specs.Queues.{QueuesValue, priorities, ready_queue, first_of, rest_of, without, hart_without, left, highest_below, taken_from, dispatched_by, dispatched, hart_of}
 use Rattle.schedules.specs.Ready.{readied_queues}
+use Rattle.confinement.specs.declared.cut_side.CutSide.{CutSide}
 use Rattle.confinement.specs.Cut.{Cut, side_of, same_side}
 use Rattle.confinement.specs.Acts.{others_in, other_on, SparesPlaces}
 use Rattle.confinement.proofs.Sides.{same_side-true}
@@ -70,7 +71,7 @@ dispatched-none q hart there none = on (hart_of q hart) none
 
 -- ---- one of this side
 
-module _ (cut : Cut) (side : Bool) where
+module _ (cut : Cut) (side : CutSide) where
   is-own : (p : ℕ) → side_of cut Process p ≡ side → same_side (side_of cut Process p) side ≡ true
   is-own p own = same_side-true (side_of cut Process p) side own
 

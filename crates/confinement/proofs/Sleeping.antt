@@ -7,6 +7,7 @@ use Rattle.object_store.proofs.Lists.{get_or-set}
 use Rattle.schedules.specs.Queues.{QueuesValue, priorities, sleepers_of, without, left, asleep, highest_below, taken_from, dispatched_by, dispatched, hart_of}
 use Rattle.schedules.specs.Ready.{readied_queues, unslept}
 use Rattle.schedules.proofs.Waking.{sleepers-readied}
+use Rattle.confinement.specs.declared.cut_side.CutSide.{CutSide}
 use Rattle.confinement.specs.Cut.{Cut, side_of, AllOn, SleepApart}
 use Rattle.confinement.specs.Acts.{SparesSleepers}
 
@@ -35,7 +36,7 @@ length-map_lists f [] = refl
 length-map_lists f (xs ∷ xss) = ap suc (length-map_lists f xss)
 
 module _ (cut : Cut) where
-  all_without : (side : Bool) (p : ℕ) (xs : List ℕ) → AllOn cut side xs → AllOn cut side (without p xs)
+  all_without : (side : CutSide) (p : ℕ) (xs : List ℕ) → AllOn cut side xs → AllOn cut side (without p xs)
   all_without side p [] all = tt
   all_without side p (x ∷ xs) all = by (x == p) (all_without side p xs all.1)
     where
@@ -43,7 +44,7 @@ module _ (cut : Cut) where
       by true rest = all.1
       by false rest = (all.0, rest)
 
-  all_last : (side : Bool) (p : ℕ) (xs : List ℕ) → AllOn cut side xs → side_of cut Process p ≡ side → AllOn cut side (xs ++ p ∷ [])
+  all_last : (side : CutSide) (p : ℕ) (xs : List ℕ) → AllOn cut side xs → side_of cut Process p ≡ side → AllOn cut side (xs ++ p ∷ [])
   all_last side p [] all own = (own, tt)
   all_last side p (x ∷ xs) all own = (all.0, all_last side p xs all.1 own)
 
@@ -69,9 +70,9 @@ module _ (cut : Cut) where
   pub apart-readied : (k : CapKind) (priority : ℕ) (q : QueuesValue) (p : ℕ) → SleepApart cut q → SleepApart cut (readied_queues k priority q p)
   apart-readied k priority q p apart n = subst (λ (xs : List (List ℕ)). AllOn cut (side_of cut Process n) (get_or xs n [])) (sym (sleepers-readied k priority q p)) (apart n)
 
-module _ (cut : Cut) (side : Bool) where
+module _ (cut : Cut) (side : CutSide) where
   -- a process of this side stands in no list of the other side
-  without-other : (p : ℕ) (b : Bool) (xs : List ℕ) → side_of cut Process p ≡ side → b ≢ side → AllOn cut b xs → xs ≡ without p xs
+  without-other : (p : ℕ) (b : CutSide) (xs : List ℕ) → side_of cut Process p ≡ side → b ≢ side → AllOn cut b xs → xs ≡ without p xs
   without-other p b [] own other all = refl
   without-other p b (x ∷ xs) own other all = by (x == p) refl (without-other p b xs own other all.1)
     where

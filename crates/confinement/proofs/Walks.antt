@@ -25,12 +25,13 @@ use Rattle.walk_meaning.proofs.Walked.{walk-zero, walk-suc}
 use Rattle.walk_meaning.proofs.Ways.{Way, gone}
 use Rattle.walk_meaning.proofs.Ways.Way.{BySlot, ByWindow, ByLocal}
 use Rattle.walk_meaning.proofs.Ends.{Serves, Reached, reached, HandledBy, handled}
+use Rattle.confinement.specs.declared.cut_side.CutSide.{CutSide}
 use Rattle.confinement.specs.Cut.{Cut, side_of, NamesOwn, MayCross, MayHold}
 use Rattle.confinement.specs.Acts.{MayHoldIf}
 use Rattle.confinement.specs.Reach.{ReadsWeakly, Reaches, Ends}
 use Rattle.confinement.proofs.Held.{has-left, has-right}
 
-module _ (cut : Cut) (side : Bool) where
+module _ (cut : Cut) (side : CutSide) where
   -- there is no such GPT, or it is of this side
   abbrev OnSide : Option ℕ → Type 0
   OnSide None = Unit {0}

@@ -1,5 +1,5 @@
 -- What a process of one side may do: the other side's objects stay as they are, and the cut holds afterwards. (Own.)
-use Rattle.std.specs.Prelude.{◌≡◌, ◌≢◌, ℕ, Bool, not, if◌then◌else◌, List, [], ◌∷◌, length, filter, Option, Some, None}
+use Rattle.std.specs.Prelude.{◌≡◌, ◌≢◌, ℕ, not, if◌then◌else◌, List, [], ◌∷◌, length, filter, Option, Some, None}
 use Rattle.cap_format.specs.declared.kind.CapKind.{CapKind}
 use Rattle.cap_format.specs.declared.kind.CapKind.TheVariants.{Page, CapPage, Gpt, Endpoint, Process}
 use Rattle.cap_format.specs.Capability.{Capability}
@@ -14,28 +14,29 @@ use Rattle.operations.specs.System.{System, system}
 use Rattle.operations.specs.Change.{Change, PageIs, CapPageIs, SlotIs, HeaderIs, EndpointIs, ProcessIs, Left, Readied, Woken, Destroyed}
 use Rattle.operations.specs.Row.{Answer as RowAnswer}
 use Rattle.machine_state.specs.State.{State}
+use Rattle.confinement.specs.declared.cut_side.CutSide.{CutSide}
 use Rattle.confinement.specs.Cut.{Cut, side_of, same_side, MayHold, Holds}
 
 -- each object that is not of this side is the same, its age and state included
-abbrev pub Spares : Cut → Bool → Store → Store → Type 0
+abbrev pub Spares : Cut → CutSide → Store → Store → Type 0
 Spares cut side s t = (kind : CapKind) (n : ℕ) → side_of cut kind n ≢ side → SameObject kind n s t
 
 -- who sleeps on a process that is not of this side is the same
-abbrev pub SparesSleepers : Cut → Bool → QueuesValue → QueuesValue → Type 0
+abbrev pub SparesSleepers : Cut → CutSide → QueuesValue → QueuesValue → Type 0
 SparesSleepers cut side q r = (p : ℕ) → side_of cut Process p ≢ side → sleepers_of q p ≡ sleepers_of r p
 
 -- the processes of a list that are not of this side, in their order
-abbrev pub others_in : Cut → Bool → List ℕ → List ℕ
+abbrev pub others_in : Cut → CutSide → List ℕ → List ℕ
 others_in cut side ps = filter (λ p. not (same_side (side_of cut Process p) side)) ps
 
 -- the process on a hart, where it is not of this side
-abbrev pub other_on : Cut → Bool → Option ℕ → Option ℕ
+abbrev pub other_on : Cut → CutSide → Option ℕ → Option ℕ
 other_on cut side None = None
 other_on cut side (Some p) = if same_side (side_of cut Process p) side then None else Some p
 
 -- the processes that are not of this side stand in the same order in each ready queue, and on the same harts, of which
 -- there are as many
-pub record SparesPlaces (cut : Cut) (side : Bool) (q r : QueuesValue) : Type 0 where
+pub record SparesPlaces (cut : Cut) (side : CutSide) (q r : QueuesValue) : Type 0 where
   pub ready : (priority : ℕ) → others_in cut side (ready_queue q priority) ≡ others_in cut side (ready_queue r priority)
   pub harts : (hart : ℕ) → other_on cut side (hart_of q hart) ≡ other_on cut side (hart_of r hart)
   pub size : length q.harts ≡ length r.harts
@@ -50,7 +51,7 @@ pub record SameSizes (w v : System) : Type 0 where
   pub sleepers : length w.queues.sleepers ≡ length v.queues.sleepers
 
 -- what a process of this side made of a system in which the cut held
-pub record Acts (cut : Cut) (side : Bool) (w v : System) : Type 0 where
+pub record Acts (cut : Cut) (side : CutSide) (w v : System) : Type 0 where
   pub holds : Holds cut v
   pub spares : Spares cut side w.store v.store
   pub sleepers : SparesSleepers cut side w.queues v.queues
@@ -58,13 +59,13 @@ pub record Acts (cut : Cut) (side : Bool) (w v : System) : Type 0 where
   pub sizes : SameSizes w v
 
 -- a process that this side may have: it may hold all of its capabilities
-pub record ProcessHeld (cut : Cut) (side : Bool) (process : ProcessValue) : Type 0 where
+pub record ProcessHeld (cut : Cut) (side : CutSide) (process : ProcessValue) : Type 0 where
   pub capregs : (i : ℕ) → MayHold cut side (capreg_of process i)
   pub slots : (i : ℕ) → MayHold cut side (slot_of process i)
 
 -- a change that a process of this side may make: of an object of this side, and to capabilities that it may hold. It
 -- destroys nothing.
-abbrev pub Permitted : Cut → Bool → Change → Type 0
+abbrev pub Permitted : Cut → CutSide → Change → Type 0
 Permitted cut side (PageIs n page) = side_of cut Page n ≡ side
 Permitted cut side (CapPageIs n page) = (side_of cut CapPage n ≡ side) × ((i : ℕ) → MayHold cut side (cap_at page i))
 Permitted cut side (SlotIs g i c) = (side_of cut Gpt g ≡ side) × MayHold cut side c
@@ -77,25 +78,25 @@ Permitted cut side (Woken p) = side_of cut Process p ≡ side
 Permitted cut side (Destroyed kind n) = ⊥
 
 -- all of these changes are such
-abbrev pub AllPermitted : Cut → Bool → List Change → Type 0
+abbrev pub AllPermitted : Cut → CutSide → List Change → Type 0
 AllPermitted cut side [] = Unit {0}
 AllPermitted cut side (change ∷ changes) = Permitted cut side change × AllPermitted cut side changes
 
 -- a capability that is given, if there is one, may be held by this side
-abbrev pub MayHoldIf : Cut → Bool → Option Capability → Type 0
+abbrev pub MayHoldIf : Cut → CutSide → Option Capability → Type 0
 MayHoldIf cut side None = Unit {0}
 MayHoldIf cut side (Some c) = MayHold cut side c
 
 -- whom an invocation reaches, if anybody, is of this side, and so is the endpoint; the kernel is asked through a
 -- capability that this side may hold
-abbrev pub CalleeOwn : Cut → Bool → Callee → Type 0
+abbrev pub CalleeOwn : Cut → CutSide → Callee → Type 0
 CalleeOwn cut side (Kernel c) = MayHold cut side c
 CalleeOwn cut side (OpenCallee e q) = (side_of cut Endpoint e ≡ side) × (side_of cut Process q ≡ side)
 CalleeOwn cut side (BusyCallee q) = side_of cut Process q ≡ side
 CalleeOwn cut side DeadCallee = Unit {0}
 
 -- what an operation does and tells: its changes are permitted, and the capability that it gives may be held
-pub record AnswerPermitted (cut : Cut) (side : Bool) (answer : RowAnswer) : Type 0 where
+pub record AnswerPermitted (cut : Cut) (side : CutSide) (answer : RowAnswer) : Type 0 where
   pub changes : AllPermitted cut side answer.changes
   pub cap : MayHoldIf cut side answer.cap
 

@@ -1,6 +1,6 @@
 -- Cuts: a side for each object, and when a cut holds. They speak of the model's map, where no capability has a count and
 -- one that is not live is Null, so each is read as it stands. (Own.)
-use Rattle.std.specs.Prelude.{◌≡◌, ◌≢◌, ℕ, ◌⊎◌, Bool, true, false, not, List, [], ◌∷◌, slice_index_or}
+use Rattle.std.specs.Prelude.{◌≡◌, ◌≢◌, ℕ, ◌⊎◌, Bool, true, false, List, [], ◌∷◌, slice_index_or}
 use Rattle.cap_format.specs.declared.kind.CapKind.{CapKind}
 use Rattle.cap_format.specs.declared.kind.CapKind.TheVariants.{Page, CapPage, Gpt, Endpoint, Process, Range}
 use Rattle.cap_format.specs.Kind.{is_counted, object_kind}
@@ -11,17 +11,19 @@ use Rattle.process_objects.specs.Process.{capreg_of, slot_of}
 use Rattle.object_store.specs.Store.{Store, slot_at, cappage_at, process_at, endpoint_at}
 use Rattle.schedules.specs.Queues.{QueuesValue, sleepers_of}
 use Rattle.operations.specs.System.{System}
+use Rattle.confinement.specs.declared.cut_side.CutSide.{CutSide}
+use Rattle.confinement.specs.declared.cut_side.CutSide.TheVariants.{Left, Right}
 
--- the side of each object, by its kind and number: true is left
+-- the side of each object, by its kind and number
 pub record Sides : Type 0 where
-  pub pages : List Bool
-  pub cappages : List Bool
-  pub gpts : List Bool
-  pub processes : List Bool
-  pub endpoints : List Bool
+  pub pages : List CutSide
+  pub cappages : List CutSide
+  pub gpts : List CutSide
+  pub processes : List CutSide
+  pub endpoints : List CutSide
 
 -- the sides of the objects of a kind: none where objects of this kind do not exist
-abbrev pub sides_of : Sides → CapKind → List Bool
+abbrev pub sides_of : Sides → CapKind → List CutSide
 sides_of sides Page = sides.pages
 sides_of sides CapPage = sides.cappages
 sides_of sides Gpt = sides.gpts
@@ -32,28 +34,30 @@ sides_of sides _ = []
 -- a cut: the sides, and of each side whether it may hold capabilities that are harmless across the cut
 pub record Cut : Type 0 where
   pub sides : Sides
-  pub weakly : Bool → Bool
+  pub weakly : CutSide → Bool
 
 -- the side of object `n` of a kind: what stands in no list is on the right
-abbrev pub side_of : Cut → CapKind → ℕ → Bool
-side_of cut kind n = slice_index_or (sides_of cut.sides kind) n false
+abbrev pub side_of : Cut → CapKind → ℕ → CutSide
+side_of cut kind n = slice_index_or (sides_of cut.sides kind) n Right
 
 -- whether two sides are one
-abbrev pub same_side : Bool → Bool → Bool
-same_side true side = side
-same_side false side = not side
+abbrev pub same_side : CutSide → CutSide → Bool
+same_side Left Left = true
+same_side Left Right = false
+same_side Right Left = false
+same_side Right Right = true
 
 -- what the capability names, if anything, is of this side; an entry names its endpoint, and windows name nothing
-abbrev pub NamesOwn : Cut → Bool → Capability → Type 0
+abbrev pub NamesOwn : Cut → CutSide → Capability → Type 0
 NamesOwn cut side c = is_counted c.kind ≡ true → side_of cut (object_kind c.kind) c.object ≡ side
 
 -- the capability can do nothing across the cut: it is harmless, and this side may hold such
-abbrev pub MayCross : Cut → Bool → Capability → Type 0
+abbrev pub MayCross : Cut → CutSide → Capability → Type 0
 MayCross cut side c = (cut.weakly side ≡ true) × (is_harmless c ≡ true)
 
 -- a capability that an object of this side may hold: no Range, and one that names what is of this side or that is
 -- harmless
-pub record MayHold (cut : Cut) (side : Bool) (c : Capability) : Type 0 where
+pub record MayHold (cut : Cut) (side : CutSide) (c : Capability) : Type 0 where
   pub no_range : c.kind ≢ Range
   pub own : NamesOwn cut side c ⊎ MayCross cut side c
 
@@ -66,7 +70,7 @@ pub record EachMayHold (cut : Cut) (s : Store) : Type 0 where
   pub recipients : (e : ℕ) → MayHold cut (side_of cut Endpoint e) (endpoint_at s e).recipient
 
 -- all of these processes are of this side
-abbrev pub AllOn : Cut → Bool → List ℕ → Type 0
+abbrev pub AllOn : Cut → CutSide → List ℕ → Type 0
 AllOn cut side [] = Unit {0}
 AllOn cut side (p ∷ ps) = (side_of cut Process p ≡ side) × AllOn cut side ps
 

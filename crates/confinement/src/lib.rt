@@ -6,11 +6,15 @@
 //! of one side performs leaves every object of the other side as it is, who sleeps on its processes, in which order they
 //! stand in each ready queue, and on which harts they are; and the cut holds again.
 //!
-//! There is no code here. Each function has a law as its contract; the definitions are in `specs/`.
+//! There is no code here but the type of a side. Each function has a law as its contract; the definitions are in `specs/`.
 #![tactic(auto)]
 
 ghost use Rattle.confinement.specs.Laws.{AccessLaw, AnswerLaw, ChangeLaw, OperationLaw};
 ghost use Rattle.confinement.specs.Separation.{Separation};
+
+mod cut_side;
+
+pub use cut_side::CutSide;
 
 /// An access of a process ends at an object of its side, or at one that is read and no more; a fault's handler is one
 /// that its side may hold.

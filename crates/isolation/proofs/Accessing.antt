@@ -22,6 +22,7 @@ use Rattle.kernel_core.specs.CapTransfer.{cap_loaded_from, load_cap, cap_stored_
 use Rattle.kernel_core.specs.declared.system_call.SystemCall.{SystemCall}
 use Rattle.kernel_core.specs.declared.system_call.SystemCall.TheVariants.{Invoke, LoadCap, StoreCap, CopyCap, Yield}
 use Rattle.kernel_core.specs.SystemCall.{call_with, copied, copy_cap, moved, move_cap}
+use Rattle.confinement.specs.declared.cut_side.CutSide.{CutSide}
 use Rattle.confinement.specs.Cut.{Cut, side_of, MayHold}
 use Rattle.confinement.proofs.Machine.{may-capreg}
 use Rattle.confinement.proofs.Held.{may-read_own}
@@ -29,7 +30,7 @@ use Rattle.isolation.proofs.States.{Matches, EndsOwn, HitOwn, same-number_at, sa
 use Rattle.isolation.proofs.Messaging.{Alike, alike-fault, alike-misaligned, alike-malformed}
 use Rattle.isolation.proofs.Kernel.{alike-if}
 
-module _ (cut : Cut) (on : Bool) (alone : cut.weakly on ≡ false) (p : ℕ) (own : side_of cut Process p ≡ on) where
+module _ (cut : Cut) (on : CutSide) (alone : cut.weakly on ≡ false) (p : ℕ) (own : side_of cut Process p ≡ on) where
   pub same-it : (s t : State) → Matches cut on s t → process s p ≡ process t p
   same-it s t m = same-here cut on p own s t m
 

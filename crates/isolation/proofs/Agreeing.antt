@@ -1,5 +1,5 @@
 -- Agreement on one side: the same write in both systems leaves them agreeing, whoever's the object is that is written.
-use Rattle.std.proofs.Common.{◌≡◌, ℕ, zero, suc, Bool, List, [], ◌∷◌, length, get_or, set, refl, sym, ◌∙◌, ap₂, length-set}
+use Rattle.std.proofs.Common.{◌≡◌, ℕ, zero, suc, List, [], ◌∷◌, length, get_or, set, refl, sym, ◌∙◌, ap₂, length-set}
 use Rattle.cap_format.specs.declared.kind.CapKind.{CapKind}
 use Rattle.cap_format.specs.declared.kind.CapKind.TheVariants.{Page, CapPage, Gpt, Endpoint, Process}
 use Rattle.cap_format.specs.Capability.{Capability}
@@ -14,6 +14,7 @@ use Rattle.object_store.specs.Object.{SameObject}
 use Rattle.object_store.specs.Object.ObjectValue.{OfPage, OfCapPage, OfGpt, OfProcess, OfEndpoint}
 use Rattle.schedules.specs.Queues.{QueuesValue, sleepers_of}
 use Rattle.operations.specs.System.{System, system, with_store}
+use Rattle.confinement.specs.declared.cut_side.CutSide.{CutSide}
 use Rattle.confinement.specs.Cut.{Cut, side_of}
 use Rattle.confinement.specs.Acts.{SameSizes}
 use Rattle.isolation.specs.Agree.{Agree}
@@ -33,7 +34,7 @@ set_both (x ∷ xs) (z ∷ zs) (suc i) (suc j) y d long same = set_both xs zs i 
 pub set_long : {A : Type 0} (xs zs : List A) (i : ℕ) (x z : A) → length xs ≡ length zs → length (set xs i x) ≡ length (set zs i z)
 set_long xs zs i x z long = length-set xs i x ∙ (long ∙ sym (length-set zs i z))
 
-module _ (cut : Cut) (side : Bool) (w v : System) (agree : Agree cut side w v) where
+module _ (cut : Cut) (side : CutSide) (w v : System) (agree : Agree cut side w v) where
   sizes : SameSizes w v
   sizes = agree.sizes
 

@@ -1,5 +1,5 @@
 -- Who answers what this side may hold is the same in two systems that agree on it.
-use Rattle.std.proofs.Common.{◌≡◌, ℕ, Bool, if◌then◌else◌, Option, Some, None, refl, ◌∙◌, ap, ap₂, subst}
+use Rattle.std.proofs.Common.{◌≡◌, ℕ, if◌then◌else◌, Option, Some, None, refl, ◌∙◌, ap, ap₂, subst}
 use Rattle.cap_format.specs.declared.kind.CapKind.{CapKind}
 use Rattle.cap_format.specs.declared.kind.CapKind.TheVariants.{Endpoint, Entry, Process}
 use Rattle.cap_format.specs.Capability.{Capability}
@@ -12,13 +12,14 @@ use Rattle.invocation.specs.Answerer.Answer.{Dead}
 use Rattle.invocation.specs.Target.{called_by, called, callee}
 use Rattle.operations.specs.System.{System}
 use Rattle.fault_path.specs.Fault.{is_answer, handler_of}
+use Rattle.confinement.specs.declared.cut_side.CutSide.{CutSide}
 use Rattle.confinement.specs.Cut.{Cut, side_of, MayHold, EachMayHold}
 use Rattle.confinement.specs.Acts.{MayHoldIf}
 use Rattle.confinement.proofs.Held.{side-process, side-entry}
 use Rattle.isolation.specs.Agree.{Agree}
 use Rattle.isolation.proofs.Agreeing.{same-endpoint, same-process}
 
-module _ (cut : Cut) (side : Bool) (w v : System) (each : EachMayHold cut w.store) (agree : Agree cut side w v) where
+module _ (cut : Cut) (side : CutSide) (w v : System) (each : EachMayHold cut w.store) (agree : Agree cut side w v) where
   -- ---- who answers
 
   same-asked : (e : ℕ) (k : CapKind) (c : Capability) → c.kind ≡ k → side_of cut Endpoint e ≡ side → MayHold cut side c

@@ -1,5 +1,5 @@
 -- Messages, waits and faults of this side do the same to two systems that match on it.
-use Rattle.std.proofs.Common.{◌≡◌, ℕ, Bool, Option, sym, ◌∙◌, ap, ap₂, subst, subst₂}
+use Rattle.std.proofs.Common.{◌≡◌, ℕ, Option, sym, ◌∙◌, ap, ap₂, subst, subst₂}
 use Rattle.cap_format.specs.declared.fault.FaultCode.{FaultCode}
 use Rattle.cap_format.specs.declared.kind.CapKind.TheVariants.{Endpoint, Process}
 use Rattle.cap_format.specs.Capability.{Capability, to_object}
@@ -18,6 +18,7 @@ use Rattle.invocation.specs.Delivery.{passed, passed_at, received, delivered}
 use Rattle.operations.specs.System.{System, Meant, system, with_store}
 use Rattle.message_path.specs.Messages.{told, waiting, receiving, listening}
 use Rattle.fault_path.specs.Fault.{handler_of, fault_message, faulted, answered, heard_by, fault_of}
+use Rattle.confinement.specs.declared.cut_side.CutSide.{CutSide}
 use Rattle.confinement.specs.Cut.{Cut, side_of, MayHold}
 use Rattle.confinement.specs.Acts.{MayHoldIf}
 use Rattle.confinement.proofs.Own.{AllMayHold, AnswersOwn}
@@ -29,7 +30,7 @@ use Rattle.isolation.proofs.Agreeing.{same-endpoint, same-process}
 use Rattle.isolation.proofs.Answering.{same-answerer, same-handler_of}
 use Rattle.isolation.proofs.Matching.{Match, match-process, match-endpoint, match-left, match-asleep, match-readied, match-woken, same-schedule}
 
-module _ (cut : Cut) (side : Bool) where
+module _ (cut : Cut) (side : CutSide) where
   -- ---- messages
 
   match-passed : (w v : System) → Match cut side w v → (e : ℕ) → side_of cut Endpoint e ≡ side

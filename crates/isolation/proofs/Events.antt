@@ -33,6 +33,7 @@ use Rattle.kernel_core.specs.declared.system_call.SystemCall.TheVariants.{Invoke
 use Rattle.kernel_core.specs.SystemCall.{call_with, Sending, refused_call, sent_to, send, received_after, invoked, invoke, called, system_call}
 use Rattle.kernel_core.specs.Instruction.{performed, perform}
 use Rattle.kernel_core.specs.Event.{decoded_to, fetched_from, instruction}
+use Rattle.confinement.specs.declared.cut_side.CutSide.{CutSide}
 use Rattle.confinement.specs.Cut.{Cut, side_of}
 use Rattle.confinement.specs.Acts.{CalleeOwn, system_of}
 use Rattle.confinement.proofs.Answering.{callee-own}
@@ -43,7 +44,7 @@ use Rattle.isolation.proofs.Messaging.{Alike, alike-recorded, alike-followed, al
 use Rattle.isolation.proofs.Kernel.{alike-if, alike-answered, alike-kernel_op}
 use Rattle.isolation.proofs.Accessing.{alike-load, alike-store, alike-move_cap, same-capreg, same-it, alike-besides}
 
-module _ (cut : Cut) (on : Bool) (alone : cut.weakly on ≡ false) (p : ℕ) (own : side_of cut Process p ≡ on) where
+module _ (cut : Cut) (on : CutSide) (alone : cut.weakly on ≡ false) (p : ℕ) (own : side_of cut Process p ≡ on) where
   -- ---- invocations
 
   alike-refused : (s t : State) → Matches cut on s t → (inv : InvocationValue) (code : Code) → Alike cut on (refused_call s p inv code) (refused_call t p inv code)

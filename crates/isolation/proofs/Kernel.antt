@@ -29,6 +29,7 @@ use Rattle.messages.specs.declared.string_fault.StringFault.{StringFault}
 use Rattle.messages.specs.Followed.{followed}
 use Rattle.messages.specs.Strings.{side_outcome}
 use Rattle.kernel_core.specs.KernelOperation.{asked_number, answered_call, memory_answered, memory_op, destroyed_by, is_end_of, control_answered, control_op, kind_table, halting, sysctl_op, is_no_log, logged_side, logged, log_string, kernlog_op, asked_for, kernel_op}
+use Rattle.confinement.specs.declared.cut_side.CutSide.{CutSide}
 use Rattle.confinement.specs.Cut.{Cut, side_of, MayHold}
 use Rattle.confinement.specs.Acts.{MayHoldIf, AnswerPermitted, system_of}
 use Rattle.confinement.proofs.Machine.{PiecesOwn}
@@ -40,13 +41,13 @@ use Rattle.isolation.proofs.Operating.{same-memory, same-control}
 use Rattle.isolation.proofs.States.{Matches, same-gathered, match-changed_by, same-here, held-here, match-advance}
 use Rattle.isolation.proofs.Messaging.{Alike, alike-recorded, alike-followed, same-side, alike-fault}
 
-module _ (cut : Cut) (on : Bool) where
+module _ (cut : Cut) (on : CutSide) where
   -- the same test in both
   pub alike-if : (b : Bool) (o x u y : Outcome) → Alike cut on o u → Alike cut on x y → Alike cut on (if b then o else x) (if b then u else y)
   alike-if true o x u y first second = first
   alike-if false o x u y first second = second
 
-module _ (cut : Cut) (on : Bool) (p : ℕ) (own : side_of cut Process p ≡ on) where
+module _ (cut : Cut) (on : CutSide) (p : ℕ) (own : side_of cut Process p ≡ on) where
   -- ---- replies
 
   match-reply : (s t : State) → Matches cut on s t → (accept : AcceptValue) (reply : Reply) → MayHoldIf cut on reply.cap
@@ -117,7 +118,7 @@ module _ (cut : Cut) (on : Bool) (p : ℕ) (own : side_of cut Process p ≡ on) 
       let next = alike-answered s t m inv reply tt in
       record { records = ap (λ (bytes : List ℕ). Log p bytes ∷ []) (same-gathered cut on s t m pieces read); state = next.state }
 
-module _ (cut : Cut) (on : Bool) (alone : cut.weakly on ≡ false) (p : ℕ) (own : side_of cut Process p ≡ on) where
+module _ (cut : Cut) (on : CutSide) (alone : cut.weakly on ≡ false) (p : ℕ) (own : side_of cut Process p ≡ on) where
   -- ---- what reads more than the process
 
   alike-memory_op : (s t : State) → Matches cut on s t → (inv : InvocationValue) (cap : Capability) → MayHold cut on cap

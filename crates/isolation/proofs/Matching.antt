@@ -1,6 +1,6 @@
 -- Two systems that match on one side: they agree on it, and the cut holds in the first. What a process of this side does in
 -- both leaves them so.
-use Rattle.std.proofs.Common.{◌≡◌, ℕ, Bool, List, [], ◌∷◌, ◌++◌, length, get_or, set, refl, sym, ◌∙◌, ap, ap₂, subst}
+use Rattle.std.proofs.Common.{◌≡◌, ℕ, List, [], ◌∷◌, ◌++◌, length, get_or, set, refl, sym, ◌∙◌, ap, ap₂, subst}
 use Rattle.std.proofs.Math.ListN.{get_or-map}
 use Rattle.cap_format.specs.declared.kind.CapKind.TheVariants.{Page, CapPage, Gpt, Endpoint, Process}
 use Rattle.cap_format.specs.Capability.{Capability}
@@ -14,6 +14,7 @@ use Rattle.schedules.specs.Queues.{QueuesValue, sleepers_of, without, left, asle
 use Rattle.schedules.specs.Ready.{readied, readied_process, readied_queues, readied_all, unslept, woken, runs_of, schedule_in}
 use Rattle.schedules.proofs.Waking.{sleepers-readied}
 use Rattle.operations.specs.System.{System, system, with_store, with_runs}
+use Rattle.confinement.specs.declared.cut_side.CutSide.{CutSide}
 use Rattle.confinement.specs.Cut.{Cut, side_of, MayHold, AllOn, SleepApart, Holds}
 use Rattle.confinement.specs.Acts.{Acts, ProcessHeld}
 use Rattle.confinement.proofs.Sleeping.{length-map_lists, apart-unslept, apart-asleep}
@@ -22,11 +23,11 @@ use Rattle.isolation.specs.Agree.{Agree}
 use Rattle.isolation.proofs.Agreeing.{set_both, set_long, same-gpt, same-process, agree-process, agree-page, agree-cappage, agree-gpt, agree-endpoint, agree-queues}
 
 -- the cut holds in the first, and both agree on this side
-pub record Match (cut : Cut) (side : Bool) (w v : System) : Type 0 where
+pub record Match (cut : Cut) (side : CutSide) (w v : System) : Type 0 where
   pub holds : Holds cut w
   pub agree : Agree cut side w v
 
-module _ (cut : Cut) (side : Bool) where
+module _ (cut : Cut) (side : CutSide) where
   -- what a process of this side may do of the first, and what leaves both agreeing
   pub match-after : (w v x y : System) → Match cut side w v → (Holds cut w → Acts cut side w x) → (Agree cut side w v → Agree cut side x y) → Match cut side x y
   match-after w v x y m acts agrees = let done = acts m.holds in record { holds = done.holds; agree = agrees m.agree }

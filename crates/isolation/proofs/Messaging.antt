@@ -34,6 +34,7 @@ use Rattle.messages.specs.Fault.{fault_records, fault, misaligned, malformed}
 use Rattle.messages.specs.Strings.{Side, span_side, side, side_outcome}
 use Rattle.messages.specs.Message.{sent_side, accept_in, received_side, bytes_moved, message_of, message_record, sent_off, message_told, delivered, sent_on, sent_by_fault, send_open, is_whole, is_delivered}
 use Rattle.messages.specs.Waiting.{wait_on, listening_from, listen}
+use Rattle.confinement.specs.declared.cut_side.CutSide.{CutSide}
 use Rattle.confinement.specs.Cut.{Cut, side_of}
 use Rattle.confinement.specs.Acts.{MayHoldIf, system_of}
 use Rattle.confinement.proofs.Own.{AllMayHold}
@@ -44,19 +45,19 @@ use Rattle.isolation.proofs.Delivering.{same-heard}
 use Rattle.isolation.proofs.States.{Matches, HitOwn, match-told_state, match-copied, same-here, held-here, same-data_access, hit-here, match-advance, match-set_registers, match-fault_state, match-waiting_state, match-listening_state}
 
 -- two parts of events that tell the same and leave states that match
-pub record Alike (cut : Cut) (on : Bool) (o u : Outcome) : Type 0 where
+pub record Alike (cut : Cut) (on : CutSide) (o u : Outcome) : Type 0 where
   pub records : o.records ≡ u.records
   pub state : Matches cut on o.state u.state
 
 -- two strings of this side: the same pieces of pages of this side, the same records, and the same fault, if any
-pub record SameString (cut : Cut) (on : Bool) (x y : Side) : Type 0 where
+pub record SameString (cut : Cut) (on : CutSide) (x y : Side) : Type 0 where
   pub pieces : x.pieces ≡ y.pieces
   pub records : x.records ≡ y.records
   pub fault : x.fault ≡ y.fault
   pub own : PiecesOwn cut on x.pieces
   pub may : StringFaultOwn cut on x.fault
 
-module _ (cut : Cut) (on : Bool) where
+module _ (cut : Cut) (on : CutSide) where
   -- one record in front of the same
   pub alike-recorded : (r : Record) (o u : Outcome) → Alike cut on o u
       → Alike cut on (record { state = o.state; records = r ∷ o.records; touches = o.touches; changed = o.changed }) (record { state = u.state; records = r ∷ u.records; touches = u.touches; changed = u.changed })
@@ -66,7 +67,7 @@ module _ (cut : Cut) (on : Bool) where
   pub alike-followed : (o u x y : Outcome) → o.records ≡ u.records → Alike cut on x y → Alike cut on (followed o x) (followed u y)
   alike-followed o u x y e a = record { records = ap₂ (λ (rs qs : List Record). rs ++ qs) e a.records; state = a.state }
 
-module _ (cut : Cut) (on : Bool) where
+module _ (cut : Cut) (on : CutSide) where
   module _ (p : ℕ) (own : side_of cut Process p ≡ on) where
     -- ---- faults
 
@@ -163,7 +164,7 @@ module _ (cut : Cut) (on : Bool) where
           alike-followed cut on x y (message_told x.state p e q inv (size_of_pieces to)) (message_told y.state p e q inv (size_of_pieces to)) refl
           (alike-told x.state y.state (match-copied cut on s t m from to read written) (size_of_pieces to))
 
-module _ (cut : Cut) (on : Bool) (alone : cut.weakly on ≡ false) where
+module _ (cut : Cut) (on : CutSide) (alone : cut.weakly on ≡ false) where
   -- ---- strings
 
   same-span : (s t : State) (q : ℕ) (kind : Kind) (span : Span) (x y : Side) (r : Result Hit WalkFault) → HitOwn cut on r → SameString cut on x y

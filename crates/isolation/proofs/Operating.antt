@@ -17,6 +17,7 @@ use Rattle.operations.specs.Memory as memory
 use Rattle.operations.specs.Memory.{read_only, opaque, is_page, bit}
 use Rattle.operations.specs.Control as control
 use Rattle.operations.specs.Control.{is_null}
+use Rattle.confinement.specs.declared.cut_side.CutSide.{CutSide}
 use Rattle.confinement.specs.Cut.{Cut, MayHold}
 use Rattle.confinement.specs.Acts.{Permitted, AllPermitted}
 use Rattle.confinement.proofs.Held.{side-endpoint, side-process}
@@ -25,7 +26,7 @@ use Rattle.isolation.proofs.Agreeing.{same-page, same-cappage, same-gpt, same-en
 use Rattle.isolation.proofs.Walks.{names-kind}
 use Rattle.isolation.proofs.Matching.{Match, match-process, match-page, match-cappage, match-slot, match-header, match-endpoint, match-left, match-readied, match-woken, same-schedule}
 
-module _ (cut : Cut) (side : Bool) where
+module _ (cut : Cut) (side : CutSide) where
   -- ---- changes
 
   -- a permitted change

@@ -1,11 +1,12 @@
 -- The theorem: by induction on the events of the first run, and for each of them on those of the second.
-use Rattle.std.proofs.Common.{◌≡◌, ℕ, ◌⊎◌, inl, inr, Bool, false, List, [], ◌∷◌, ◌++◌, Some, refl, sym, ◌∙◌, ap, ap₂, subst, subst₂}
+use Rattle.std.proofs.Common.{◌≡◌, ℕ, ◌⊎◌, inl, inr, false, List, [], ◌∷◌, ◌++◌, Some, refl, sym, ◌∙◌, ap, ap₂, subst, subst₂}
 use Rattle.machine_state.specs.declared.event.Event.{Event}
 use Rattle.machine_state.specs.declared.event.Event.TheVariants.{Step, Tick}
 use Rattle.machine_state.specs.declared.record.Record.{Record}
 use Rattle.machine_state.specs.State.{State}
 use Rattle.kernel_core.specs.Event.{performer, event_of}
 use Rattle.kernel_core.specs.Run.{run_state}
+use Rattle.confinement.specs.declared.cut_side.CutSide.{CutSide}
 use Rattle.confinement.specs.Cut.{Cut, Holds}
 use Rattle.confinement.specs.Acts.{system_of}
 use Rattle.confinement.proofs.Runs.{holds-event}
@@ -19,7 +20,7 @@ use Rattle.isolation.proofs.Turns.{agree-sym, agree-then, NotMine, unseen, alike
 
 -- ---- the first event of a run
 
-module _ (cut : Cut) (side : Bool) (s : State) (e : Event) (es : List Event) where
+module _ (cut : Cut) (side : CutSide) (s : State) (e : Event) (es : List Event) where
   -- the state behind it
   abbrev then : State
   then = (event_of s e).state
@@ -45,7 +46,7 @@ module _ (cut : Cut) (side : Bool) (s : State) (e : Event) (es : List Event) whe
   unfolding run_state
   ends-behind = refl
 
-turns-none : (cut : Cut) (side : Bool) (s : State) → turns cut side s [] ≡ []
+turns-none : (cut : Cut) (side : CutSide) (s : State) → turns cut side s [] ≡ []
 unfolding turns
 turns-none cut side s = refl
 
@@ -56,7 +57,7 @@ turn-process (Tick hart) (Tick other) p q e = cc (e)
 turn-process (Step hart) (Tick other) p q e = absurd (cc (e))
 turn-process (Tick hart) (Step other) p q e = absurd (cc (e))
 
-module _ (cut : Cut) (side : Bool) (alone : cut.weakly side ≡ false) where
+module _ (cut : Cut) (side : CutSide) (alone : cut.weakly side ≡ false) where
   -- two states that agree, in which the cut holds
   record Both (s t : State) : Type 0 where
     first : Holds cut (system_of s)

@@ -1,5 +1,5 @@
 -- What a process of this side makes of two states that match, by one change or one access.
-use Rattle.std.proofs.Common.{◌≡◌, ℕ, inl, inr, Bool, false, List, [], ◌∷◌, ◌++◌, take, drop, Option, Some, Result, Ok, Err, refl, sym, ◌∙◌, ap, ap₂, subst}
+use Rattle.std.proofs.Common.{◌≡◌, ℕ, inl, inr, false, List, [], ◌∷◌, ◌++◌, take, drop, Option, Some, Result, Ok, Err, refl, sym, ◌∙◌, ap, ap₂, subst}
 use Rattle.cap_format.specs.declared.fault.FaultCode.{FaultCode}
 use Rattle.cap_format.specs.declared.kind.CapKind.{CapKind}
 use Rattle.cap_format.specs.declared.kind.CapKind.TheVariants.{Page, CapPage, Endpoint, Process}
@@ -31,6 +31,7 @@ use Rattle.machine_state.specs.Messaging.{told_state, waiting_state, listening_s
 use Rattle.machine_state.specs.DataAccess.{number_of, bytes_of, data_access, number_at, written}
 use Rattle.machine_state.specs.CapAccess.{cap_access, cap_found, cap_stored, slot_in}
 use Rattle.machine_state.specs.Operation.{changed_by}
+use Rattle.confinement.specs.declared.cut_side.CutSide.{CutSide}
 use Rattle.confinement.specs.Cut.{Cut, side_of, MayHold}
 use Rattle.confinement.specs.Acts.{ProcessHeld, AllPermitted, MayHoldIf, system_of}
 use Rattle.confinement.specs.Reach.{Ends}
@@ -46,10 +47,10 @@ use Rattle.isolation.proofs.Delivering.{match-told, match-waiting, match-listeni
 use Rattle.isolation.proofs.Operating.{match-applied_all}
 
 -- two states that match on this side
-abbrev pub Matches : Cut → Bool → State → State → Type 0
+abbrev pub Matches : Cut → CutSide → State → State → Type 0
 Matches cut side s t = Match cut side (system_of s) (system_of t)
 
-module _ (cut : Cut) (side : Bool) where
+module _ (cut : Cut) (side : CutSide) where
   -- ---- where accesses end
 
   -- an object of this kind and of this side, or a fault whose handler this side may hold
@@ -220,7 +221,7 @@ module _ (cut : Cut) (side : Bool) where
 
 -- ---- accesses of the process
 
-module _ (cut : Cut) (side : Bool) (alone : cut.weakly side ≡ false) where
+module _ (cut : Cut) (side : CutSide) (alone : cut.weakly side ≡ false) where
   ends-own : (kind : Kind) (r : Result Place WalkFault) → Ends cut side kind r → EndsOwn cut side (serving kind) r
   ends-own kind (Err f) ends = ends
   ends-own kind (Ok p) r = elim r.own [

@@ -9,6 +9,8 @@ use Rattle.machine_state.specs.Setters.{dispatch}
 use Rattle.machine_state.specs.Outcome.{done}
 use Rattle.kernel_core.specs.Event.{stepped, tick_of, performer_by, performer, event_by, event_of}
 use Rattle.kernel_core.specs.Run.{run_records}
+use Rattle.confinement.specs.declared.cut_side.CutSide.{CutSide}
+use Rattle.confinement.specs.declared.cut_side.CutSide.TheVariants.{Left, Right}
 use Rattle.confinement.specs.Cut.{Cut, side_of, same_side}
 use Rattle.isolation.specs.Turns.{of_side, told}
 use Rattle.isolation.specs.Laws.{IsMerged, AllTold}
@@ -40,13 +42,13 @@ merged-second (r ∷ rs) zs xs ys m = inr (rs ++ ys, refl, merged-second rs zs x
 module _ (cut : Cut) where
   -- the records of one event in front
   merged-event : (by : Option ℕ) (rs zs xs ys : List Record) → (by ≡ None → rs ≡ []) → IsMerged zs xs ys
-      → IsMerged (rs ++ zs) (of_side cut true by (λ p. rs) ++ xs) (of_side cut false by (λ p. rs) ++ ys)
+      → IsMerged (rs ++ zs) (of_side cut Left by (λ p. rs) ++ xs) (of_side cut Right by (λ p. rs) ++ ys)
   merged-event None rs zs xs ys none m = subst (λ (qs : List Record). IsMerged (qs ++ zs) xs ys) (sym (none refl)) m
   merged-event (Some p) rs zs xs ys none m = on (side_of cut Process p)
     where
-      on : (b : Bool) → IsMerged (rs ++ zs) ((if same_side b true then rs else []) ++ xs) ((if same_side b false then rs else []) ++ ys)
-      on true = merged-first rs zs xs ys m
-      on false = merged-second rs zs xs ys m
+      on : (side : CutSide) → IsMerged (rs ++ zs) ((if same_side side Left then rs else []) ++ xs) ((if same_side side Right then rs else []) ++ ys)
+      on Left = merged-first rs zs xs ys m
+      on Right = merged-second rs zs xs ys m
 
 -- by induction on the events
 pub all_told : AllTold
@@ -54,4 +56,4 @@ unfolding run_records told
 all_told cut s [] = (refl, refl)
 all_told cut s (e ∷ es) =
     let t = (event_of s e).state in
-    merged-event cut (performer s e) (event_of s e).records (run_records t es) (told cut true t es) (told cut false t es) (idle-told s e) (all_told cut t es)
+    merged-event cut (performer s e) (event_of s e).records (run_records t es) (told cut Left t es) (told cut Right t es) (idle-told s e) (all_told cut t es)

@@ -10,6 +10,7 @@ use Rattle.machine_state.specs.State.{State}
 use Rattle.machine_state.specs.Setters.{dispatch}
 use Rattle.machine_state.specs.Outcome.{Outcome, done}
 use Rattle.kernel_core.specs.Event.{instruction, stepped, tick_of, performer_by, performer, event_by, event_of}
+use Rattle.confinement.specs.declared.cut_side.CutSide.{CutSide}
 use Rattle.confinement.specs.Cut.{Cut, side_of, same_side, Holds}
 use Rattle.confinement.specs.Acts.{system_of}
 use Rattle.confinement.proofs.Runs.{Does, event_does}
@@ -22,7 +23,7 @@ use Rattle.isolation.proofs.Events.{alike-instruction}
 
 -- ---- agreement goes round and on
 
-module _ (cut : Cut) (side : Bool) where
+module _ (cut : Cut) (side : CutSide) where
   -- from the second to the first
   pub agree-sym : (w v : System) → Agree cut side w v → Agree cut side v w
   agree-sym w v a = let sizes = a.sizes in record {
@@ -94,7 +95,7 @@ event-ticked : (s : State) (hart p : ℕ) → performer s (Tick hart) ≡ Some p
 unfolding event_by
 event-ticked s hart p performs = let is = event-performed s (Tick hart) p performs in is.0 ∙ ap (tick_of s) is.1
 
-module _ (cut : Cut) (side : Bool) (alone : cut.weakly side ≡ false) (p : ℕ) (own : side_of cut Process p ≡ side) where
+module _ (cut : Cut) (side : CutSide) (alone : cut.weakly side ≡ false) (p : ℕ) (own : side_of cut Process p ≡ side) where
   -- the same turn of a process of this side
   pub alike-turn : (s t : State) → Matches cut side s t → (e f : Event) → performer s e ≡ Some p → performer t f ≡ Some p → turn_of e p ≡ turn_of f p
       → Alike cut side (event_of s e) (event_of t f)
@@ -109,7 +110,7 @@ module _ (cut : Cut) (side : Bool) (alone : cut.weakly side ≡ false) (p : ℕ)
 
 -- ---- whose event it is
 
-module _ (cut : Cut) (side : Bool) where
+module _ (cut : Cut) (side : CutSide) where
   -- a process of this side performs it
   pub record Mine (by : Option ℕ) : Type 0 where
     pub process : ℕ

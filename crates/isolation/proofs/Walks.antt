@@ -21,9 +21,10 @@ use Rattle.walk_meaning.proofs.Walked.{walk-zero, walk-suc}
 use Rattle.walk_meaning.proofs.Ways.{Way, gone, step-headers}
 use Rattle.walk_meaning.proofs.Ways.Way.{BySlot, ByWindow, ByLocal}
 use Rattle.walk_meaning.proofs.Ends.{HandledBy, handled}
+use Rattle.confinement.specs.declared.cut_side.CutSide.{CutSide}
 use Rattle.confinement.specs.Cut.{Cut, side_of, NamesOwn, MayHold}
 
-module _ (cut : Cut) (side : Bool) (alone : cut.weakly side ≡ false) where
+module _ (cut : Cut) (side : CutSide) (alone : cut.weakly side ≡ false) where
   -- what may be held names what is of this side
   pub names-own : (c : Capability) → MayHold cut side c → NamesOwn cut side c
   names-own c may = elim may.own [

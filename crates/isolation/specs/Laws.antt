@@ -1,5 +1,5 @@
 -- The laws on which the theorem rests, as statements.
-use Rattle.std.specs.Prelude.{◌≡◌, ◌≢◌, ℕ, ◌⊎◌, Bool, true, false, List, [], ◌∷◌, Some}
+use Rattle.std.specs.Prelude.{◌≡◌, ◌≢◌, ℕ, ◌⊎◌, List, [], ◌∷◌, Some}
 use Rattle.cap_format.specs.declared.kind.CapKind.TheVariants.{Process}
 use Rattle.cap_format.specs.Capability.{Capability}
 use Rattle.walk_meaning.specs.declared.kind.Kind.{Kind}
@@ -9,6 +9,8 @@ use Rattle.machine_state.specs.State.{State}
 use Rattle.machine_state.specs.Outcome.{Outcome}
 use Rattle.kernel_core.specs.Event.{performer, event_of}
 use Rattle.kernel_core.specs.Run.{run_records}
+use Rattle.confinement.specs.declared.cut_side.CutSide.{CutSide}
+use Rattle.confinement.specs.declared.cut_side.CutSide.TheVariants.{Left, Right}
 use Rattle.confinement.specs.Cut.{Cut, side_of, MayHold, Holds}
 use Rattle.confinement.specs.Acts.{system_of}
 use Rattle.isolation.specs.Agree.{Agree, Apart}
@@ -16,26 +18,26 @@ use Rattle.isolation.specs.Turns.{turn_of, told}
 
 -- An access through a space that this side may hold comes to the same in both states, its fault's handler included.
 abbrev pub SameAccess : Type 0
-SameAccess = (cut : Cut) (side : Bool) (s t : State) (space : Capability) (address : ℕ) (kind : Kind)
+SameAccess = (cut : Cut) (side : CutSide) (s t : State) (space : Capability) (address : ℕ) (kind : Kind)
     → Apart cut side s t
     → MayHold cut side space
     → access s.store.items space address kind ≡ access t.store.items space address kind
 
 -- An event that no process of this side performs isn't seen on this side.
 abbrev pub Unseen : Type 0
-Unseen = (cut : Cut) (side : Bool) (s : State) (e : Event)
+Unseen = (cut : Cut) (side : CutSide) (s : State) (e : Event)
     → Holds cut (system_of s)
     → ((p : ℕ) → performer s e ≡ Some p → side_of cut Process p ≢ side)
     → Agree cut side (system_of s) (system_of (event_of s e).state)
 
 -- two outcomes that tell the same and whose states agree on this side
-pub record AlikeOutcomes (cut : Cut) (side : Bool) (o u : Outcome) : Type 0 where
+pub record AlikeOutcomes (cut : Cut) (side : CutSide) (o u : Outcome) : Type 0 where
   pub records : o.records ≡ u.records
   pub agree : Agree cut side (system_of o.state) (system_of u.state)
 
 -- The same turn of a process of this side tells the same in both states, and leaves them alike.
 abbrev pub SameTurn : Type 0
-SameTurn = (cut : Cut) (side : Bool) (s t : State) (e f : Event) (p : ℕ)
+SameTurn = (cut : Cut) (side : CutSide) (s t : State) (e f : Event) (p : ℕ)
     → Apart cut side s t
     → side_of cut Process p ≡ side
     → performer s e ≡ Some p
@@ -53,4 +55,4 @@ IsMerged {A = A} (z ∷ zs) xs ys =
 -- All that is told in a run is told of one of both sides.
 abbrev pub AllTold : Type 0
 AllTold = (cut : Cut) (s : State) (es : List Event)
-    → IsMerged (run_records s es) (told cut true s es) (told cut false s es)
+    → IsMerged (run_records s es) (told cut Left s es) (told cut Right s es)

@@ -16,8 +16,8 @@
 //! There is no code here. Each function has a law as its contract; the definitions are in `specs/`.
 #![tactic(auto)]
 
-ghost use Rattle.std.specs.Prelude.{Bool};
 ghost use Rattle.machine_state.specs.State.{state_of};
+ghost use Rattle.confinement.specs.declared.cut_side.CutSide.{CutSide};
 ghost use Rattle.confinement.specs.Cut.{Cut};
 ghost use Rattle.isolation.specs.Agree.{Apart};
 ghost use Rattle.isolation.specs.Laws.{SameAccess, Unseen, SameTurn, AllTold};
@@ -55,7 +55,7 @@ pub fn isolation()
 /// The theorem of two machines, over any translators: each cut that holds in both, over which one side may hold nothing, and
 /// on that side of which they agree, isolates this side from the other, whatever events follow in either.
 pub fn isolated<T: Translator, U: Translator>(_first: &Machine<T>, _second: &Machine<U>)
-    ensures { (cut : Cut) (side : Bool) →
+    ensures { (cut : Cut) (side : CutSide) →
         Apart cut side (state_of _first.now) (state_of _second.now) →
         Isolated cut side (state_of _first.now) (state_of _second.now) }
 {}

@@ -9,20 +9,27 @@ use Rattle.cap_format.specs.Capability.{Capability}
 use Rattle.cap_format.specs.Weakening.{is_harmless}
 use Rattle.schedules.specs.Queues.{sleepers_of, stands_in}
 use Rattle.operations.specs.System.{System}
+use Rattle.confinement.specs.declared.cut_side.CutSide.{CutSide}
+use Rattle.confinement.specs.declared.cut_side.CutSide.TheVariants.{Right}
 use Rattle.confinement.specs.Cut.{Cut, side_of, same_side, NamesOwn, MayCross, MayHold, AllOn, SleepApart, Holds}
-use Rattle.separation_policy.specs.Policy.{PolicyValue, rest_domain, domain_or_rest, domain_of, domain_named, Reads, MayStand, SleepAtHome, PolicyHolds, sees, side_by, sides_by, domain_cut, view_side, view_cut}
+use Rattle.confinement.proofs.Sides.{same_side-true}
+use Rattle.separation_policy.specs.Policy.{PolicyValue, rest_domain, domain_or_rest, domain_of, domain_named, Reads, MayStand, SleepAtHome, PolicyHolds, sees, side_beside, side_by, sides_by, domain_cut, view_side, view_cut}
 use Rattle.separation_policy.specs.Laws.{CutsLaw}
 use Rattle.separation_policy.proofs.Reading.{reads-seen, seen-reads, sees-itself, sees-then}
 
 -- ---- sides
 
 -- `rest` is on the right of each cut
-rest_right : (b : Bool) → not (same_side b b) ≡ false
+rest_right : (b : Bool) → side_beside b b ≡ Right
 rest_right true = refl
 rest_right false = refl
 
+-- nothing of a side is across from it
+pub never_across : (side : CutSide) → not (same_side side side) ≡ false
+never_across side = ap not (same_side-true side side refl)
+
 -- whoever stands on the same side of a cut is inside or outside with the other
-one_side : (x y r : Bool) → not (same_side x r) ≡ not (same_side y r) → x ≡ y
+one_side : (x y r : Bool) → side_beside x r ≡ side_beside y r → x ≡ y
 one_side true true r e = refl
 one_side false false r e = refl
 one_side true false true e = absurd (cc (e))
@@ -31,21 +38,21 @@ one_side false true true e = absurd (cc (e))
 one_side false true false e = absurd (cc (e))
 
 -- whoever is outside stands on another side than one that is inside
-outside_other : (x y r : Bool) → x ≡ false → y ≡ true → not (same_side (not (same_side x r)) (not (same_side y r))) ≡ true
+outside_other : (x y r : Bool) → x ≡ false → y ≡ true → not (same_side (side_beside x r) (side_beside y r)) ≡ true
 outside_other false true true a b = refl
 outside_other false true false a b = refl
 outside_other true y r a b = absurd (cc (a))
 outside_other false false r a b = absurd (cc (b))
 
-module _ (policy : PolicyValue) (some : ℕ → Bool) (weakly : Bool → Bool) where
+module _ (policy : PolicyValue) (some : ℕ → Bool) (weakly : CutSide → Bool) where
   abbrev cut : Cut
   cut = record { sides = sides_by policy some; weakly = weakly }
 
-  abbrev side : Option ℕ → Bool
+  abbrev side : Option ℕ → CutSide
   side assigned = side_by some (domain_or_rest assigned)
 
-  side_in : (assigned : List (Option ℕ)) (n : ℕ) → get_or (map side assigned) n false ≡ side (get_or assigned n None)
-  side_in assigned n = ap (λ (d : Bool). get_or (map side assigned) n d) (sym (rest_right (some rest_domain))) ∙ get_or-map side assigned n None
+  side_in : (assigned : List (Option ℕ)) (n : ℕ) → get_or (map side assigned) n Right ≡ side (get_or assigned n None)
+  side_in assigned n = ap (λ (d : CutSide). get_or (map side assigned) n d) (sym (rest_right (some rest_domain))) ∙ get_or-map side assigned n None
 
   -- the side of an object is that of its domain
   pub side-domain : (kind : CapKind) (n : ℕ) → side_of cut kind n ≡ side_by some (domain_of policy kind n)
@@ -58,7 +65,7 @@ module _ (policy : PolicyValue) (some : ℕ → Bool) (weakly : Bool → Bool) w
 
   -- objects whose domains are both inside, or both not, are on one side
   pub on-one-side : (kind other : CapKind) (n m : ℕ) → some (domain_of policy kind n) ≡ some (domain_of policy other m) → side_of cut kind n ≡ side_of cut other m
-  on-one-side kind other n m same = side-domain kind n ∙ (ap (λ (x : Bool). not (same_side x (some rest_domain))) same ∙ sym (side-domain other m))
+  on-one-side kind other n m same = side-domain kind n ∙ (ap (λ (x : Bool). side_beside x (some rest_domain)) same ∙ sym (side-domain other m))
 
   -- and the other way round
   pub both-inside : (kind other : CapKind) (n m : ℕ) → side_of cut kind n ≡ side_of cut other m → some (domain_of policy kind n) ≡ some (domain_of policy other m)
@@ -68,11 +75,11 @@ module _ (policy : PolicyValue) (some : ℕ → Bool) (weakly : Bool → Bool) w
   pub side-inside : (a : ℕ) (kind : CapKind) (n : ℕ) → some a ≡ true → (side_of cut kind n ≡ side_by some a → some (domain_of policy kind n) ≡ true) × (some (domain_of policy kind n) ≡ true → side_of cut kind n ≡ side_by some a)
   side-inside a kind n inside = (
     λ same. one_side _ _ (some rest_domain) (sym (side-domain kind n) ∙ same) ∙ inside,
-    λ own. side-domain kind n ∙ ap (λ (x : Bool). not (same_side x (some rest_domain))) (own ∙ sym inside),
+    λ own. side-domain kind n ∙ ap (λ (x : Bool). side_beside x (some rest_domain)) (own ∙ sym inside),
   )
 
 -- who may hold what is harmless over the cut of what a domain reads
-abbrev view_weak : PolicyValue → ℕ → Bool → Bool
+abbrev view_weak : PolicyValue → ℕ → CutSide → Bool
 view_weak policy a side = not (same_side side (view_side policy a))
 
 -- ---- one capability
@@ -133,12 +140,12 @@ module _ (policy : PolicyValue) (kind : CapKind) (n : ℕ) (c : Capability) wher
       )
       by counted (inr harmless) (inr weakly) =
           let here = ap (view_weak policy home) (side-domain policy (sees policy home) (view_weak policy home) kind n) in
-          let never : not (same_side (view_side policy home) (view_side policy home)) ≡ false = rest_right (view_side policy home) in
+          let never : not (same_side (view_side policy home) (view_side policy home)) ≡ false = never_across (view_side policy home) in
           absurd (cc (here, never, weakly.0))
 
 -- ---- sleepers
 
-module _ (cut : Cut) (side : Bool) where
+module _ (cut : Cut) (side : CutSide) where
   each_on : (xs : List ℕ) → ((x : ℕ) → stands_in xs x ≡ true → side_of cut Process x ≡ side) → AllOn cut side xs
   each_on [] each = tt
   each_on (x ∷ xs) each = (
@@ -156,7 +163,7 @@ module _ (cut : Cut) (side : Bool) where
 -- ---- a whole system
 
 module _ (policy : PolicyValue) (w : System) where
-  pub apart-by : (some : ℕ → Bool) (weakly : Bool → Bool) → SleepAtHome policy w.queues → SleepApart (cut policy some weakly) w.queues
+  pub apart-by : (some : ℕ → Bool) (weakly : CutSide → Bool) → SleepAtHome policy w.queues → SleepApart (cut policy some weakly) w.queues
   apart-by some weakly home on = each_on (cut policy some weakly) (side_of (cut policy some weakly) Process on) (sleepers_of w.queues on) (λ p there. on-one-side policy some weakly Process Process p on (ap some (home on p there)))
 
   holds-domain : (a : ℕ) → PolicyHolds policy w → Holds (domain_cut policy a) w

@@ -9,6 +9,7 @@ use Rattle.machine_state.specs.declared.event.Event.{Event}
 use Rattle.machine_state.specs.State.{State}
 use Rattle.kernel_core.specs.Event.{event_of}
 use Rattle.kernel_core.specs.Run.{run_state}
+use Rattle.confinement.specs.declared.cut_side.CutSide.{CutSide}
 use Rattle.confinement.specs.Cut.{side_of, same_side}
 use Rattle.confinement.specs.Acts.{SparesPlaces, others_in, other_on, system_of}
 use Rattle.confinement.specs.Separation.{Kept}
@@ -19,7 +20,7 @@ use Rattle.isolation.specs.Isolation.{AlikeRuns, Isolation}
 use Rattle.separation_policy.specs.Policy.{PolicyValue, rest_domain, domain_of, PolicyHolds, StandStill, others_than, other_than, WritesAtHome, sees, domain_cut, view_side, view_cut, SameFor, Reads}
 use Rattle.separation_policy.specs.Laws.{IntegrityLaw, NoninterferenceLaw}
 use Rattle.separation_policy.proofs.Reading.{same_answer, reads-seen, seen-reads, sees-itself}
-use Rattle.separation_policy.proofs.Cuts.{on-one-side, both-inside, side-inside, cuts_law}
+use Rattle.separation_policy.proofs.Cuts.{never_across, on-one-side, both-inside, side-inside, cuts_law}
 
 -- ---- integrity
 
@@ -36,7 +37,7 @@ module _ (policy : PolicyValue) where
   one-domain p q =
       let a = domain_of policy Process p in
       let inside : ℕ → Bool = λ b. b == a in
-      let weakly : Bool → Bool = λ side. true in
+      let weakly : CutSide → Bool = λ side. true in
       same_answer _ _
       (λ e. both-inside policy inside weakly Process Process q p (same_side-tells _ _ e) ∙ eq-eqb a a refl)
       (λ e. same_side-true _ _ (on-one-side policy inside weakly Process Process q p (e ∙ sym (eq-eqb a a refl))))
@@ -95,7 +96,7 @@ integrity_law policy s holds before e =
 -- ---- noninterference
 
 module _ (policy : PolicyValue) (a : ℕ) where
-  abbrev weak : Bool → Bool
+  abbrev weak : CutSide → Bool
   weak side = not (same_side side (view_side policy a))
 
   -- an object is on the side of what a domain reads where the domain reads its domain
@@ -121,11 +122,7 @@ module _ (policy : PolicyValue) (a : ℕ) where
 
   -- what a domain reads may hold nothing to what it doesn't
   view-alone : (view_cut policy a).weakly (view_side policy a) ≡ false
-  view-alone = by (view_side policy a)
-    where
-      by : (b : Bool) → not (same_side b b) ≡ false
-      by true = refl
-      by false = refl
+  view-alone = never_across (view_side policy a)
 
 -- nobody sees across, but who reads
 pub noninterference_law : Isolation → NoninterferenceLaw

@@ -5,7 +5,7 @@
 -- writing and sending among them, and under a scheduler that gives each domain fixed turns. Here a policy lets domains read
 -- and no more, whether it holds is decided over the objects of a machine, and the turns of domains are a premise in place
 -- of a scheduler. Nothing is said of time, here or there.
-use Rattle.std.specs.Prelude.{◌≡◌, ◌≢◌, ℕ, zero, suc, ◌<◌, ◌==◌, ◌&&◌, ◌||◌, ◌⊎◌, Bool, true, not, if◌then◌else◌, List, [], map, filter, length, slice_index_or, Option, Some, None}
+use Rattle.std.specs.Prelude.{◌≡◌, ◌≢◌, ℕ, zero, suc, ◌<◌, ◌==◌, ◌&&◌, ◌||◌, ◌⊎◌, Bool, true, false, not, if◌then◌else◌, List, [], map, filter, length, slice_index_or, Option, Some, None}
 use Rattle.cap_format.specs.declared.kind.CapKind.{CapKind}
 use Rattle.cap_format.specs.declared.kind.CapKind.TheVariants.{Page, CapPage, Gpt, Endpoint, Process, Range}
 use Rattle.cap_format.specs.Kind.{is_counted, object_kind}
@@ -23,6 +23,8 @@ use Rattle.machine_state.specs.Machine.{hart_in}
 use Rattle.machine_state.specs.State.{State}
 use Rattle.kernel_core.specs.Event.{performer, event_of}
 use Rattle.kernel_core.specs.Run.{run_state}
+use Rattle.confinement.specs.declared.cut_side.CutSide.{CutSide}
+use Rattle.confinement.specs.declared.cut_side.CutSide.TheVariants.{Left, Right}
 use Rattle.confinement.specs.Cut.{Cut, Sides, same_side, Holds}
 use Rattle.confinement.specs.Acts.{SameSizes, system_of}
 use Rattle.isolation.specs.Turns.{Turn, turns, told}
@@ -155,10 +157,17 @@ sees_below policy (suc k) a b = sees_below policy k a b || (sees_below policy k 
 abbrev pub sees : PolicyValue → ℕ → ℕ → Bool
 sees policy a b = sees_below policy (length policy.domains) a b
 
--- the side of a cut between some domains and all others on which a domain stands: the right with `rest`, where all objects
--- stand that a machine hasn't
-abbrev pub side_by : (ℕ → Bool) → ℕ → Bool
-side_by some a = not (same_side (some a) (some rest_domain))
+-- the side of a domain over a cut between some domains and all others, by whether it is one of them and whether `rest` is:
+-- the right with `rest`, where all objects stand that a machine hasn't
+abbrev pub side_beside : Bool → Bool → CutSide
+side_beside true true = Right
+side_beside true false = Left
+side_beside false true = Left
+side_beside false false = Right
+
+-- the same, by the number of the domain
+abbrev pub side_by : (ℕ → Bool) → ℕ → CutSide
+side_by some a = side_beside (some a) (some rest_domain)
 
 -- the sides of all objects of such a cut
 abbrev pub sides_by : PolicyValue → (ℕ → Bool) → Sides
@@ -175,7 +184,7 @@ abbrev pub domain_cut : PolicyValue → ℕ → Cut
 domain_cut policy a = record { sides = sides_by policy (λ b. b == a); weakly = λ side. true }
 
 -- the side of what a domain reads, itself included
-abbrev pub view_side : PolicyValue → ℕ → Bool
+abbrev pub view_side : PolicyValue → ℕ → CutSide
 view_side policy a = side_by (sees policy a) a
 
 -- "what this domain reads, and all else": all else may hold what is harmless to what it reads, and that nothing to all else

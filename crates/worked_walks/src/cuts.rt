@@ -8,7 +8,7 @@ use crate::starts::{event_at, hart_of};
 use crate::tasks::{Task, perform_task};
 use cap_format::CapKind;
 use cap_words::{kind_word, push_capability};
-use confine_check::{Cut, Verdict, confined, read_cut};
+use confine_check::{Cut, CutSide, Verdict, confined, read_cut};
 use coy_io::MemSink;
 use coy_text::{LineBuf, read_dec, word};
 use kernel_core::{Machine, event};
@@ -402,10 +402,11 @@ fn check_sides(rt: &impl Abort, cut: &Cut, row: &str) {
     for (n, side) in sides.iter().enumerate() {
         let letter = if n % 4 == 3 {
             b'.'
-        } else if cut.is_left(kind_at(n / 4), (n % 4) as u32) {
-            b'l'
         } else {
-            b'r'
+            match cut.side_of(kind_at(n / 4), (n % 4) as u32) {
+                CutSide::Left => b'l',
+                CutSide::Right => b'r',
+            }
         };
         check(rt, *side == letter, row);
     }
