@@ -1,5 +1,5 @@
 -- From the answer of the lines to what the program wrote and how it ends.
-use Rattle.std.proofs.Common.{◌≡◌, ◌≢◌, ◌∙◌, [], ℕ, List, length, Option, refl, sym, ap, subst, arith}
+use Rattle.std.proofs.Common.{◌≡◌, ◌≢◌, ◌∙◌, [], ℕ, List, length, Option, refl, sym, ap, subst}
 use Rattle.std.specs.Io.KnownBytes.{Appends}
 use Rattle.std.proofs.KnownBytes.{Appends-nil}
 use Rattle.coy_io.specs.Causes.{Rose}
@@ -9,52 +9,22 @@ use Rattle.machine_state.specs.State.{State}
 use Rattle.reverse_run.specs.History.{History}
 use Rattle.listing_read.specs.declared.fault.ScheduleFault.{ScheduleFault}
 use Rattle.schedule_replay.specs.Counts.{events_alone}
-use Rattle.schedule_replay.specs.Replay.{Accords, answer_at, count_answer, stop_answer}
+use Rattle.schedule_replay.specs.Replay.{Accords, count_answer, stop_answer}
 use Rattle.schedule_replay.specs.Scheduled.{AtEnd, AtFault, AtLimit, Ending, OnParts, Scheduled, scheduled}
-use Rattle.schedule_replay.specs.declared.counts.Counts.{Counts}
 use Rattle.judged_lines.specs.declared.stop.Stop.{Stop}
 use Rattle.judged_lines.specs.declared.stop.Stop.TheVariants as stops
-use Rattle.schedule_replay.specs.declared.replayed.Replayed.TheVariants as answers
+use Rattle.schedule_replay.proofs.Ended.{ended-at, past-at, refused-at}
 use Rattle.schedule_replay.proofs.Reading.{on_all}
 use Rattle.courses.specs.Course.{cached, course_output}
-use Rattle.courses.specs.Ending.{HasCauses, Outputs, refused_schedule, too_long}
+use Rattle.courses.specs.Ending.{HasCauses, Outputs}
 use Rattle.courses.specs.Sure.{StandsOn}
 use Rattle.courses.specs.declared.exit.Exit.{Exit}
-use Rattle.courses.specs.declared.exit.Exit.TheVariants.{Done, Usage, ReadFault, WriteFault, OutOfMemory}
+use Rattle.courses.specs.declared.exit.Exit.TheVariants.{Done, Usage, ReadFault, OutOfMemory}
 use Rattle.courses.proofs.Endings.{outputs_none}
-use Rattle.courses.proofs.Lasts.{IsLast, last-causes, last-done, last-memory, last-read, last-usage}
+use Rattle.courses.proofs.Lasts.{done-last, last-causes, last-done, last-memory, last-read, last-usage, past-last, read-causes, refused-last}
 use Rattle.back_command.specs.Back.{output_at, undoing}
 use Rattle.back_command.specs.Runs.{Concludes, RunsLines, text_of}
 use Rattle.back_command.proofs.Histories.{text-at}
-
--- ---- what is written last
-
--- a text behind lines that were all read
-state-last : (text : List ℕ) → IsLast (record { text = text; exit = Done })
-state-last text = record { usage = λ e. omega (arith, e); read = λ e. omega (arith, e); memory = λ e. omega (arith, e) }
-
-refused-last : (line : ℕ) (fault : ScheduleFault) → IsLast (refused_schedule line fault)
-refused-last line fault = record { usage = λ e. omega (arith, e); read = λ e. omega (arith, e); memory = λ e. omega (arith, e) }
-
-past-last : IsLast too_long
-past-last = record { usage = λ e. omega (arith, e); read = λ e. omega (arith, e); memory = λ e. omega (arith, e) }
-
--- ---- where lines end, by the answer of a count
-
-ended-at : (counts all : Counts) (ending : Ending) → answers.Ended counts ≡ answer_at all ending → ending ≡ AtEnd
-ended-at counts all AtEnd same = refl
-ended-at counts all (AtFault line fault) same = cc
-ended-at counts all AtLimit same = cc
-
-refused-at : (line : ℕ) (fault : ScheduleFault) (all : Counts) (ending : Ending) → answers.Refused line fault ≡ answer_at all ending → ending ≡ AtFault line fault
-refused-at line fault all AtEnd same = cc
-refused-at line fault all (AtFault l f) same = let one : line ≡ l = cc in let other : fault ≡ f = cc in rw (one, other) refl
-refused-at line fault all AtLimit same = cc
-
-past-at : (all : Counts) (ending : Ending) → answers.TooLong ≡ answer_at all ending → ending ≡ AtLimit
-past-at all AtEnd same = cc
-past-at all (AtFault line fault) same = cc
-past-at all AtLimit same = refl
 
 module _ {K : Type 0} (taken : K → Option (List ℕ)) (faults : K → ℕ) (number : ℕ) (h : History) (old new : K) (exit : Exit) where
   abbrev Concluded : Stop ScheduleFault → Type 0
@@ -62,13 +32,13 @@ module _ {K : Type 0} (taken : K → Option (List ℕ)) (faults : K → ℕ) (nu
 
   -- the program neither tells its usage nor wants memory
   pub concludes-usage : (stop : Stop ScheduleFault) → Concluded stop → exit ≢ Usage
-  concludes-usage stops.End c = last-usage _ _ _ _ _ _ (state-last (text_of number h)) c
+  concludes-usage stops.End c = last-usage _ _ _ _ _ _ (done-last (text_of number h)) c
   concludes-usage (stops.Refused line fault) c = last-usage _ _ _ _ _ _ (refused-last line fault) c
   concludes-usage stops.TooLong c = last-usage _ _ _ _ _ _ past-last c
   concludes-usage stops.ReadFault c = λ usage. let bad : ReadFault ≡ Usage = sym c.0 ∙ usage in cc
 
   pub concludes-memory : (stop : Stop ScheduleFault) → Concluded stop → exit ≢ OutOfMemory
-  concludes-memory stops.End c = last-memory _ _ _ _ _ _ (state-last (text_of number h)) c
+  concludes-memory stops.End c = last-memory _ _ _ _ _ _ (done-last (text_of number h)) c
   concludes-memory (stops.Refused line fault) c = last-memory _ _ _ _ _ _ (refused-last line fault) c
   concludes-memory stops.TooLong c = last-memory _ _ _ _ _ _ past-last c
   concludes-memory stops.ReadFault c = λ memory. let bad : ReadFault ≡ OutOfMemory = sym c.0 ∙ memory in cc
@@ -82,7 +52,7 @@ module _ {K : Type 0} (taken : K → Option (List ℕ)) (faults : K → ℕ) (nu
 
   -- where reading failed, it failed in the lines, and nothing was written
   pub concludes-read : (stop : Stop ScheduleFault) → Concluded stop → exit ≡ ReadFault → (stop ≡ stops.ReadFault) × (new ≡ old)
-  concludes-read stops.End c read = absurd (last-read _ _ _ _ _ _ (state-last (text_of number h)) c read)
+  concludes-read stops.End c read = absurd (last-read _ _ _ _ _ _ (done-last (text_of number h)) c read)
   concludes-read (stops.Refused line fault) c read = absurd (last-read _ _ _ _ _ _ (refused-last line fault) c read)
   concludes-read stops.TooLong c read = absurd (last-read _ _ _ _ _ _ past-last c read)
   concludes-read stops.ReadFault c read = (refl, c.1)
@@ -90,15 +60,10 @@ module _ {K : Type 0} (taken : K → Option (List ℕ)) (faults : K → ℕ) (nu
   -- the causes of both faults
   pub concludes-causes : (unread unread' : ℕ) (stop : Stop ScheduleFault) → Concluded stop → (stop ≡ stops.ReadFault → Rose unread unread') → (stop ≢ stops.ReadFault → unread' ≡ unread)
       → HasCauses unread unread' (faults old) (faults new) exit
-  concludes-causes unread unread' stops.End c rose quiet = last-causes _ _ _ _ _ _ (state-last (text_of number h)) c unread unread' (faults old) (quiet (λ same. cc)) refl
+  concludes-causes unread unread' stops.End c rose quiet = last-causes _ _ _ _ _ _ (done-last (text_of number h)) c unread unread' (faults old) (quiet (λ same. cc)) refl
   concludes-causes unread unread' (stops.Refused line fault) c rose quiet = last-causes _ _ _ _ _ _ (refused-last line fault) c unread unread' (faults old) (quiet (λ same. cc)) refl
   concludes-causes unread unread' stops.TooLong c rose quiet = last-causes _ _ _ _ _ _ past-last c unread unread' (faults old) (quiet (λ same. cc)) refl
-  concludes-causes unread unread' stops.ReadFault c rose quiet = record {
-    read = λ same. rose refl;
-    read_quiet = λ other. absurd (other c.0);
-    write = λ same. let bad : ReadFault ≡ WriteFault = sym c.0 ∙ same in cc;
-    write_quiet = λ other. ap faults c.1;
-  }
+  concludes-causes unread unread' stops.ReadFault c rose quiet = read-causes unread unread' (faults old) (faults new) exit c.0 (rose refl) (ap faults c.1)
 
   module _ (s : State) where
     abbrev Comes : Scheduled → Type 0

@@ -3,7 +3,7 @@ use Rattle.std.proofs.Common.{◌≡◌, ◌≤◌, ◌+◌, ◌-◌, ◌∙◌,
 use Rattle.std.specs.Prelude.{min}
 use Rattle.std.proofs.Math.Nat.{min-le_left, min-le_right}
 use Rattle.std.proofs.Math.Seq.{take-suc, take-length}
-use Rattle.std.proofs.lemmas.List.{length-append, length-take}
+use Rattle.std.proofs.lemmas.List.{length-append, length-take, take-take}
 use Rattle.machine_state.specs.declared.event.Event.{Event}
 use Rattle.machine_state.specs.declared.event.Event.TheVariants.{Step}
 use Rattle.machine_state.specs.State.{State}
@@ -38,14 +38,9 @@ states_before-nil s = refl
 -- ---- events
 
 -- of what is cut off twice only the first matters
-take-take_suc : {X : Type 0} (n : ℕ) (xs : List X) → take n (take (suc n) xs) ≡ take n xs
-take-take_suc zero xs = refl
-take-take_suc (suc n) [] = refl
-take-take_suc (suc n) (x ∷ xs) = ap (λ rest. x ∷ rest) (take-take_suc n xs)
-
 take-push : {X : Type 0} (depth : ℕ) (x : X) (xs : List X) → 1 ≤ depth → take depth (x ∷ take depth xs) ≡ take depth (x ∷ xs)
 take-push zero x xs least = absurd (omega (arith, least))
-take-push (suc depth) x xs least = ap (λ rest. x ∷ rest) (take-take_suc depth xs)
+take-push (suc depth) x xs least = ap (λ rest. x ∷ rest) (take-take depth (suc depth) xs (omega arith))
 
 -- no event was run
 pub history-start : (h : History) → h.before ≡ [] → h ≡ history_at most_remembered h.present []

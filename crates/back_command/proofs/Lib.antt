@@ -2,4 +2,3 @@ mod Histories
 mod Remembering
 mod Concluding
 mod Behind
-pub mod Sound

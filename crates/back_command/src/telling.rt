@@ -1,5 +1,4 @@
 //! What is written last: how many events were undone, and the state before them.
-ghost use Rattle.std.specs.Prelude.{◌≡◌};
 ghost use Rattle.coy_io.specs.Causes.{HasCause};
 ghost use Rattle.kernel_core.specs.State.{state_of};
 ghost use Rattle.coy_io.specs.Written.{Writes};

@@ -16,9 +16,9 @@ use Rattle.courses.specs.Course.{Course, ComesTo, cached, course_output}
 use Rattle.courses.specs.Ending.{Output, Outputs, Ends, HasCauses, refused_cut, too_long}
 use Rattle.courses.specs.Sure.{StandsOn}
 use Rattle.courses.specs.declared.exit.Exit.{Exit}
-use Rattle.courses.specs.declared.exit.Exit.TheVariants.{Done, Usage, ReadFault, WriteFault, OutOfMemory}
+use Rattle.courses.specs.declared.exit.Exit.TheVariants.{Done, Usage, ReadFault, OutOfMemory}
 use Rattle.courses.proofs.Endings.{outputs_none}
-use Rattle.courses.proofs.Lasts.{IsLast, comes-last, last-causes, last-done, last-memory, last-read, last-usage}
+use Rattle.courses.proofs.Lasts.{IsLast, comes-last, done-last, last-causes, last-done, last-memory, last-read, last-usage, past-last, read-causes}
 use Rattle.image_builder.specs.Boot.{booted}
 use Rattle.listing_read.specs.Statement.{ListingValue}
 use Rattle.confine_check.specs.Sides.{all_right}
@@ -66,13 +66,10 @@ module _ {K : Type 0} (taken : K → Option (List ℕ)) (faults : K → ℕ) (s 
 
   -- the texts that are told have exits of their own
   told-last : IsLast (told s sides)
-  told-last = record { usage = λ e. omega (arith, e); read = λ e. omega (arith, e); memory = λ e. omega (arith, e) }
+  told-last = done-last _
 
   refused-last : (line : ℕ) (fault : CutFault) → IsLast (refused_cut line fault)
   refused-last line fault = record { usage = λ e. omega (arith, e); read = λ e. omega (arith, e); memory = λ e. omega (arith, e) }
-
-  past-last : IsLast too_long
-  past-last = record { usage = λ e. omega (arith, e); read = λ e. omega (arith, e); memory = λ e. omega (arith, e) }
 
   -- a part of what an answer comes to, by its cases: a text was told, or reading failed and nothing came of it
   by_answer : (P : Stop CutFault → Type 0) → ((stop : Stop CutFault) (o : Output) → stop ≢ stops.ReadFault → (o.exit ≡ Done → stop ≡ stops.End) → IsLast o → Ends_with o → P stop)
@@ -104,12 +101,7 @@ module _ {K : Type 0} (taken : K → Option (List ℕ)) (faults : K → ℕ) (s 
   concludes-causes unread unread' =
       by_answer (λ stop. (stop ≡ stops.ReadFault → Rose unread unread') → (stop ≢ stops.ReadFault → unread' ≡ unread) → HasCauses unread unread' (faults out) (faults out') exit)
       (λ stop o other done last e rose quiet. last-causes _ _ _ _ _ _ last e unread unread' (faults out) (quiet other) refl)
-      (λ read same still rose quiet. record {
-        read = λ fault. rose refl;
-        read_quiet = λ other. absurd (other read);
-        write = λ cut. let bad : ReadFault ≡ WriteFault = sym read ∙ cut in cc;
-        write_quiet = λ other. ap faults same;
-      })
+      (λ read same still rose quiet. read-causes unread unread' (faults out) (faults out') exit read (rose refl) (ap faults same))
 
   -- where all was done, what was told is so
   pub concludes-decided : NobodySleeps s.queues → (stop : Stop CutFault) → StatesRest first sides old new held held' stop → Concludes taken faults s sides stop out out' fetches fetches' exit → exit ≡ Done
@@ -147,8 +139,3 @@ module _ (listing : ListingValue) (last : ℕ) (s : State) (sides : Sides) (stat
   -- what lines come to on the machine of the listing is what is done with it and them
   pub of-listing : (parts : List Part) → checked s (stated sides last parts) ≡ confine_course listing last parts
   of-listing parts = ap (λ x. checked x (stated sides last parts)) state ∙ ap (λ x. checked (booted listing) (stated x last parts)) start
-
-  -- so what is so of the one is so of the other
-  pub at_listing : (left : Option (List Part)) (Q : Course → Type 0) → OnParts left (λ parts. Q (checked s (stated sides last parts))) → OnParts left (λ parts. Q (confine_course listing last parts))
-  at_listing None Q all = tt
-  at_listing (Some parts) Q all = subst Q (of-listing parts) all

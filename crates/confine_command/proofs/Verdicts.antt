@@ -6,7 +6,7 @@ use Rattle.confine_check.specs.declared.verdict.Verdict.{Verdict}
 use Rattle.confine_check.specs.declared.verdict.Verdict.TheVariants.{Sleeper}
 use Rattle.confine_check.specs.declared.verdict.Verdict.TheVariants as verdicts
 use Rattle.confine_check.specs.Breach.{breach_in, found_by}
-use Rattle.confine_check.specs.Found.{meant, reads_to}
+use Rattle.confine_check.specs.Found.{meant}
 use Rattle.confine_command.specs.Confine.{breach_text, cut_text}
 
 -- the same is told of a verdict and of what it means
@@ -27,9 +27,3 @@ pub found-awake : (found : Option Breach) (p : Option ℕ) (q : ℕ) → p ≡ N
 found-awake (Some found) p q none e = cc (e)
 found-awake None (Some p) q none e = cc (none)
 found-awake None None q none e = cc (e)
-
--- and as many slots were read
-pub reads-meant : (v : Verdict) (gpts : ℕ) → reads_to v gpts ≡ reads_to (meant v) gpts
-reads-meant verdicts.Yes gpts = refl
-reads-meant (verdicts.Capability kind n place cap) gpts = refl
-reads-meant (verdicts.Sleeper process) gpts = refl

@@ -10,10 +10,11 @@ use Rattle.listing_read.specs.Listing.{Listed, Good, listing_of, IsListed}
 use Rattle.listing_read.specs.Reads.{GivesListing, GivesFront}
 use Rattle.listing_read.specs.declared.place.Place.TheVariants.{Header}
 use Rattle.schedule_replay.specs.Scheduled.{OnParts}
-use Rattle.courses.specs.Course.{Course}
-use Rattle.courses.specs.Ending.{EndsNothing}
+use Rattle.courses.specs.Course.{ComesTo, Course, course_output}
+use Rattle.courses.specs.Ending.{EndsNothing, Outputs}
 use Rattle.courses.specs.Listed.{Behind, listed_course, lines_course}
 use Rattle.courses.specs.Sure.{StandsOn, StandsSure}
+use Rattle.courses.specs.declared.exit.Exit.{Exit}
 use Rattle.courses.specs.declared.exit.Exit.TheVariants.{Done}
 
 module _ (behind : Behind) (held held' taken taken' : Option (List ℕ)) (fetches fetches' : ℕ) (count : List Touch → ℕ) where
@@ -75,12 +76,20 @@ module _ (behind : Behind) (held held' taken taken' : Option (List ℕ)) (fetche
       sure-going mid first middle reader listing s.given new (listed s.before) s.going s.unfinished s.gives
       (λ lines. subst (EndsNothing lines) (sym s.goes_on) tt) s.written s.fetched
 
+-- what follows of bytes whose lines make a listing, from what is so of the lines behind it, is so of the known bytes
+pub on_made : (held : Option (List ℕ)) (left : Option (List Part)) (listing : ListingValue) (last : ℕ) (Q : List Part → Type 0) (P : List ℕ → Type 0)
+    → ((bytes : List ℕ) (rest : List Part) → listing_of Header 1 (parts_of bytes) ≡ Good listing last rest → Q rest → P bytes)
+    → IsListed Header 1 (ahead new_reader held) listing last left → OnParts left Q → IfSome held P
+on_made None left listing last Q P follows listed all = tt
+on_made (Some bytes) None listing last Q P follows listed all = absurd listed
+on_made (Some bytes) (Some rest) listing last Q P follows listed all = follows bytes rest listed all
+
 -- what is so of the known lines behind a listing is so of the known bytes
 pub on_listed : (held : Option (List ℕ)) (left : Option (List Part)) (listing : ListingValue) (last : ℕ) (P : Listed → Type 0) → IsListed Header 1 (ahead new_reader held) listing last left
     → OnParts left (λ parts. P (Good listing last parts)) → IfSome held (λ bytes. P (listing_of Header 1 (parts_of bytes)))
-on_listed None left listing last P listed all = tt
-on_listed (Some bytes) None listing last P listed all = absurd listed
-on_listed (Some bytes) (Some rest) listing last P listed all = subst P (sym listed) all
+on_listed held left listing last P listed all =
+    on_made held left listing last (λ parts. P (Good listing last parts)) (λ bytes. P (listing_of Header 1 (parts_of bytes)))
+    (λ bytes rest is one. subst P (sym is) one) listed all
 
 -- what is so of what is done with the known lines is so of what the known bytes come to
 pub on_bytes : (behind : Behind) (held mid : Option (List ℕ)) (first middle : Reader) (listing : ListingValue) (Q : Course → Type 0)
@@ -111,3 +120,9 @@ pub on_parts-same : (left : Option (List Part)) (course other : List Part → Co
     → OnParts left (λ parts. Q (course parts)) → OnParts left (λ parts. Q (other parts))
 on_parts-same None course other Q same all = tt
 on_parts-same (Some parts) course other Q same all = subst Q (same parts) all
+
+-- what a call came to, without the slots that it fetched
+pub known-output : (held taken taken' : Option (List ℕ)) (fetches fetches' : ℕ) (exit : Exit) (count : List Touch → ℕ) (course : List ℕ → Course)
+    → IfSome held (λ bytes. ComesTo taken taken' fetches fetches' exit count (course bytes)) → IfSome held (λ bytes. Outputs taken taken' exit (course_output (course bytes)))
+known-output None taken taken' fetches fetches' exit count course comes = tt
+known-output (Some bytes) taken taken' fetches fetches' exit count course comes = comes.output

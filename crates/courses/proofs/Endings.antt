@@ -1,19 +1,12 @@
 -- How what a call wrote comes to the whole output.
-use Rattle.std.proofs.Common.{◌≡◌, ◌≢◌, ◌∙◌, ℕ, List, Option, Result, Ok, Err, refl, sym, ap, subst, arith}
-use Rattle.std.specs.Bool.{⊤}
+use Rattle.std.proofs.Common.{◌≡◌, ◌≢◌, ◌∙◌, ℕ, List, Option, refl, sym, ap, subst, inl, inr, arith}
 use Rattle.std.specs.Io.KnownBytes.{Appends}
 use Rattle.std.proofs.KnownBytes.{Appends-trans}
-use Rattle.coy_io.specs.Pieces.{AppendsSome}
-use Rattle.coy_io.proofs.Texts.{cut_before, cut_behind}
+use Rattle.coy_io.proofs.Texts.{cut_behind}
 use Rattle.courses.specs.declared.exit.Exit.{Exit}
 use Rattle.courses.specs.declared.exit.Exit.TheVariants.{OutOfMemory, ReadFault, WriteFault}
 use Rattle.courses.specs.Exit.{status_of}
-use Rattle.courses.specs.Ending.{Output, Outputs, Ends, before}
-
--- the same text
-pub outputs_text : (old new : Option (List ℕ)) (exit end : Exit) (x y : List ℕ) → x ≡ y
-    → Outputs old new exit (record { text = x; exit = end }) → Outputs old new exit (record { text = y; exit = end })
-outputs_text old new exit end x y same o = subst (λ text. Outputs old new exit (record { text = text; exit = end })) same o
+use Rattle.courses.specs.Ending.{Completes, Output, Outputs, Ends, before}
 
 -- a text was written, and then the last piece
 pub outputs_behind : (old now new : Option (List ℕ)) (exit : Exit) (front : List ℕ) (last : Output) → exit ≢ OutOfMemory
@@ -30,14 +23,6 @@ read-memory same = let four : 4 ≡ 6 = ap status_of same in absurd (omega (arit
 
 pub write-memory : WriteFault ≢ OutOfMemory
 write-memory same = let five : 5 ≡ 6 = ap status_of same in absurd (omega (arith, five))
-
--- writing failed in the next piece
-pub outputs_cut : (now new : Option (List ℕ)) (piece : List ℕ) (rest : Output) → AppendsSome now new piece → Outputs now new WriteFault (before piece rest)
-outputs_cut now new piece rest some = record {
-  whole = λ given. absurd (given.write refl);
-  part = λ cut. cut_before now new piece rest.text some;
-  nothing = λ none. absurd (write-memory none);
-}
 
 -- reading failed
 pub outputs_none : (now new : Option (List ℕ)) (o : Output) → Outputs now new ReadFault o
@@ -58,10 +43,15 @@ ends-memory old new faults faults' exit o e other none =
     let written : exit ≢ WriteFault = λ cut. let six : 6 ≡ 5 = ap status_of (sym none ∙ cut) in absurd (omega (arith, six)) in
     other (ap status_of (sym (e.given written) ∙ none))
 
--- an answer is no fault
-abbrev pub IsAnswer : {A E : Type 0} → Result A E → Type 0
-IsAnswer (Ok x) = ⊤
-IsAnswer (Err e) = ⊥
+-- an exit that no fault gave is that of the whole output, or memory was wanting
+pub completes : (old new : Option (List ℕ)) (exit : Exit) (o : Output) → (exit ≡ ReadFault → ⊥) → (exit ≡ WriteFault → ⊥) → Outputs old new exit o → Completes old new exit o
+completes old new exit o read write outputs = by_exit exit refl
+  where
+    given : (exit ≡ OutOfMemory → ⊥) → Completes old new exit o
+    given memory = inl (outputs.whole (record { read = read; write = write; memory = memory }))
 
-pub no_fault : {A E : Type 0} (r s : Result A E) (x : A) (e : E) → r ≡ Ok x → s ≡ Err e → r ≡ s → ⊥
-no_fault r s x e ok err same = subst IsAnswer (sym ok ∙ same ∙ err) tt
+    by_exit : (e : Exit) → exit ≡ e → Completes old new exit o
+    by_exit ReadFault is = absurd (read is)
+    by_exit WriteFault is = absurd (write is)
+    by_exit OutOfMemory is = inr (is, outputs.nothing is)
+    by_exit other is = given (λ none. let same : other ≡ OutOfMemory = sym is ∙ none in cc)

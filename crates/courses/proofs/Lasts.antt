@@ -6,10 +6,11 @@ use Rattle.coy_io.specs.Lines.{Part}
 use Rattle.kernel_core.specs.Outcome.{Touch}
 use Rattle.listing_read.specs.Listing.{Listed, Good, Refused, Past, listing_of}
 use Rattle.listing_read.specs.Statement.{ListingValue}
+use Rattle.listing_read.specs.declared.fault.ScheduleFault.{ScheduleFault}
 use Rattle.listing_read.specs.declared.place.Place.TheVariants.{Header}
 use Rattle.courses.specs.Listed.{Behind, lines_course, listed_course}
 use Rattle.courses.specs.Course.{ComesTo, HasEntries, ends_in}
-use Rattle.courses.specs.Ending.{Output, Ends, HasCauses, refused_listing, too_long}
+use Rattle.courses.specs.Ending.{Output, Ends, HasCauses, refused_listing, refused_schedule, too_long}
 use Rattle.courses.specs.Exit.{status_of}
 use Rattle.courses.specs.declared.exit.Exit.{Exit}
 use Rattle.courses.specs.declared.exit.Exit.TheVariants.{Done, Crossings, Usage, ReadFault, WriteFault, OutOfMemory}
@@ -19,11 +20,41 @@ use Rattle.courses.proofs.Endings.{ends-memory}
 pub exits-differ : (a b : Exit) → (status_of a ≡ status_of b → ⊥) → a ≡ b → ⊥
 exits-differ a b other same = other (ap status_of same)
 
+-- where reading failed, the source's count rose, and the sink's stayed
+pub read-causes : (unread unread' unwritten unwritten' : ℕ) (exit : Exit) → exit ≡ ReadFault → Rose unread unread' → unwritten' ≡ unwritten → HasCauses unread unread' unwritten unwritten' exit
+read-causes unread unread' unwritten unwritten' exit is rose still = record {
+  read = λ same. rose;
+  read_quiet = λ other. absurd (other is);
+  write = λ same. absurd (exits-differ ReadFault WriteFault (λ n. let bad : 4 ≡ 5 = n in omega (arith, bad)) (sym is ∙ same));
+  write_quiet = λ other. still;
+}
+
+-- and where writing failed, the sink's rose, and the source's stayed
+pub write-causes : (unread unread' unwritten unwritten' : ℕ) (exit : Exit) → exit ≡ WriteFault → Rose unwritten unwritten' → unread' ≡ unread → HasCauses unread unread' unwritten unwritten' exit
+write-causes unread unread' unwritten unwritten' exit is rose still = record {
+  read = λ same. absurd (exits-differ WriteFault ReadFault (λ n. let bad : 5 ≡ 4 = n in omega (arith, bad)) (sym is ∙ same));
+  read_quiet = λ other. still;
+  write = λ same. rose;
+  write_quiet = λ other. absurd (other is);
+}
+
 -- a last text has an exit of its own: neither that of words of no form, nor a fault of reading or a want of memory
 pub record IsLast (o : Output) : Type 0 where
   pub usage : status_of o.exit ≡ 1 → ⊥
   pub read : status_of o.exit ≡ 4 → ⊥
   pub memory : status_of o.exit ≡ 6 → ⊥
+
+-- so has a text behind lines that were all read,
+pub done-last : (text : List ℕ) → IsLast (record { text = text; exit = Done })
+done-last text = record { usage = λ e. omega (arith, e); read = λ e. omega (arith, e); memory = λ e. omega (arith, e) }
+
+-- what refuses a line of a schedule,
+pub refused-last : (line : ℕ) (fault : ScheduleFault) → IsLast (refused_schedule line fault)
+refused-last line fault = record { usage = λ e. omega (arith, e); read = λ e. omega (arith, e); memory = λ e. omega (arith, e) }
+
+-- and what tells that the input goes on behind the last byte that is read
+pub past-last : IsLast too_long
+past-last = record { usage = λ e. omega (arith, e); read = λ e. omega (arith, e); memory = λ e. omega (arith, e) }
 
 module _ (old new : Option (List ℕ)) (faults faults' : ℕ) (exit : Exit) (o : Output) (last : IsLast o) (e : Ends old new faults faults' exit o) where
   -- the call does not tell its usage

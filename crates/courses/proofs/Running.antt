@@ -24,27 +24,14 @@ use Rattle.schedule_replay.specs.declared.replayed.Replayed.{Replayed}
 use Rattle.schedule_replay.specs.declared.replayed.Replayed.TheVariants as answers
 use Rattle.schedule_replay.proofs.Reading.{on_all}
 use Rattle.schedule_replay.proofs.Told.{told-append}
-use Rattle.listing_read.specs.declared.fault.ScheduleFault.{ScheduleFault}
 use Rattle.courses.specs.Course.{Course, ComesTo, course_output}
-use Rattle.courses.specs.Ending.{Output, Outputs, Fetches, Ends, HasCauses, refused_schedule, too_long}
+use Rattle.courses.specs.Ending.{Output, Outputs, Fetches, Ends, HasCauses}
 use Rattle.courses.specs.Running.{ConcludesBy, Runner, finished_by, if_ended, run_course, running}
 use Rattle.courses.specs.Sure.{StandsOn}
 use Rattle.courses.specs.declared.exit.Exit.{Exit}
 use Rattle.courses.specs.declared.exit.Exit.TheVariants.{Done, Usage, ReadFault, WriteFault, OutOfMemory}
 use Rattle.courses.proofs.Endings.{outputs_behind, outputs_none, read-memory, write-memory}
-use Rattle.courses.proofs.Lasts.{IsLast, exits-differ, last-causes, last-done, last-memory, last-read, last-usage}
-
--- ---- where no fault of reading or of writing ended the lines
-
--- the last texts have an exit of their own
-pub done-last : (text : List ℕ) → IsLast (record { text = text; exit = Done })
-done-last text = record { usage = λ e. omega (arith, e); read = λ e. omega (arith, e); memory = λ e. omega (arith, e) }
-
-pub refused-last : (line : ℕ) (fault : ScheduleFault) → IsLast (refused_schedule line fault)
-refused-last line fault = record { usage = λ e. omega (arith, e); read = λ e. omega (arith, e); memory = λ e. omega (arith, e) }
-
-pub past-last : IsLast too_long
-past-last = record { usage = λ e. omega (arith, e); read = λ e. omega (arith, e); memory = λ e. omega (arith, e) }
+use Rattle.courses.proofs.Lasts.{IsLast, done-last, exits-differ, last-causes, last-done, last-memory, last-read, last-usage, past-last, read-causes, refused-last, write-causes}
 
 -- ---- any answer
 
@@ -108,18 +95,10 @@ module _ {S K : Type 0} (taken : S → Option (List ℕ)) (faults : S → ℕ) (
       last-causes _ _ _ _ _ _ (refused-last line fault) c.0 unread unread' unwritten (r.read_quiet (λ same. cc)) (r.write_quiet (λ same. cc))
   concludes-causes unread unread' unwritten answers.TooLong r c =
       last-causes _ _ _ _ _ _ past-last c.0 unread unread' unwritten (r.read_quiet (λ same. cc)) (r.write_quiet (λ same. cc))
-  concludes-causes unread unread' unwritten answers.ReadFault r c = record {
-    read = λ same. r.read refl;
-    read_quiet = λ other. absurd (other c.0);
-    write = λ same. absurd (exits-differ ReadFault WriteFault (λ n. let bad : 4 ≡ 5 = n in omega (arith, bad)) (sym c.0 ∙ same));
-    write_quiet = λ other. ap faults c.1 ∙ r.write_quiet (λ same. cc);
-  }
-  concludes-causes unread unread' unwritten answers.WriteFault r c = record {
-    read = λ same. absurd (exits-differ WriteFault ReadFault (λ n. let bad : 5 ≡ 4 = n in omega (arith, bad)) (sym c.0 ∙ same));
-    read_quiet = λ other. r.read_quiet (λ same. cc);
-    write = λ same. subst (λ k. Rose unwritten (faults k)) (sym c.1) (r.write refl);
-    write_quiet = λ other. absurd (other c.0);
-  }
+  concludes-causes unread unread' unwritten answers.ReadFault r c =
+      read-causes unread unread' unwritten (faults new) exit c.0 (r.read refl) (ap faults c.1 ∙ r.write_quiet (λ same. cc))
+  concludes-causes unread unread' unwritten answers.WriteFault r c =
+      write-causes unread unread' unwritten (faults new) exit c.0 (subst (λ k. Rose unwritten (faults k)) (sym c.1) (r.write refl)) (r.read_quiet (λ same. cc))
 
 -- ---- a run
 

@@ -19,7 +19,7 @@ use Rattle.courses.specs.declared.exit.Exit.{Exit}
 use Rattle.courses.specs.declared.exit.Exit.TheVariants.{Done, Crossings, Usage, ReadFault, WriteFault, OutOfMemory}
 use Rattle.courses.proofs.Bytes.{sure-listing}
 use Rattle.courses.proofs.Endings.{outputs_none}
-use Rattle.courses.proofs.Lasts.{IsLast, comes-last, last-causes, last-crossed, last-done, last-memory, last-read, last-usage}
+use Rattle.courses.proofs.Lasts.{IsLast, comes-last, last-causes, last-crossed, last-done, last-memory, last-read, last-usage, past-last, read-causes}
 
 -- memory was wanting, and nothing was written
 pub outputs_memory : (now new : Option (List ℕ)) (o : Output) → new ≡ now → Outputs now new OutOfMemory o
@@ -81,7 +81,7 @@ module _ {K : Type 0} (taken : K → Option (List ℕ)) (faults : K → ℕ) (ol
       refused None cause = tt
       refused (Some bytes) cause = cause
   ends-unlisted no_listing.TooLong cause e front rose quiet =
-      told Past too_long (λ behind. refl) (record { usage = λ e. omega (arith, e); read = λ e. omega (arith, e); memory = λ e. omega (arith, e) })
+      told Past too_long (λ behind. refl) past-last
       (λ done. cc) (λ crossed. cc) (past held (subst (λ reader. IsCause no_listing.TooLong Header (reader.number + 1) (ahead reader held)) starts cause)) e (quiet (λ same. cc))
     where
       past : (known : Option (List ℕ)) → IsCause no_listing.TooLong Header 1 (ahead new_reader known) → IfSome known (λ bytes. listing_of Header 1 (parts_of bytes) ≡ Past)
@@ -95,12 +95,7 @@ module _ {K : Type 0} (taken : K → Option (List ℕ)) (faults : K → ℕ) (ol
     done = λ done. let same : ReadFault ≡ Done = sym e.0 ∙ done in cc;
     crossings = λ crossed. let same : ReadFault ≡ Crossings = sym e.0 ∙ crossed in cc;
     usage = λ usage. let same : ReadFault ≡ Usage = sym e.0 ∙ usage in cc;
-    causes = record {
-      read = λ same. rose refl;
-      read_quiet = λ other. absurd (other e.0);
-      write = λ same. let bad : ReadFault ≡ WriteFault = sym e.0 ∙ same in cc;
-      write_quiet = λ other. ap faults e.1;
-    };
+    causes = read-causes unread unread' (faults old) (faults new) exit e.0 (rose refl) (ap faults e.1);
     nothing = λ memory. let bad : ReadFault ≡ OutOfMemory = sym e.0 ∙ memory in cc;
   }
   ends-unlisted no_listing.OutOfMemory cause e front rose quiet = record {

@@ -1,5 +1,5 @@
 -- From what a command comes to, to what the words come to that ask for it.
-use Rattle.std.proofs.Common.{◌≡◌, ◌≢◌, ◌≤◌, ◌+◌, ◌∙◌, if◌then◌else◌, [], ℕ, List, map, Bool, true, false, Option, None, Some, IfSome, IsOk, Result, Ok, Err, length, inl, inr, refl, sym, ap, subst, arith}
+use Rattle.std.proofs.Common.{◌≡◌, ◌≢◌, ◌≤◌, ◌+◌, ◌∙◌, [], ℕ, List, map, Bool, true, false, Option, None, Some, IfSome, IsOk, Result, Ok, Err, length, inr, refl, sym, ap, subst, arith}
 use Rattle.std.specs.List.{list_any}
 use Rattle.std.specs.Io.KnownBytes.{Appends}
 use Rattle.coy_io.specs.Causes.{Rose}
@@ -36,8 +36,9 @@ use Rattle.image_commands.specs.Packed.{pack_course, pack_output}
 use Rattle.image_commands.specs.Passed.{passed}
 use Rattle.image_commands.specs.Unpacked.{unpack_course, unpack_output}
 use Rattle.coyotos_cli.specs.Input.{Input, read_input, whole_input}
-use Rattle.coyotos_cli.specs.Program.{command_course, over_lines, words_course, whole_course, usage_text, out, fetched, sure}
-use Rattle.courses.proofs.Lasts.{IsLast, comes-last, lines-entries, none-entries}
+use Rattle.coyotos_cli.specs.Program.{command_course, over_lines, words_course, whole_course, out, fetched, sure}
+use Rattle.courses.proofs.Endings.{completes}
+use Rattle.courses.proofs.Lasts.{comes-last, lines-entries, none-entries}
 use Rattle.courses.proofs.Sound.{IsSound, ends-sound, lines-sound, sound-bounded}
 use Rattle.coyotos_cli.specs.Laws.{SameCourseLaw}
 use Rattle.coyotos_cli.specs.Contract.{bytes_for, Answers, ComesFor, HasForm, SharesFor, StandsFor, FetchesFor}
@@ -178,14 +179,6 @@ comes-back number taken taken' fetches fetches' exit (Some bytes) output = recor
 
 -- ---- a text by itself
 
--- how the program is used has an exit of its own
-pub usage-last : IsLast (record { text = usage_text; exit = Done })
-usage-last = record { usage = λ e. omega (arith, e); read = λ e. omega (arith, e); memory = λ e. omega (arith, e) }
-
--- and so has a generated text
-pub made-last : (number : ℕ) → IsLast (record { text = make_text number; exit = Done })
-made-last number = record { usage = λ e. omega (arith, e); read = λ e. omega (arith, e); memory = λ e. omega (arith, e) }
-
 -- no source is at fault where none was asked
 pub causes-other : (unread unwritten unwritten' : ℕ) (exit : Exit) → exit ≢ ReadFault → HasCauses 0 0 unwritten unwritten' exit → HasCauses unread unread unwritten unwritten' exit
 causes-other unread unwritten unwritten' exit never causes = record {
@@ -317,19 +310,7 @@ module _ (words : List (List ℕ)) (command : Command) (asked : command_of words
     early = λ dashed. memory (dashed-help dashed);
   }
 
--- an exit that no fault gave is that of the whole output, or memory was wanting
-completes : (old new : Option (List ℕ)) (exit : Exit) (o : Output) → (exit ≡ ReadFault → ⊥) → (exit ≡ WriteFault → ⊥) → Outputs old new exit o → Completes old new exit o
-completes old new exit o read write outputs = by_exit exit refl
-  where
-    given : (exit ≡ OutOfMemory → ⊥) → Completes old new exit o
-    given memory = inl (outputs.whole (record { read = read; write = write; memory = memory }))
-
-    by_exit : (e : Exit) → exit ≡ e → Completes old new exit o
-    by_exit ReadFault is = absurd (read is)
-    by_exit WriteFault is = absurd (write is)
-    by_exit OutOfMemory is = inr (is, outputs.nothing is)
-    by_exit other is = given (λ none. let same : other ≡ OutOfMemory = sym is ∙ none in cc)
-
+-- the same of the known bytes
 completes-told : (told old new : Option (List ℕ)) (exit : Exit) (output : List ℕ → Output) → (exit ≡ ReadFault → ⊥) → (exit ≡ WriteFault → ⊥)
     → IfSome told (λ bytes. Outputs old new exit (output bytes)) → IfSome told (λ bytes. Completes old new exit (output bytes))
 completes-told None old new exit output read write outputs = tt

@@ -1,5 +1,5 @@
 -- What is written for the image of an input is its migrated text.
-use Rattle.std.proofs.Common.{◌≡◌, ◌+◌, ◌∙◌, ◌∷◌, ◌++◌, [], ℕ, List, Bool, true, false, if◌then◌else◌, Option, Some, None, IfSome, Result, Ok, Err, refl, sym, ap, subst, length, ◌≤◌, append-nil}
+use Rattle.std.proofs.Common.{◌≡◌, ◌+◌, ◌∙◌, ◌∷◌, ◌++◌, [], ℕ, List, Bool, true, false, if◌then◌else◌, Option, None, IfSome, Result, Ok, Err, refl, sym, ap, subst, length, ◌≤◌, append-nil}
 use Rattle.std.specs.Prelude.{nat_le}
 use Rattle.coy_io.specs.Lines.{Part, Line, LongLine, PastLimit, parts_of}
 use Rattle.coy_io.specs.Reader.{Reader, new_reader, ahead}
@@ -20,6 +20,7 @@ use Rattle.schedule_replay.specs.Asked.{asked, asks_first, asks_none, asks_with}
 use Rattle.schedule_replay.specs.Scheduled.{AtEnd, AtFault, AtLimit, OnParts}
 use Rattle.schedule_replay.proofs.Asked.{asked-end, asked-line}
 use Rattle.statement_text.specs.Text.{listing_text}
+use Rattle.courses.proofs.Bytes.{on_made}
 use Rattle.courses.specs.Course.{course_output}
 use Rattle.courses.specs.Ending.{Output}
 use Rattle.courses.specs.Listed.{listed_course, lines_course}
@@ -79,10 +80,6 @@ pub bytes-image : (held mid : Option (List ℕ)) (first middle : Reader) (listin
     → OnParts (ahead middle mid) (λ parts. passed middle.number parts ≡ AtEnd)
     → IfSome held (λ bytes. IsImageOf bytes (course_output (lines_course pack_course (parts_of bytes))).text)
 bytes-image held mid first middle listing law packed starts listed passes =
-    by held (ahead middle mid) (subst (λ reader. IsListed Header (reader.number + 1) (ahead reader held) listing middle.number (ahead middle mid)) starts listed) passes
-  where
-    by : (held : Option (List ℕ)) (left : Option (List Part)) → IsListed Header 1 (ahead new_reader held) listing middle.number left → OnParts left (λ parts. passed middle.number parts ≡ AtEnd)
-        → IfSome held (λ bytes. IsImageOf bytes (course_output (lines_course pack_course (parts_of bytes))).text)
-    by None left listed passes = tt
-    by (Some bytes) None listed passes = absurd listed
-    by (Some bytes) (Some rest) listed passes = is_image bytes listing middle.number rest law packed listed passes
+    on_made held (ahead middle mid) listing middle.number (λ parts. passed middle.number parts ≡ AtEnd) (λ bytes. IsImageOf bytes (course_output (lines_course pack_course (parts_of bytes))).text)
+    (λ bytes rest is all. is_image bytes listing middle.number rest law packed is all)
+    (subst (λ reader. IsListed Header (reader.number + 1) (ahead reader held) listing middle.number (ahead middle mid)) starts listed) passes

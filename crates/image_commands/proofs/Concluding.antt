@@ -15,17 +15,17 @@ use Rattle.courses.specs.Course.{Course, ComesTo, cached, course_output, ends_in
 use Rattle.courses.specs.Ending.{Outputs, Ends, HasCauses}
 use Rattle.courses.specs.Sure.{StandsOn}
 use Rattle.courses.specs.declared.exit.Exit.{Exit}
-use Rattle.courses.specs.declared.exit.Exit.TheVariants.{Done, Usage, ReadFault, WriteFault, OutOfMemory}
+use Rattle.courses.specs.declared.exit.Exit.TheVariants.{Done, Usage, ReadFault, OutOfMemory}
 use Rattle.courses.proofs.Endings.{outputs_none}
-use Rattle.courses.proofs.Lasts.{IsLast, comes-last, last-causes, last-done, last-memory, last-read, last-usage}
+use Rattle.courses.proofs.Lasts.{IsLast, comes-last, done-last, last-causes, last-done, last-memory, last-read, last-usage, past-last, read-causes, refused-last}
 use Rattle.image_commands.specs.Packed.{Concludes, pack_course, pack_output}
 use Rattle.image_commands.specs.Passed.{PassAll, PassesRest, passed}
 
 -- what is written has an exit of its own
 output-last : (listing : ListingValue) (ending : Ending) → IsLast (pack_output listing ending)
-output-last listing AtEnd = record { usage = λ e. omega (arith, e); read = λ e. omega (arith, e); memory = λ e. omega (arith, e) }
-output-last listing (AtFault line fault) = record { usage = λ e. omega (arith, e); read = λ e. omega (arith, e); memory = λ e. omega (arith, e) }
-output-last listing AtLimit = record { usage = λ e. omega (arith, e); read = λ e. omega (arith, e); memory = λ e. omega (arith, e) }
+output-last listing AtEnd = done-last _
+output-last listing (AtFault line fault) = refused-last line fault
+output-last listing AtLimit = past-last
 
 module _ {K : Type 0} (taken : K → Option (List ℕ)) (faults : K → ℕ) (listing : ListingValue) (out out' : K) (exit : Exit) where
   abbrev Concluded : Stop ScheduleFault → Type 0
@@ -66,12 +66,7 @@ module _ {K : Type 0} (taken : K → Option (List ℕ)) (faults : K → ℕ) (li
   concludes-causes unread unread' =
       by_answer (λ stop. (stop ≡ stops.ReadFault → Rose unread unread') → (stop ≢ stops.ReadFault → unread' ≡ unread) → HasCauses unread unread' (faults out) (faults out') exit)
       (λ stop ending other done e rose quiet. last-causes _ _ _ _ _ _ (output-last listing ending) e unread unread' (faults out) (quiet other) refl)
-      (λ read same rose quiet. record {
-        read = λ fault. rose refl;
-        read_quiet = λ other. absurd (other read);
-        write = λ cut. let bad : ReadFault ≡ WriteFault = sym read ∙ cut in cc;
-        write_quiet = λ other. ap faults same;
-      })
+      (λ read same rose quiet. read-causes unread unread' (faults out) (faults out') exit read (rose refl) (ap faults same))
 
   module _ (old new : Reader) (held held' : Option (List ℕ)) (fetches : ℕ) where
     abbrev Comes : Course → Type 0

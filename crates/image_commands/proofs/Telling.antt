@@ -18,7 +18,7 @@ use Rattle.courses.specs.Sure.{StandsSure}
 use Rattle.courses.specs.declared.exit.Exit.{Exit}
 use Rattle.courses.specs.declared.exit.Exit.TheVariants.{Done, Usage, ReadFault, WriteFault, OutOfMemory}
 use Rattle.courses.proofs.Endings.{outputs_none}
-use Rattle.courses.proofs.Lasts.{IsLast, comes-last, last-causes, last-done, last-memory, last-read, last-usage}
+use Rattle.courses.proofs.Lasts.{IsLast, comes-last, done-last, last-causes, last-done, last-memory, last-read, last-usage, past-last, read-causes}
 use Rattle.courses.proofs.Unlisted.{outputs_memory}
 use Rattle.image_commands.specs.Unpacked.{TellsImage, image_course, read_course, unpack_course, unpack_output}
 
@@ -50,11 +50,11 @@ module _ {K : Type 0} (taken : K → Option (List ℕ)) (faults : K → ℕ) (ou
       → (exit ≡ ReadFault → out' ≡ out → P (Err faulty.ReadFault)) → (exit ≡ OutOfMemory → out' ≡ out → P (Err faulty.OutOfMemory))
       → (answer : Result ListingValue ImageFault) → Told answer → P answer
   by_answer P at read memory (Ok listing) t =
-      at (Ok listing) (λ same. cc) (record { usage = λ e. omega (arith, e); read = λ e. omega (arith, e); memory = λ e. omega (arith, e) }) t
+      at (Ok listing) (λ same. cc) (done-last _) t
   by_answer P at read memory (Err (faulty.Refused offset fault)) t =
       at (Err (faulty.Refused offset fault)) (λ same. cc) (record { usage = λ e. omega (arith, e); read = λ e. omega (arith, e); memory = λ e. omega (arith, e) }) t
   by_answer P at read memory (Err faulty.TooLong) t =
-      at (Err faulty.TooLong) (λ same. cc) (record { usage = λ e. omega (arith, e); read = λ e. omega (arith, e); memory = λ e. omega (arith, e) }) t
+      at (Err faulty.TooLong) (λ same. cc) past-last t
   by_answer P at read memory (Err faulty.ReadFault) t = read t.0 t.1
   by_answer P at read memory (Err faulty.OutOfMemory) t = memory t.0 t.1
 
@@ -76,12 +76,7 @@ module _ {K : Type 0} (taken : K → Option (List ℕ)) (faults : K → ℕ) (ou
   tells-causes unread unread' =
       by_answer (λ answer. (answer ≡ Err faulty.ReadFault → Rose unread unread') → (answer ≢ Err faulty.ReadFault → unread' ≡ unread) → HasCauses unread unread' (faults out) (faults out') exit)
       (λ answer other last e rose quiet. last-causes _ _ _ _ _ _ last e unread unread' (faults out) (quiet other) refl)
-      (λ read same rose quiet. record {
-        read = λ fault. rose refl;
-        read_quiet = λ other. absurd (other read);
-        write = λ cut. let bad : ReadFault ≡ WriteFault = sym read ∙ cut in cc;
-        write_quiet = λ other. ap faults same;
-      })
+      (λ read same rose quiet. read-causes unread unread' (faults out) (faults out') exit read (rose refl) (ap faults same))
       (λ memory same rose quiet. record {
         read = λ fault. let bad : OutOfMemory ≡ ReadFault = sym memory ∙ fault in cc;
         read_quiet = λ other. quiet (λ is. cc);
@@ -94,8 +89,7 @@ module _ {K : Type 0} (taken : K → Option (List ℕ)) (faults : K → ℕ) (ou
   tells-done left (Ok listing) t end done = end
   tells-done left (Err (faulty.Refused offset fault)) t end done =
       let bad = last-done _ _ _ _ _ _ (record { usage = λ e. omega (arith, e); read = λ e. omega (arith, e); memory = λ e. omega (arith, e) }) t done in cc
-  tells-done left (Err faulty.TooLong) t end done =
-      let bad = last-done _ _ _ _ _ _ (record { usage = λ e. omega (arith, e); read = λ e. omega (arith, e); memory = λ e. omega (arith, e) }) t done in cc
+  tells-done left (Err faulty.TooLong) t end done = let bad = last-done _ _ _ _ _ _ past-last t done in cc
   tells-done left (Err faulty.ReadFault) t end done = let bad : ReadFault ≡ Done = sym t.0 ∙ done in cc
   tells-done left (Err faulty.OutOfMemory) t end done = let bad : OutOfMemory ≡ Done = sym t.0 ∙ done in cc
 

@@ -1,20 +1,21 @@
 -- The migrated text is read as the same statements and events.
-use Rattle.std.proofs.Common.{◌≡◌, ◌+◌, ◌∙◌, ◌∷◌, ◌++◌, [], ℕ, List, map, length, Option, Some, None, IfSome, Result, Ok, Err, refl, sym, ap, subst, ◌≤◌, append-nil}
+use Rattle.std.proofs.Common.{◌≡◌, ◌+◌, ◌∙◌, ◌∷◌, ◌++◌, [], ℕ, List, map, length, Option, IfSome, Result, Ok, refl, sym, ap, subst, ◌≤◌, append-nil}
 use Rattle.std.specs.List.{All}
 use Rattle.std.proofs.lemmas.List.Elements.{All-head, All-tail}
 use Rattle.coy_io.specs.Lines.{Part, parts_of}
 use Rattle.coy_io.specs.Reader.{Reader, new_reader, ahead}
 use Rattle.coy_io.specs.declared.TheConstants.{INPUT_LIMIT}
-use Rattle.listing_read.specs.Listing.{Listed, Good, IsListed, listing_of}
+use Rattle.listing_read.specs.Listing.{Good, IsListed, listing_of}
 use Rattle.listing_read.specs.declared.place.Place.TheVariants.{Header}
-use Rattle.listing_read.specs.Schedule.{IsTimed, schedule_line}
+use Rattle.listing_read.specs.Schedule.{IsTimed}
 use Rattle.listing_read.specs.Statement.{IsTyped, IsListing, ListingValue}
 use Rattle.listing_read.specs.declared.schedule.Timed.{Timed}
 use Rattle.statement_text.specs.Laws.{event_part, EventsAreRead, MigratedIsRead}
 use Rattle.statement_text.specs.Text.{event_line, events_text, listing_text}
-use Rattle.schedule_replay.specs.Asked.{Asked, asked, asks_first, asks_none, asks_with, of_line}
+use Rattle.schedule_replay.specs.Asked.{asked, asks_first, asks_with}
 use Rattle.schedule_replay.specs.Scheduled.{AtEnd, OnParts, scheduled}
 use Rattle.schedule_replay.proofs.Asked.{asked-end, asked-line, events_of, scheduled-asked_for}
+use Rattle.courses.proofs.Bytes.{on_made}
 use Rattle.courses.specs.Course.{course_output}
 use Rattle.courses.specs.Listed.{listed_course, lines_course}
 use Rattle.courses.specs.Migrated.{migrate_course, migrated}
@@ -87,10 +88,6 @@ pub bytes-migrated : (held mid : Option (List ℕ)) (first middle : Reader) (lis
     → OnParts (ahead middle mid) (λ parts. ReadsAgain listing middle.number parts)
     → IfSome held (λ bytes. IsMigrated bytes (course_output (lines_course migrate_course (parts_of bytes))).text)
 bytes-migrated held mid first middle listing starts listed again =
-    by held (ahead middle mid) (subst (λ reader. IsListed Header (reader.number + 1) (ahead reader held) listing middle.number (ahead middle mid)) starts listed) again
-  where
-    by : (held : Option (List ℕ)) (left : Option (List Part)) → IsListed Header 1 (ahead new_reader held) listing middle.number left → OnParts left (λ parts. ReadsAgain listing middle.number parts)
-        → IfSome held (λ bytes. IsMigrated bytes (course_output (lines_course migrate_course (parts_of bytes))).text)
-    by None left listed again = tt
-    by (Some bytes) None listed again = absurd listed
-    by (Some bytes) (Some rest) listed again = is_migrated bytes listing middle.number rest listed again
+    on_made held (ahead middle mid) listing middle.number (λ parts. ReadsAgain listing middle.number parts) (λ bytes. IsMigrated bytes (course_output (lines_course migrate_course (parts_of bytes))).text)
+    (λ bytes rest is all. is_migrated bytes listing middle.number rest is all)
+    (subst (λ reader. IsListed Header (reader.number + 1) (ahead reader held) listing middle.number (ahead middle mid)) starts listed) again

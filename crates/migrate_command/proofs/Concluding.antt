@@ -1,10 +1,9 @@
 -- From the lines that were written, to all that was written and how the program ends.
-use Rattle.std.proofs.Common.{◌≡◌, ◌≢◌, ◌+◌, ◌∙◌, ◌++◌, [], ℕ, List, Option, Some, None, Result, Ok, Err, refl, sym, ap, subst, append_assoc, append-nil, arith}
+use Rattle.std.proofs.Common.{◌≡◌, ◌≢◌, ◌+◌, ◌∙◌, ◌++◌, [], ℕ, List, Option, Result, Ok, Err, refl, sym, ap, subst, append_assoc, arith}
 use Rattle.std.proofs.lemmas.Grind.{flat_map-append}
 use Rattle.std.specs.Io.KnownBytes.{Appends}
 use Rattle.std.proofs.KnownBytes.{Appends-nil, Appends-trans}
 use Rattle.coy_io.specs.Causes.{HasCause, Rose}
-use Rattle.coy_io.specs.Lines.{Part}
 use Rattle.coy_io.specs.Pieces.{AppendsSome}
 use Rattle.coy_io.specs.Reader.{Reader, ahead}
 use Rattle.listing_read.specs.Statement.{ListingValue}
@@ -16,17 +15,16 @@ use Rattle.schedule_replay.specs.Asked.{Asked, asked}
 use Rattle.schedule_replay.specs.Scheduled.{AtEnd, AtFault, AtLimit, Ending, OnParts}
 use Rattle.judged_lines.specs.declared.stop.Stop.{Stop}
 use Rattle.judged_lines.specs.declared.stop.Stop.TheVariants as stops
-use Rattle.schedule_replay.proofs.Reading.{on_all}
-use Rattle.courses.specs.Course.{Course, ComesTo, cached, course_output}
-use Rattle.courses.specs.Ending.{Output, Outputs, Ends, HasCauses, refused_schedule, too_long}
+use Rattle.schedule_replay.proofs.Reading.{on_all, on_each}
+use Rattle.courses.specs.Course.{ComesTo, cached, course_output}
+use Rattle.courses.specs.Ending.{Output, Outputs, HasCauses}
 use Rattle.courses.specs.Sure.{StandsOn}
 use Rattle.courses.specs.declared.exit.Exit.{Exit}
 use Rattle.courses.specs.declared.exit.Exit.TheVariants.{Done, Usage, ReadFault, WriteFault, OutOfMemory}
 use Rattle.courses.proofs.Endings.{outputs_behind, outputs_none}
-use Rattle.courses.proofs.Lasts.{IsLast, last-causes, last-done, last-memory, last-read, last-usage}
+use Rattle.courses.proofs.Lasts.{last-causes, last-done, last-memory, last-read, last-usage, past-last, read-causes, refused-last, write-causes}
 use Rattle.courses.specs.Migrated.{last_of, migrate_course, migrated}
 use Rattle.migrate_command.specs.Migrate.{Accords, Concludes, PutsLines, WritesLines}
-use Rattle.migrate_command.proofs.Putting.{on_each}
 
 -- nothing is written behind the lines of all that was asked for
 outputs_done : (now new : Option (List ℕ)) (exit : Exit) → exit ≡ Done → new ≡ now → Outputs now new exit (record { text = []; exit = Done })
@@ -35,13 +33,6 @@ outputs_done now new exit done same = record {
   part = λ cut. let bad : Done ≡ WriteFault = sym done ∙ cut in cc;
   nothing = λ none. let bad : Done ≡ OutOfMemory = sym done ∙ none in cc;
 }
-
--- the texts of a refusal have exits of their own
-refused-last : (line : ℕ) (fault : ScheduleFault) → IsLast (refused_schedule line fault)
-refused-last line fault = record { usage = λ e. omega (arith, e); read = λ e. omega (arith, e); memory = λ e. omega (arith, e) }
-
-past-last : IsLast too_long
-past-last = record { usage = λ e. omega (arith, e); read = λ e. omega (arith, e); memory = λ e. omega (arith, e) }
 
 -- what came of no slot
 comes-of : (taken taken' : Option (List ℕ)) (fetches : ℕ) (exit : Exit) (listing : ListingValue) (all : Asked) → Outputs taken taken' exit (course_output (migrated listing all))
@@ -62,7 +53,7 @@ cut-outputs taken taken' exit o front rest cut parts some = record {
 pub comes-unlisted : (old : Reader) (held taken taken' : Option (List ℕ)) (exit : Exit) (listing : ListingValue) → exit ≡ WriteFault → AppendsSome taken taken' (listing_text listing) → (fetches : ℕ)
     → OnParts (ahead old held) (λ parts. ComesTo taken taken' fetches fetches exit cached (migrate_course listing old.number parts))
 comes-unlisted old held taken taken' exit listing cut some fetches =
-    on_each (ahead old held) _ (λ parts.
+    on_each (ahead old held) _ (λ parts known.
     let all : Asked = asked listing.sizes.harts old.number parts in
     comes-of taken taken' fetches exit listing all
     (cut-outputs taken taken' exit (course_output (migrated listing all)) (listing_text listing) (events_text all.lines ++ (last_of all.ending).text) cut
@@ -146,18 +137,9 @@ module _ {K E : Type 0} (taken : K → Option (List ℕ)) (faults : K → ℕ) (
   concludes-causes unread unread' unwritten (Ok (stops.Refused line fault)) c rose quiet cause =
       last-causes _ _ _ _ _ _ (refused-last line fault) c unread unread' unwritten (quiet (λ same. cc)) cause.quiet
   concludes-causes unread unread' unwritten (Ok stops.TooLong) c rose quiet cause = last-causes _ _ _ _ _ _ past-last c unread unread' unwritten (quiet (λ same. cc)) cause.quiet
-  concludes-causes unread unread' unwritten (Ok stops.ReadFault) c rose quiet cause = record {
-    read = λ same. rose refl;
-    read_quiet = λ other. absurd (other c.0);
-    write = λ same. let bad : ReadFault ≡ WriteFault = sym c.0 ∙ same in cc;
-    write_quiet = λ other. ap faults c.1 ∙ cause.quiet;
-  }
-  concludes-causes unread unread' unwritten (Err fault) c rose quiet cause = record {
-    read = λ same. let bad : WriteFault ≡ ReadFault = sym c.0 ∙ same in cc;
-    read_quiet = λ other. quiet (λ same. cc);
-    write = λ same. subst (λ k. Rose unwritten (faults k)) (sym c.1) cause.rose;
-    write_quiet = λ other. absurd (other c.0);
-  }
+  concludes-causes unread unread' unwritten (Ok stops.ReadFault) c rose quiet cause = read-causes unread unread' unwritten (faults out) exit c.0 (rose refl) (ap faults c.1 ∙ cause.quiet)
+  concludes-causes unread unread' unwritten (Err fault) c rose quiet cause =
+      write-causes unread unread' unwritten (faults out) exit c.0 (subst (λ k. Rose unwritten (faults k)) (sym c.1) cause.rose) (quiet (λ same. cc))
 
 -- reading failed
 pub concludes-sure : {K E : Type 0} (taken : K → Option (List ℕ)) (faults : K → ℕ) (start held held' : Option (List ℕ)) (mid now out : K) (exit : Exit) (listing : ListingValue) (old new : Reader)

@@ -5,7 +5,6 @@ use Rattle.std.proofs.lemmas.Grind.{flat_map-append}
 use Rattle.std.proofs.lemmas.List.Elements.{All-append, All-cons, All-nil}
 use Rattle.std.specs.Io.KnownBytes.{Appends}
 use Rattle.std.proofs.KnownBytes.{Appends-nil, Appends-trans}
-use Rattle.coy_io.specs.Lines.{Part}
 use Rattle.coy_io.specs.Pieces.{AppendsSome}
 use Rattle.coy_io.specs.Reader.{Reader, ahead}
 use Rattle.listing_read.specs.Schedule.{IsTimed}
@@ -20,8 +19,8 @@ use Rattle.judged_lines.specs.declared.stop.Stop.{Stop}
 use Rattle.judged_lines.specs.declared.stop.Stop.TheVariants as stops
 use Rattle.schedule_replay.proofs.Asked.{asked-end}
 use Rattle.schedule_replay.proofs.ReadOn.{fails_on, on_lines, reads_on-map, reads_on-none, reads_on-same, reads_on-trans}
-use Rattle.schedule_replay.proofs.Reading.{on_all}
-use Rattle.migrate_command.specs.Migrate.{Accords, PutsLines}
+use Rattle.schedule_replay.proofs.Reading.{on_all, on_each}
+use Rattle.migrate_command.specs.Migrate.{PutsLines}
 
 -- what lines asked for so far was written
 pub record SoFar (harts : ℕ) (old now : Reader) (held held' taken taken' : Option (List ℕ)) : Type 0 where
@@ -34,11 +33,6 @@ pub record SoFar (harts : ℕ) (old now : Reader) (held held' taken taken' : Opt
 all_of : (harts : ℕ) (lines : List Timed) (timed : Option Timed) → All (IsTimed harts) lines → IfSome timed (IsTimed harts) → All (IsTimed harts) (lines ++ of_line timed)
 all_of harts lines None all one = All-append (IsTimed harts) lines [] all (All-nil (IsTimed harts))
 all_of harts lines (Some t) all one = All-append (IsTimed harts) lines (t ∷ []) all (All-cons (IsTimed harts) t [] one (All-nil (IsTimed harts)))
-
--- what is so of all lines is so of those that are known
-pub on_each : (left : Option (List Part)) (P : List Part → Type 0) → ((parts : List Part) → P parts) → OnParts left P
-on_each None P all = tt
-on_each (Some parts) P all = all parts
 
 module _ (harts : ℕ) (old : Reader) (held taken : Option (List ℕ)) where
   -- nothing was read yet
@@ -73,7 +67,7 @@ module _ (harts : ℕ) (old : Reader) (held taken : Option (List ℕ)) where
               (on_lines (λ parts. asks_first s.lines (asked harts mid.number parts)) (λ rest. asks_first s.lines (asks_first (of_line timed) (asked harts new.number rest))) mid new held' held''
               (λ all. (rest : List Timed) × (all.lines ≡ lines ++ rest))
               (reads_on-map (asks_first s.lines) (asked harts mid.number) (λ rest. asks_first (of_line timed) (asked harts new.number rest)) mid new held' held'' next)
-              (on_each (ahead new held'') _ (λ rest. ((asked harts new.number rest).lines, sym (append_assoc s.lines (of_line timed) (asked harts new.number rest).lines)))));
+              (on_each (ahead new held'') _ (λ rest known. ((asked harts new.number rest).lines, sym (append_assoc s.lines (of_line timed) (asked harts new.number rest).lines)))));
           written = subst (AppendsSome taken taken'') (sym (flat_map-append event_text s.lines (of_line timed))) (cut_behind taken taken' taken'' (events_text s.lines) (events_text (of_line timed)) s.written some);
           fails = λ read. cc;
         }
@@ -96,7 +90,7 @@ module _ (harts : ℕ) (old : Reader) (held taken : Option (List ℕ)) where
       timed = s.timed;
       known =
           on_lines (asked harts old.number) (λ rest. asks_first s.lines (asked harts mid.number rest)) old mid held held' (λ all. (rest : List Timed) × (all.lines ≡ s.lines ++ rest)) s.reads
-          (on_each (ahead mid held') _ (λ rest. ((asked harts mid.number rest).lines, refl)));
+          (on_each (ahead mid held') _ (λ rest known. ((asked harts mid.number rest).lines, refl)));
       written = s.written;
       fails = λ read.
           subst (λ made. FailsOn (asked harts old.number) made old new held held'')

@@ -2,7 +2,7 @@
 use Rattle.std.specs.Prelude.{◌≡◌, ◌≤◌, ℕ, List, ◌++◌, length}
 use Rattle.coy_io.specs.Lines.{Part, parts_of}
 use Rattle.coy_io.specs.declared.TheConstants.{INPUT_LIMIT}
-use Rattle.listing_read.specs.Listing.{Listed, Good, listing_of}
+use Rattle.listing_read.specs.Listing.{Good, listing_of}
 use Rattle.listing_read.specs.Statement.{ListingValue}
 use Rattle.listing_read.specs.declared.place.Place.TheVariants.{Header}
 use Rattle.listing_read.specs.declared.schedule.Timed.{Timed}

@@ -13,6 +13,7 @@ use Rattle.schedule_replay.specs.Scheduled.{AtEnd, AtFault, AtLimit, Scheduled, 
 use Rattle.judged_lines.specs.Judged.{JudgesNext, Refuses}
 use Rattle.judged_lines.specs.declared.stop.Stop.{Stop}
 use Rattle.judged_lines.specs.declared.stop.Stop.TheVariants as stops
+use Rattle.schedule_replay.proofs.ReadOn.{reads_on-line}
 use Rattle.schedule_replay.proofs.Reading.{on_begun, on_given, on_none, scheduled-end, scheduled-long, scheduled-past, scheduled-line}
 
 module _ (harts n : ℕ) where
@@ -37,16 +38,12 @@ module _ (harts n : ℕ) where
 -- whatever it asks for
 pub asks-next : (harts : ℕ) (old new : Reader) (held held' : Option (List ℕ)) (answer : Result (Option Timed) (Stop ScheduleFault))
     → JudgesNext (JudgesTimed harts) LineTooLong tt tt old new held held' answer → AsksNext harts old new held held' answer
-asks-next harts old new held held' (Ok timed) next = record {
-  given = Line new.line ∷ [];
-  lines = next.0.line;
-  before = λ going. next.0.before;
-  bytes = next.0.given;
-  makes = λ rest.
-      asked-line harts old.number new.line rest
-      ∙ ap (λ told. asks_with (old.number + 1) told (asked harts (old.number + 1) rest)) (sym next.1.0)
-      ∙ ap (λ n. asks_first (of_line timed) (asked harts n rest)) (sym next.0.counted);
-}
+asks-next harts old new held held' (Ok timed) next =
+    reads_on-line (asked harts old.number) (λ rest. asks_first (of_line timed) (asked harts new.number rest)) old new held held' next.0
+    (λ rest.
+    asked-line harts old.number new.line rest
+    ∙ ap (λ told. asks_with (old.number + 1) told (asked harts (old.number + 1) rest)) (sym next.1.0)
+    ∙ ap (λ n. asks_first (of_line timed) (asked harts n rest)) (sym next.0.counted))
 asks-next harts old new held held' (Err stops.End) next =
     on_none (ahead old held) (λ parts. asked harts old.number parts ≡ asks_none AtEnd) next.0.none (asked-end harts old.number)
 asks-next harts old new held held' (Err (stops.Refused line fault)) next = by_cause next.1

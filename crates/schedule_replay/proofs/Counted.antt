@@ -1,5 +1,5 @@
 -- Line by line, how many events lines ask for.
-use Rattle.std.proofs.Common.{◌≡◌, ◌≤◌, ◌+◌, ◌*◌, ◌∙◌, ◌++◌, [], ℕ, List, Option, Err, length, refl, sym, ap, subst, append-nil, arith}
+use Rattle.std.proofs.Common.{◌≡◌, ◌≤◌, ◌+◌, ◌*◌, ◌∙◌, ◌++◌, ℕ, List, Option, Err, length, sym, ap, subst, append-nil, arith}
 use Rattle.std.proofs.lemmas.List.{length-append}
 use Rattle.coy_io.specs.Reader.{Reader}
 use Rattle.machine_state.specs.declared.event.Event.{Event}
@@ -12,7 +12,7 @@ use Rattle.judged_lines.specs.declared.stop.Stop.{Stop}
 use Rattle.judged_lines.specs.declared.stop.Stop.TheVariants as stops
 use Rattle.schedule_replay.specs.declared.replayed.Replayed.{Replayed}
 use Rattle.schedule_replay.specs.declared.replayed.Replayed.TheVariants as answers
-use Rattle.schedule_replay.proofs.Reading.{reads-none, reads-trans}
+use Rattle.schedule_replay.proofs.Reading.{reads-trans}
 use Rattle.schedule_replay.proofs.SoFar.{follows-stop}
 
 -- no stop is a fault of writing
@@ -29,10 +29,6 @@ module _ (harts : ℕ) (old : Reader) (held : Option (List ℕ)) where
     pub reads : Reads harts old now held held' done
     pub size : events ≡ length done
     pub few : events + 255000000 * old.number ≤ 255000000 * now.number
-
-  -- at the start
-  pub counts-start : CountsLines old held 0
-  counts-start = record { done = []; reads = reads-none harts old held; size = refl; few = omega arith }
 
   module _ (now now1 : Reader) (held' held1 : Option (List ℕ)) (events : ℕ) (c : CountsLines now held' events) where
     -- one line more was read

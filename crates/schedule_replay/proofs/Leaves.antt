@@ -1,18 +1,11 @@
 -- How a text that is written in pieces comes to its end.
-use Rattle.std.proofs.Common.{◌≡◌, ◌<◌, ◌+◌, ℕ, List, [], ◌++◌, Option, length, take, refl, sym, ap, ◌∙◌, subst, append_assoc, append-nil, arith}
+use Rattle.std.proofs.Common.{◌≡◌, ◌<◌, ◌+◌, ℕ, List, [], ◌++◌, Option, length, take, sym, ap, ◌∙◌, subst, append_assoc, append-nil, arith}
 use Rattle.std.proofs.Math.Seq.{take-append-add}
 use Rattle.std.proofs.lemmas.List.{take-append-le, length-append}
 use Rattle.std.specs.Io.KnownBytes.{Appends}
-use Rattle.std.proofs.KnownBytes.{Appends-nil, Appends-trans}
+use Rattle.std.proofs.KnownBytes.{Appends-trans}
 use Rattle.coy_io.specs.Pieces.{AppendsSome}
 use Rattle.schedule_replay.specs.Leaves.{Leaves}
-
--- nothing was written yet
-pub leaves_all : (now : Option (List ℕ)) (whole : List ℕ) → Leaves now now whole whole
-leaves_all now whole = record { front = []; written = Appends-nil now; split = refl }
-
-pub leaves_same : (now : Option (List ℕ)) (whole rest : List ℕ) → rest ≡ whole → Leaves now now whole rest
-leaves_same now whole rest same = subst (Leaves now now whole) (sym same) (leaves_all now whole)
 
 -- one more piece was written
 pub leaves_less : (old now new : Option (List ℕ)) (whole piece rest : List ℕ) → Leaves old now whole (piece ++ rest) → Appends now new piece → Leaves old new whole rest

@@ -9,3 +9,4 @@ pub mod Asked
 mod First
 pub mod SoFar
 pub mod Counted
+pub mod Ended

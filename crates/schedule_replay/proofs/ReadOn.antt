@@ -1,14 +1,14 @@
 -- Line by line, what is made of the lines of an input.
-use Rattle.std.proofs.Common.{◌≡◌, ◌∙◌, ◌∷◌, ◌++◌, [], ℕ, List, true, Option, Some, None, Result, Ok, refl, sym, ap, subst, append_assoc, append-nil}
+use Rattle.std.proofs.Common.{◌≡◌, ◌∙◌, ◌∷◌, ◌++◌, [], ℕ, List, Option, Some, None, Result, refl, sym, ap, subst, append_assoc, append-nil}
 use Rattle.coy_io.specs.Lines.{Part, Line}
-use Rattle.coy_io.specs.Reader.{Reader, IsLine, IsNext, IsSpent, ahead, bytes_ahead}
-use Rattle.coy_io.proofs.GivenLaws.{Advances-nil, Advances-trans, GivesLines-nil, GivesLines-trans, GivesLines-kept, GivesLines-line}
-use Rattle.listing_read.specs.Reads.{IsStopped}
+use Rattle.coy_io.specs.Reader.{Reader, ahead, bytes_ahead}
+use Rattle.coy_io.proofs.GivenLaws.{Advances-nil, Advances-trans, GivesLines-nil, GivesLines-trans, GivesLines-kept}
+use Rattle.listing_read.specs.Reads.{IsStopped, ReadsLine}
 use Rattle.judged_lines.specs.Judged.{JudgesAll}
 use Rattle.judged_lines.specs.declared.stop.Stop.TheVariants as stops
 use Rattle.schedule_replay.specs.Lines.{ReadsOn, FailsOn}
 use Rattle.schedule_replay.specs.Scheduled.{OnParts}
-use Rattle.schedule_replay.proofs.Reading.{gave, gave_none, gave-none, not_ended, on_given}
+use Rattle.schedule_replay.proofs.Reading.{on_given}
 
 module _ {M : Type 0} where
   -- no line
@@ -22,15 +22,13 @@ module _ {M : Type 0} where
   }
 
   -- one line, of which this is made
-  pub reads_on-line : {X : Type 0} (was is : List Part → M) (n : ℕ) (old new : Reader) (held held' : Option (List ℕ))
-      → IsNext (Ok (Some n)) new.line (ahead old held) (ahead new held') → IsSpent (Ok (Some n)) new (bytes_ahead old held) (bytes_ahead new held')
-      → IsLine n new.line → (old.ended ≡ true → (gave n ≡ gave_none) × X) → ((rest : List Part) → was (Line new.line ∷ rest) ≡ is rest)
-      → ReadsOn was is old new held held'
-  reads_on-line was is n old new held held' next spent line ended makes = record {
+  pub reads_on-line : (was is : List Part → M) (old new : Reader) (held held' : Option (List ℕ)) → ReadsLine old new held held'
+      → ((rest : List Part) → was (Line new.line ∷ rest) ≡ is rest) → ReadsOn was is old new held held'
+  reads_on-line was is old new held held' reads makes = record {
     given = Line new.line ∷ [];
-    lines = next;
-    before = λ going. not_ended old.ended (gave n) gave_none ended (gave-none n);
-    bytes = λ going. GivesLines-line n new (bytes_ahead old held) (bytes_ahead new held') going line spent;
+    lines = reads.line;
+    before = λ going. reads.before;
+    bytes = reads.given;
     makes = makes;
   }
 

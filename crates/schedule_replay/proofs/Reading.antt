@@ -1,8 +1,7 @@
 -- Line by line, what the lines behind a listing ask for.
-use Rattle.std.proofs.Common.{◌≡◌, ◌+◌, ◌∙◌, ◌∷◌, ◌++◌, [], ℕ, List, Bool, true, false, Option, Some, None, Result, Ok, Err, refl, sym, ap, subst, inl, inr, IfOk, IfSome, append_assoc, append-nil}
+use Rattle.std.proofs.Common.{◌≡◌, ◌+◌, ◌∙◌, ◌∷◌, ◌++◌, [], ℕ, List, Option, Some, None, Result, Ok, Err, refl, sym, ap, subst, inl, inr, IfOk, IfSome, append_assoc, append-nil}
 use Rattle.coy_io.specs.Lines.{Part, Line, LongLine, PastLimit}
 use Rattle.coy_io.specs.Reader.{Reader, Advances, Begins, IsDone, ahead, bytes_ahead}
-use Rattle.coy_io.specs.declared.lines.LineFault.{LineFault}
 use Rattle.coy_io.proofs.GivenLaws.{Advances-nil, Advances-trans, GivesLines-nil, GivesLines-trans, GivesLines-kept}
 use Rattle.machine_state.specs.declared.event.Event.{Event}
 use Rattle.listing_read.specs.Schedule.{IsTimed, schedule_line}
@@ -87,24 +86,6 @@ on_known (Some parts) rest P all same =
     subst P is all
 
 -- ---- lines that were read
-
-pub not_ended : {A X : Type 0} (ended : Bool) (x y : A) → (ended ≡ true → (x ≡ y) × X) → (x ≡ y → ⊥) → ended ≡ false
-not_ended true x y last other = absurd (other (last refl).0)
-not_ended false x y last other = refl
-
--- a reader's answer
-abbrev pub Answer : Type 0
-Answer = Result (Option ℕ) LineFault
-
-abbrev pub gave : ℕ → Answer
-gave n = Ok (Some n)
-
-abbrev pub gave_none : Answer
-gave_none = Ok None
-
--- the one is not the other
-pub gave-none : (n : ℕ) → gave n ≡ gave_none → ⊥
-gave-none n e = cc
 
 -- the next line, whatever it asks for
 pub next-line : (harts : ℕ) (old new : Reader) (held held' : Option (List ℕ)) (answer : Result (Option Timed) (Stop ScheduleFault))

@@ -43,7 +43,7 @@ pub lines_at : (mode : Mode) (entries : List Record) (i : ℕ) (entry : Record) 
 lines_at mode entries i entry within same = ap (lines_of mode) (records_at entries i entry within same) ∙ lines_of-cons mode entry (drop (i + 1) entries)
 
 -- a silent run tells nothing
-silent_untold : (entries : List Record) → lines_of Silent entries ≡ []
+pub silent_untold : (entries : List Record) → lines_of Silent entries ≡ []
 unfolding lines_of
 silent_untold [] = refl
 silent_untold (entry ∷ entries) = silent_untold entries

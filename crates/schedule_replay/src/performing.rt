@@ -1,5 +1,5 @@
 //! The first of the events that are left, performed and counted.
-ghost use Rattle.std.specs.Prelude.{◌≢◌, ◌<◌, ◌≤◌, ◌+◌, ◌^◌, ◌∷◌, List, length};
+ghost use Rattle.std.specs.Prelude.{◌≢◌, ◌<◌, ◌≤◌, ◌^◌, ◌∷◌, List, length};
 ghost use Rattle.machine_state.specs.declared.event.Event.{Event as AnyEvent};
 ghost use Rattle.machine_state.specs.declared.event.Event.TheVariants.{Step};
 ghost use Rattle.kernel_core.specs.Machine.{hart_in};

@@ -1,6 +1,6 @@
 -- From what was judged of the lines behind a listing to what a call did with its input.
-use Rattle.std.proofs.Common.{◌≡◌, ◌≢◌, ◌+◌, [], ℕ, List, Option, Some, None, Result, Ok, Err, IfOk, OnErr, IfSome, true, false, refl, sym, ap, subst, arith}
-use Rattle.std.specs.Io.KnownBytes.{Appends, IsAtEnd, Keeps}
+use Rattle.std.proofs.Common.{◌≡◌, ◌≢◌, ◌+◌, [], ℕ, List, Option, Some, None, Result, Ok, Err, IfSome, true, false, refl, sym, ap, subst, arith}
+use Rattle.std.specs.Io.KnownBytes.{Appends, Keeps}
 use Rattle.std.proofs.KnownBytes.{Appends-nil, Keeps-refl}
 use Rattle.coy_io.specs.Lines.{Part, parts_of, whole_lines}
 use Rattle.coy_io.specs.Reader.{Reader, ahead, new_reader}
@@ -13,24 +13,17 @@ use Rattle.listing_read.specs.declared.place.Place.TheVariants.{Header}
 use Rattle.separation_policy.specs.Making.{first_policy}
 use Rattle.separation_policy.specs.Policy.{PolicyValue}
 use Rattle.schedule_replay.specs.Scheduled.{OnParts}
-use Rattle.courses.specs.Course.{ComesTo, cached, course_output}
-use Rattle.courses.specs.Ending.{HasCauses, Output, Outputs}
+use Rattle.courses.specs.Course.{cached, course_output}
+use Rattle.courses.specs.Ending.{Output, Outputs}
 use Rattle.courses.specs.Listed.{lines_course}
 use Rattle.courses.specs.Sure.{WritesSure}
 use Rattle.courses.specs.declared.exit.Exit.{Exit}
-use Rattle.courses.specs.declared.exit.Exit.TheVariants.{Done, Crossings, Usage, ReadFault, WriteFault, OutOfMemory}
+use Rattle.courses.specs.declared.exit.Exit.TheVariants.{Done, Crossings, ReadFault, WriteFault, OutOfMemory}
 use Rattle.courses.proofs.Bytes.{on_bytes, on_listed, sure-going}
 use Rattle.courses.proofs.Lasts.{exits-differ}
-use Rattle.separation_program.specs.Judged.{HasJudged, HasReasonOr, Judged, Judges, OutputsOr, exit_of, is_judged, judged, judged_behind, judged_by, separation_course, stated_output}
+use Rattle.separation_program.specs.Judged.{HasJudged, Judged, Judges, OutputsOr, exit_of, is_judged, judged, judged_behind, judged_by, separation_course, stated_output}
 use Rattle.separation_program.specs.Stated.{stated}
 use Rattle.separation_program.specs.Theorem.{IsSeparated, IsViolated}
-
--- what lines come to is what is written of them
-pub outputs-of : (held old new : Option (List ℕ)) (fetches fetches' : ℕ) (exit : Exit)
-    → IfSome held (λ bytes. ComesTo old new fetches fetches' exit cached (lines_course separation_course (parts_of bytes)))
-    → IfSome held (λ bytes. Outputs old new exit (course_output (lines_course separation_course (parts_of bytes))))
-outputs-of None old new fetches fetches' exit comes = tt
-outputs-of (Some bytes) old new fetches fetches' exit comes = comes.output
 
 -- an exit that is neither of the two judged nothing
 pub not_judged-exit : (exit : Exit) → exit ≢ Done → exit ≢ Crossings → is_judged exit ≡ true → ⊥
@@ -53,20 +46,6 @@ module _ {E : Type 0} where
   exit-given : (result : Result Exit E) (exit : Exit) → (OutOfMemory ≡ exit → ⊥) → exit_of result ≡ exit → result ≡ Ok exit
   exit-given (Ok e) exit other is = ap Ok is
   exit-given (Err wanting) exit other is = absurd (other is)
-
-  pub exit-usage : (unread unread' unwritten unwritten' : ℕ) (result : Result Exit E) → HasReasonOr unread unread' unwritten unwritten' result → exit_of result ≢ Usage
-  exit-usage unread unread' unwritten unwritten' (Ok exit) r = r.usage
-  exit-usage unread unread' unwritten unwritten' (Err wanting) r = exits-differ OutOfMemory Usage (λ n. let bad : 6 ≡ 1 = n in omega (arith, bad))
-
-  pub exit-causes : (unread unread' unwritten unwritten' : ℕ) (result : Result Exit E) → HasReasonOr unread unread' unwritten unwritten' result
-      → HasCauses unread unread' unwritten unwritten' (exit_of result)
-  exit-causes unread unread' unwritten unwritten' (Ok exit) r = r.causes
-  exit-causes unread unread' unwritten unwritten' (Err wanting) r = record {
-    read = λ same. absurd (exits-differ OutOfMemory ReadFault (λ n. let bad : 6 ≡ 4 = n in omega (arith, bad)) same);
-    read_quiet = λ other. r.0;
-    write = λ same. absurd (exits-differ OutOfMemory WriteFault (λ n. let bad : 6 ≡ 5 = n in omega (arith, bad)) same);
-    write_quiet = λ other. r.1;
-  }
 
 -- ---- behind a listing
 
@@ -116,17 +95,3 @@ module _ {E : Type 0} (held mid held' taken taken' : Option (List ℕ)) (unread 
       let goes = rw (state, sizes, start) at f.goes_on in
       (sure-going separation_course held held' taken taken' 0 0 cached mid first middle reader listing f.given starts (given f.before) f.going f.unfinished f.gives goes
       (subst (λ t. Appends taken t []) (sym (j.silent is)) (Appends-nil taken)) refl).writes
-
-  pub call-end : is_judged (exit_of result) ≡ true → IsAtEnd held'
-  call-end done = by result j.end done
-    where
-      by : (r : Result Exit E) → IfOk r (λ exit. is_judged exit ≡ true → IsAtEnd held') → is_judged (exit_of r) ≡ true → IsAtEnd held'
-      by (Ok exit) end done = end done
-      by (Err wanting) end done = cc
-
-  pub call-unwritten : exit_of result ≡ OutOfMemory → taken' ≡ taken
-  call-unwritten none = by result j.reason j.nothing none
-    where
-      by : (r : Result Exit E) → HasReasonOr unread unread' unwritten unwritten' r → OnErr r (taken' ≡ taken) → exit_of r ≡ OutOfMemory → taken' ≡ taken
-      by (Ok exit) reason nothing none = absurd (reason.memory none)
-      by (Err wanting) reason nothing none = nothing

@@ -4,40 +4,22 @@ use Rattle.coy_io.specs.Reader.{Reader, ahead}
 use Rattle.machine_state.specs.declared.event.Event.{Event}
 use Rattle.kernel_core.specs.Run.{run_state}
 use Rattle.kernel_core.specs.State.{State}
-use Rattle.listing_read.specs.declared.fault.ScheduleFault.{ScheduleFault}
 use Rattle.separation_policy.specs.Policy.{PolicyValue}
-use Rattle.schedule_replay.specs.Replay.{Accords, Follows, HasReasons, answer_at, run_answer}
+use Rattle.schedule_replay.specs.Replay.{Accords, Follows, HasReasons, run_answer}
 use Rattle.schedule_replay.specs.Scheduled.{AtEnd, AtFault, AtLimit, Ending, OnParts, Scheduled, ends, preceded, scheduled}
 use Rattle.schedule_replay.specs.declared.counts.Counts.{Counts}
 use Rattle.schedule_replay.specs.declared.replayed.Replayed.{Replayed}
 use Rattle.schedule_replay.specs.declared.replayed.Replayed.TheVariants as answers
+use Rattle.schedule_replay.proofs.Ended.{ended-at, past-at, refused-at}
 use Rattle.schedule_replay.proofs.Reading.{on_all}
 use Rattle.courses.specs.Ending.{EndsIn, EndsNothing, HasCauses, Output, refused_schedule, too_long}
 use Rattle.courses.specs.declared.exit.Exit.{Exit}
 use Rattle.courses.specs.declared.exit.Exit.TheVariants.{Usage, ReadFault, WriteFault, OutOfMemory}
 use Rattle.courses.proofs.Endings.{outputs_none}
-use Rattle.courses.proofs.Lasts.{IsLast, exits-differ, last-causes, last-memory, last-read, last-usage}
-use Rattle.courses.proofs.Running.{past-last, refused-last}
+use Rattle.courses.proofs.Lasts.{IsLast, exits-differ, last-causes, last-memory, last-read, last-usage, past-last, read-causes, refused-last, write-causes}
 use Rattle.separation_program.specs.Judged.{ConcludesSchedule, EndsOr, FailsGoing, HasJudged, HasReasonOr, OutputsOr, ended_output, is_judged, judged_at, judged_of, judging}
 use Rattle.separation_program.specs.Text.{told}
 use Rattle.separation_program.proofs.Verdicts.{ok-exit, told-last, told-nothing}
-
--- ---- where a schedule ends, by its answer
-
-ended-at : (counts all : Counts) (ending : Ending) → answers.Ended counts ≡ answer_at all ending → ending ≡ AtEnd
-ended-at counts all AtEnd same = refl
-ended-at counts all (AtFault line fault) same = cc
-ended-at counts all AtLimit same = cc
-
-refused-at : (line : ℕ) (fault : ScheduleFault) (all : Counts) (ending : Ending) → answers.Refused line fault ≡ answer_at all ending → ending ≡ AtFault line fault
-refused-at line fault all AtEnd same = cc
-refused-at line fault all (AtFault l f) same = let one : line ≡ l = cc in let other : fault ≡ f = cc in rw (one, other) refl
-refused-at line fault all AtLimit same = cc
-
-past-at : (all : Counts) (ending : Ending) → answers.TooLong ≡ answer_at all ending → ending ≡ AtLimit
-past-at all AtEnd same = cc
-past-at all (AtFault line fault) same = cc
-past-at all AtLimit same = refl
 
 -- ---- any answer
 
@@ -73,22 +55,12 @@ module _ {K : Type 0} (E : Type 0) (taken : K → Option (List ℕ)) (faults : K
       fault-reason unread unread' unwritten answers.ReadFault ReadFault result c.0 c.1
       (exits-differ ReadFault Usage (λ n. let bad : 4 ≡ 1 = n in omega (arith, bad)))
       (exits-differ ReadFault OutOfMemory (λ n. let bad : 4 ≡ 6 = n in omega (arith, bad)))
-      (record {
-        read = λ same. r.read refl;
-        read_quiet = λ other. absurd (other refl);
-        write = λ same. absurd (exits-differ ReadFault WriteFault (λ n. let bad : 4 ≡ 5 = n in omega (arith, bad)) same);
-        write_quiet = λ other. r.write_quiet (λ same. cc);
-      })
+      (read-causes unread unread' unwritten (faults old) ReadFault refl (r.read refl) (r.write_quiet (λ same. cc)))
   concludes-reason unread unread' unwritten answers.WriteFault result r c =
       fault-reason unread unread' unwritten answers.WriteFault WriteFault result c.0 c.1
       (exits-differ WriteFault Usage (λ n. let bad : 5 ≡ 1 = n in omega (arith, bad)))
       (exits-differ WriteFault OutOfMemory (λ n. let bad : 5 ≡ 6 = n in omega (arith, bad)))
-      (record {
-        read = λ same. absurd (exits-differ WriteFault ReadFault (λ n. let bad : 5 ≡ 4 = n in omega (arith, bad)) same);
-        read_quiet = λ other. r.read_quiet (λ same. cc);
-        write = λ same. r.write refl;
-        write_quiet = λ other. absurd (other refl);
-      })
+      (write-causes unread unread' unwritten (faults old) WriteFault refl (r.write refl) (r.read_quiet (λ same. cc)))
 
   -- where a state was judged, all lines were read
   pub record IsEnded (answer : Replayed) : Type 0 where

@@ -1,29 +1,29 @@
 -- From the lines of a policy and of a schedule to what was judged.
-use Rattle.std.proofs.Common.{◌≡◌, ◌++◌, [], ℕ, List, Option, Some, None, Result, Ok, Err, IfOk, OnErr, true, false, length, ◌∷◌, refl, sym, ap, subst, arith}
+use Rattle.std.proofs.Common.{◌≡◌, ◌++◌, [], ℕ, List, Option, Some, None, Result, Ok, Err, IfOk, OnErr, true, false, length, refl, sym, ap, subst, arith}
 use Rattle.std.specs.Io.KnownBytes.{IsAtEnd}
 use Rattle.coy_io.specs.Causes.{Rose}
 use Rattle.coy_io.specs.Lines.{Part}
 use Rattle.coy_io.specs.Reader.{Reader, TellsEnd, ahead, bytes_ahead}
 use Rattle.coy_io.proofs.GivenLaws.{GivesLines-trans}
 use Rattle.kernel_core.specs.Run.{run_records, run_state}
-use Rattle.machine_state.specs.declared.record.Record.{Record}
 use Rattle.kernel_core.specs.State.{State}
 use Rattle.machine_state.specs.declared.event.Event.{Event}
 use Rattle.separation_policy.specs.Policy.{PolicyValue}
 use Rattle.schedule_replay.specs.Lines.{FailsOn}
 use Rattle.schedule_replay.specs.Replay.{Follows, HasReasons, WritesRun, run_answer}
-use Rattle.schedule_replay.specs.Told.{lines_of, told}
+use Rattle.schedule_replay.specs.Told.{told}
 use Rattle.schedule_replay.specs.declared.mode.Mode.TheVariants.{Silent}
 use Rattle.schedule_replay.specs.Scheduled.{OnParts, Scheduled, scheduled}
 use Rattle.schedule_replay.specs.declared.counts.Counts.{Counts}
 use Rattle.schedule_replay.specs.declared.replayed.Replayed.{Replayed}
 use Rattle.schedule_replay.specs.declared.replayed.Replayed.TheVariants as answers
-use Rattle.schedule_replay.proofs.Reading.{on_all, scheduled-end}
+use Rattle.schedule_replay.proofs.Reading.{on_all, on_each, scheduled-end}
+use Rattle.schedule_replay.proofs.Told.{silent_untold}
 use Rattle.courses.specs.Ending.{EndsIn, EndsNothing, Output, Outputs}
 use Rattle.courses.specs.declared.exit.Exit.{Exit}
-use Rattle.courses.specs.declared.exit.Exit.TheVariants.{Done, Crossings, Usage, ReadFault, WriteFault, OutOfMemory}
+use Rattle.courses.specs.declared.exit.Exit.TheVariants.{Done, Crossings, Usage, ReadFault, OutOfMemory}
 use Rattle.courses.proofs.Endings.{outputs_none}
-use Rattle.courses.proofs.Lasts.{IsLast, exits-differ, last-read}
+use Rattle.courses.proofs.Lasts.{IsLast, exits-differ, last-read, read-causes}
 use Rattle.separation_program.specs.Judged.{ConcludesSchedule, HasJudged, HasReasonOr, Judges, OutputsOr, is_judged, judged_by, judged_of, judging, stated_output}
 use Rattle.separation_program.specs.Stated.{AreStated, IsOver, StateAll, Stated, States, stated}
 use Rattle.separation_program.specs.Theorem.{IsSeparated, IsViolated}
@@ -31,11 +31,6 @@ use Rattle.separation_program.proofs.Concluding.{IsEnded, comes-run, concludes-j
 use Rattle.separation_program.proofs.Verdicts.{told-nothing}
 
 -- ---- known lines
-
--- what is so of all lines is so of those that are known
-on_each : (left : Option (List Part)) (P : List Part → Type 0) → ((parts : List Part) → P parts) → OnParts left P
-on_each None P all = tt
-on_each (Some parts) P all = all parts
 
 -- what is so of a policy with all lines behind it is so of what the known lines state
 on_stated : (first last : PolicyValue) (n k : ℕ) (old new : Option (List Part)) (P : Stated → Type 0) → AreStated first n old last k new
@@ -45,12 +40,6 @@ on_stated first last n k (Some parts) None P all is = absurd all
 on_stated first last n k (Some parts) (Some rest) P all is = subst P (sym all) is
 
 -- ---- a schedule
-
--- a silent run tells nothing
-silent_untold : (entries : List Record) → lines_of Silent entries ≡ []
-unfolding lines_of
-silent_untold [] = refl
-silent_untold (entry ∷ entries) = silent_untold entries
 
 module _ {K E : Type 0} (taken : K → Option (List ℕ)) (faults : K → ℕ) (policy : PolicyValue) (s start : State) (harts : ℕ) (lines lines' : Reader)
     (held held' : Option (List ℕ)) (old mid new : K) (unread unread' : ℕ) (events : List Event) (answer : Replayed) (result : Result Exit E) where
@@ -169,7 +158,7 @@ module _ {K E : Type 0} (taken : K → Option (List ℕ)) (faults : K → ℕ) (
   -- reading failed
   pub judges-read : (policy : PolicyValue) (k : ℕ) → FailsOn (stated first old.number) (States policy k []) old new held held' → Rose unread unread' → JudgesTo out (Ok ReadFault)
   judges-read policy k f rose = record {
-    comes = on_each (ahead old held) _ (λ parts. outputs_none (taken out) (taken out) (stated_output s harts (stated first old.number parts)));
+    comes = on_each (ahead old held) _ (λ parts known. outputs_none (taken out) (taken out) (stated_output s harts (stated first old.number parts)));
     separated = λ same. cc;
     violated = λ same. cc;
     end = λ done. cc;
@@ -187,19 +176,14 @@ module _ {K E : Type 0} (taken : K → Option (List ℕ)) (faults : K → ℕ) (
     reason = record {
       usage = exits-differ ReadFault Usage (λ n. let bad : 4 ≡ 1 = n in omega (arith, bad));
       memory = exits-differ ReadFault OutOfMemory (λ n. let bad : 4 ≡ 6 = n in omega (arith, bad));
-      causes = record {
-        read = λ same. rose;
-        read_quiet = λ other. absurd (other refl);
-        write = λ same. absurd (exits-differ ReadFault WriteFault (λ n. let bad : 4 ≡ 5 = n in omega (arith, bad)) same);
-        write_quiet = λ other. refl;
-      };
+      causes = read-causes unread unread' (faults out) (faults out) ReadFault refl rose refl;
     };
   }
 
   -- memory was wanting
   pub judges-memory : (wanting : E) → unread' ≡ unread → JudgesTo out (Err wanting)
   judges-memory wanting quiet = record {
-    comes = on_each (ahead old held) _ (λ parts. refl);
+    comes = on_each (ahead old held) _ (λ parts known. refl);
     separated = λ same. cc;
     violated = λ same. cc;
     end = tt;

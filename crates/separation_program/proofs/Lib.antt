@@ -3,5 +3,4 @@ mod Verdicts
 mod Concluding
 mod Judges
 mod Called
-mod Exact
 mod ReadBelow

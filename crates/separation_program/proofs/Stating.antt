@@ -2,7 +2,6 @@
 use Rattle.std.proofs.Common.{◌≡◌, ◌+◌, ◌∙◌, ◌∷◌, ◌++◌, [], ℕ, List, true, false, Option, Some, None, Result, Ok, Err, refl, sym, ap, subst, inl, inr}
 use Rattle.coy_io.specs.Lines.{Part, Line, LongLine, PastLimit}
 use Rattle.coy_io.specs.Reader.{Reader, Advances, Begins, IsDone, ahead}
-use Rattle.listing_read.specs.Reads.{ReadsLine}
 use Rattle.judged_lines.specs.Judged.{JudgesNext, NoneLeft, Refuses}
 use Rattle.judged_lines.specs.declared.stop.Stop.{Stop}
 use Rattle.judged_lines.specs.declared.stop.Stop.TheVariants as stops
@@ -17,7 +16,7 @@ use Rattle.separation_lines.specs.declared.said.Said.TheVariants as says
 use Rattle.separation_lines.specs.declared.said.Next.{Next}
 use Rattle.separation_lines.specs.declared.said.Next.TheVariants as nexts
 use Rattle.schedule_replay.specs.Lines.{FailsOn, ReadsOn}
-use Rattle.schedule_replay.proofs.ReadOn.{fails_on, on_lines, reads_on-trans}
+use Rattle.schedule_replay.proofs.ReadOn.{fails_on, on_lines, reads_on-line, reads_on-trans}
 use Rattle.schedule_replay.proofs.Reading.{on_begun, on_given}
 use Rattle.separation_program.specs.Stated.{AreStated, IsOver, JudgesPolicyLine, PastEnd, RefusedAt, StateAll, States, StatesRest, stated, stated_with}
 
@@ -84,19 +83,6 @@ module _ (policy : PolicyValue) (n : ℕ) where
   stated-refused policy' line fault parts judged =
       stated-answered line parts (Err fault) (answered-fault (answered (policy_line policy line)) fault (judged.answer (λ same. cc)))
 
--- ---- the lines that were read
-
--- one line, of which this is made
-reads_on-read : {M : Type 0} (was is : List Part → M) (old new : Reader) (held held' : Option (List ℕ)) → ReadsLine old new held held' → ((rest : List Part) → was (Line new.line ∷ rest) ≡ is rest)
-    → ReadsOn was is old new held held'
-reads_on-read was is old new held held' reads makes = record {
-  given = Line new.line ∷ [];
-  lines = reads.line;
-  before = λ going. reads.before;
-  bytes = reads.given;
-  makes = makes;
-}
-
 -- ---- the policy is over
 
 -- no line is left
@@ -148,7 +134,7 @@ module _ (first policy : PolicyValue) (old new : Reader) (held held' : Option (L
   -- it is taken in
   pub reads-line : Came (Ok nexts.Policy) → ReadsOn (stated first old.number) (stated policy new.number) old new held held'
   reads-line next =
-      reads_on-read (stated first old.number) (stated policy new.number) old new held held' next.0
+      reads_on-line (stated first old.number) (stated policy new.number) old new held held' next.0
       (λ rest. stated-taken first old.number policy new.line rest next.1 ∙ ap (λ m. stated policy m rest) (sym next.0.counted))
 
   -- it ends the policy
@@ -158,7 +144,7 @@ module _ (first policy : PolicyValue) (old new : Reader) (held held' : Option (L
       λ rest. stated-over first old.number policy new.line rest next.1 ∙ ap (λ m. States policy m rest) (sym next.0.counted) in
       record {
         known = are_stated-on first policy old.number new.number (ahead old held) (ahead new held') (Line new.line ∷ []) next.0.line all;
-        given = λ going. reads_on-read (stated first old.number) (States policy new.number) old new held held' next.0 all;
+        given = λ going. reads_on-line (stated first old.number) (States policy new.number) old new held held' next.0 all;
       }
 
   -- it is refused

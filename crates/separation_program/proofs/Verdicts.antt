@@ -1,5 +1,6 @@
 -- What is told of a state, by what was found.
-use Rattle.std.proofs.Common.{◌≡◌, ◌≢◌, ◌++◌, ◌∙◌, ◌∷◌, [], ℕ, List, suc, length, map, flat_map, Result, Ok, refl, ap, ap₂, arith}
+use Rattle.std.proofs.Common.{◌≡◌, ◌≢◌, ◌++◌, ◌∙◌, ◌∷◌, [], ℕ, List, map, flat_map, Result, Ok, refl, ap, ap₂, arith, sym}
+use Rattle.std.proofs.lemmas.List.{length-map}
 use Rattle.kernel_core.specs.State.{State}
 use Rattle.separation_policy.specs.Policy.{PolicyValue}
 use Rattle.separation_check.specs.Crossings.{crossings_in, meant_crossing}
@@ -11,7 +12,7 @@ use Rattle.listing_read.specs.declared.object_fault.PolicyFault.{PolicyFault}
 use Rattle.courses.specs.Ending.{EndsNothing, refused_policy}
 use Rattle.courses.specs.declared.exit.Exit.{Exit}
 use Rattle.courses.specs.declared.exit.Exit.TheVariants.{Done, Crossings}
-use Rattle.courses.proofs.Lasts.{IsLast, exits-differ}
+use Rattle.courses.proofs.Lasts.{IsLast, done-last, exits-differ}
 use Rattle.separation_program.specs.Text.{crossing_text, crossings_text, head_text, told, told_by, total_text}
 
 -- a refused line of a policy has an exit of its own
@@ -28,7 +29,7 @@ module _ (policy : PolicyValue) (s : State) where
   told-last = by (crossings_in policy s)
     where
       by : (found : List Crossing) → IsLast (told_by policy (marks_in policy s) found)
-      by [] = record { usage = λ e. omega (arith, e); read = λ e. omega (arith, e); memory = λ e. omega (arith, e) }
+      by [] = done-last _
       by (first ∷ rest) = record { usage = λ e. omega (arith, e); read = λ e. omega (arith, e); memory = λ e. omega (arith, e) }
 
   -- and ends nothing that was asked for
@@ -50,13 +51,9 @@ module _ (policy : PolicyValue) (s : State) where
   texts-meant [] = refl
   texts-meant (first ∷ rest) = ap₂ (λ (x y : List ℕ). x ++ y) (text-meant first) (texts-meant rest)
 
-  length-meant : (found : List Crossing) → length found ≡ length (map meant_crossing found)
-  length-meant [] = refl
-  length-meant (first ∷ rest) = ap (λ n. suc n) (length-meant rest)
-
   all-meant : (found : List Crossing) → crossings_text policy found ≡ crossings_text policy (map meant_crossing found)
   unfolding crossings_text
-  all-meant found = ap₂ (λ (x : List ℕ) (n : ℕ). x ++ total_text n) (texts-meant found) (length-meant found)
+  all-meant found = ap₂ (λ (x : List ℕ) (n : ℕ). x ++ total_text n) (texts-meant found) (sym (length-map found meant_crossing))
 
   -- what is told of what was found is what is told of the state
   pub told-found : (marks : Marks) (found all : List Crossing) → marks ≡ marks_in policy s → map meant_crossing found ≡ all
@@ -78,5 +75,5 @@ module _ (policy : PolicyValue) (s : State) where
 
   -- an exit of what was told of what was found is its own
   pub by-last : (marks : Marks) (found : List Crossing) → IsLast (told_by policy marks found)
-  by-last marks [] = record { usage = λ e. omega (arith, e); read = λ e. omega (arith, e); memory = λ e. omega (arith, e) }
+  by-last marks [] = done-last _
   by-last marks (first ∷ rest) = record { usage = λ e. omega (arith, e); read = λ e. omega (arith, e); memory = λ e. omega (arith, e) }

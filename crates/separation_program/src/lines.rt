@@ -1,5 +1,5 @@
 //! The lines of a policy, one after the other.
-ghost use Rattle.std.specs.Prelude.{◌≡◌, ◌≢◌, false, true};
+ghost use Rattle.std.specs.Prelude.{◌≡◌, ◌≢◌, false};
 ghost use Rattle.coy_io.specs.Causes.{Rose};
 ghost use Rattle.coy_io.specs.Reader.{TellsEnd};
 ghost use Rattle.listing_read.specs.declared.object_fault.PolicyFault.TheVariants.{LineTooLong};

@@ -17,9 +17,10 @@ use Rattle.shared_economy.proofs.Few.{fewer_frames}
 use Rattle.run_economy.proofs.Events.{run-follows}
 use Rattle.run_ranges.specs.Ranges.{AreInRanges}
 use Rattle.run_ranges.proofs.Events.{run-accesses}
+use Rattle.schedule_replay.proofs.Reading.{on_each}
 use Rattle.schedule_replay.specs.Counts.{counts_of}
 use Rattle.schedule_replay.specs.Replay.{answer_at, run_answer}
-use Rattle.schedule_replay.specs.Scheduled.{AtEnd, AtFault, AtLimit, Ending, OnParts, Scheduled, scheduled}
+use Rattle.schedule_replay.specs.Scheduled.{AtEnd, AtFault, AtLimit, Ending, Scheduled, scheduled}
 use Rattle.schedule_replay.specs.declared.replayed.Replayed.{Replayed}
 use Rattle.schedule_replay.specs.declared.replayed.Replayed.TheVariants as answers
 use Rattle.courses.specs.Course.{ComesTo, Course, course_fetches}
@@ -110,10 +111,6 @@ listing-shared listing ranged last rest =
       sound = run-sound (booted listing) ranged all.events (run_answer (booted listing) all);
     }
 
-on_each : (left : Option (List Part)) (P : List Part → Type 0) → ((parts : List Part) → P parts) → OnParts left P
-on_each None P all = tt
-on_each (Some parts) P all = all parts
-
 -- the known bytes, whose lines make this listing
 bytes-shared : (held mid : Option (List ℕ)) (first middle : Reader) (listing : ListingValue) → first ≡ new_reader
     → IsListed Header (first.number + 1) (ahead first held) listing middle.number (ahead middle mid)
@@ -121,7 +118,7 @@ bytes-shared : (held mid : Option (List ℕ)) (first middle : Reader) (listing :
 bytes-shared held mid first middle listing starts listed ranged =
     on_bytes share_course held mid first middle listing IsShared starts listed
     (on_each (ahead middle mid) (λ parts. IsShared (share_course listing middle.number parts))
-    (listing-shared listing ranged middle.number))
+    (λ parts known. listing-shared listing ranged middle.number parts))
 
 -- ---- a call
 

@@ -1,5 +1,5 @@
 //! What comes behind the records: how many frames are in use.
-ghost use Rattle.std.specs.Prelude.{◌≡◌, ℕ};
+ghost use Rattle.std.specs.Prelude.{ℕ};
 ghost use Rattle.kernel_core.specs.State.{state_of};
 ghost use Rattle.shared_leaves.specs.Cache.{kept_of};
 ghost use Rattle.courses.specs.Ending.{EndsIn};

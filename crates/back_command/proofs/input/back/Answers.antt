@@ -1,14 +1,14 @@
 use Rattle.std.proofs.Common.{◌∙◌, [], IfSome, ap, refl, subst}
 use Rattle.coy_io.specs.Lines.{parts_of, whole_lines}
 use Rattle.machine_state.specs.State.{state_of}
-use Rattle.courses.proofs.Bytes.{on_bytes, sure-behind}
+use Rattle.courses.proofs.Bytes.{known-output, on_bytes, on_parts-same, stands_on-same, sure-behind}
 use Rattle.courses.specs.Course.{Course, cached, course_output}
 use Rattle.courses.specs.Ending.{Outputs}
 use Rattle.courses.specs.Listed.{lines_course}
 use Rattle.courses.specs.Sure.{WritesSure}
 use Rattle.reverse_run.specs.History.{History}
 use Rattle.back_command.specs.Back.{back_course}
-use Rattle.back_command.proofs.Behind.{at_listing, known-output, stands-on}
+use Rattle.back_command.proofs.Behind.{of-listing}
 use Rattle.back_command.proofs.input.back.Goals as goal
 
 pub returns-in-Err-clause-comes : goal.returns-in-Err-clause-comes
@@ -31,7 +31,7 @@ returns-clause-comes g c =
     Outputs (g.K.Sink.taken o) (g.K.Sink.taken c.answer_lines.new.output) c.answer_lines.result (course_output (lines_course (back_course c.args.number) (parts_of bytes)))))
     c.in-Ok.ensures.silent
     (on_bytes (back_course c.args.number) _ _ c.new-lines.result c.read_head.new.lines c.in-Ok.listing written c.new-lines.ensures c.in-Ok.ensures.listed
-    (at_listing c.args.number c.in-Ok.listing _ _ _ harts state _ written c.answer_lines.ensures.comes))
+    (on_parts-same _ _ (back_course c.args.number c.in-Ok.listing _) written (of-listing c.args.number c.in-Ok.listing _ _ _ harts state) c.answer_lines.ensures.comes))
 
 pub returns-clause-sure : goal.returns-clause-sure
 returns-clause-sure g c =
@@ -43,4 +43,4 @@ returns-clause-sure g c =
     (λ bytes. lines_course (back_course c.args.number) (whole_lines [] bytes)))
     c.in-Ok.ensures.silent
     (sure-behind (back_course c.args.number) _ _ _ _ 0 0 cached _ c.new-lines.result c.read_head.new.lines c.answer_lines.new.lines c.in-Ok.listing c.new-lines.ensures c.in-Ok.ensures.given
-    (stands-on c.args.number c.in-Ok.listing _ _ _ harts state _ _ _ _ _ _ refl (c.answer_lines.ensures.sure fault))).writes
+    (stands_on-same _ _ _ _ _ _ 0 0 cached _ _ (of-listing c.args.number c.in-Ok.listing _ _ _ harts state) (c.answer_lines.ensures.sure fault))).writes

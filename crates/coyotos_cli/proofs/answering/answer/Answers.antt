@@ -1,12 +1,12 @@
 use Rattle.std.proofs.Common.{◌∙◌, Some, ap, refl, sym}
 use Rattle.courses.specs.Course.{cached}
 use Rattle.courses.specs.declared.exit.Exit.TheVariants.{Done}
-use Rattle.courses.proofs.Lasts.{last-causes, none-entries}
-use Rattle.coyotos_words.specs.declared.command.Command.TheVariants.{Help, Check, Run, Trace, Tables, Walk, Make, Pack, Unpack, Migrate, Confine, Share, Back}
+use Rattle.courses.proofs.Lasts.{done-last, last-causes, none-entries}
+use Rattle.coyotos_words.specs.declared.command.Command.TheVariants.{Help, Check, Run, Trace, Tables, Walk, Make, Pack, Unpack, Migrate, Confine, Share}
 use Rattle.share_command.specs.Share.{shared_fetched}
 use Rattle.coyotos_cli.specs.Command.{asks_run}
-use Rattle.coyotos_cli.specs.Program.{tells_usage}
-use Rattle.coyotos_cli.proofs.Words.{cache-shared, causes-other, comes-back, comes-known, comes-text, comes-told, known-back, known-confine, known-migrate, known-pack, known-unpack, stands-back, stands-told, usage-last}
+use Rattle.coyotos_cli.specs.Program.{tells_usage, usage_text}
+use Rattle.coyotos_cli.proofs.Words.{cache-shared, causes-other, comes-back, comes-known, comes-text, comes-told, known-back, known-confine, known-migrate, known-pack, known-unpack, stands-back, stands-told}
 use Rattle.coyotos_cli.proofs.answering.answer.Goals as goal
 
 -- ---- no input
@@ -21,7 +21,7 @@ pub returns-in-Help-clause-unread : goal.returns-in-Help-clause-unread
 returns-in-Help-clause-unread g c = λ off. refl
 
 pub returns-in-Help-clause-causes : goal.returns-in-Help-clause-causes
-returns-in-Help-clause-causes g c = last-causes _ _ _ _ _ _ usage-last c.usage.ensures _ _ _ refl refl
+returns-in-Help-clause-causes g c = last-causes _ _ _ _ _ _ (done-last usage_text) c.usage.ensures _ _ _ refl refl
 
 pub returns-in-Make-clause-comes : goal.returns-in-Make-clause-comes
 returns-in-Make-clause-comes g c = rw c.in-Make.is (comes-told (Make c.in-Make.number c.in-Make.summary) _ _ _ _ _ cached refl _ c.make.ensures.comes)

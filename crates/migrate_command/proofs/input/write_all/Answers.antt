@@ -1,5 +1,6 @@
 use Rattle.std.proofs.Common.{ap, refl, subst}
 use Rattle.coy_io.specs.Causes.{HasCause}
+use Rattle.courses.proofs.Lasts.{write-causes}
 use Rattle.migrate_command.proofs.Again.{puts-again}
 use Rattle.migrate_command.proofs.Concluding.{comes-unlisted, concludes-causes, concludes-comes, concludes-done, concludes-memory, concludes-sure, concludes-usage}
 use Rattle.migrate_command.proofs.Putting.{puts-harts}
@@ -12,12 +13,7 @@ returns-in-Err-clause-course g c = λ fetches. record {
   sure = λ failed. cc;
   usage = λ usage. cc;
   memory = λ memory. cc;
-  causes = record {
-    read = λ failed. cc;
-    read_quiet = λ other. refl;
-    write = λ failed. c.in-Err.ensures.cause.rose;
-    write_quiet = λ other. absurd (other refl);
-  };
+  causes = write-causes _ _ _ _ _ refl c.in-Err.ensures.cause.rose refl;
 }
 
 pub returns-clause-course : goal.returns-clause-course

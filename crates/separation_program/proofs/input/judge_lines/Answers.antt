@@ -1,7 +1,7 @@
 use Rattle.std.proofs.Common.{refl}
 use Rattle.kernel_core.specs.State.{state_of}
 use Rattle.courses.specs.Ending.{refused_policy, too_long}
-use Rattle.courses.proofs.Running.{past-last}
+use Rattle.courses.proofs.Lasts.{past-last}
 use Rattle.separation_program.specs.Stated.{PastEnd, RefusedAt}
 use Rattle.separation_program.proofs.Judges.{judges-behind, judges-last, judges-memory, judges-read}
 use Rattle.separation_program.proofs.Verdicts.{policy-last}

@@ -1,16 +1,18 @@
 use Rattle.std.proofs.Common.{◌∙◌, [], IfSome, ap, refl, subst}
 use Rattle.coy_io.specs.Lines.{parts_of, whole_lines}
+use Rattle.courses.proofs.Bytes.{known-output}
 use Rattle.courses.specs.Course.{cached, course_output}
 use Rattle.courses.specs.Ending.{Outputs}
 use Rattle.courses.specs.Listed.{lines_course}
 use Rattle.courses.specs.Sure.{WritesSure}
 use Rattle.separation_policy.specs.Making.{first_policy}
 use Rattle.separation_program.specs.Judged.{exit_of, separation_course}
-use Rattle.separation_program.proofs.Called.{call-comes, call-separated, call-sure, call-violated, not_judged-exit, outputs-of}
+use Rattle.separation_program.proofs.Called.{call-comes, call-separated, call-sure, call-violated, not_judged-exit}
 use Rattle.separation_program.proofs.input.separate.Goals as goal
 
 pub returns-in-Err-clause-comes : goal.returns-in-Err-clause-comes
-returns-in-Err-clause-comes g c = outputs-of _ _ _ _ _ _ (c.in-Err.ensures.ended.comes separation_course cached refl 0)
+returns-in-Err-clause-comes g c =
+    known-output _ _ _ 0 0 _ cached (λ bytes. lines_course separation_course (parts_of bytes)) (c.in-Err.ensures.ended.comes separation_course cached refl 0)
 
 pub returns-in-Err-clause-end : goal.returns-in-Err-clause-end
 returns-in-Err-clause-end g c = λ done. absurd (not_judged-exit _ c.in-Err.ensures.ended.done c.in-Err.ensures.ended.crossings done)
