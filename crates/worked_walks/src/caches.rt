@@ -4,9 +4,7 @@ use crate::rows::{check, hex, short};
 use cap_format::{CapKind, Item};
 use depend_table::Depends;
 use guard_math::Block;
-use std::alloc::Global;
 use std::process::Abort;
-use std::test::Fail;
 use sv32_tables::{Leaf, TablePool};
 use tlb_model::Tlb;
 
@@ -37,41 +35,33 @@ fff 0 1 003ffcdb
 fff 1 0 003ffcd7
 fff 1 1 003ffcdf";
 
-/// The word that leads to a new root's first table, the word of the leaf that is installed at address 0, and the one of
-/// page 1 in front of it, which was installed at the second address and may be written and executed.
-fn words_of(pool: &mut TablePool, leaf: Leaf) -> Result<(u32, u32, u32), Fail> {
-    let root = pool.make_root()?;
-    let first = Leaf {
-        page: 1,
-        write: true,
-        execute: true,
-    };
-    pool.install(root, 0x1000, first)?;
-    pool.install(root, 0, leaf)?;
-    Ok((pool.word(0, 0), pool.word(1, 0), pool.word(1, 1)))
-}
-
-/// The row's leaf has the row's word, beside that of page 1.
-fn check_leaf(rt: &impl Abort, alloc: Global, row: &str) -> Result<(), Fail> {
-    let leaf = Leaf {
+/// The leaf of a row.
+fn leaf_of(rt: &impl Abort, row: &str) -> Leaf {
+    Leaf {
         page: short(rt, row, 0),
         write: hex(rt, row, 1) == 1,
         execute: hex(rt, row, 2) == 1,
-    };
-    let wanted = hex(rt, row, 3);
-    let mut pool = TablePool::new(alloc)?;
-    let words = words_of(&mut pool, leaf)?;
-    let as_written = words.0 == 0x0040_0401 && words.1 == wanted && words.2 == 0x0000_04df;
-    check(rt, as_written, row);
-    Ok(())
+    }
+}
+
+/// The row's leaf has the row's word at address 0. In front of it stands that of page 1, which is installed first, at the
+/// second address, and may be written and executed, and a word leads from the new root to their table.
+fn check_leaf(rt: &impl Abort, pool: &mut TablePool, row: &str) {
+    let root = pool.make_root().expect(rt, row);
+    pool.install(root, 0x1000, leaf_of(rt, "1 1 1"))
+        .expect(rt, row);
+    pool.install(root, 0, leaf_of(rt, row)).expect(rt, row);
+    check(rt, pool.word(0, 0) == 0x0040_0401, row);
+    check(rt, pool.word(1, 0) == hex(rt, row, 3), row);
+    check(rt, pool.word(1, 1) == 0x0000_04df, row);
 }
 
 #[test]
-fn leaves_have_the_words_that_are_written_down(rt: HostRuntime) -> Result<(), Fail> {
+fn leaves_have_the_words_that_are_written_down(rt: HostRuntime) {
     for row in LEAVES.lines() {
-        check_leaf(&rt, rt.alloc(), row)?;
+        let mut pool = TablePool::new(rt.alloc()).expect(&rt, row);
+        check_leaf(&rt, &mut pool, row);
     }
-    Ok(())
 }
 
 /// A hart's cache has room for 64 leaves: the 65th takes the place of the oldest, the 66th that of the next.
@@ -93,36 +83,36 @@ fn the_oldest_leaf_goes_first(rt: HostRuntime) {
 }
 
 /// Notes a record of each slot of 1,024 GPTs, which is 16,384.
-fn note_all(records: &mut Depends, page: Block) -> Result<(), Fail> {
+fn note_all(rt: &impl Abort, records: &mut Depends, page: Block, what: &str) {
     for n in 0..16384_u16 {
-        records.note(Item::Slot(n / 16, (n % 16) as u8), 7, page)?;
+        let noted = records.note(Item::Slot(n / 16, (n % 16) as u8), 7, page);
+        check(rt, noted.is_ok(), what);
     }
-    Ok(())
 }
 
 /// There is room for those records, and for no other; one that is there is noted again. Where one is taken, another has
 /// its room.
-fn fill_records(rt: &impl Abort, records: &mut Depends) -> Result<(), Fail> {
+fn fill_records(rt: &impl Abort, records: &mut Depends, what: &str) {
     let page = Block::around(0x1234_5678, 12);
-    note_all(records, page)?;
+    note_all(rt, records, page, what);
     let (header, last) = (Item::Header(CapKind::Process, 255), Item::Slot(1023, 15));
-    check(rt, records.note(header, 7, page).is_err(), "another");
-    check(rt, records.note(last, 7, page).is_ok(), "the last again");
-    take(rt, records, last, page);
-    records.note(header, 7, page)?;
-    take(rt, records, header, page);
-    Ok(())
+    check(rt, records.note(header, 7, page).is_err(), what);
+    check(rt, records.note(last, 7, page).is_ok(), what);
+    take(rt, records, last, page, what);
+    check(rt, records.note(header, 7, page).is_ok(), what);
+    take(rt, records, header, page, what);
 }
 
 /// Takes the record of an item.
-fn take(rt: &impl Abort, records: &mut Depends, item: Item, page: Block) {
-    let Some((root, block)) = records.take_one(item) else {
-        panic!(rt; "there is none");
-    };
-    check(rt, root == 7 && block == page, "what was noted");
+fn take(rt: &impl Abort, records: &mut Depends, item: Item, page: Block, what: &str) {
+    let (root, block) = records.take_one(item).expect(rt, what);
+    check(rt, root == 7, what);
+    check(rt, block == page, what);
 }
 
 #[test]
-fn a_record_more_than_16384_is_refused(rt: HostRuntime) -> Result<(), Fail> {
-    fill_records(&rt, &mut Depends::new(rt.alloc())?)
+fn a_record_more_than_16384_is_refused(rt: HostRuntime) {
+    let what = "a record";
+    let mut records = Depends::new(rt.alloc()).expect(&rt, what);
+    fill_records(&rt, &mut records, what);
 }

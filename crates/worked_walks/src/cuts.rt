@@ -464,11 +464,10 @@ fn push_verdict(line: &mut LineBuf, verdict: Verdict) {
 }
 
 /// Reads lines of a cut.
-fn read_lines(cut: &mut Cut, lines: &str) -> Result<(), Fail> {
+fn read_lines(rt: &impl Abort, cut: &mut Cut, lines: &str) {
     for line in lines.lines() {
-        read_cut(line.as_bytes(), cut)?;
+        check(rt, read_cut(line.as_bytes(), cut).is_ok(), line);
     }
-    Ok(())
 }
 
 /// Finds in a machine, over the cut of these lines, what is wanted.
@@ -478,31 +477,29 @@ pub fn find<T: Translator, L: Ledger>(
     machine: &Machine<T>,
     (lines, wanted): (&str, &str),
     fetches: &mut Steps<L>,
-) -> Result<(), Fail> {
-    let mut cut = Cut::new(alloc, machine.objects().sizes())?;
-    read_lines(&mut cut, lines)?;
+) {
+    let mut cut = Cut::new(alloc, machine.objects().sizes()).expect(rt, wanted);
+    read_lines(rt, &mut cut, lines);
     let mut line = LineBuf::new();
     push_verdict(&mut line, confined(machine, &cut, fetches));
     check(rt, line.as_bytes() == wanted.as_bytes(), wanted);
-    Ok(())
 }
 
 /// Finds what each block says.
-fn find_breaches<L: Ledger>(rt: &impl Abort, alloc: Global, permit: Permit) -> Result<(), Fail>
+fn find_breaches<L: Ledger>(rt: &impl Abort, alloc: Global, permit: Permit)
     requires ledger { permit ≡ permit_for L.name L.parts }
 {
     let mut fetches = Steps::<L>::new(permit);
     for block in BREACHES.split("\n\n") {
-        let (wanted, listing) = block.split_once("\n").expect(rt, "two lines");
+        let (wanted, listing) = block.split_once("\n").expect(rt, block);
         let task = Task::Find((FIRST, wanted));
-        perform_task(rt, alloc, listing, task, &mut fetches)?;
+        perform_task(rt, alloc, listing, task, &mut fetches);
     }
-    Ok(())
 }
 
 #[test]
-fn the_first_capability_that_breaks_a_cut_is_found(rt: HostRuntime) -> Result<(), Fail> {
-    find_breaches::<Brand>(&rt, rt.alloc(), Permit::new(&rt))
+fn the_first_capability_that_breaks_a_cut_is_found(rt: HostRuntime) {
+    find_breaches::<Brand>(&rt, rt.alloc(), Permit::new(&rt));
 }
 
 /// Performs an event of a row.
@@ -524,36 +521,38 @@ pub fn find_and_step<T: Translator, L: Ledger>(
     alloc: Global,
     machine: &mut Machine<T>,
     fetches: &mut Steps<L>,
-) -> Result<(), Fail> {
+) {
     for wanted in FOUND_ASLEEP.lines() {
-        find(rt, alloc, machine, ("left process 0", wanted), fetches)?;
+        find(rt, alloc, machine, ("left process 0", wanted), fetches);
         perform(rt, machine, "step 0", fetches);
     }
-    Ok(())
 }
 
 /// The same of the machine of sleepers.
-fn find_sleepers<L: Ledger>(rt: &impl Abort, alloc: Global, permit: Permit) -> Result<(), Fail>
+fn find_sleepers<L: Ledger>(rt: &impl Abort, alloc: Global, permit: Permit)
     requires ledger { permit ≡ permit_for L.name L.parts }
 {
     let mut fetches = Steps::<L>::new(permit);
-    perform_task(rt, alloc, SLEEPERS, Task::Sleep, &mut fetches)
+    perform_task(rt, alloc, SLEEPERS, Task::Sleep, &mut fetches);
 }
 
 #[test]
-fn the_least_process_that_sleeps_across_a_cut_is_found(rt: HostRuntime) -> Result<(), Fail> {
-    find_sleepers::<Brand>(&rt, rt.alloc(), Permit::new(&rt))
+fn the_least_process_that_sleeps_across_a_cut_is_found(rt: HostRuntime) {
+    find_sleepers::<Brand>(&rt, rt.alloc(), Permit::new(&rt));
 }
 
 /// The lines of a machine's objects.
 fn objects_text<T: Translator, L: Ledger>(
+    rt: &impl Abort,
     alloc: Global,
     machine: &Machine<T>,
+    row: &str,
     fetches: &mut Steps<L>,
-) -> Result<Vec<u8>, Fail> {
-    let mut output = MemSink::new(alloc, 4096, Vec::new(alloc), 4096)?;
-    put_objects(machine.objects(), &mut LineBuf::new(), &mut output, fetches)?;
-    Ok(output.bytes)
+) -> Vec<u8> {
+    let mut output = MemSink::new(alloc, 4096, Vec::new(alloc), 4096).expect(rt, row);
+    let put = put_objects(machine.objects(), &mut LineBuf::new(), &mut output, fetches);
+    put.expect(rt, row);
+    output.bytes
 }
 
 /// Whether a line is about an object with an even number.
@@ -587,21 +586,6 @@ fn check_turn(rt: &impl Abort, before: &[u8], after: &[u8], row: &str) {
     check(rt, same == row.starts_with("tick"), row);
 }
 
-/// Performs a row's event on a machine of which this is the text.
-fn turn<T: Translator, L: Ledger>(
-    rt: &impl Abort,
-    alloc: Global,
-    machine: &mut Machine<T>,
-    before: &[u8],
-    row: &str,
-    fetches: &mut Steps<L>,
-) -> Result<(), Fail> {
-    perform(rt, machine, row, fetches);
-    let after = objects_text(alloc, machine, fetches)?;
-    check_turn(rt, before, after.as_slice(), row);
-    Ok(())
-}
-
 /// Performs a row's event on a machine in which the cut holds.
 fn take_turn<T: Translator, L: Ledger>(
     rt: &impl Abort,
@@ -609,10 +593,12 @@ fn take_turn<T: Translator, L: Ledger>(
     machine: &mut Machine<T>,
     row: &str,
     fetches: &mut Steps<L>,
-) -> Result<(), Fail> {
-    find(rt, alloc, machine, (EVEN, "yes"), fetches)?;
-    let before = objects_text(alloc, machine, fetches)?;
-    turn(rt, alloc, machine, before.as_slice(), row, fetches)
+) {
+    find(rt, alloc, machine, (EVEN, "yes"), fetches);
+    let before = objects_text(rt, alloc, machine, row, fetches);
+    perform(rt, machine, row, fetches);
+    let after = objects_text(rt, alloc, machine, row, fetches);
+    check_turn(rt, before.as_slice(), after.as_slice(), row);
 }
 
 /// Performs the rows, one after the other.
@@ -621,21 +607,20 @@ pub fn take_all<T: Translator, L: Ledger>(
     alloc: Global,
     machine: &mut Machine<T>,
     fetches: &mut Steps<L>,
-) -> Result<(), Fail> {
+) {
     for row in TURNS.lines() {
-        take_turn(rt, alloc, machine, row, fetches)?;
+        take_turn(rt, alloc, machine, row, fetches);
     }
-    let last = objects_text(alloc, machine, fetches)?;
+    let last = objects_text(rt, alloc, machine, ENDED, fetches);
     check_ended(rt, last.as_slice());
-    Ok(())
 }
 
 /// The same on the machine of the pair.
-fn take_turns<L: Ledger>(rt: &impl Abort, alloc: Global, permit: Permit) -> Result<(), Fail>
+fn take_turns<L: Ledger>(rt: &impl Abort, alloc: Global, permit: Permit)
     requires ledger { permit ≡ permit_for L.name L.parts }
 {
     let mut fetches = Steps::<L>::new(permit);
-    perform_task(rt, alloc, PAIR, Task::Turn, &mut fetches)
+    perform_task(rt, alloc, PAIR, Task::Turn, &mut fetches);
 }
 
 /// The objects have the lines that they are to have at the end.
@@ -646,6 +631,6 @@ fn check_ended(rt: &impl Abort, text: &[u8]) {
 }
 
 #[test]
-fn neither_side_of_a_cut_that_holds_touches_the_other(rt: HostRuntime) -> Result<(), Fail> {
-    take_turns::<Brand>(&rt, rt.alloc(), Permit::new(&rt))
+fn neither_side_of_a_cut_that_holds_touches_the_other(rt: HostRuntime) {
+    take_turns::<Brand>(&rt, rt.alloc(), Permit::new(&rt));
 }

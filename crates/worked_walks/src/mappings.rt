@@ -11,7 +11,6 @@ use std::alloc::Global;
 use std::marker::Brand;
 use std::process::Abort;
 use std::sync::ledger::Ledger;
-use std::test::Fail;
 use steps::{Permit, Steps};
 
 /// What is answered, and what was done or asked. The verbs that do something are those of `perform`. How many frames are
@@ -252,27 +251,22 @@ fn perform_rows<L: Ledger>(
 }
 
 /// The same of one of the two tables, where at first all objects are empty and nothing is kept.
-fn perform_all<L: Ledger>(
-    rt: &impl Abort,
-    alloc: Global,
-    of_records: bool,
-    permit: Permit,
-) -> Result<(), Fail>
+fn perform_all<L: Ledger>(rt: &impl Abort, alloc: Global, of_records: bool, permit: Permit)
     requires ledger { permit ≡ permit_for L.name L.parts }
 {
     let rows = if of_records { RECORDS } else { FRAMES };
-    let objects = Objects::new(alloc, SIZES)?;
-    let mut kept = Kept::new(objects, MapCache::new(alloc, 2)?);
+    let objects = Objects::new(alloc, SIZES).expect(rt, rows);
+    let cache = MapCache::new(alloc, 2).expect(rt, rows);
+    let mut kept = Kept::new(objects, cache);
     perform_rows(rt, &mut kept, rows, &mut Steps::<L>::new(permit));
-    Ok(())
 }
 
 #[test]
-fn frames_go_to_spaces_and_regions_until_there_is_none(rt: HostRuntime) -> Result<(), Fail> {
-    perform_all::<Brand>(&rt, rt.alloc(), false, Permit::new(&rt))
+fn frames_go_to_spaces_and_regions_until_there_is_none(rt: HostRuntime) {
+    perform_all::<Brand>(&rt, rt.alloc(), false, Permit::new(&rt));
 }
 
 #[test]
-fn records_go_to_items_and_blocks_until_there_is_none(rt: HostRuntime) -> Result<(), Fail> {
-    perform_all::<Brand>(&rt, rt.alloc(), true, Permit::new(&rt))
+fn records_go_to_items_and_blocks_until_there_is_none(rt: HostRuntime) {
+    perform_all::<Brand>(&rt, rt.alloc(), true, Permit::new(&rt));
 }

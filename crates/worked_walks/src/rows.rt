@@ -5,17 +5,17 @@ use std::process::Abort;
 
 /// The row's word `n`, from 0, which is a hexadecimal number.
 pub fn hex(rt: &impl Abort, row: &str, n: usize) -> u32 {
-    read_hex(word(row.as_bytes(), n)).expect(rt, "a hexadecimal number")
+    read_hex(word(row.as_bytes(), n)).expect(rt, row)
 }
 
 /// The same, where it is below 256.
 pub fn byte(rt: &impl Abort, row: &str, n: usize) -> u8 {
-    u8::try_from(hex(rt, row, n)).expect(rt, "a number below 256")
+    u8::try_from(hex(rt, row, n)).expect(rt, row)
 }
 
 /// The same, where it is below 65,536.
 pub fn short(rt: &impl Abort, row: &str, n: usize) -> u16 {
-    u16::try_from(hex(rt, row, n)).expect(rt, "a number below 65,536")
+    u16::try_from(hex(rt, row, n)).expect(rt, row)
 }
 
 /// The first byte of the row's word `n`, and 0 where there is none.
@@ -36,8 +36,8 @@ pub fn number(rt: &impl Abort, row: &str, n: usize) -> Option<u32> {
 
 /// What stands in front of the row's bars, and the text in them.
 pub fn barred<'a>(rt: &impl Abort, row: &'a str) -> (&'a str, &'a str) {
-    let (front, rest) = row.split_once(" |").expect(rt, "a bar");
-    (front, rest.strip_suffix("|").expect(rt, "a bar at the end"))
+    let (front, rest) = row.split_once(" |").expect(rt, row);
+    (front, rest.strip_suffix("|").expect(rt, row))
 }
 
 /// Fails with the row, where what it says doesn't hold.

@@ -8,7 +8,6 @@ use arrayvec::ArrayVec;
 use guard_math::Block;
 use std::alloc::Global;
 use std::process::Abort;
-use std::test::Fail;
 use sv32_tables::{Leaf, SharedPool, SharedUse};
 
 /// A root and an address in each row, at which each row of `LINKS` says what is found.
@@ -100,11 +99,11 @@ struct Shared {
 }
 
 impl Shared {
-    fn new(alloc: Global) -> Result<Shared, Fail> {
-        Ok(Shared {
-            pool: SharedPool::new(alloc)?,
+    fn new(rt: &impl Abort, alloc: Global, rows: &str) -> Shared {
+        Shared {
+            pool: SharedPool::new(alloc).expect(rt, rows),
             uses: ArrayVec::new(),
-        })
+        }
     }
 
     /// The root at word `n`.
@@ -152,9 +151,9 @@ impl Shared {
     }
 
     /// So many leaf tables more.
-    fn fill(&mut self, rt: &impl Abort, count: u16) {
+    fn fill(&mut self, rt: &impl Abort, count: u16, row: &str) {
         for _ in 0..count {
-            check(rt, self.make_table().is_some(), "a table");
+            check(rt, self.make_table().is_some(), row);
         }
     }
 
@@ -225,7 +224,7 @@ impl Shared {
             b'u' => self.unlink(rt, row, n + 1),
             b's' => self.set(rt, row, n + 1),
             b'd' => self.clear(rt, row, n + 1),
-            b'f' => self.fill(rt, short(rt, row, n + 1)),
+            b'f' => self.fill(rt, short(rt, row, n + 1), row),
             _ => {
                 self.pool.clear_all();
                 self.uses.clear();
@@ -262,7 +261,7 @@ fn link_all(rt: &impl Abort, shared: &mut Shared) {
     shared.make_root();
     shared.make_root();
     shared.make_root();
-    shared.fill(rt, 2);
+    shared.fill(rt, 2, LINKS);
     for row in LINKS.lines() {
         shared.change(rt, row, 6);
         find_all(rt, shared, row);
@@ -270,9 +269,9 @@ fn link_all(rt: &impl Abort, shared: &mut Shared) {
 }
 
 #[test]
-fn roots_that_are_linked_to_a_table_find_its_entries(rt: HostRuntime) -> Result<(), Fail> {
-    link_all(&rt, &mut Shared::new(rt.alloc())?);
-    Ok(())
+fn roots_that_are_linked_to_a_table_find_its_entries(rt: HostRuntime) {
+    let mut shared = Shared::new(&rt, rt.alloc(), LINKS);
+    link_all(&rt, &mut shared);
 }
 
 /// Does each row of `EDGE`, and compares the answers.
@@ -284,7 +283,7 @@ fn perform_all(rt: &impl Abort, shared: &mut Shared) {
 }
 
 #[test]
-fn a_pool_of_shared_tables_has_256_frames(rt: HostRuntime) -> Result<(), Fail> {
-    perform_all(&rt, &mut Shared::new(rt.alloc())?);
-    Ok(())
+fn a_pool_of_shared_tables_has_256_frames(rt: HostRuntime) {
+    let mut shared = Shared::new(&rt, rt.alloc(), EDGE);
+    perform_all(&rt, &mut shared);
 }

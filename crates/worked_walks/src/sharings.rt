@@ -11,7 +11,6 @@ use std::alloc::Global;
 use std::marker::Brand;
 use std::process::Abort;
 use std::sync::ledger::Ledger;
-use std::test::Fail;
 use steps::{Permit, Steps};
 use sv32_tables::Leaf;
 
@@ -107,16 +106,16 @@ fn perform_rows<L: Ledger>(rt: &impl Abort, kept: &mut Kept<SharedLeaves>, fetch
 }
 
 /// The same, where at first all objects are empty and nothing is kept.
-fn perform_all<L: Ledger>(rt: &impl Abort, alloc: Global, permit: Permit) -> Result<(), Fail>
+fn perform_all<L: Ledger>(rt: &impl Abort, alloc: Global, permit: Permit)
     requires ledger { permit ≡ permit_for L.name L.parts }
 {
-    let objects = Objects::new(alloc, SIZES)?;
-    let mut kept = Kept::new(objects, SharedLeaves::new(alloc, 2)?);
+    let objects = Objects::new(alloc, SIZES).expect(rt, ROWS);
+    let leaves = SharedLeaves::new(alloc, 2).expect(rt, ROWS);
+    let mut kept = Kept::new(objects, leaves);
     perform_rows(rt, &mut kept, &mut Steps::<L>::new(permit));
-    Ok(())
 }
 
 #[test]
-fn spaces_that_come_to_a_gpt_alike_share_a_leaf_table(rt: HostRuntime) -> Result<(), Fail> {
-    perform_all::<Brand>(&rt, rt.alloc(), Permit::new(&rt))
+fn spaces_that_come_to_a_gpt_alike_share_a_leaf_table(rt: HostRuntime) {
+    perform_all::<Brand>(&rt, rt.alloc(), Permit::new(&rt));
 }

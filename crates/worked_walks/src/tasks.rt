@@ -7,7 +7,6 @@ use kernel_core::Machine;
 use std::alloc::Global;
 use std::process::Abort;
 use std::sync::ledger::Ledger;
-use std::test::Fail;
 use steps::Steps;
 use walk_engine::Translator;
 
@@ -31,7 +30,7 @@ fn perform_on<T: Translator, L: Ledger>(
     machine: &mut Machine<T>,
     task: Task<'_>,
     fetches: &mut Steps<L>,
-) -> Result<(), Fail> {
+) {
     match task {
         Task::Walk(rows) => check_rows(rt, alloc, machine, rows, fetches),
         Task::Find(asked) => find(rt, alloc, machine, asked, fetches),
@@ -47,7 +46,7 @@ pub fn perform_task<L: Ledger>(
     listing: &str,
     task: Task<'_>,
     fetches: &mut Steps<L>,
-) -> Result<(), Fail> {
-    let mut machine = machine_of(alloc, listing)?;
-    perform_on(rt, alloc, &mut machine, task, fetches)
+) {
+    let mut machine = machine_of(rt, alloc, listing);
+    perform_on(rt, alloc, &mut machine, task, fetches);
 }

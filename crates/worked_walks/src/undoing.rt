@@ -11,7 +11,6 @@ use std::alloc::Global;
 use std::marker::Brand;
 use std::process::Abort;
 use std::sync::ledger::Ledger;
-use std::test::Fail;
 use steps::{Permit, Steps};
 use walk_engine::Translator;
 
@@ -170,6 +169,19 @@ fn perform<T: Translator, L: Ledger>(
     reversible.event(e, fetches);
 }
 
+/// Puts the text of the state behind the others.
+fn push_state<T: Translator, L: Ledger>(
+    rt: &impl Abort,
+    alloc: Global,
+    reversible: &Reversible<T>,
+    row: &str,
+    texts: &mut Vec<Vec<u8>>,
+    fetches: &mut Steps<L>,
+) {
+    let text = state_text(rt, alloc, reversible.machine(), row, fetches);
+    texts.push(text).expect(rt, row);
+}
+
 /// Performs the events of a run, and puts the texts of all states behind the others, the first one first.
 fn perform_all<T: Translator, L: Ledger>(
     rt: &impl Abort,
@@ -178,13 +190,12 @@ fn perform_all<T: Translator, L: Ledger>(
     row: &str,
     texts: &mut Vec<Vec<u8>>,
     fetches: &mut Steps<L>,
-) -> Result<(), Fail> {
-    texts.push(state_text(alloc, reversible.machine(), fetches)?)?;
+) {
+    push_state(rt, alloc, reversible, row, texts, fetches);
     for line in run_of(row).schedule.lines() {
         perform(rt, reversible, line, fetches);
-        texts.push(state_text(alloc, reversible.machine(), fetches)?)?;
+        push_state(rt, alloc, reversible, row, texts, fetches);
     }
-    Ok(())
 }
 
 /// The state has this text.
@@ -192,12 +203,12 @@ fn check_state<T: Translator, L: Ledger>(
     rt: &impl Abort,
     alloc: Global,
     reversible: &Reversible<T>,
+    row: &str,
     wanted: &[u8],
     fetches: &mut Steps<L>,
-) -> Result<(), Fail> {
-    let text = state_text(alloc, reversible.machine(), fetches)?;
-    check(rt, text.as_slice() == wanted, "the same text");
-    Ok(())
+) {
+    let text = state_text(rt, alloc, reversible.machine(), row, fetches);
+    check(rt, text.as_slice() == wanted, row);
 }
 
 /// Undoes an event for each text, which has to come back.
@@ -205,14 +216,14 @@ fn undo_all<T: Translator, L: Ledger>(
     rt: &impl Abort,
     alloc: Global,
     reversible: &mut Reversible<T>,
+    row: &str,
     texts: &[Vec<u8>],
     fetches: &mut Steps<L>,
-) -> Result<(), Fail> {
+) {
     for text in texts.iter().rev() {
-        check(rt, reversible.undo(fetches), "undone");
-        check_state(rt, alloc, reversible, text.as_slice(), fetches)?;
+        check(rt, reversible.undo(fetches), row);
+        check_state(rt, alloc, reversible, row, text.as_slice(), fetches);
     }
-    Ok(())
 }
 
 /// Performs the events once more, and the states have these texts.
@@ -223,14 +234,13 @@ fn perform_again<T: Translator, L: Ledger>(
     row: &str,
     texts: &[Vec<u8>],
     fetches: &mut Steps<L>,
-) -> Result<(), Fail> {
+) {
     let mut wanted = texts.iter().skip(1);
     for line in run_of(row).schedule.lines() {
         perform(rt, reversible, line, fetches);
-        let text = wanted.next().expect(rt, "a text");
-        check_state(rt, alloc, reversible, text.as_slice(), fetches)?;
+        let text = wanted.next().expect(rt, row);
+        check_state(rt, alloc, reversible, row, text.as_slice(), fetches);
     }
-    Ok(())
 }
 
 /// Undoes so many events, and then none is left to be undone, which changes nothing. The texts are those of all states,
@@ -239,17 +249,18 @@ fn undo<T: Translator, L: Ledger>(
     rt: &impl Abort,
     alloc: Global,
     reversible: &mut Reversible<T>,
+    row: &str,
     count: usize,
     texts: &[Vec<u8>],
     fetches: &mut Steps<L>,
-) -> Result<(), Fail> {
+) {
     assert!(rt; count < texts.len());
     let back = texts.split_at(texts.len() - 1 - count).1;
-    undo_all(rt, alloc, reversible, back.split_at(count).0, fetches)?;
-    check(rt, reversible.remembered() == 0, "nothing is left");
-    check(rt, !reversible.undo(fetches), "nothing is undone");
-    let first = back.first().expect(rt, "a text");
-    check_state(rt, alloc, reversible, first.as_slice(), fetches)
+    undo_all(rt, alloc, reversible, row, back.split_at(count).0, fetches);
+    check(rt, reversible.remembered() == 0, row);
+    check(rt, !reversible.undo(fetches), row);
+    let first = back.first().expect(rt, row);
+    check_state(rt, alloc, reversible, row, first.as_slice(), fetches);
 }
 
 /// The last state has the run's line, and the first has not.
@@ -269,73 +280,59 @@ fn undo_and_run<T: Translator, L: Ledger>(
     row: &str,
     texts: &[Vec<u8>],
     fetches: &mut Steps<L>,
-) -> Result<(), Fail> {
+) {
     check_shown(rt, texts, run_of(row).shown);
     check(rt, reversible.remembered() == short(rt, row, 2), row);
     let count = usize::from(reversible.remembered());
-    undo(rt, alloc, reversible, count, texts, fetches)?;
+    undo(rt, alloc, reversible, row, count, texts, fetches);
     if count + 1 == texts.len() {
-        perform_again(rt, alloc, reversible, row, texts, fetches)?;
+        perform_again(rt, alloc, reversible, row, texts, fetches);
     }
-    Ok(())
 }
 
 /// Performs the row's run, undoes what is remembered of it, and runs it again.
 fn there_and_back<T: Translator, L: Ledger>(
     rt: &impl Abort,
     alloc: Global,
-    reversible: &mut Reversible<T>,
+    mut reversible: Reversible<T>,
     row: &str,
     fetches: &mut Steps<L>,
-) -> Result<(), Fail> {
+) {
     let mut texts = Vec::new(alloc);
-    perform_all(rt, alloc, reversible, row, &mut texts, fetches)?;
-    undo_and_run(rt, alloc, reversible, row, texts.as_slice(), fetches)
+    perform_all(rt, alloc, &mut reversible, row, &mut texts, fetches);
+    undo_and_run(rt, alloc, &mut reversible, row, texts.as_slice(), fetches);
 }
 
 /// A machine that remembers so many events, at the start of a listing.
-fn start(alloc: Global, listing: &str, depth: u16) -> Result<Reversible<MapCache>, Fail>
+fn start(rt: &impl Abort, alloc: Global, text: &str, depth: u16) -> Reversible<MapCache>
     requires least { 1 ≤ depth }
     requires most { depth ≤ 256 }
 {
-    let listing = listing_of(alloc, listing.as_bytes().to_vec(alloc)?)?;
-    let Ok(cache) = MapCache::new(alloc, listing.sizes().harts) else {
-        return Err(Fail::from("no memory for the cache"));
-    };
-    let Ok(machine) = boot(alloc, &listing, cache) else {
-        return Err(Fail::from("the machine did not start"));
-    };
-    match Reversible::new(alloc, machine, depth) {
-        Ok(reversible) => Ok(reversible),
-        Err(_) => Err(Fail::from("no memory for the history")),
-    }
+    let listing = listing_of(rt, alloc, text);
+    let cache = MapCache::new(alloc, listing.sizes().harts).expect(rt, text);
+    let machine = boot(alloc, &listing, cache).expect(rt, text);
+    Reversible::new(alloc, machine, depth).expect(rt, text)
 }
 
 /// The row's run on its machine.
-fn run_row<L: Ledger>(
-    rt: &impl Abort,
-    alloc: Global,
-    row: &str,
-    fetches: &mut Steps<L>,
-) -> Result<(), Fail> {
+fn run_row<L: Ledger>(rt: &impl Abort, alloc: Global, row: &str, fetches: &mut Steps<L>) {
     let depth = short(rt, row, 1);
     assert!(rt; 1 <= depth && depth <= 256);
-    let mut reversible = start(alloc, run_of(row).listing, depth)?;
-    there_and_back(rt, alloc, &mut reversible, row, fetches)
+    let reversible = start(rt, alloc, run_of(row).listing, depth);
+    there_and_back(rt, alloc, reversible, row, fetches);
 }
 
 /// The runs of all rows.
-fn run_rows<L: Ledger>(rt: &impl Abort, alloc: Global, permit: Permit) -> Result<(), Fail>
+fn run_rows<L: Ledger>(rt: &impl Abort, alloc: Global, permit: Permit)
     requires ledger { permit ≡ permit_for L.name L.parts }
 {
     let mut fetches = Steps::<L>::new(permit);
     for row in ROOMS.lines() {
-        run_row(rt, alloc, row, &mut fetches)?;
+        run_row(rt, alloc, row, &mut fetches);
     }
-    Ok(())
 }
 
 #[test]
-fn a_run_is_undone_event_by_event_and_runs_again(rt: HostRuntime) -> Result<(), Fail> {
-    run_rows::<Brand>(&rt, rt.alloc(), Permit::new(&rt))
+fn a_run_is_undone_event_by_event_and_runs_again(rt: HostRuntime) {
+    run_rows::<Brand>(&rt, rt.alloc(), Permit::new(&rt));
 }

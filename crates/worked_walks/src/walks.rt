@@ -11,7 +11,6 @@ use std::alloc::Global;
 use std::marker::Brand;
 use std::process::Abort;
 use std::sync::ledger::Ledger;
-use std::test::Fail;
 use steps::{Permit, Steps};
 use walk_engine::{Trail, Translator, walk};
 use walk_meaning::{Kind, Noted};
@@ -107,29 +106,22 @@ fn kind(row: &str) -> Kind {
 }
 
 /// The texts of reads, one behind the other.
-fn reads_text(alloc: Global, reads: &[Noted]) -> Result<String, Fail> {
+fn reads_text(rt: &impl Abort, alloc: Global, reads: &[Noted], row: &str) -> String {
     let mut text = String::new(alloc);
     for noted in reads {
         let (base, l2) = (noted.block.base(), noted.block.l2());
-        write!(text, "; {:?} {base:x} {l2}", noted.item)?;
+        write!(text, "; {:?} {base:x} {l2}", noted.item).expect(rt, row);
     }
-    Ok(text)
+    text
 }
 
 /// What the row says of a walk is this line, which ends in a line feed, and behind it these reads.
-fn check_told(
-    rt: &impl Abort,
-    alloc: Global,
-    line: &[u8],
-    reads: &[Noted],
-    wanted: &str,
-) -> Result<(), Fail> {
-    let line = str::from_utf8(line).unwrap_or("");
-    let told = line.strip_suffix("\n").expect(rt, "a line feed");
+fn check_told(rt: &impl Abort, alloc: Global, line: &[u8], reads: &[Noted], wanted: &str) {
+    let line = str::from_utf8(line).expect(rt, wanted);
+    let told = line.strip_suffix("\n").expect(rt, wanted);
     let wanted_reads = wanted.strip_prefix(told).expect(rt, wanted);
-    let reads = reads_text(alloc, reads)?;
+    let reads = reads_text(rt, alloc, reads, wanted);
     check(rt, reads.as_str() == wanted_reads, wanted);
-    Ok(())
 }
 
 /// Walks as the row says, and compares.
@@ -139,7 +131,7 @@ fn check_walk<T: Translator, L: Ledger>(
     machine: &Machine<T>,
     row: &str,
     fetches: &mut Steps<L>,
-) -> Result<(), Fail> {
+) {
     let (front, wanted) = barred(rt, row);
     let p = short(rt, front, 0);
     assert!(rt; p < machine.objects().sizes().processes);
@@ -154,7 +146,7 @@ fn check_walk<T: Translator, L: Ledger>(
         fetches,
     );
     walk_line(&answer, &mut line);
-    check_told(rt, alloc, line.as_bytes(), trail.as_slice(), wanted)
+    check_told(rt, alloc, line.as_bytes(), trail.as_slice(), wanted);
 }
 
 /// Walks as each row says.
@@ -164,26 +156,24 @@ pub fn check_rows<T: Translator, L: Ledger>(
     machine: &Machine<T>,
     rows: &str,
     fetches: &mut Steps<L>,
-) -> Result<(), Fail> {
+) {
     for row in rows.lines() {
-        check_walk(rt, alloc, machine, row, fetches)?;
+        check_walk(rt, alloc, machine, row, fetches);
     }
-    Ok(())
 }
 
 /// Walks as each block says.
-fn check_walks<L: Ledger>(rt: &impl Abort, alloc: Global, permit: Permit) -> Result<(), Fail>
+fn check_walks<L: Ledger>(rt: &impl Abort, alloc: Global, permit: Permit)
     requires ledger { permit ≡ permit_for L.name L.parts }
 {
     let mut fetches = Steps::<L>::new(permit);
     for block in WALKS.split("\n\n") {
-        let (listing, rows) = block.split_once(".\n").expect(rt, "a point");
-        perform_task(rt, alloc, listing, Task::Walk(rows), &mut fetches)?;
+        let (listing, rows) = block.split_once(".\n").expect(rt, block);
+        perform_task(rt, alloc, listing, Task::Walk(rows), &mut fetches);
     }
-    Ok(())
 }
 
 #[test]
-fn worked_walks_give_their_place_or_fault_and_their_reads(rt: HostRuntime) -> Result<(), Fail> {
-    check_walks::<Brand>(&rt, rt.alloc(), Permit::new(&rt))
+fn worked_walks_give_their_place_or_fault_and_their_reads(rt: HostRuntime) {
+    check_walks::<Brand>(&rt, rt.alloc(), Permit::new(&rt));
 }
