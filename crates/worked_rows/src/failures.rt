@@ -4,12 +4,11 @@ ghost use Rattle.std.specs.Prelude.{◌≡◌};
 ghost use Rattle.steps.specs.Permit.{permit_for};
 
 use crate::kernel_table::KERNEL_ROWS;
-use crate::rows::{Answer, Calls, WHOLE, ask, check, listing_of, row_holds, row_of};
+use crate::rows::{Answer, Calls, WHOLE, ask, check, check_row, listing_of, row_of};
 use std::alloc::Global;
 use std::marker::Brand;
 use std::process::Abort;
 use std::sync::ledger::Ledger;
-use std::test::Fail;
 use steps::{Permit, Steps};
 
 /// Rows of calls that fail, one by one. Behind the colon stand the number of the call of the source that fails and of
@@ -221,53 +220,46 @@ step 0 4
 back 2
 ";
 
-/// Whether exactly what a row of calls that fail says stands.
-fn failing_row_holds<L: Ledger>(
-    alloc: Global,
-    block: &str,
-    fetches: &mut Steps<L>,
-) -> Result<bool, Fail> {
-    let shows = row_of(block).map_or("", |row| row.shows);
-    let (take, put) = shows.split_once(' ').unwrap_or(("", ""));
-    let (Ok(failing_take), Ok(failing_put)) = (take.parse(), put.parse()) else {
-        return Ok(false);
-    };
+/// Exactly what a row of calls that fail says stands.
+fn try_failing_row<L: Ledger>(rt: &impl Abort, alloc: Global, block: &str, fetches: &mut Steps<L>) {
+    let row = row_of(block).expect(rt, block);
+    let (take, put) = row.shows.split_once(' ').expect(rt, block);
     let calls = Calls {
         by_line: true,
-        failing_take,
-        failing_put,
+        failing_take: take.parse().expect(rt, block),
+        failing_put: put.parse().expect(rt, block),
         ..WHOLE
     };
-    row_holds(alloc, block, calls, fetches)
+    check_row(rt, alloc, block, calls, fetches);
 }
 
 /// Tries the rows of calls that fail.
-fn try_failing_rows<L: Ledger>(rt: &impl Abort, alloc: Global, permit: Permit) -> Result<(), Fail>
+fn try_failing_rows<L: Ledger>(rt: &impl Abort, alloc: Global, permit: Permit)
     requires ledger { permit ≡ permit_for L.name L.parts }
 {
     let mut fetches = Steps::<L>::new(permit);
     for block in FAILING_ROWS.split("==\n") {
-        let holds = failing_row_holds(alloc, block, &mut fetches)?;
-        check(rt, holds, block);
+        try_failing_row(rt, alloc, block, &mut fetches);
     }
-    Ok(())
 }
 
 #[test]
-fn a_failing_call_leaves_a_front_of_the_text(rt: HostRuntime) -> Result<(), Fail> {
-    try_failing_rows::<Brand>(&rt, rt.alloc(), Permit::new(&rt))
+fn a_failing_call_leaves_a_front_of_the_text(rt: HostRuntime) {
+    try_failing_rows::<Brand>(&rt, rt.alloc(), Permit::new(&rt));
 }
+
+/// What is told where the run of the first row of the kernel isn't as it should be.
+const PAGER: &str = "the pager";
 
 /// What the program answers to the first row of the kernel: a pager, a server, a client and a logger.
 fn run_pager<L: Ledger>(
+    rt: &impl Abort,
     alloc: Global,
     calls: Calls,
     fetches: &mut Steps<L>,
-) -> Result<Answer, Fail> {
-    match row_of(KERNEL_ROWS) {
-        Some(row) => ask(alloc, row.words, row.input.as_bytes(), calls, fetches),
-        None => Err(Fail::from("no row")),
-    }
+) -> Answer {
+    let row = row_of(KERNEL_ROWS).expect(rt, PAGER);
+    ask(rt, alloc, row.words, row.input.as_bytes(), calls, fetches)
 }
 
 /// Whether an answer with this status has so many lines of a text, whole ones, and nothing behind them.
@@ -285,20 +277,15 @@ fn try_failing_puts<L: Ledger>(
     alloc: Global,
     whole: &str,
     fetches: &mut Steps<L>,
-) -> Result<(), Fail> {
+) {
     for lines in 0..40 {
         let calls = Calls {
             failing_put: lines + 1,
             ..WHOLE
         };
-        let answer = run_pager(alloc, calls, fetches)?;
-        check(
-            rt,
-            has_front(&answer, 5, whole, lines as usize),
-            "a call of the sink",
-        );
+        let answer = run_pager(rt, alloc, calls, fetches);
+        check(rt, has_front(&answer, 5, whole, lines as usize), whole);
     }
-    Ok(())
 }
 
 /// Where a call of the source fails, nothing is run of the line that it would have given: of 65 lines the last is the
@@ -308,22 +295,17 @@ fn try_failing_takes<L: Ledger>(
     alloc: Global,
     whole: &str,
     fetches: &mut Steps<L>,
-) -> Result<(), Fail> {
+) {
     for failing_take in [1, 2, 40, 65, 66] {
         let calls = Calls {
             by_line: true,
             failing_take,
             ..WHOLE
         };
-        let answer = run_pager(alloc, calls, fetches)?;
         let lines = if failing_take == 66 { 202 } else { 0 };
-        check(
-            rt,
-            has_front(&answer, 4, whole, lines),
-            "a call of the source",
-        );
+        let answer = run_pager(rt, alloc, calls, fetches);
+        check(rt, has_front(&answer, 4, whole, lines), whole);
     }
-    Ok(())
 }
 
 /// However many bytes a call moves, the text is the same.
@@ -332,63 +314,67 @@ fn try_small_pieces<L: Ledger>(
     alloc: Global,
     whole: &str,
     fetches: &mut Steps<L>,
-) -> Result<(), Fail> {
+) {
     for piece in [1, 7, 513] {
         let calls = Calls {
             piece,
             put_piece: 1,
             ..WHOLE
         };
-        let answer = run_pager(alloc, calls, fetches)?;
-        check(
-            rt,
-            answer.status == 0 && answer.text.as_slice() == whole.as_bytes(),
-            "small pieces",
-        );
+        let answer = run_pager(rt, alloc, calls, fetches);
+        check(rt, answer.status == 0, whole);
+        check(rt, answer.text.as_slice() == whole.as_bytes(), whole);
     }
-    Ok(())
 }
 
 /// Tries the long run.
-fn try_pager<L: Ledger>(rt: &impl Abort, alloc: Global, permit: Permit) -> Result<(), Fail>
+fn try_pager<L: Ledger>(rt: &impl Abort, alloc: Global, permit: Permit)
     requires ledger { permit ≡ permit_for L.name L.parts }
 {
     let mut fetches = Steps::<L>::new(permit);
-    let answer = run_pager(alloc, WHOLE, &mut fetches)?;
-    check(rt, answer.status == 0, "the whole run");
-    let whole = str::from_utf8(answer.text.as_slice()).unwrap_or("");
-    try_failing_puts(rt, alloc, whole, &mut fetches)?;
-    try_failing_takes(rt, alloc, whole, &mut fetches)?;
-    try_small_pieces(rt, alloc, whole, &mut fetches)
+    let answer = run_pager(rt, alloc, WHOLE, &mut fetches);
+    check(rt, answer.status == 0, PAGER);
+    let whole = str::from_utf8(answer.text.as_slice()).expect(rt, PAGER);
+    try_failing_puts(rt, alloc, whole, &mut fetches);
+    try_failing_takes(rt, alloc, whole, &mut fetches);
+    try_small_pieces(rt, alloc, whole, &mut fetches);
 }
 
 #[test]
-fn a_long_run_tells_its_lines_up_to_the_call_that_fails(rt: HostRuntime) -> Result<(), Fail> {
-    try_pager::<Brand>(&rt, rt.alloc(), Permit::new(&rt))
+fn a_long_run_tells_its_lines_up_to_the_call_that_fails(rt: HostRuntime) {
+    try_pager::<Brand>(&rt, rt.alloc(), Permit::new(&rt));
 }
 
 /// Lines of notes, 32 of two bytes.
 const NOTES: &str =
     "#\n#\n#\n#\n#\n#\n#\n#\n#\n#\n#\n#\n#\n#\n#\n#\n#\n#\n#\n#\n#\n#\n#\n#\n#\n#\n#\n#\n#\n#\n#\n#\n";
 
-/// What the program answers to a listing with a line more behind it than an input may have bytes for.
-fn run_too_long<L: Ledger>(alloc: Global, permit: Permit) -> Result<Answer, Fail>
-    requires ledger { permit ≡ permit_for L.name L.parts }
-{
-    let mut fetches = Steps::<L>::new(permit);
-    let listing = row_of(FAILING_ROWS).map_or("", |row| listing_of(row.input));
-    let mut bytes = listing.as_bytes().to_vec(alloc)?;
+/// A listing with a line more behind it than an input may have bytes for.
+fn long_input(rt: &impl Abort, alloc: Global) -> String {
+    let row = row_of(FAILING_ROWS).expect(rt, NOTES);
+    let mut input = listing_of(row.input).to_string(alloc).expect(rt, NOTES);
     for _ in 0..262_144 {
-        bytes.extend_from_slice(NOTES.as_bytes())?;
+        input.push_str(NOTES).expect(rt, NOTES);
     }
-    ask(alloc, "run", bytes.as_slice(), WHOLE, &mut fetches)
+    input
 }
 
 /// The program says so behind all that came before, which is nothing.
+fn run_too_long<L: Ledger>(rt: &impl Abort, alloc: Global, permit: Permit)
+    requires ledger { permit ≡ permit_for L.name L.parts }
+{
+    let mut fetches = Steps::<L>::new(permit);
+    let input = long_input(rt, alloc);
+    let answer = ask(rt, alloc, "run", input.as_bytes(), WHOLE, &mut fetches);
+    check(
+        rt,
+        answer.text.as_slice() == b"too long\n".as_slice(),
+        NOTES,
+    );
+    check(rt, answer.status == 7, NOTES);
+}
+
 #[test]
-fn an_input_that_is_too_long_is_told(rt: HostRuntime) -> Result<(), Fail> {
-    let answer = run_too_long::<Brand>(rt.alloc(), Permit::new(&rt))?;
-    let told = answer.text.as_slice() == b"too long\n".as_slice();
-    check(&rt, told && answer.status == 7, "too long");
-    Ok(())
+fn an_input_that_is_too_long_is_told(rt: HostRuntime) {
+    run_too_long::<Brand>(&rt, rt.alloc(), Permit::new(&rt));
 }

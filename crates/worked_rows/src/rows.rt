@@ -14,7 +14,6 @@ use std::alloc::Global;
 use std::marker::Brand;
 use std::process::Abort;
 use std::sync::ledger::Ledger;
-use std::test::Fail;
 use steps::{Permit, Steps};
 
 /// How a source and a sink in memory answer their calls.
@@ -48,48 +47,58 @@ pub(crate) struct Answer {
     pub status: u8,
 }
 
-/// A source of these bytes that answers its calls so.
-pub(crate) fn source_of(alloc: Global, bytes: &[u8], calls: Calls) -> Result<MemSource, Fail> {
-    let failing = vec![in alloc; calls.failing_take]?;
-    Ok(MemSource {
-        bytes: bytes.to_vec(alloc)?,
+/// A source of these bytes that answers its calls so, for a row.
+pub(crate) fn source_of(
+    rt: &impl Abort,
+    alloc: Global,
+    bytes: &[u8],
+    calls: Calls,
+    row: &str,
+) -> MemSource {
+    MemSource {
+        bytes: bytes.to_vec(alloc).expect(rt, row),
         at: 0,
         calls: 0,
-        failing,
+        failing: vec![in alloc; calls.failing_take].expect(rt, row),
         piece: calls.piece.max(1),
         by_line: calls.by_line,
         faults: 0,
-    })
+    }
+}
+
+/// A sink that answers its calls so, for a row.
+pub(crate) fn sink_of(rt: &impl Abort, alloc: Global, calls: Calls, row: &str) -> MemSink {
+    let failing = vec![in alloc; calls.failing_put].expect(rt, row);
+    MemSink::new(alloc, 65536, failing, calls.put_piece.max(1)).expect(rt, row)
 }
 
 /// The words of a line, one space apart.
-pub(crate) fn words_of(alloc: Global, line: &str) -> Result<Vec<String>, Fail> {
+pub(crate) fn words_of(rt: &impl Abort, alloc: Global, line: &str) -> Vec<String> {
     let mut words = Vec::new(alloc);
     for part in line.split(' ') {
-        words.push(part.to_string(alloc)?)?;
+        let word = part.to_string(alloc).expect(rt, line);
+        words.push(word).expect(rt, line);
     }
-    Ok(words)
+    words
 }
 
 /// What the program answers to the words of a line, where a source of these bytes and a sink answer their calls so.
 pub(crate) fn ask<L: Ledger>(
+    rt: &impl Abort,
     alloc: Global,
     line: &str,
-    bytes: &[u8],
+    input: &[u8],
     calls: Calls,
     fetches: &mut Steps<L>,
-) -> Result<Answer, Fail> {
-    let words = words_of(alloc, line)?;
-    let mut source = source_of(alloc, bytes, calls)?;
-    let failing = vec![in alloc; calls.failing_put]?;
-    let Ok(mut sink) = MemSink::new(alloc, 65536, failing, calls.put_piece.max(1)) else {
-        return Err(Fail::from("no memory for the sink"));
-    };
+) -> Answer {
+    let words = words_of(rt, alloc, line);
+    let mut source = source_of(rt, alloc, input, calls, line);
+    let mut sink = sink_of(rt, alloc, calls, line);
     let exit = coyotos(alloc, words.as_slice(), &mut source, &mut sink, fetches);
-    Ok(Answer {
+    Answer {
         text: sink.bytes,
         status: exit.status(),
-    })
+    }
 }
 
 /// A row.
@@ -133,18 +142,18 @@ pub(crate) fn check(rt: &impl Abort, holds: bool, row: &str) {
     assert!(rt; holds, "{row}");
 }
 
-/// Whether the program answers what the row of a block says.
-pub(crate) fn row_holds<L: Ledger>(
+/// The program answers what the row of a block says.
+pub(crate) fn check_row<L: Ledger>(
+    rt: &impl Abort,
     alloc: Global,
     block: &str,
     calls: Calls,
     fetches: &mut Steps<L>,
-) -> Result<bool, Fail> {
-    let Some(row) = row_of(block) else {
-        return Ok(false);
-    };
-    let answer = ask(alloc, row.words, row.input.as_bytes(), calls, fetches)?;
-    Ok(answer.status == row.status && answer.text.as_slice() == row.output.as_bytes())
+) {
+    let row = row_of(block).expect(rt, block);
+    let answer = ask(rt, alloc, row.words, row.input.as_bytes(), calls, fetches);
+    check(rt, answer.status == row.status, block);
+    check(rt, answer.text.as_slice() == row.output.as_bytes(), block);
 }
 
 /// Tries each row of a text.
@@ -154,16 +163,14 @@ fn try_rows<L: Ledger>(
     rows: &str,
     calls: Calls,
     fetches: &mut Steps<L>,
-) -> Result<(), Fail> {
+) {
     for block in rows.split("==\n") {
-        let holds = row_holds(alloc, block, calls, fetches)?;
-        check(rt, holds, block);
+        check_row(rt, alloc, block, calls, fetches);
     }
-    Ok(())
 }
 
 /// Tries the rows in pieces of several sizes.
-fn try_in_pieces<L: Ledger>(rt: &impl Abort, alloc: Global, permit: Permit) -> Result<(), Fail>
+fn try_in_pieces<L: Ledger>(rt: &impl Abort, alloc: Global, permit: Permit)
     requires ledger { permit ≡ permit_for L.name L.parts }
 {
     let mut fetches = Steps::<L>::new(permit);
@@ -173,13 +180,12 @@ fn try_in_pieces<L: Ledger>(rt: &impl Abort, alloc: Global, permit: Permit) -> R
             put_piece: piece,
             ..WHOLE
         };
-        try_rows(rt, alloc, WORD_ROWS, calls, &mut fetches)?;
-        try_rows(rt, alloc, COMMAND_ROWS, calls, &mut fetches)?;
+        try_rows(rt, alloc, WORD_ROWS, calls, &mut fetches);
+        try_rows(rt, alloc, COMMAND_ROWS, calls, &mut fetches);
     }
-    Ok(())
 }
 
 #[test]
-fn rows_give_what_is_written_down_for_them(rt: HostRuntime) -> Result<(), Fail> {
-    try_in_pieces::<Brand>(&rt, rt.alloc(), Permit::new(&rt))
+fn rows_give_what_is_written_down_for_them(rt: HostRuntime) {
+    try_in_pieces::<Brand>(&rt, rt.alloc(), Permit::new(&rt));
 }

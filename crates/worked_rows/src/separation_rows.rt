@@ -2,14 +2,12 @@
 ghost use Rattle.std.specs.Prelude.{◌≡◌};
 ghost use Rattle.steps.specs.Permit.{permit_for};
 
-use crate::rows::{Calls, Row, WHOLE, check, row_of, source_of, words_of};
-use coy_io::MemSink;
+use crate::rows::{Calls, WHOLE, check, row_of, sink_of, source_of, words_of};
 use separation_program::separation;
 use std::alloc::Global;
 use std::marker::Brand;
 use std::process::Abort;
 use std::sync::ledger::Ledger;
-use std::test::Fail;
 use steps::{Permit, Steps};
 
 /// The rows, whose expected outputs are worked out by hand; in the place of no words stands `none`.
@@ -539,28 +537,33 @@ usage: separation
 usage: separation
 ";
 
-/// Whether the program answers what a row says, where a source and a sink answer their calls so.
-fn is_answered<L: Ledger>(
+/// The words of a row.
+fn asked(rt: &impl Abort, alloc: Global, words: &str) -> Vec<String> {
+    match words {
+        "none" => Vec::new(alloc),
+        line => words_of(rt, alloc, line),
+    }
+}
+
+/// The program answers what the row of a block says, where a source and a sink answer their calls so.
+fn check_row<L: Ledger>(
+    rt: &impl Abort,
     alloc: Global,
-    row: Row<'_>,
+    block: &str,
     calls: Calls,
     fetches: &mut Steps<L>,
-) -> Result<bool, Fail> {
-    let words = match row.words {
-        "none" => Vec::new(alloc),
-        line => words_of(alloc, line)?,
-    };
-    let mut source = source_of(alloc, row.input.as_bytes(), calls)?;
-    let failing = vec![in alloc; 0]?;
-    let Ok(mut sink) = MemSink::new(alloc, 65536, failing, calls.put_piece.max(1)) else {
-        return Err(Fail::from("no memory for the sink"));
-    };
+) {
+    let row = row_of(block).expect(rt, block);
+    let words = asked(rt, alloc, row.words);
+    let mut source = source_of(rt, alloc, row.input.as_bytes(), calls, block);
+    let mut sink = sink_of(rt, alloc, calls, block);
     let exit = separation(alloc, words.as_slice(), &mut source, &mut sink, fetches);
-    Ok(exit.status() == row.status && sink.bytes.as_slice() == row.output.as_bytes())
+    check(rt, exit.status() == row.status, block);
+    check(rt, sink.bytes.as_slice() == row.output.as_bytes(), block);
 }
 
 /// Tries the rows in pieces of several sizes.
-fn try_in_pieces<L: Ledger>(rt: &impl Abort, alloc: Global, permit: Permit) -> Result<(), Fail>
+fn try_in_pieces<L: Ledger>(rt: &impl Abort, alloc: Global, permit: Permit)
     requires ledger { permit ≡ permit_for L.name L.parts }
 {
     let mut fetches = Steps::<L>::new(permit);
@@ -571,17 +574,12 @@ fn try_in_pieces<L: Ledger>(rt: &impl Abort, alloc: Global, permit: Permit) -> R
             ..WHOLE
         };
         for block in SEPARATION_ROWS.split("==\n") {
-            let holds = match row_of(block) {
-                Some(row) => is_answered(alloc, row, calls, &mut fetches)?,
-                None => false,
-            };
-            check(rt, holds, block);
+            check_row(rt, alloc, block, calls, &mut fetches);
         }
     }
-    Ok(())
 }
 
 #[test]
-fn rows_of_separation_give_what_is_written_down_for_them(rt: HostRuntime) -> Result<(), Fail> {
-    try_in_pieces::<Brand>(&rt, rt.alloc(), Permit::new(&rt))
+fn rows_of_separation_give_what_is_written_down_for_them(rt: HostRuntime) {
+    try_in_pieces::<Brand>(&rt, rt.alloc(), Permit::new(&rt));
 }

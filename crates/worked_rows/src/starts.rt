@@ -11,7 +11,6 @@ use object_store::Sizes;
 use process_objects::State;
 use std::alloc::Global;
 use std::process::Abort;
-use std::test::Fail;
 use walk_engine::Plain;
 
 /// How long the text of a number is, and the number that its bytes are in base 31, modulo 2^32.
@@ -32,19 +31,18 @@ fn measured(n: u32) -> (u64, u32) {
     (length, digest)
 }
 
+/// The text of a number has this length in bytes and this digest.
+fn check_measured(rt: &impl Abort, n: u32, length: u64, digest: u32) {
+    assert!(rt; measured(n) == (length, digest), "text of {n}");
+}
+
 #[test]
 fn the_generated_text_has_its_length_and_digest(rt: HostRuntime) {
-    // (number, length in bytes, digest)
-    let cases = [
-        (0, 779, 0xd7e4_a709),
-        (62, 48977, 0x4c62_d585),
-        (64, 1515, 0xcf51_7c0b),
-        (65, 2252, 0xbecc_0d8b),
-        (4_294_967_295, 2990, 0x2f03_bc76),
-    ];
-    for (n, length, digest) in cases {
-        assert!(rt; measured(n) == (length, digest), "text of {n}");
-    }
+    check_measured(&rt, 0, 779, 0xd7e4_a709);
+    check_measured(&rt, 62, 48977, 0x4c62_d585);
+    check_measured(&rt, 64, 1515, 0xcf51_7c0b);
+    check_measured(&rt, 65, 2252, 0xbecc_0d8b);
+    check_measured(&rt, 4_294_967_295, 2990, 0x2f03_bc76);
 }
 
 /// Three processes, of which the last statements let 0 and 2 run, and a capability to page 1, whose
@@ -62,22 +60,16 @@ end
 ";
 
 /// The listing of that text, in pieces of seven bytes.
-fn read_pieces(alloc: Global) -> Result<Listing, Fail> {
+fn read_pieces(rt: &impl Abort, alloc: Global) -> Listing {
     let calls = Calls { piece: 7, ..WHOLE };
-    let mut source = source_of(alloc, LISTING.as_bytes(), calls)?;
-    match read_listing(alloc, &mut LineReader::new(), &mut source) {
-        Ok(listing) => Ok(listing),
-        Err(_) => Err(Fail::from("the listing was not read")),
-    }
+    let mut source = source_of(rt, alloc, LISTING.as_bytes(), calls, LISTING);
+    read_listing(alloc, &mut LineReader::new(), &mut source).expect(rt, LISTING)
 }
 
 /// The machine of a listing.
-fn started(rt: &impl Abort, alloc: Global, listing: &Listing) -> Result<Machine<Plain>, Fail> {
+fn started(rt: &impl Abort, alloc: Global, listing: &Listing) -> Machine<Plain> {
     assert!(rt; listing.sizes().harts <= 8);
-    match boot(alloc, listing, Plain::new()) {
-        Ok(machine) => Ok(machine),
-        Err(_) => Err(Fail::from("the machine did not start")),
-    }
+    boot(alloc, listing, Plain::new()).expect(rt, LISTING)
 }
 
 /// Whether a machine stands as that text says.
@@ -94,15 +86,14 @@ fn stands_as_said(machine: &Machine<Plain>) -> bool {
 }
 
 #[test]
-fn a_machine_starts_as_its_listing_says(rt: HostRuntime) -> Result<(), Fail> {
-    let listing = read_pieces(rt.alloc())?;
-    let machine = started(&rt, rt.alloc(), &listing)?;
+fn a_machine_starts_as_its_listing_says(rt: HostRuntime) {
+    let listing = read_pieces(&rt, rt.alloc());
+    let machine = started(&rt, rt.alloc(), &listing);
     check(&rt, stands_as_said(&machine), LISTING);
-    Ok(())
 }
 
 #[test]
-fn a_listing_is_made_statement_by_statement(rt: HostRuntime) -> Result<(), Fail> {
+fn a_listing_is_made_statement_by_statement(rt: HostRuntime) {
     let sizes = Sizes {
         harts: 1,
         pages: 0,
@@ -116,15 +107,11 @@ fn a_listing_is_made_statement_by_statement(rt: HostRuntime) -> Result<(), Fail>
         index: 5,
         value: 7,
     };
+    let what = "a register that is set";
     let mut listing = Listing::new(rt.alloc(), sizes);
-    check(
-        &rt,
-        listing.push(register).is_ok(),
-        "memory for a statement",
-    );
-    let machine = started(&rt, rt.alloc(), &listing)?;
+    listing.push(register).expect(&rt, what);
+    let machine = started(&rt, rt.alloc(), &listing);
     let objects = machine.objects();
     let stands = objects.sizes().processes == 1 && objects.process(0).reg(5) == 7;
-    check(&rt, stands, "a register that is set");
-    Ok(())
+    check(&rt, stands, what);
 }

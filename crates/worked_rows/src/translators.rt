@@ -3,21 +3,22 @@
 ghost use Rattle.std.specs.Prelude.{◌≡◌, ◌≤◌, false};
 
 use crate::kernel_rows::meets;
-use crate::rows::{Row, WHOLE, source_of};
+use crate::rows::{Row, WHOLE, check, sink_of, source_of};
 use coy_io::{LineReader, MemSink, MemSource};
 use coyotos_cli::{Mode, Replayed, replay};
 use image_builder::boot;
 use kernel_core::Machine;
-use listing_read::{Listing, read_listing};
+use listing_read::read_listing;
 use run_text::dump;
 use shared_leaves::SharedLeaves;
 use std::alloc::Global;
+use std::process::Abort;
 use std::sync::ledger::Ledger;
-use std::test::Fail;
 use steps::Steps;
 use walk_engine::{Plain, Translator};
 
-/// Writes what comes of the lines behind a listing on its machine: the records, and the last state.
+/// Writes what comes of the lines behind a listing on its machine: the records, and the last state. It tells whether all
+/// lines were run and all was written.
 fn run_on<T: Translator, L: Ledger>(
     machine: &mut Machine<T>,
     lines: &mut LineReader,
@@ -25,70 +26,58 @@ fn run_on<T: Translator, L: Ledger>(
     mode: Mode,
     output: &mut MemSink,
     fetches: &mut Steps<L>,
-) -> Result<(), Fail>
+) -> bool
     requires reader { lines.old.failed ≡ false }
 {
     let ended = replay(machine, lines, source, mode, output, fetches);
-    if !matches!(ended, Replayed::Ended(_)) {
-        return Err(Fail::from("the schedule did not end"));
-    }
-    match dump(machine, output, fetches) {
-        Ok(()) => Ok(()),
-        Err(_) => Err(Fail::from("the state was not written")),
-    }
+    matches!(ended, Replayed::Ended(_)) && dump(machine, output, fetches).is_ok()
 }
 
-/// The same over a machine with this translator that starts by the listing.
+/// What is written of the row's input over a machine with this translator.
 fn run_listing<T: Translator, L: Ledger>(
-    alloc: Global,
-    listing: &Listing,
-    translator: T,
-    lines: &mut LineReader,
-    source: &mut MemSource,
-    mode: Mode,
-    fetches: &mut Steps<L>,
-) -> Result<Vec<u8>, Fail>
-    requires fresh { T.fresh translator }
-    requires harts { listing.now.sizes.harts ≤ T.harts translator }
-    requires reader { lines.old.failed ≡ false }
-{
-    let Ok(mut machine) = boot(alloc, listing, translator) else {
-        return Err(Fail::from("the machine did not start"));
-    };
-    let Ok(mut output) = MemSink::new(alloc, 65536, Vec::new(alloc), 65536) else {
-        return Err(Fail::from("no memory for the sink"));
-    };
-    run_on(&mut machine, lines, source, mode, &mut output, fetches)?;
-    Ok(output.bytes)
-}
-
-/// Whether what has to hold of a row's output does over a machine with this translator.
-fn holds_over<T: Translator, L: Ledger>(
+    rt: &impl Abort,
     alloc: Global,
     row: Row<'_>,
     mode: Mode,
     translator: T,
     fetches: &mut Steps<L>,
-) -> Result<bool, Fail>
+) -> Vec<u8>
     requires fresh { T.fresh translator }
     requires harts { 8 ≤ T.harts translator }
 {
-    let mut source = source_of(alloc, row.input.as_bytes(), WHOLE)?;
+    let mut source = source_of(rt, alloc, row.input.as_bytes(), WHOLE, row.input);
     let mut lines = LineReader::new();
-    let Ok(listing) = read_listing(alloc, &mut lines, &mut source) else {
-        return Err(Fail::from("the listing was not read"));
-    };
+    let listing = read_listing(alloc, &mut lines, &mut source).expect(rt, row.input);
     prove!(listing.sizes().harts <= 8);
-    let bytes = run_listing(
-        alloc,
-        &listing,
-        translator,
+    let mut machine = boot(alloc, &listing, translator).expect(rt, row.input);
+    let mut output = sink_of(rt, alloc, WHOLE, row.input);
+    let ran = run_on(
+        &mut machine,
         &mut lines,
         &mut source,
         mode,
+        &mut output,
         fetches,
-    )?;
-    Ok(meets(str::from_utf8(bytes.as_slice()).unwrap_or(""), row.output))
+    );
+    check(rt, ran, row.input);
+    output.bytes
+}
+
+/// Whether what has to hold of a row's output does over a machine with this translator.
+fn holds_over<T: Translator, L: Ledger>(
+    rt: &impl Abort,
+    alloc: Global,
+    row: Row<'_>,
+    mode: Mode,
+    translator: T,
+    fetches: &mut Steps<L>,
+) -> bool
+    requires fresh { T.fresh translator }
+    requires harts { 8 ≤ T.harts translator }
+{
+    let bytes = run_listing(rt, alloc, row, mode, translator, fetches);
+    let text = str::from_utf8(bytes.as_slice()).expect(rt, row.input);
+    meets(text, row.output)
 }
 
 /// Which records a word asks for, where it is one that writes records and the last state.
@@ -102,27 +91,29 @@ fn mode_of(word: &str) -> Option<Mode> {
 
 /// Whether what has to hold of the output of a row that runs does over a machine that walks at each access.
 pub(crate) fn holds_plainly<L: Ledger>(
+    rt: &impl Abort,
     alloc: Global,
     row: Row<'_>,
     fetches: &mut Steps<L>,
-) -> Result<bool, Fail> {
+) -> bool {
     match mode_of(row.words) {
-        Some(mode) => holds_over(alloc, row, mode, Plain::new(), fetches),
-        None => Ok(true),
+        Some(mode) => holds_over(rt, alloc, row, mode, Plain::new(), fetches),
+        None => true,
     }
 }
 
 /// The same over shared leaf tables.
 pub(crate) fn holds_shared<L: Ledger>(
+    rt: &impl Abort,
     alloc: Global,
     row: Row<'_>,
     fetches: &mut Steps<L>,
-) -> Result<bool, Fail> {
-    let Ok(leaves) = SharedLeaves::new(alloc, 8) else {
-        return Err(Fail::from("no memory for the tables"));
-    };
+) -> bool {
     match mode_of(row.words) {
-        Some(mode) => holds_over(alloc, row, mode, leaves, fetches),
-        None => Ok(true),
+        Some(mode) => {
+            let leaves = SharedLeaves::new(alloc, 8).expect(rt, row.input);
+            holds_over(rt, alloc, row, mode, leaves, fetches)
+        }
+        None => true,
     }
 }

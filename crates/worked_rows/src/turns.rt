@@ -3,15 +3,15 @@
 ghost use Rattle.std.specs.Prelude.{◌≡◌, ◌≤◌, None};
 ghost use Rattle.steps.specs.Permit.{permit_for};
 
-use crate::rows::{check, words_of};
+use crate::rows::{Calls, WHOLE, check, source_of, words_of};
 use coy_io::{Failed, MemSource, Sink, Source};
 use coyotos_cli::{Exit, coyotos};
 use std::alloc::Global;
 use std::cell::Cell;
 use std::marker::Brand;
+use std::process::Abort;
 use std::rc::Rc;
 use std::sync::ledger::Ledger;
-use std::test::Fail;
 use steps::{Permit, Steps};
 
 /// A sink that counts its calls and tells no bytes. A line is told by one call.
@@ -77,37 +77,38 @@ tick 9
 
 /// The same over a trace of that: a step tells a fetch and an instruction.
 #[test]
-fn a_line_is_run_before_the_next_is_read(rt: HostRuntime) -> Result<(), Fail> {
-    let words = words_of(rt.alloc(), "trace")?;
-    let bytes = TRACED.as_bytes().to_vec(rt.alloc())?;
-    let told = Rc::new(rt.alloc(), Cell::new(0u64))?;
+fn a_line_is_run_before_the_next_is_read(rt: HostRuntime) {
+    let told = Rc::new(rt.alloc(), Cell::new(0u64)).expect(&rt, TRACED);
     let mut sink = TurnSink {
-        told: told.clone()?,
+        told: told.clone().expect(&rt, TRACED),
     };
-    let mut source = TurnSource {
-        lines: MemSource {
-            bytes,
-            at: 0,
-            calls: 0,
-            failing: Vec::new(rt.alloc()),
-            piece: 65536,
-            by_line: true,
-            faults: 0,
-        },
+    let mut source = source(&rt, rt.alloc(), told);
+    let words = words_of(&rt, rt.alloc(), "trace");
+    let exit = run::<Brand>(rt.alloc(), words, &mut source, &mut sink, Permit::new(&rt));
+    check(&rt, exit.status() == 3, "the last line is refused");
+    check_ended(&rt, &source, &sink);
+}
+
+/// A source of that text by lines, which shares this count.
+fn source(rt: &impl Abort, alloc: Global, told: Rc<Cell<u64>>) -> TurnSource {
+    let by_line = Calls {
+        by_line: true,
+        ..WHOLE
+    };
+    TurnSource {
+        lines: source_of(rt, alloc, TRACED.as_bytes(), by_line, TRACED),
         told,
         first: 9,
         late: false,
-    };
-    let exit = run::<Brand>(rt.alloc(), words, &mut source, &mut sink, Permit::new(&rt));
-    check(&rt, exit.status() == 3, "the last line is refused");
-    check(&rt, source.lines.calls == 11, "each line is asked for once");
-    check(&rt, sink.told.get() == 5, "four records, and the refusal");
-    check(
-        &rt,
-        !source.late,
-        "no line is asked for before the records of the line before it",
-    );
-    Ok(())
+    }
+}
+
+/// Each line is asked for once, and none before the records of the line before it. Four records are told, and the
+/// refusal.
+fn check_ended(rt: &impl Abort, source: &TurnSource, sink: &TurnSink) {
+    check(rt, source.lines.calls == 11, TRACED);
+    check(rt, !source.late, TRACED);
+    check(rt, sink.told.get() == 5, TRACED);
 }
 
 fn run<L: Ledger>(
