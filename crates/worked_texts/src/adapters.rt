@@ -53,7 +53,7 @@ fn answer_of(told: Result<usize, Failed>) -> usize {
 
 #[test]
 fn a_fault_of_a_reader_comes_at_its_own_call(rt: HostRuntime) {
-    for row in ["3!2", "!1", "1!!1", "2!0"] {
+    for row in "3!2 !1 1!!1 2!0".split(' ') {
         let answers = row.as_bytes();
         let mut source = ReadSource::new(Scripted { answers });
         let mut buf = [0; 8];
@@ -67,7 +67,7 @@ fn a_fault_of_a_reader_comes_at_its_own_call(rt: HostRuntime) {
 /// A write that takes nothing of a piece is told as a fault, and a piece with no bytes isn't handed on.
 #[test]
 fn a_fault_of_a_writer_comes_at_its_own_call(rt: HostRuntime) {
-    for row in ["3!2 3!2", "!1 !1", "1!!1 1!!1", "2022 2!22", "0!03 !!!3"] {
+    for row in "3!2 3!2\n!1 !1\n1!!1 1!!1\n2022 2!22\n0!03 !!!3".lines() {
         let (answers, wanted) = row.split_once(' ').expect(&rt, row);
         let answers = answers.as_bytes();
         let mut sink = WriteSink::new(Scripted { answers });
@@ -81,7 +81,7 @@ fn a_fault_of_a_writer_comes_at_its_own_call(rt: HostRuntime) {
 /// The fault of a flush comes at that flush, whether the buffer's bytes or the writer's own flush made it.
 #[test]
 fn a_fault_of_a_flush_comes_at_its_own_call(rt: HostRuntime) {
-    for row in ["!3", "03", "3!"] {
+    for row in "!3 03 3!".split(' ') {
         let answers = row.as_bytes();
         let buffer = BufWriter::with_capacity(rt.alloc(), 8, Scripted { answers }).expect(&rt, row);
         let mut sink = WriteSink::new(buffer);

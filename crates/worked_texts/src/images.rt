@@ -42,8 +42,9 @@ fn judged<S: Source>(rt: &impl Abort, alloc: Global, source: &mut S, row: &str) 
     told.expect(rt, row)
 }
 
-/// Judges the image of these bytes, in pieces of this size.
-fn judge(rt: &impl Abort, alloc: Global, front: &str, back: &str, piece: usize, wanted: &str) {
+/// Judges the image of this front and the row's bytes, in pieces of this size.
+fn judge(rt: &impl Abort, alloc: Global, front: &str, row: &str, piece: usize) {
+    let (wanted, back) = barred(rt, row);
     let mut bytes = bytes_of(rt, alloc, front);
     push_digits(rt, &mut bytes, back);
     let told = judged(rt, alloc, &mut source_of(alloc, bytes, piece), back);
@@ -219,10 +220,10 @@ const STATEMENTS: &str = "\
 
 /// Judges the image of this front and the row's bytes, in pieces of four sizes.
 fn judge_row(rt: &impl Abort, alloc: Global, front: &str, row: &str) {
-    let (wanted, back) = barred(rt, row);
-    for piece in [1, 7, 9, usize::MAX] {
-        judge(rt, alloc, front, back, piece, wanted);
-    }
+    judge(rt, alloc, front, row, 1);
+    judge(rt, alloc, front, row, 7);
+    judge(rt, alloc, front, row, 9);
+    judge(rt, alloc, front, row, usize::MAX);
 }
 
 #[test]

@@ -77,22 +77,25 @@ ab/*/c:ab|*|c|
 a/b/*x:a|b|long
 a/**********/b/:a|long";
 
+/// Reads the bytes of a row in pieces of this size, where that is 7 by lines.
+fn check_piece(rt: &impl Abort, alloc: Global, row: &str, piece: usize) {
+    let (bytes, wanted) = row.split_once(':').expect(rt, row);
+    let held = bytes.as_bytes().to_vec(alloc).expect(rt, row);
+    let mut source = source_of(alloc, held, piece);
+    source.by_line = piece == 7;
+    let text = read_text(rt, alloc, &mut source);
+    check_text(rt, text.as_slice(), wanted, row);
+}
+
 /// Reads the row's bytes in pieces of five sizes, one of them by lines.
 fn check_lines(rt: &impl Abort, alloc: Global, row: &str) {
     let feeds = row.replace(alloc, "/", "\n").expect(rt, row);
     let whole = feeds.replace(alloc, "*", LONG).expect(rt, row);
-    let (bytes, wanted) = whole.split_once(':').expect(rt, row);
-    for piece in [1, 7, 64, 513, usize::MAX] {
-        let held = bytes.as_bytes().to_vec(alloc).expect(rt, row);
-        let mut source = source_of(alloc, held, piece);
-        source.by_line = piece == 7;
-        check_text(
-            rt,
-            read_text(rt, alloc, &mut source).as_slice(),
-            wanted,
-            row,
-        );
-    }
+    check_piece(rt, alloc, whole.as_str(), 1);
+    check_piece(rt, alloc, whole.as_str(), 7);
+    check_piece(rt, alloc, whole.as_str(), 64);
+    check_piece(rt, alloc, whole.as_str(), 513);
+    check_piece(rt, alloc, whole.as_str(), usize::MAX);
 }
 
 #[test]

@@ -37,43 +37,50 @@ fn put_record(rt: &impl Abort, entry: Record, output: &mut MemSink)
     put_all(output, line.as_bytes()).expect(rt, "memory");
 }
 
-/// The process, the kind of the access, its address, and the number of what it reached.
-const ACCESSES: [(u16, Kind, u32, u16); 5] = [
-    (0, Kind::Fetch, 0, 0),
-    (1, Kind::Load, 0x1004, 4095),
-    (255, Kind::Store, 0xffff_fffc, 7),
-    (12, Kind::CapLoad, 0x2010, 255),
-    (3, Kind::CapStore, 0x2ff0, 10),
-];
-
-/// The process, the fault, its address, and who hears it.
-const FAULTS: [(u16, FaultCode, u32, Option<u16>); 2] = [
-    (1, FaultCode::NoSchedule, 16, Some(0)),
-    (2, FaultCode::InvalidDataReference, 0x1004, None),
-];
-
-fn put_accesses(rt: &impl Abort, output: &mut MemSink) {
-    for (process, kind, address, number) in ACCESSES {
-        let entry = Record::Access {
-            process,
-            kind,
-            address,
-            number,
-        };
-        put_record(rt, entry, output);
-    }
+/// An access of a process, its address, and the number of what it reached.
+fn put_access(
+    rt: &impl Abort,
+    output: &mut MemSink,
+    process: u16,
+    kind: Kind,
+    address: u32,
+    number: u16,
+) {
+    let entry = Record::Access {
+        process,
+        kind,
+        address,
+        number,
+    };
+    put_record(rt, entry, output);
 }
 
-fn put_faults(rt: &impl Abort, output: &mut MemSink) {
-    for (process, code, address, to) in FAULTS {
-        let entry = Record::Fault {
-            process,
-            code,
-            address,
-            to,
-        };
-        put_record(rt, entry, output);
-    }
+/// A fault of a process, its address, and who hears it.
+fn put_fault(
+    rt: &impl Abort,
+    output: &mut MemSink,
+    process: u16,
+    code: FaultCode,
+    address: u32,
+    to: Option<u16>,
+) {
+    let entry = Record::Fault {
+        process,
+        code,
+        address,
+        to,
+    };
+    put_record(rt, entry, output);
+}
+
+fn put_accesses_and_faults(rt: &impl Abort, output: &mut MemSink) {
+    put_access(rt, output, 0, Kind::Fetch, 0, 0);
+    put_access(rt, output, 1, Kind::Load, 0x1004, 4095);
+    put_access(rt, output, 255, Kind::Store, 0xffff_fffc, 7);
+    put_access(rt, output, 12, Kind::CapLoad, 0x2010, 255);
+    put_access(rt, output, 3, Kind::CapStore, 0x2ff0, 10);
+    put_fault(rt, output, 1, FaultCode::NoSchedule, 16, Some(0));
+    put_fault(rt, output, 2, FaultCode::InvalidDataReference, 0x1004, None);
 }
 
 fn put_message(rt: &impl Abort, output: &mut MemSink) {
@@ -117,8 +124,7 @@ fn put_others(rt: &impl Abort, output: &mut MemSink) {
 #[test]
 fn each_kind_of_record_has_its_line(rt: HostRuntime) {
     let mut output = sink(&rt, rt.alloc());
-    put_accesses(&rt, &mut output);
-    put_faults(&rt, &mut output);
+    put_accesses_and_faults(&rt, &mut output);
     put_message(&rt, &mut output);
     put_others(&rt, &mut output);
     check_text(&rt, output.bytes.as_slice(), RECORDS, "records");
