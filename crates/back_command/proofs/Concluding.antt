@@ -106,7 +106,7 @@ module _ {K : Type 0} (taken : K → Option (List ℕ)) (faults : K → ℕ) (nu
             unfinished = fails.unfinished;
             given = fails.given;
             gives = fails.gives;
-            goes_on = subst (λ (all : Scheduled). (undoing number s all).last.exit ≡ Done) (sym fails.asks) refl;
+            goes_on = subst (λ (all : Scheduled). (undoing number s all).last.exit ≡ Done) (sym fails.makes) refl;
             written = subst (λ k. Appends (taken old) (taken k) []) (sym at.1) (Appends-nil (taken old));
             fetched = refl;
           }

@@ -6,10 +6,11 @@ use Rattle.machine_state.specs.State.{State}
 use Rattle.reverse_run.specs.History.{History, after_event}
 use Rattle.schedule_replay.specs.Counts.{events_alone}
 use Rattle.schedule_replay.specs.Replay.{answer_at, count_answer}
-use Rattle.schedule_replay.specs.Scheduled.{Ending, IsNextLine, Reads, ends, preceded}
+use Rattle.schedule_replay.specs.Scheduled.{Ending, IsNextLine, Reads, ends, preceded, scheduled}
 use Rattle.listing_read.specs.declared.fault.ScheduleFault.{ScheduleFault}
 use Rattle.judged_lines.specs.declared.stop.Stop.{Stop}
-use Rattle.schedule_replay.proofs.Reading.{reads-none, reads-same, reads-trans}
+use Rattle.schedule_replay.proofs.ReadOn.{reads_on-none}
+use Rattle.schedule_replay.proofs.Scheduled.{reads-same, reads-trans}
 use Rattle.schedule_replay.proofs.SoFar.{follows-stop}
 use Rattle.back_command.specs.Runs.{RunsLines, history_at}
 use Rattle.back_command.specs.Back.{most_remembered}
@@ -27,7 +28,7 @@ module _ (harts : ℕ) (s : State) (old : Reader) (held : Option (List ℕ)) whe
   so_far-start h present none = record {
     done = [];
     history = history-start h none ∙ ap (λ t. history_at most_remembered t []) present;
-    reads = reads-none harts old held;
+    reads = reads_on-none (scheduled harts old.number) old held;
   }
 
   module _ (h : History) (now : Reader) (held' : Option (List ℕ)) where

@@ -235,7 +235,7 @@ module _ {T K : Type 0} (kept : T → K) (cost : K → Items → Capability → 
           let s : State = state_of m in
           let fault = concludes-read taken faults runner (state_of n) (kept n.translator) old new g h exit answer c read in
           let fails = r.follows.read fault.is in
-          let all : preceded r.events (ends AtEnd) ≡ scheduled m.objects.harts lines.number fails.given = sym fails.asks in
+          let all : preceded r.events (ends AtEnd) ≡ scheduled m.objects.harts lines.number fails.given = sym fails.makes in
           let events : r.events ≡ r.events ++ [] = sym (append-nil r.events) in
           let counted = all-counted f g r.events r.ran in
           let same = fault.fetched in

@@ -141,7 +141,7 @@ module _ {S : Type 0} (taken : S → Option (List ℕ)) (faults : S → ℕ) (s 
         unfinished = fails.unfinished;
         given = fails.given;
         gives = fails.gives;
-        goes_on = subst (λ (all : Scheduled). (course_of Check s all).last.exit ≡ Done) (sym fails.asks) refl;
+        goes_on = subst (λ (all : Scheduled). (course_of Check s all).last.exit ≡ Done) (sym fails.makes) refl;
         written = subst (λ k. Appends (taken old) (taken k) []) (sym fault.output) (Appends-nil (taken old));
         fetched = omega (arith, none);
       }

@@ -14,7 +14,8 @@ use Rattle.judged_lines.specs.Judged.{JudgesNext, Refuses}
 use Rattle.judged_lines.specs.declared.stop.Stop.{Stop}
 use Rattle.judged_lines.specs.declared.stop.Stop.TheVariants as stops
 use Rattle.schedule_replay.proofs.ReadOn.{reads_on-line}
-use Rattle.schedule_replay.proofs.Reading.{on_begun, on_given, on_none, scheduled-end, scheduled-long, scheduled-past, scheduled-line}
+use Rattle.schedule_replay.proofs.Reading.{on_begun, on_given, on_none}
+use Rattle.schedule_replay.proofs.Scheduled.{scheduled-end, scheduled-long, scheduled-past, scheduled-line}
 
 module _ (harts n : ℕ) where
   pub asked-end : asked harts n [] ≡ asks_none AtEnd

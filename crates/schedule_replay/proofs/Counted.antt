@@ -12,7 +12,7 @@ use Rattle.judged_lines.specs.declared.stop.Stop.{Stop}
 use Rattle.judged_lines.specs.declared.stop.Stop.TheVariants as stops
 use Rattle.schedule_replay.specs.declared.replayed.Replayed.{Replayed}
 use Rattle.schedule_replay.specs.declared.replayed.Replayed.TheVariants as answers
-use Rattle.schedule_replay.proofs.Reading.{reads-trans}
+use Rattle.schedule_replay.proofs.Scheduled.{reads-trans}
 use Rattle.schedule_replay.proofs.SoFar.{follows-stop}
 
 -- no stop is a fault of writing

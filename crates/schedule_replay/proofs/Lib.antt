@@ -5,6 +5,7 @@ pub mod Tallies
 pub mod Ran
 pub mod Reading
 pub mod ReadOn
+pub mod Scheduled
 pub mod Asked
 mod First
 pub mod SoFar

@@ -1,5 +1,5 @@
 -- Line by line, what is made of the lines of an input.
-use Rattle.std.proofs.Common.{◌≡◌, ◌∙◌, ◌∷◌, ◌++◌, [], ℕ, List, Option, Some, None, Result, refl, sym, ap, subst, append_assoc, append-nil}
+use Rattle.std.proofs.Common.{◌≡◌, ◌∙◌, ◌∷◌, ◌++◌, [], ℕ, List, Option, Result, refl, sym, ap, subst, append_assoc, append-nil}
 use Rattle.coy_io.specs.Lines.{Part, Line}
 use Rattle.coy_io.specs.Reader.{Reader, ahead, bytes_ahead}
 use Rattle.coy_io.proofs.GivenLaws.{Advances-nil, Advances-trans, GivesLines-nil, GivesLines-trans, GivesLines-kept}
@@ -8,7 +8,7 @@ use Rattle.judged_lines.specs.Judged.{JudgesAll}
 use Rattle.judged_lines.specs.declared.stop.Stop.TheVariants as stops
 use Rattle.schedule_replay.specs.Lines.{ReadsOn, FailsOn}
 use Rattle.schedule_replay.specs.Scheduled.{OnParts}
-use Rattle.schedule_replay.proofs.Reading.{on_given}
+use Rattle.schedule_replay.proofs.Reading.{on_given, on_known}
 
 module _ {M : Type 0} where
   -- no line
@@ -58,11 +58,7 @@ module _ {M : Type 0} where
       → OnParts (ahead new held') (λ rest. P (is rest)) → OnParts (ahead old held) (λ parts. P (was parts))
   on_lines was is old new held held' P r all =
       on_given (ahead old held) (ahead new held') r.given (λ parts. P (was parts)) r.lines
-      (λ rest same. subst P (sym (r.makes rest)) (known (ahead new held') rest all same))
-    where
-      known : (left : Option (List Part)) (rest : List Part) → OnParts left (λ rest. P (is rest)) → left ≡ Some rest → P (is rest)
-      known None rest all same = cc
-      known (Some parts) rest all same = let here : parts ≡ rest = cc in subst (λ rest. P (is rest)) here all
+      (λ rest same. subst P (sym (r.makes rest)) (on_known (ahead new held') rest (λ rest. P (is rest)) all same))
 
   -- reading failed behind them
   pub fails_on : (was is : List Part → M) (old mid new : Reader) (held held' held'' : Option (List ℕ)) → ReadsOn was is old mid held held' → IsStopped mid new held' held''

@@ -16,6 +16,7 @@ use Rattle.kernel_core.specs.Machine.{MachineValue}
 use Rattle.kernel_core.specs.Run.{run_records}
 use Rattle.kernel_core.specs.State.{State, state_of}
 use Rattle.schedule_replay.specs.Counts.{AreAtMost, and_more, events_alone, counts_of}
+use Rattle.schedule_replay.specs.Lines.{FailsOn}
 use Rattle.schedule_replay.specs.Replay.{Accords, FailsBehind, Follows, Ran, Replays, WritesRun, answer_at, run_answer, stop_answer}
 use Rattle.schedule_replay.specs.Scheduled.{Scheduled, Ending, AtEnd, AtFault, AtLimit, ends, preceded, scheduled, EndHere, IsNextLine, Reads}
 use Rattle.schedule_replay.specs.First.{RunsFirst}
@@ -28,7 +29,9 @@ use Rattle.schedule_replay.specs.declared.mode.Mode.{Mode}
 use Rattle.schedule_replay.specs.declared.replayed.Replayed.{Replayed}
 use Rattle.schedule_replay.specs.declared.replayed.Replayed.TheVariants as answers
 use Rattle.schedule_replay.proofs.Ran.{ran-none, ran-trans}
-use Rattle.schedule_replay.proofs.Reading.{fails-behind, on_known, on_read, reads-none, reads-same, reads-trans}
+use Rattle.schedule_replay.proofs.ReadOn.{fails_on, on_lines, reads_on-none}
+use Rattle.schedule_replay.proofs.Reading.{on_all, on_each}
+use Rattle.schedule_replay.proofs.Scheduled.{reads-same, reads-trans, scheduled-end}
 use Rattle.schedule_replay.proofs.Tallies.{at_most-trans, counts_of-append, counts_of-nil}
 use Rattle.schedule_replay.proofs.Told.{told-append, told-nil}
 
@@ -57,11 +60,9 @@ pub follows-at : (answer_of : Scheduled → Replayed) (harts : ℕ) (old now new
     → Follows answer_of harts old new held held'' events (answer_at counts ending)
 follows-at answer_of harts old now new held held' held'' events counts ending same reads here = record {
   lines =
-      on_read harts old now held held' events (Accords answer_of (answer_at counts ending) events) reads
-      (λ rest known.
-      subst (λ all. Accords answer_of (answer_at counts ending) events (preceded events all))
-      (sym (on_known (ahead now held') rest (λ parts. scheduled harts now.number parts ≡ ends ending) here known))
-      (at-accords answer_of counts events ending same));
+      on_lines _ _ old now held held' (Accords answer_of (answer_at counts ending) events) reads
+      (on_all (ahead now held') _ _
+      (λ rest is. subst (λ all. Accords answer_of (answer_at counts ending) events (preceded events all)) (sym is) (at-accords answer_of counts events ending same)) here);
   read = λ fault. absurd (at-no-read counts ending fault);
 }
 
@@ -75,8 +76,8 @@ pub follows-read : (answer_of : Scheduled → Replayed) (harts : ℕ) (old now n
     → Follows answer_of harts old new held held'' events answers.ReadFault
 follows-read answer_of harts old now new held held' held'' events reads fails = record {
   lines =
-      on_read harts old now held held' events (Accords answer_of answers.ReadFault events) reads
-      (λ rest known. front-accords events (scheduled harts now.number rest));
+      on_lines _ _ old now held held' (Accords answer_of answers.ReadFault events) reads
+      (on_each (ahead now held') _ (λ rest known. front-accords events (scheduled harts now.number rest)));
   read = λ fault. fails;
 }
 
@@ -91,7 +92,9 @@ follows-stop answer_of harts old now new held held' held'' events counts (stops.
 follows-stop answer_of harts old now new held held' held'' events counts stops.TooLong same reads here =
     follows-at answer_of harts old now new held held' held'' events counts AtLimit (same AtLimit) reads here
 follows-stop answer_of harts old now new held held' held'' events counts stops.ReadFault same reads here =
-    follows-read answer_of harts old now new held held' held'' events reads (fails-behind harts old now new held held' held'' events reads here)
+    follows-read answer_of harts old now new held held' held'' events reads
+    (subst (λ made. FailsOn (scheduled harts old.number) made old new held held'') (ap (preceded events) (scheduled-end harts now.number))
+    (fails_on (scheduled harts old.number) (λ rest. preceded events (scheduled harts now.number rest)) old now new held held' held'' reads here))
 
 -- ---- a replay
 
@@ -121,7 +124,7 @@ module _ {T K : Type 0} (kept : T → K) (cost : K → Items → Capability → 
     done = [];
     ran = ran-none kept cost after without m fetches;
     text = subst (Appends taken taken) (sym (told-nil mode (state_of m))) (Appends-nil taken);
-    reads = reads-none m.objects.harts old held;
+    reads = reads_on-none (scheduled m.objects.harts old.number) old held;
     counted = none ∙ sym (counts_of-nil (state_of m));
     most = subst (AreAtMost 0) (sym none) (record { events = omega arith; messages = omega arith; faults = omega arith; logs = omega arith; destroys = omega arith });
     few = omega arith;
@@ -211,11 +214,11 @@ module _ {T K : Type 0} (kept : T → K) (cost : K → Items → Capability → 
           };
           follows = record {
             lines =
-                on_read m.objects.harts old now held held' ((s.done ++ events) ++ left)
+                on_lines _ _ old now held held'
                 (Accords (run_answer (state_of m)) answers.WriteFault (s.done ++ events))
                 (reads-same m.objects.harts old now held held' (s.done ++ split) ((s.done ++ events) ++ left)
                 (ap (λ es. s.done ++ es) whole ∙ sym (append_assoc s.done events left)) s.reads)
-                (λ rest known. (left ++ (scheduled m.objects.harts now.number rest).events, append_assoc (s.done ++ events) left (scheduled m.objects.harts now.number rest).events));
+                (on_each (ahead now held') _ (λ rest known. (left ++ (scheduled m.objects.harts now.number rest).events, append_assoc (s.done ++ events) left (scheduled m.objects.harts now.number rest).events)));
             read = λ fault. absurd (write-no-read fault);
           };
         }

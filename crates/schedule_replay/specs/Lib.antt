@@ -1,7 +1,7 @@
 pub mod Events
 pub mod Leaves
-pub mod Scheduled
 pub mod Lines
+pub mod Scheduled
 pub mod Asked
 pub mod Told
 pub mod Counts

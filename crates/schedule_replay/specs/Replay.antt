@@ -1,11 +1,10 @@
 -- What the lines behind a listing come to as they are read: the machine runs their events, and the records are written.
-use Rattle.std.specs.Prelude.{◌≡◌, ◌≢◌, ◌+◌, ◌<◌, ◌≤◌, ℕ, false, List, [], ◌∷◌, ◌++◌, length, take, Option}
+use Rattle.std.specs.Prelude.{◌≡◌, ◌≢◌, ◌+◌, ◌<◌, ◌≤◌, ℕ, List, [], ◌∷◌, ◌++◌, length, take, Option}
 use Rattle.std.specs.Io.KnownBytes.{Appends}
 use Rattle.cap_format.specs.Capability.{Capability}
 use Rattle.cap_format.specs.declared.item.Item.{Item}
 use Rattle.coy_io.specs.Causes.{Rose}
-use Rattle.coy_io.specs.Lines.{Part, IsFront}
-use Rattle.coy_io.specs.Reader.{Reader, GivesLines, ahead, bytes_ahead}
+use Rattle.coy_io.specs.Reader.{Reader, ahead}
 use Rattle.object_store.specs.Store.{Items}
 use Rattle.walk_meaning.specs.declared.kind.Kind.{Kind}
 use Rattle.machine_state.specs.declared.event.Event.{Event}
@@ -14,6 +13,7 @@ use Rattle.kernel_core.specs.Outcome.{spent, kept_after}
 use Rattle.kernel_core.specs.Run.{run_state, run_touches}
 use Rattle.kernel_core.specs.State.{State, state_of}
 use Rattle.schedule_replay.specs.Counts.{counts_of, events_alone}
+use Rattle.schedule_replay.specs.Lines.{FailsOn}
 use Rattle.schedule_replay.specs.Scheduled.{Scheduled, Ending, AtEnd, AtFault, AtLimit, OnParts, scheduled, ends, preceded}
 use Rattle.schedule_replay.specs.Told.{told}
 use Rattle.schedule_replay.specs.declared.counts.Counts.{Counts}
@@ -53,15 +53,9 @@ Accords answer_of answers.WriteFault events all = (rest : List Event) × (all.ev
 Accords answer_of answer events all = (events ≡ all.events) × (answer ≡ answer_of all)
 
 -- reading failed behind whole lines that ask for these events and end nothing; the reader holds no whole line
-pub record FailsBehind (harts : ℕ)
-    (old new : Reader) (held held' : Option (List ℕ))
-    (events : List Event) : Type 0 where
-  pub before : old.ended ≡ false
-  pub going : new.ended ≡ false
-  pub unfinished : IsFront new.rest
-  pub given : List Part
-  pub gives : GivesLines (bytes_ahead old held) (bytes_ahead new held') given
-  pub asks : scheduled harts old.number given ≡ preceded events (ends AtEnd)
+abbrev pub FailsBehind : ℕ → Reader → Reader → Option (List ℕ) → Option (List ℕ) → List Event → Type 0
+FailsBehind harts old new held held' events =
+    FailsOn (scheduled harts old.number) (preceded events (ends AtEnd)) old new held held'
 
 -- these events and this answer are what the lines ask for, as far as they are known
 pub record Follows (answer_of : Scheduled → Replayed) (harts : ℕ)

@@ -1,7 +1,7 @@
 -- What the lines behind a listing ask for: their events, and how they end (this project's own).
-use Rattle.std.specs.Prelude.{◌≡◌, ◌+◌, ℕ, List, [], ◌∷◌, ◌++◌, Option, Some, None, Result, Ok, Err, IfOk, IfSome, false, ⊤}
+use Rattle.std.specs.Prelude.{◌≡◌, ◌+◌, ℕ, List, [], ◌∷◌, ◌++◌, Option, Some, None, Result, Ok, Err, IfOk, IfSome, ⊤}
 use Rattle.coy_io.specs.Lines.{Part, Line, LongLine, PastLimit}
-use Rattle.coy_io.specs.Reader.{Reader, Advances, GivesLines, ahead, bytes_ahead}
+use Rattle.coy_io.specs.Reader.{Reader, ahead}
 use Rattle.machine_state.specs.declared.event.Event.{Event}
 use Rattle.listing_read.specs.Schedule.{IsTimed, schedule_line}
 use Rattle.listing_read.specs.Reads.{IsStopped}
@@ -9,6 +9,7 @@ use Rattle.listing_read.specs.declared.fault.ScheduleFault.{ScheduleFault}
 use Rattle.listing_read.specs.declared.fault.ScheduleFault.TheVariants.{LineTooLong}
 use Rattle.listing_read.specs.declared.schedule.Timed.{Timed}
 use Rattle.schedule_replay.specs.Events.{line_events}
+use Rattle.schedule_replay.specs.Lines.{ReadsOn}
 use Rattle.judged_lines.specs.declared.stop.Stop.{Stop}
 use Rattle.judged_lines.specs.declared.stop.Stop.TheVariants as stops
 
@@ -61,12 +62,9 @@ OnParts None P = ⊤
 OnParts (Some parts) P = P parts
 
 -- whole lines were read, which ask for these events
-pub record Reads (harts : ℕ) (old new : Reader) (held held' : Option (List ℕ)) (events : List Event) : Type 0 where
-  pub given : List Part
-  pub lines : Advances (ahead old held) (ahead new held') given
-  pub before : new.ended ≡ false → old.ended ≡ false
-  pub bytes : new.ended ≡ false → GivesLines (bytes_ahead old held) (bytes_ahead new held') given
-  pub asks : (rest : List Part) → scheduled harts old.number (given ++ rest) ≡ preceded events (scheduled harts new.number rest)
+abbrev pub Reads : ℕ → Reader → Reader → Option (List ℕ) → Option (List ℕ) → List Event → Type 0
+Reads harts old new held held' events =
+    ReadsOn (scheduled harts old.number) (λ rest. preceded events (scheduled harts new.number rest)) old new held held'
 
 -- the lines to come end here, with no event more
 abbrev pub EndHere : ℕ → Reader → Option (List ℕ) → Ending → Type 0

@@ -137,7 +137,7 @@ module _ {K : Type 0} (E : Type 0) (taken : K → Option (List ℕ)) (faults : K
             unfinished = fails.unfinished;
             given = fails.given;
             gives = fails.gives;
-            goes_on = λ lines. subst (λ (all : Scheduled). EndsNothing lines (judging policy start all).exit) (sym fails.asks)
+            goes_on = λ lines. subst (λ (all : Scheduled). EndsNothing lines (judging policy start all).exit) (sym fails.makes)
                 (told-nothing policy (run_state start (preceded events (ends AtEnd)).events) lines);
           }
 

@@ -17,7 +17,8 @@ use Rattle.schedule_replay.specs.Scheduled.{OnParts, Scheduled, scheduled}
 use Rattle.schedule_replay.specs.declared.counts.Counts.{Counts}
 use Rattle.schedule_replay.specs.declared.replayed.Replayed.{Replayed}
 use Rattle.schedule_replay.specs.declared.replayed.Replayed.TheVariants as answers
-use Rattle.schedule_replay.proofs.Reading.{on_all, on_each, scheduled-end}
+use Rattle.schedule_replay.proofs.Reading.{on_all, on_each}
+use Rattle.schedule_replay.proofs.Scheduled.{scheduled-end}
 use Rattle.schedule_replay.proofs.Told.{silent_untold}
 use Rattle.courses.specs.Ending.{EndsIn, EndsNothing, Output, Outputs}
 use Rattle.courses.specs.declared.exit.Exit.{Exit}

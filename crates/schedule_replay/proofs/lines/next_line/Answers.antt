@@ -1,5 +1,5 @@
 use Rattle.schedule_replay.proofs.Asked.{asks-next}
-use Rattle.schedule_replay.proofs.Reading.{next-line, next-timed}
+use Rattle.schedule_replay.proofs.Scheduled.{next-line, next-timed}
 use Rattle.schedule_replay.proofs.lines.next_line.Goals as goal
 
 pub returns-clause-next : goal.returns-clause-next
