@@ -1,5 +1,5 @@
 //! Harts, each with its process or none: changes of one hart or of all, and looking through them.
-ghost use Rattle.std.specs.Prelude.{◌≡◌, ◌≤◌, ◌<◌, length, map, replicate, false, slice_index_or, Some, None, IfSome, IfOk, IsNone, IsTrue};
+ghost use Rattle.std.specs.Prelude.{◌≡◌, ◌↔◌, ◌≤◌, ◌<◌, length, map, replicate, false, slice_index_or, Some, None, IfSome, IfOk, IsNone, IsTrue};
 ghost use Rattle.std.specs.List.{sum_by};
 ghost use Rattle.schedules.specs.Queues.{hart_without};
 ghost use Rattle.schedules.specs.Standing.{times_on};
@@ -29,7 +29,7 @@ pub(crate) fn process_on(harts: &Vec<Option<u16>>, i: usize) -> Option<u16>
 pub(crate) fn take_off(harts: &mut Vec<Option<u16>>, p: u16) -> bool
     requires { sum_by (times_on p) harts.old.items ≤ 1 }
     ensures harts { harts.new.items ≡ map (hart_without p) harts.old.items }
-    ensures there { IsTrue result → 1 ≤ sum_by (times_on p) harts.old.items }
+    ensures there { IsTrue result ↔ (1 ≤ sum_by (times_on p) harts.old.items) }
 {
     let Some(i) = hart_with(harts, p) else {
         return false;
@@ -62,7 +62,7 @@ pub(crate) fn hart_with(harts: &[Option<u16>], p: u16) -> Option<usize>
 
 /// Whether this is what a hart with the process has.
 pub(crate) fn has_process(hart: Option<u16>, p: u16) -> bool
-    ensures is_there { IsTrue result → hart ≡ Some p }
+    ensures is_there { IsTrue result ↔ (hart ≡ Some p) }
     ensures absent { result ≡ false → times_on p hart ≡ 0 }
 {
     match hart {

@@ -1,6 +1,6 @@
 //! Lists of processes, as the ready queues and the sleepers of each process are: changes of one list or of all, and
 //! looking through them.
-ghost use Rattle.std.specs.Prelude.{◌≡◌, ◌==◌, ◌++◌, ◌∷◌, not, ◌<◌, ◌≤◌, [], length, map, replicate, true, false, slice_index_or, slice_set, IfSome, IfOk, IsNone, IsTrue};
+ghost use Rattle.std.specs.Prelude.{◌≡◌, ◌↔◌, ◌==◌, ◌++◌, ◌∷◌, not, ◌<◌, ◌≤◌, [], length, map, replicate, true, false, slice_index_or, slice_set, IfSome, IfOk, IsNone, IsTrue};
 ghost use Rattle.std.specs.List.{sum_by};
 ghost use Rattle.schedules.specs.Queues.{without, stands_in, highest_below, first_of, rest_of};
 ghost use Rattle.schedules.specs.Standing.{times_in};
@@ -98,7 +98,7 @@ pub(crate) fn copy_lists(lists: &mut Vec<ProcessList>, from: &[ProcessList])
 pub(crate) fn take_out(lists: &mut Vec<ProcessList>, p: u16) -> bool
     requires { sum_by (times_in p) lists.old.items ≤ 1 }
     ensures lists { lists.new.items ≡ map (without p) lists.old.items }
-    ensures there { IsTrue result → 1 ≤ sum_by (times_in p) lists.old.items }
+    ensures there { IsTrue result ↔ (1 ≤ sum_by (times_in p) lists.old.items) }
 {
     let Some(i) = list_with(lists, p) else {
         return false;

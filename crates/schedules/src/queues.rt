@@ -1,4 +1,4 @@
-ghost use Rattle.std.specs.Prelude.{◌≡◌, ◌+◌, ◌==◌, ◌<◌, ◌≤◌, ℕ, List, cond, length, map, slice_index_or, slice_get, Some, None, IfSome, IfOk, IsTrue};
+ghost use Rattle.std.specs.Prelude.{◌≡◌, ◌↔◌, ◌+◌, ◌==◌, ◌<◌, ◌≤◌, ℕ, List, cond, length, map, slice_index_or, slice_get, Some, None, IfSome, IfOk, IsTrue};
 ghost use Rattle.std.specs.List.{sum_by};
 ghost use Rattle.schedules.specs.Queues.{priorities, without, hart_without, enqueued, asleep, left, dispatched, hart_of, ready_queue, sleepers_of};
 ghost use Rattle.schedules.specs.Standing.{IsSpot, standing, times_in, times_on, empty_queues};
@@ -217,7 +217,7 @@ impl Queues {
 
 /// Whether this is a hart that has the process.
 fn is_on(harts: &[Option<u16>], hart: u8, p: u16) -> bool
-    ensures { IsTrue result → slice_index_or harts.now hart None ≡ Some p }
+    ensures { IsTrue result ↔ (slice_index_or harts.now hart None ≡ Some p) }
 {
     (hart as usize) < harts.len() && has_process(harts[hart as usize], p)
 }

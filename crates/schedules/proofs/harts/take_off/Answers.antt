@@ -10,4 +10,4 @@ pub returns-clause-harts : goal.returns-clause-harts
 returns-clause-harts c = hart_without_one c.args.p c.in-Some.i c.args.harts.now.items (rw (← c.deref.ensures.value) c.in-Some.ensures.stands) c.requires
 
 pub returns-clause-there : goal.returns-clause-there
-returns-clause-there c = λ _. on_hart c.args.p c.in-Some.i c.args.harts.now.items (rw (← c.deref.ensures.value) c.in-Some.ensures.stands)
+returns-clause-there c = (λ _. on_hart c.args.p c.in-Some.i c.args.harts.now.items (rw (← c.deref.ensures.value) c.in-Some.ensures.stands), λ _. refl)

@@ -18,6 +18,6 @@ returns-then-is_on-clause-on_hart c =
     let i = c.self.inside in
     let q : QueuesValue = record { ready = i.ready.items; sleepers = i.sleepers.items; harts = i.harts.items } in
     λ hart e. let On : QueuesValue → Type 0 = λ v. hart_of v hart ≡ Some c.args.p in
-    let here : hart_of q i.last ≡ Some c.args.p = rw (← c.deref.ensures.value) (c.is_on.ensures (search rules)) in
+    let here : hart_of q i.last ≡ Some c.args.p = rw (← c.deref.ensures.value) (c.is_on.ensures.0 (search rules)) in
     let there : hart_of q hart ≡ Some c.args.p = subst On (sym c.self.view_is) e in
     ap (λ n. Hart n) (same_hart q c.args.p i.last hart c.self.invariant here there)
