@@ -36,7 +36,7 @@ fn push_spelling(line: &mut LineBuf, kind: CapKind, cap: Cap)
         CapKind::Entry => {
             line.push_numbered("entry:", cap.object());
             line.push_word(":");
-            line.push_hex(cap.payload(), 8);
+            line.push_eight(cap.payload());
         }
         CapKind::Page => {
             line.push_numbered("page:", cap.object());
@@ -52,13 +52,13 @@ fn push_spelling(line: &mut LineBuf, kind: CapKind, cap: Cap)
         }
         CapKind::Window => {
             line.push_word("window:");
-            line.push_hex(cap.object(), 8);
+            line.push_eight(cap.object());
             push_guard(line, cap);
         }
         CapKind::LocalWindow => {
             line.push_numbered("local:", cap.slot() as u32);
             line.push_word(":");
-            line.push_hex(cap.object(), 8);
+            line.push_eight(cap.object());
             push_guard(line, cap);
         }
     }

@@ -64,7 +64,8 @@ impl LineBuf {
     }
 
     /// Appends a number in decimal, without leading zeros.
-    #[tactic(auto, using(crate::proofs::NumeralLaws::length_decimal, crate::proofs::Numerals::one_digit, crate::proofs::Numerals::more_digits, crate::proofs::Numerals::fewer_digits, crate::proofs::Numerals::length_one))]
+    #[inline(always)]
+    #[tactic(auto, using(crate::proofs::NumeralLaws::length_decimal, crate::proofs::Numerals::one_digit, crate::proofs::Numerals::length_one))]
     pub fn push_dec(&mut self, value: u64)
         requires { length self.old + length (decimal value) ≤ 1024 }
         ensures text { self.new ≡ self.old ++ decimal value }
@@ -73,9 +74,22 @@ impl LineBuf {
     {
         if value < 10 {
             self.push_byte(b'0' + value as u8);
-            return;
+        } else {
+            self.push_digits(value);
         }
-        self.push_dec(value / 10);
+    }
+
+    /// Appends a number in decimal as `push_dec` does. It is not inlined, so that a number of one digit costs no call.
+    #[inline(never)]
+    #[tactic(auto, using(crate::proofs::NumeralLaws::length_decimal, crate::proofs::Numerals::one_digit, crate::proofs::Numerals::more_digits, crate::proofs::Numerals::fewer_digits, crate::proofs::Numerals::length_one))]
+    fn push_digits(&mut self, value: u64)
+        requires { length self.old + length (decimal value) ≤ 1024 }
+        ensures text { self.new ≡ self.old ++ decimal value }
+        ensures len { length self.new ≡ length self.old + length (decimal value) }
+    {
+        if value >= 10 {
+            self.push_digits(value / 10);
+        }
         self.push_byte(b'0' + (value % 10) as u8);
     }
 
@@ -100,13 +114,22 @@ impl LineBuf {
     }
 
     /// Appends a space, and a word of 32 bits in eight hexadecimal digits.
-    #[tactic(auto, unfolding(crate::specs::Numeral::hex_text))]
     pub fn push_value(&mut self, value: u32)
         requires { length self.old + 9 ≤ 1024 }
         ensures text { self.new ≡ self.old ++ codes " " ++ hex_text 8 value }
         ensures len { length self.new ≡ length self.old + 9 }
     {
         self.push_word(" ");
+        self.push_eight(value);
+    }
+
+    /// Appends a word of 32 bits in eight hexadecimal digits.
+    #[tactic(auto, unfolding(crate::specs::Numeral::hex_text))]
+    pub fn push_eight(&mut self, value: u32)
+        requires { length self.old + 8 ≤ 1024 }
+        ensures text { self.new ≡ self.old ++ hex_text 8 value }
+        ensures len { length self.new ≡ length self.old + 8 }
+    {
         self.push_four(value / 16 / 16 / 16 / 16);
         self.push_four(value);
     }
@@ -133,11 +156,8 @@ impl LineBuf {
         ensures len { length self.new ≡ length self.old + 1 }
     {
         let digit = (value % 16) as u8;
-        self.push_byte(if digit < 10 {
-            b'0' + digit
-        } else {
-            b'a' + (digit - 10)
-        });
+        let first = if digit < 10 { b'0' } else { b'a' - 10 };
+        self.push_byte(first + digit);
     }
 
     /// Appends a number in exactly `digits` hexadecimal digits, in lower case and with leading zeros.

@@ -189,7 +189,7 @@ fn push_calls(line: &mut LineBuf, process: u8, calls: u32)
     line.push_word("reg ");
     push_short(line, process);
     line.push_word(" 5 ");
-    line.push_hex(calls, 8);
+    line.push_eight(calls);
     line.push_word("\n");
 }
 

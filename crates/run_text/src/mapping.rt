@@ -15,7 +15,7 @@ pub fn mapping_line(space: Cap, va: u32, page: u16, write: bool, execute: bool, 
     line.push_word("map ");
     push_capability(line, space);
     line.push_word(" ");
-    line.push_hex(va, 8);
+    line.push_eight(va);
     line.push_numbered(" page ", page as u32);
     line.push_word(" ");
     push_rights(line, write, execute);

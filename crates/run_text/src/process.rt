@@ -179,6 +179,6 @@ fn push_wait(line: &mut LineBuf, wait: Wait)
 {
     match wait {
         Wait::Open => line.push_word("open"),
-        Wait::Closed(id) => line.push_hex(id, 8),
+        Wait::Closed(id) => line.push_eight(id),
     }
 }
