@@ -14,7 +14,7 @@ ghost use Rattle.event_reach.specs.Plain.{plain_load, plain_store, plain_effect,
 
 use crate::accesses::reach_page;
 use machine_state::{Event, Machine};
-use rv32_decode::{Insn, decode};
+use rv32_decode::Insn;
 use rv32_user::{Effect, evaluate};
 use std::sync::ledger::Ledger;
 use steps::Steps;
@@ -110,7 +110,7 @@ fn plain_of_word<T: Translator, L: Ledger>(
     ensures there { IfSome result (IsThere machine.old.objects) }
     ensures looked { Looked T.kept T.cache hart machine.old machine.new }
 {
-    match decode(word) {
+    match machine.decode(word) {
         Ok(insn) => plain_of_insn(machine, hart, p, insn, fetches),
         Err(_) => None,
     }

@@ -14,7 +14,6 @@ use crate::instructions::perform;
 use cap_format::FaultCode;
 use machine_state::{Event, Machine, Records};
 use messages::fault;
-use rv32_decode::decode;
 use std::sync::ledger::Ledger;
 use steps::Steps;
 use walk_engine::Translator;
@@ -163,7 +162,7 @@ fn decoded<T: Translator, L: Ledger>(
         Leaves (process_name p ∷ outcome.changed) machine.old machine.new }
 {
     let pc = machine.pc(p);
-    match decode(word) {
+    match machine.decode(word) {
         Ok(insn) => {
             records.push_insn(p, pc, insn);
             perform(machine, p, records, insn, fetches);

@@ -1,14 +1,15 @@
 //! The machine's state: objects, queues and harts over any translator, and the single changes and accesses of which
 //! events are made.
 //!
-//! Each call does one thing, and tells it of the abstract machine's state. Nothing here knows of instructions, of the
-//! order in which an event does things, or of what a translator keeps.
+//! Each call does one thing, and tells it of the abstract machine's state. Nothing here knows what an instruction does, of
+//! the order in which an event does things, or of what a translator keeps.
 #![tactic(auto)]
 
 mod callees;
 mod cap_memory;
 mod changes;
 mod controlling;
+mod decoding;
 mod event;
 mod faulting;
 mod log_bytes;

@@ -13,6 +13,7 @@ ghost use Rattle.schedules.specs.Standing.{empty_queues};
 ghost use Rattle.schedules.specs.Ready.{Agrees, runs_of, places_due};
 
 use cap_format::OutOfMemory;
+use decoded_words::Decoder;
 use object_store::Objects;
 use schedules::Queues;
 use std::alloc::Global;
@@ -20,8 +21,8 @@ use std::marker::Model;
 use string_move::Scratch;
 use walk_engine::Translator;
 
-/// Objects, queues, harts and a translator, with room for the bytes of a string. All its memory is taken when it is
-/// made.
+/// Objects, queues, harts and a translator, with room for the bytes of a string and for instructions that are kept by
+/// their words. All its memory is taken when it is made.
 #[derive(Drop)]
 pub struct Machine<T: Translator> {
     pub(crate) objects: Objects,
@@ -29,6 +30,7 @@ pub struct Machine<T: Translator> {
     pub(crate) halted: bool,
     pub(crate) translator: T,
     pub(crate) scratch: Scratch,
+    pub(crate) decoder: Decoder,
 }
 
 impl<T: Translator> Model for Machine<T> {
@@ -66,6 +68,7 @@ impl<T: Translator> Machine<T> {
             halted: false,
             translator,
             scratch,
+            decoder: Decoder::new(),
         })
     }
 

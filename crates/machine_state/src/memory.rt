@@ -160,9 +160,10 @@ impl<T: Translator> Machine<T> {
         self.access_on(hart, q, address, kind, fetches)
     }
 
-    /// A fetch, load or store on a hart by the space of any process.
+    /// A fetch, load or store on a hart by the space of any process. A page that the translator keeps is asked for first,
+    /// for which there need be no room for a fault's handler.
     #[inline(always)]
-    fn access_on<L: Ledger>(
+    pub fn access_on<L: Ledger>(
         &mut self,
         hart: u8,
         p: u16,
@@ -193,6 +194,9 @@ impl<T: Translator> Machine<T> {
             let spared = T.spared (T.kept self.old.translator) s.store.items (space_of s p) address kind in
             (k : ℕ) → k ≢ hart → T.cache self.new.translator k ≡ spared (T.cache self.old.translator k) }
     {
+        if let Some(hit) = self.access_kept(hart, p, address, kind) {
+            return Ok(hit);
+        }
         let space = self.space(p);
         self.translator
             .translate(&self.objects, hart, space, address, kind, fetches)

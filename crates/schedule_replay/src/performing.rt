@@ -10,7 +10,6 @@ ghost use Rattle.schedule_replay.specs.First.{RunsFirst};
 use crate::counts::{Counts, count_events};
 use crate::events::Events;
 use crate::mode::Mode;
-use decoded_words::Decoder;
 use kernel_core::{Event, Machine, Records, event_into};
 use std::sync::ledger::Ledger;
 use steps::Steps;
@@ -25,7 +24,6 @@ pub(crate) fn perform<T: Translator, L: Ledger>(
     events: &mut Events,
     mode: Mode,
     machine: &mut Machine<T>,
-    decoder: &mut Decoder,
     records: &mut Records,
     counts: &mut Counts,
     fetches: &mut Steps<L>,
@@ -40,7 +38,7 @@ pub(crate) fn perform<T: Translator, L: Ledger>(
         Mode::Trace => perform_one(event, machine, records, counts, fetches),
         Mode::Silent | Mode::Records => match (event, events) {
             (Event::Step(hart), Events::StepsLeft(steps)) => {
-                perform_steps(hart, steps, machine, decoder, records, counts, fetches)
+                perform_steps(hart, steps, machine, records, counts, fetches)
             }
             _ => perform_one(event, machine, records, counts, fetches),
         },
@@ -69,7 +67,6 @@ fn perform_steps<T: Translator, L: Ledger>(
     hart: u8,
     steps: &mut HartSteps,
     machine: &mut Machine<T>,
-    decoder: &mut Decoder,
     records: &mut Records,
     counts: &mut Counts,
     fetches: &mut Steps<L>,
@@ -80,6 +77,6 @@ fn perform_steps<T: Translator, L: Ledger>(
     ensures { (mode : Mode) → mode ≢ Mode.Trace → RunsFirst T.kept T.cost T.after T.without mode (Step hart ∷ steps_left steps.old) (steps_left steps.new)
         machine.old fetches.old machine.new fetches.new records.new counts.old counts.new }
 {
-    let done = run_untraced(machine, hart, steps, decoder, records, fetches);
+    let done = run_untraced(machine, hart, steps, records, fetches);
     *counts = count_events(*counts, done, records.as_slice());
 }

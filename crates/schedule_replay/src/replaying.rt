@@ -11,7 +11,6 @@ use crate::performing::perform;
 use crate::replayed::Replayed;
 use crate::telling::put_told;
 use coy_io::{LineReader, Sink, Source};
-use decoded_words::Decoder;
 use kernel_core::{Machine, Records};
 use std::sync::ledger::Ledger;
 use steps::Steps;
@@ -43,7 +42,6 @@ pub fn replay<T: Translator, S: Source, K: Sink, L: Ledger>(
     ensures end { (counts : Counts) → result ≡ Replayed.Ended counts → lines.new.ended ≡ true }
 {
     let harts = machine.objects().sizes().harts;
-    let mut decoder = Decoder::new();
     let mut records = Records::new();
     let mut counts = Counts::of_events(0);
     let mut left = Events::NoneLeft;
@@ -55,7 +53,6 @@ pub fn replay<T: Translator, S: Source, K: Sink, L: Ledger>(
                     &mut left,
                     mode,
                     machine,
-                    &mut decoder,
                     &mut records,
                     &mut counts,
                     fetches,

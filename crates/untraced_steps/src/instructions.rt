@@ -7,11 +7,10 @@ ghost use Rattle.rv32_decode.specs.Table.{insn_at};
 ghost use Rattle.machine_state.specs.State.{state_of, IsOnHart};
 ghost use Rattle.kernel_core.specs.Event.{decoded_to, instruction};
 ghost use Rattle.kernel_core.specs.Instruction.{perform};
-ghost use Rattle.untraced_steps.specs.Untraced.{CameUntraced};
+ghost use Rattle.untraced_steps.specs.Untraced.{CameUntraced, SparesOthers};
 
 use crate::memory::{untraced_load, untraced_store};
 use cap_format::FaultCode;
-use decoded_words::Decoder;
 use kernel_core::parts::{fault, perform};
 use kernel_core::{Machine, Records};
 use rv32_decode::Insn;
@@ -28,7 +27,6 @@ pub(crate) fn untraced_instruction<T: Translator, L: Ledger>(
     machine: &mut Machine<T>,
     hart: u8,
     p: u16,
-    decoder: &mut Decoder,
     records: &mut Records,
     fetches: &mut Steps<L>,
 ) -> bool
@@ -39,14 +37,16 @@ pub(crate) fn untraced_instruction<T: Translator, L: Ledger>(
     ensures came { CameUntraced T.kept T.cost T.after T.without (instruction (state_of machine.old) p)
         machine.old fetches.old machine.new records.new fetches.new }
     ensures plain { IsTrue result → records.new ≡ [] }
+    ensures others { IsTrue result → SparesOthers T.kept T.cache T.after T.spared
+        (instruction (state_of machine.old) p) hart machine.old machine.new }
 {
     let pc = machine.pc(p);
     match machine.access_kept(hart, p, pc, Kind::Fetch) {
         Some(hit) => {
             let word = machine.number_at(hit, 4);
-            untraced_word(machine, hart, p, word, decoder, records, fetches)
+            untraced_word(machine, hart, p, word, records, fetches)
         }
-        None => fetched_anew(machine, hart, p, decoder, records, fetches),
+        None => fetched_anew(machine, hart, p, records, fetches),
     }
 }
 
@@ -58,7 +58,6 @@ fn fetched_anew<T: Translator, L: Ledger>(
     machine: &mut Machine<T>,
     hart: u8,
     p: u16,
-    decoder: &mut Decoder,
     records: &mut Records,
     fetches: &mut Steps<L>,
 ) -> bool
@@ -69,12 +68,14 @@ fn fetched_anew<T: Translator, L: Ledger>(
     ensures came { CameUntraced T.kept T.cost T.after T.without (instruction (state_of machine.old) p)
         machine.old fetches.old machine.new records.new fetches.new }
     ensures plain { IsTrue result → records.new ≡ [] }
+    ensures others { IsTrue result → SparesOthers T.kept T.cache T.after T.spared
+        (instruction (state_of machine.old) p) hart machine.old machine.new }
 {
     let pc = machine.pc(p);
-    match machine.access(p, pc, Kind::Fetch, fetches) {
+    match machine.access_on(hart, p, pc, Kind::Fetch, fetches) {
         Ok(hit) => {
             let word = machine.number_at(hit, 4);
-            untraced_word(machine, hart, p, word, decoder, records, fetches)
+            untraced_word(machine, hart, p, word, records, fetches)
         }
         Err(why) => {
             fault(machine, p, records, why.code, pc, why.handler, fetches);
@@ -90,7 +91,6 @@ fn untraced_word<T: Translator, L: Ledger>(
     hart: u8,
     p: u16,
     word: u32,
-    decoder: &mut Decoder,
     records: &mut Records,
     fetches: &mut Steps<L>,
 ) -> bool
@@ -102,8 +102,10 @@ fn untraced_word<T: Translator, L: Ledger>(
         CameUntraced T.kept T.cost T.after T.without outcome
         machine.old fetches.old machine.new records.new fetches.new }
     ensures plain { IsTrue result → records.new ≡ [] }
+    ensures others { IsTrue result → SparesOthers T.kept T.cache T.after T.spared
+        (decoded_to (state_of machine.old) p (insn_at word)) hart machine.old machine.new }
 {
-    match decoder.decode(word) {
+    match machine.decode(word) {
         Ok(insn) => untraced_insn(machine, hart, p, insn, records, fetches),
         Err(_) => {
             let pc = machine.pc(p);
@@ -131,6 +133,8 @@ fn untraced_insn<T: Translator, L: Ledger>(
     ensures came { CameUntraced T.kept T.cost T.after T.without (perform (state_of machine.old) p insn)
         machine.old fetches.old machine.new records.new fetches.new }
     ensures plain { IsTrue result → records.new ≡ [] }
+    ensures others { IsTrue result → SparesOthers T.kept T.cache T.after T.spared
+        (perform (state_of machine.old) p insn) hart machine.old machine.new }
 {
     let outcome = evaluate(machine.registers(p), machine.pc(p), insn);
     match outcome.effect {

@@ -1,5 +1,4 @@
-//! Steps of harts of which no trace is kept: the records of accesses and instructions are left out, and a word that comes
-//! again is not decoded again.
+//! Steps of harts of which no trace is kept: the records of accesses and instructions are left out.
 //!
 //! What becomes of the machine is the same as event by event. Nothing here knows of texts, or of what a translator keeps.
 #![tactic(auto)]

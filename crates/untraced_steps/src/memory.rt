@@ -8,7 +8,7 @@ ghost use Rattle.machine_state.specs.State.{state_of, process, IsOnHart};
 ghost use Rattle.machine_state.specs.Setters.{set_registers, advance};
 ghost use Rattle.machine_state.specs.DataAccess.{number_at, written};
 ghost use Rattle.kernel_core.specs.LoadStore.{load, store};
-ghost use Rattle.untraced_steps.specs.Untraced.{CameUntraced};
+ghost use Rattle.untraced_steps.specs.Untraced.{CameUntraced, SparesOthers};
 
 use cap_format::CapKind;
 use kernel_core::parts::fault;
@@ -44,6 +44,8 @@ pub(crate) fn untraced_load<T: Translator, L: Ledger>(
         CameUntraced T.kept T.cost T.after T.without outcome
         machine.old fetches.old machine.new records.new fetches.new }
     ensures plain { IsTrue result → records.new ≡ [] }
+    ensures others { IsTrue result → SparesOthers T.kept T.cache T.after T.spared
+        (load (state_of machine.old) p at size signed rd) hart machine.old machine.new }
 {
     if !is_aligned(at, size) {
         misaligned(machine, p, records, at, fetches);
@@ -54,7 +56,7 @@ pub(crate) fn untraced_load<T: Translator, L: Ledger>(
             load_from(machine, p, size, signed, rd, hit);
             true
         }
-        None => load_anew(machine, p, at, size, signed, rd, records, fetches),
+        None => load_anew(machine, hart, p, at, size, signed, rd, records, fetches),
     }
 }
 
@@ -64,6 +66,7 @@ pub(crate) fn untraced_load<T: Translator, L: Ledger>(
 #[tactic(auto, unfolding(kernel_core::specs::LoadStore::load))]
 fn load_anew<T: Translator, L: Ledger>(
     machine: &mut Machine<T>,
+    hart: u8,
     p: u16,
     at: u32,
     size: u8,
@@ -72,6 +75,7 @@ fn load_anew<T: Translator, L: Ledger>(
     records: &mut Records,
     fetches: &mut Steps<L>,
 ) -> bool
+    requires hart { hart < machine.old.objects.harts }
     requires there { p < size_of machine.old.objects.items Process }
     requires on_hart { IsOnHart machine.old.queues p }
     requires size { IsSize size }
@@ -83,8 +87,10 @@ fn load_anew<T: Translator, L: Ledger>(
         CameUntraced T.kept T.cost T.after T.without outcome
         machine.old fetches.old machine.new records.new fetches.new }
     ensures plain { IsTrue result → records.new ≡ [] }
+    ensures others { IsTrue result → SparesOthers T.kept T.cache T.after T.spared
+        (load (state_of machine.old) p at size signed rd) hart machine.old machine.new }
 {
-    match machine.access(p, at, Kind::Load, fetches) {
+    match machine.access_on(hart, p, at, Kind::Load, fetches) {
         Ok(hit) => {
             load_from(machine, p, size, signed, rd, hit);
             true
@@ -144,6 +150,8 @@ pub(crate) fn untraced_store<T: Translator, L: Ledger>(
         CameUntraced T.kept T.cost T.after T.without outcome
         machine.old fetches.old machine.new records.new fetches.new }
     ensures plain { IsTrue result → records.new ≡ [] }
+    ensures others { IsTrue result → SparesOthers T.kept T.cache T.after T.spared
+        (store (state_of machine.old) p at size value) hart machine.old machine.new }
 {
     if !is_aligned(at, size) {
         misaligned(machine, p, records, at, fetches);
@@ -154,7 +162,7 @@ pub(crate) fn untraced_store<T: Translator, L: Ledger>(
             store_to(machine, p, size, value, hit);
             true
         }
-        None => store_anew(machine, p, at, size, value, records, fetches),
+        None => store_anew(machine, hart, p, at, size, value, records, fetches),
     }
 }
 
@@ -164,6 +172,7 @@ pub(crate) fn untraced_store<T: Translator, L: Ledger>(
 #[tactic(auto, unfolding(kernel_core::specs::LoadStore::store))]
 fn store_anew<T: Translator, L: Ledger>(
     machine: &mut Machine<T>,
+    hart: u8,
     p: u16,
     at: u32,
     size: u8,
@@ -171,6 +180,7 @@ fn store_anew<T: Translator, L: Ledger>(
     records: &mut Records,
     fetches: &mut Steps<L>,
 ) -> bool
+    requires hart { hart < machine.old.objects.harts }
     requires there { p < size_of machine.old.objects.items Process }
     requires on_hart { IsOnHart machine.old.queues p }
     requires size { IsSize size }
@@ -181,8 +191,10 @@ fn store_anew<T: Translator, L: Ledger>(
         CameUntraced T.kept T.cost T.after T.without outcome
         machine.old fetches.old machine.new records.new fetches.new }
     ensures plain { IsTrue result → records.new ≡ [] }
+    ensures others { IsTrue result → SparesOthers T.kept T.cache T.after T.spared
+        (store (state_of machine.old) p at size value) hart machine.old machine.new }
 {
-    match machine.access(p, at, Kind::Store, fetches) {
+    match machine.access_on(hart, p, at, Kind::Store, fetches) {
         Ok(hit) => {
             store_to(machine, p, size, value, hit);
             true

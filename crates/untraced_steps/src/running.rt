@@ -4,11 +4,10 @@ ghost use Rattle.machine_state.specs.declared.event.Event.TheVariants.{Step};
 ghost use Rattle.machine_state.specs.State.{state_of};
 ghost use Rattle.kernel_core.specs.Event.{event_of, event_by};
 ghost use Rattle.untraced_steps.specs.HartSteps.{OfHarts, steps_left};
-ghost use Rattle.untraced_steps.specs.Untraced.{CameUntraced, RanUntraced, TellsNothing};
+ghost use Rattle.untraced_steps.specs.Untraced.{CameUntraced, RanUntraced, SparesOthers, TellsNothing};
 
 use crate::hart_steps::HartSteps;
 use crate::instructions::untraced_instruction;
-use decoded_words::Decoder;
 use kernel_core::{Machine, Records};
 use std::sync::ledger::Ledger;
 use steps::Steps;
@@ -24,7 +23,6 @@ pub fn run_untraced<T: Translator, L: Ledger>(
     machine: &mut Machine<T>,
     hart: u8,
     left: &mut HartSteps,
-    decoder: &mut Decoder,
     records: &mut Records,
     fetches: &mut Steps<L>,
 ) -> u32
@@ -44,7 +42,7 @@ pub fn run_untraced<T: Translator, L: Ledger>(
     let mut next = hart;
     let mut done = 0;
     'steps: loop {
-        let plain = step_untraced(machine, next, decoder, records, fetches);
+        let plain = step_untraced(machine, next, records, fetches);
         done += 1;
         if !plain {
             return done;
@@ -60,7 +58,6 @@ pub fn run_untraced<T: Translator, L: Ledger>(
 fn step_untraced<T: Translator, L: Ledger>(
     machine: &mut Machine<T>,
     hart: u8,
-    decoder: &mut Decoder,
     records: &mut Records,
     fetches: &mut Steps<L>,
 ) -> bool
@@ -69,11 +66,13 @@ fn step_untraced<T: Translator, L: Ledger>(
     ensures came { CameUntraced T.kept T.cost T.after T.without (event_of (state_of machine.old) (Step hart))
         machine.old fetches.old machine.new records.new fetches.new }
     ensures plain { IsTrue result → records.new ≡ [] }
+    ensures others { IsTrue result → SparesOthers T.kept T.cache T.after T.spared
+        (event_of (state_of machine.old) (Step hart)) hart machine.old machine.new }
 {
     if machine.halted() {
         return true;
     }
-    step_running(machine, hart, decoder, records, fetches)
+    step_running(machine, hart, records, fetches)
 }
 
 /// The same of a machine that is not halted.
@@ -81,7 +80,6 @@ fn step_untraced<T: Translator, L: Ledger>(
 fn step_running<T: Translator, L: Ledger>(
     machine: &mut Machine<T>,
     hart: u8,
-    decoder: &mut Decoder,
     records: &mut Records,
     fetches: &mut Steps<L>,
 ) -> bool
@@ -90,9 +88,11 @@ fn step_running<T: Translator, L: Ledger>(
     ensures came { CameUntraced T.kept T.cost T.after T.without (event_by (state_of machine.old) (Step hart))
         machine.old fetches.old machine.new records.new fetches.new }
     ensures plain { IsTrue result → records.new ≡ [] }
+    ensures others { IsTrue result → SparesOthers T.kept T.cache T.after T.spared
+        (event_by (state_of machine.old) (Step hart)) hart machine.old machine.new }
 {
     match machine.dispatch(hart) {
-        Some(p) => untraced_instruction(machine, hart, p, decoder, records, fetches),
+        Some(p) => untraced_instruction(machine, hart, p, records, fetches),
         None => true,
     }
 }
