@@ -1,10 +1,11 @@
 -- How a text that is written in pieces comes to its end.
-use Rattle.std.proofs.Common.{◌≡◌, ◌<◌, ◌+◌, ℕ, List, [], ◌++◌, Option, length, take, sym, ap, ◌∙◌, subst, append_assoc, append-nil, arith}
+use Rattle.std.proofs.Common.{◌≡◌, ◌<◌, ◌+◌, ℕ, List, [], ◌++◌, Option, Result, Ok, Err, OnOk, OnErr, length, take, refl, sym, ap, ◌∙◌, subst, append_assoc, append-nil, arith}
 use Rattle.std.proofs.Math.Seq.{take-append-add}
 use Rattle.std.proofs.lemmas.List.{take-append-le, length-append}
 use Rattle.std.specs.Io.KnownBytes.{Appends}
-use Rattle.std.proofs.KnownBytes.{Appends-trans}
+use Rattle.std.proofs.KnownBytes.{Appends-nil, Appends-trans}
 use Rattle.coy_io.specs.Pieces.{AppendsSome}
+use Rattle.coy_io.specs.Written.{Writes}
 use Rattle.schedule_replay.specs.Leaves.{Leaves}
 
 -- one more piece was written
@@ -29,3 +30,37 @@ leaves_some old now new whole piece rest l some =
     let size : length whole ≡ length l.front + (length piece + length rest) =
     ap length l.split ∙ length-append l.front (piece ++ rest) ∙ ap (λ k. length l.front + k) (length-append piece rest) in
     (length l.front + n, omega arith, subst (Appends old new) (sym same) (Appends-trans old now new l.front (take n piece) l.written some.2))
+
+-- ---- where a part of the text is kept back, to be written with what comes behind it
+
+-- nothing was written yet
+pub leaves_yet : (now : Option (List ℕ)) (whole : List ℕ) → Leaves now now whole whole
+leaves_yet now whole = record { front = []; written = Appends-nil now; split = refl }
+
+-- all was written
+pub leaves_all : (old new : Option (List ℕ)) (whole : List ℕ) → Appends old new whole → Leaves old new whole []
+leaves_all old new whole done = record { front = whole; written = done; split = sym (append-nil whole) }
+
+-- more text comes behind
+pub leaves_more : (old now : Option (List ℕ)) (whole rest more : List ℕ) → Leaves old now whole rest → Leaves old now (whole ++ more) (rest ++ more)
+leaves_more old now whole rest more l = record {
+  front = l.front;
+  written = l.written;
+  split = ap (λ text. text ++ more) l.split ∙ append_assoc l.front rest more;
+}
+
+-- a part of what was left was written
+pub leaves_on : (old now new : Option (List ℕ)) (whole text rest behind : List ℕ) → Leaves old now whole (text ++ behind) → Leaves now new text rest → Leaves old new whole (rest ++ behind)
+leaves_on old now new whole text rest behind l m = record {
+  front = l.front ++ m.front;
+  written = Appends-trans old now new l.front m.front l.written m.written;
+  split =
+      l.split ∙ ap (λ more. l.front ++ (more ++ behind)) m.split
+      ∙ ap (λ more. l.front ++ more) (append_assoc m.front rest behind) ∙ sym (append_assoc l.front m.front (rest ++ behind));
+}
+
+-- what was kept back is written at the end
+pub leaves_done : {T E : Type 0} (r : Result T E) (old now new : Option (List ℕ)) (whole text : List ℕ) → Leaves old now whole (text ++ [])
+    → OnOk r (Appends now new text) → OnErr r (AppendsSome now new text) → Writes old new r whole
+leaves_done (Ok v) old now new whole text l done cut = leaves_none old new whole (leaves_less old now new whole text [] l done)
+leaves_done (Err e) old now new whole text l done cut = leaves_some old now new whole text [] l cut

@@ -20,10 +20,12 @@ is_told Trace entry = true
 abbrev pub line_of : Mode → Record → List ℕ
 line_of mode entry = if is_told mode entry then record_text entry else []
 
--- whether none of these records is written, and none counted: accesses and instructions alone, and no trace
+-- whether it is plain that none of these records is written: nothing is, or they are accesses and instructions alone and
+-- no trace is written
 abbrev pub are_untold : Mode → List Record → Bool
+are_untold Silent entries = true
+are_untold Records entries = list_all is_detail entries
 are_untold Trace entries = false
-are_untold mode entries = list_all is_detail entries
 
 -- the lines of records
 unfoldable pub lines_of : Mode → List Record → List ℕ

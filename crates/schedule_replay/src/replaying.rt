@@ -11,6 +11,7 @@ use crate::performing::perform;
 use crate::replayed::Replayed;
 use crate::telling::put_told;
 use coy_io::{LineReader, Sink, Source};
+use coy_text::LineBuf;
 use kernel_core::{Machine, Records};
 use std::sync::ledger::Ledger;
 use steps::Steps;
@@ -43,6 +44,7 @@ pub fn replay<T: Translator, S: Source, K: Sink, L: Ledger>(
 {
     let harts = machine.objects().sizes().harts;
     let mut records = Records::new();
+    let mut buffer = LineBuf::new();
     let mut counts = Counts::of_events(0);
     let mut left = Events::NoneLeft;
     'each: loop {
@@ -57,7 +59,7 @@ pub fn replay<T: Translator, S: Source, K: Sink, L: Ledger>(
                     &mut counts,
                     fetches,
                 );
-                match put_told(mode, &records, output) {
+                match put_told(mode, &records, &mut buffer, output) {
                     Ok(()) => {}
                     Err(_) => return Replayed::WriteFault,
                 }
