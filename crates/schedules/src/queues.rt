@@ -136,6 +136,7 @@ impl Queues {
 
     /// A hart that has no process takes the first of the highest ready queue that is not empty. `None` where there
     /// is none to take. Not in constant time: the queue closes up behind the process that leaves it.
+    #[inline(always)]
     pub fn dispatch(&mut self, hart: u8) -> Option<u16>
         requires { hart < length self.old.harts }
         ensures process { result ≡ hart_of self.new hart }
@@ -146,9 +147,24 @@ impl Queues {
             Agrees (runs processes self.old) → Agrees (runs processes self.new) }
     {
         self.last = hart;
-        if let Some(p) = self.harts[hart as usize] {
-            return Some(p);
+        match self.harts[hart as usize] {
+            Some(p) => Some(p),
+            None => self.take_next(hart),
         }
+    }
+
+    /// The same of a hart that has no process. It is not inlined, so that one that has a process saves no registers for it.
+    #[inline(never)]
+    fn take_next(&mut self, hart: u8) -> Option<u16>
+        requires there { hart < length self.old.harts }
+        requires free { hart_of self.old hart ≡ None }
+        ensures process { result ≡ hart_of self.new hart }
+        ensures after { self.new ≡ dispatched self.old hart }
+        ensures processes { length self.new.sleepers ≡ length self.old.sleepers }
+        ensures harts { length self.new.harts ≡ length self.old.harts }
+        ensures agrees { (processes : List ProcessValue) →
+            Agrees (runs processes self.old) → Agrees (runs processes self.new) }
+    {
         let Some(priority) = highest(&self.ready, PRIORITIES) else {
             return None;
         };
