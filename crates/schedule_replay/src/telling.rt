@@ -80,9 +80,11 @@ fn gather<K: Sink>(
 
 /// Writes the lines that are not written yet where there may be no room for one more.
 fn make_room<K: Sink>(buffer: &mut LineBuf, output: &mut K) -> Result<(), WriteFault>
-    ensures ok { OnOk result (Leaves (K.taken output.old) (K.taken output.new) buffer.old buffer.new) }
+    ensures ok { let old = K.taken output.old in let new = K.taken output.new in
+        OnOk result (Leaves old new buffer.old buffer.new) }
     ensures room { OnOk result (length buffer.new ≤ 200) }
-    ensures err { OnErr result (AppendsSome (K.taken output.old) (K.taken output.new) buffer.old) }
+    ensures err { let old = K.taken output.old in let new = K.taken output.new in
+        OnErr result (AppendsSome old new buffer.old) }
     ensures cause { HasCause (K.faults output.old) (K.faults output.new) result }
 {
     if buffer.as_bytes().len() > MOST_BEFORE {
