@@ -1,3 +1,4 @@
 pub mod Reach
 pub mod Looked
 pub mod Plain
+pub mod Reads

@@ -1,5 +1,5 @@
 //! Instructions.
-ghost use Rattle.std.specs.Prelude.{◌<◌};
+ghost use Rattle.std.specs.Prelude.{◌<◌, ◌≤◌, ◌+◌};
 ghost use Rattle.cap_format.specs.declared.kind.CapKind.TheVariants.{Process};
 ghost use Rattle.object_store.specs.Store.{size_of};
 ghost use Rattle.schedules.specs.Queues.{QueuesValue};
@@ -10,6 +10,7 @@ ghost use Rattle.machine_state.specs.Setters.{set_queues};
 ghost use Rattle.kernel_core.specs.Instruction.{perform};
 ghost use Rattle.kernel_core.specs.Event.{decoded_to, instruction};
 ghost use Rattle.event_reach.specs.Reach.{names_of, Covers};
+ghost use Rattle.event_reach.specs.Reads.{a_message, an_instruction};
 
 use crate::faults::reach_of_fault;
 use crate::memory::{reach_of_load, reach_of_store};
@@ -24,15 +25,17 @@ use walk_engine::Translator;
 use walk_meaning::Kind;
 
 /// One instruction of a process: its fetch, then what the word says.
-#[tactic(auto, unfolding(kernel_core::specs::Event::instruction), using(crate::proofs::Covering::covers_process))]
+#[tactic(auto, unfolding(kernel_core::specs::Event::instruction), using(crate::proofs::Covering::covers_process, walk_meaning::proofs::SlotsLaw::slots_law))]
 pub(crate) fn reach_of_instruction<T: Translator, L: Ledger>(
     machine: &Machine<T>,
     p: u16,
     fetches: &mut Steps<L>,
 ) -> Reach
     requires { p < size_of machine.now.objects.items Process }
-    ensures { (q : QueuesValue) →
+    ensures covers { (q : QueuesValue) →
         Covers (names_of result) (instruction (set_queues (state_of machine.now) q) p).changed }
+    ensures least { fetches.old ≤ fetches.new }
+    ensures most { fetches.new ≤ fetches.old + an_instruction }
 {
     match machine.walk_data(p, machine.pc(p), Kind::Fetch, fetches) {
         Ok(hit) => reach_of_word(machine, p, machine.number_at(hit, 4), fetches),
@@ -48,8 +51,10 @@ fn reach_of_word<T: Translator, L: Ledger>(
     fetches: &mut Steps<L>,
 ) -> Reach
     requires { p < size_of machine.now.objects.items Process }
-    ensures { (q : QueuesValue) →
+    ensures covers { (q : QueuesValue) →
         Covers (names_of result) (decoded_to (set_queues (state_of machine.now) q) p (insn_at word)).changed }
+    ensures least { fetches.old ≤ fetches.new }
+    ensures most { fetches.new ≤ fetches.old + a_message }
 {
     match decode(word) {
         Ok(insn) => reach_of_effect(machine, p, insn, fetches),
@@ -67,8 +72,10 @@ fn reach_of_effect<T: Translator, L: Ledger>(
 ) -> Reach
     requires there { p < size_of machine.now.objects.items Process }
     requires insn { InRange insn }
-    ensures { (q : QueuesValue) →
+    ensures covers { (q : QueuesValue) →
         Covers (names_of result) (perform (set_queues (state_of machine.now) q) p insn).changed }
+    ensures least { fetches.old ≤ fetches.new }
+    ensures most { fetches.new ≤ fetches.old + a_message }
 {
     let outcome = evaluate(machine.registers(p), machine.pc(p), insn);
     match outcome.effect {

@@ -1,5 +1,5 @@
 //! Call 0: an operation of the kernel, or the phases of a message.
-ghost use Rattle.std.specs.Prelude.{◌<◌, ◌≤◌, ◌≡◌, Ok};
+ghost use Rattle.std.specs.Prelude.{◌<◌, ◌≤◌, ◌≡◌, ◌+◌, Ok};
 ghost use Rattle.cap_format.specs.declared.kind.CapKind.TheVariants.{Process};
 ghost use Rattle.object_store.specs.Store.{size_of};
 ghost use Rattle.schedules.specs.Queues.{QueuesValue};
@@ -7,6 +7,7 @@ ghost use Rattle.machine_state.specs.State.{state_of};
 ghost use Rattle.machine_state.specs.Setters.{set_queues};
 ghost use Rattle.kernel_core.specs.SystemCall.{send, received_after, invoke};
 ghost use Rattle.event_reach.specs.Reach.{names_of, Covers};
+ghost use Rattle.event_reach.specs.Reads.{a_message};
 
 use crate::faults::reach_of_fault;
 use crate::operating::reach_of_operation;
@@ -26,8 +27,10 @@ pub(crate) fn reach_of_invoke<T: Translator, L: Ledger>(
     fetches: &mut Steps<L>,
 ) -> Reach
     requires { p < size_of machine.now.objects.items Process }
-    ensures { (q : QueuesValue) →
+    ensures covers { (q : QueuesValue) →
         Covers (names_of result) (invoke (set_queues (state_of machine.now) q) p).changed }
+    ensures least { fetches.old ≤ fetches.new }
+    ensures most { fetches.new ≤ fetches.old + a_message }
 {
     match parse(machine.registers(p)) {
         Err(_) => reach_of_fault(machine, p, None),
@@ -50,8 +53,10 @@ fn reach_of_send<T: Translator, L: Ledger>(
     fetches: &mut Steps<L>,
 ) -> Reach
     requires { p < size_of machine.now.objects.items Process }
-    ensures { (q : QueuesValue) →
+    ensures covers { (q : QueuesValue) →
         Covers (names_of result) (send (set_queues (state_of machine.now) q) p inv.now).outcome.changed }
+    ensures least { fetches.old ≤ fetches.new }
+    ensures most { fetches.new ≤ fetches.old + a_message }
 {
     match machine.callee(p, inv.capreg()) {
         Callee::Kernel(cap) => reach_of_operation(machine, p, cap, inv, fetches),

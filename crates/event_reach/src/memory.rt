@@ -1,5 +1,5 @@
 //! Loads and stores, of bytes and of capabilities.
-ghost use Rattle.std.specs.Prelude.{◌<◌, ℕ, Bool};
+ghost use Rattle.std.specs.Prelude.{◌<◌, ◌≤◌, ◌+◌, ℕ, Bool};
 ghost use Rattle.cap_format.specs.declared.kind.CapKind.TheVariants.{Process};
 ghost use Rattle.object_store.specs.Store.{size_of};
 ghost use Rattle.schedules.specs.Queues.{QueuesValue};
@@ -9,6 +9,7 @@ ghost use Rattle.machine_state.specs.Setters.{set_queues};
 ghost use Rattle.kernel_core.specs.LoadStore.{load, store};
 ghost use Rattle.kernel_core.specs.CapTransfer.{load_cap, store_cap};
 ghost use Rattle.event_reach.specs.Reach.{names_of, Covers};
+ghost use Rattle.event_reach.specs.Reads.{a_walk};
 
 use crate::faults::reach_of_fault;
 use crate::reach::Reach;
@@ -20,7 +21,7 @@ use walk_engine::Translator;
 use walk_meaning::Kind;
 
 /// A load changes nothing but its process, unless it faults.
-#[tactic(auto, unfolding(kernel_core::specs::LoadStore::load), using(crate::proofs::Covering::covers_none))]
+#[tactic(auto, unfolding(kernel_core::specs::LoadStore::load), using(crate::proofs::Covering::covers_none, walk_meaning::proofs::SlotsLaw::slots_law))]
 pub(crate) fn reach_of_load<T: Translator, L: Ledger>(
     machine: &Machine<T>,
     p: u16,
@@ -30,8 +31,10 @@ pub(crate) fn reach_of_load<T: Translator, L: Ledger>(
 ) -> Reach
     requires there { p < size_of machine.now.objects.items Process }
     requires size { IsSize size }
-    ensures { (q : QueuesValue) (signed : Bool) (rd : ℕ) →
+    ensures covers { (q : QueuesValue) (signed : Bool) (rd : ℕ) →
         Covers (names_of result) (load (set_queues (state_of machine.now) q) p at size signed rd).changed }
+    ensures least { fetches.old ≤ fetches.new }
+    ensures most { fetches.new ≤ fetches.old + a_walk }
 {
     if at % u32::from(size) != 0 {
         return reach_of_fault(machine, p, None);
@@ -43,7 +46,7 @@ pub(crate) fn reach_of_load<T: Translator, L: Ledger>(
 }
 
 /// A store: the page that its walk reaches.
-#[tactic(auto, unfolding(kernel_core::specs::LoadStore::store), using(crate::proofs::Covering::covers_same))]
+#[tactic(auto, unfolding(kernel_core::specs::LoadStore::store), using(crate::proofs::Covering::covers_same, walk_meaning::proofs::SlotsLaw::slots_law))]
 pub(crate) fn reach_of_store<T: Translator, L: Ledger>(
     machine: &Machine<T>,
     p: u16,
@@ -53,8 +56,10 @@ pub(crate) fn reach_of_store<T: Translator, L: Ledger>(
 ) -> Reach
     requires there { p < size_of machine.now.objects.items Process }
     requires size { IsSize size }
-    ensures { (q : QueuesValue) (value : ℕ) →
+    ensures covers { (q : QueuesValue) (value : ℕ) →
         Covers (names_of result) (store (set_queues (state_of machine.now) q) p at size value).changed }
+    ensures least { fetches.old ≤ fetches.new }
+    ensures most { fetches.new ≤ fetches.old + a_walk }
 {
     if at % u32::from(size) != 0 {
         return reach_of_fault(machine, p, None);
@@ -66,7 +71,7 @@ pub(crate) fn reach_of_store<T: Translator, L: Ledger>(
 }
 
 /// A loadcap changes nothing but its process, unless it faults.
-#[tactic(auto, unfolding(kernel_core::specs::CapTransfer::load_cap), using(crate::proofs::Covering::covers_none))]
+#[tactic(auto, unfolding(kernel_core::specs::CapTransfer::load_cap), using(crate::proofs::Covering::covers_none, walk_meaning::proofs::SlotsLaw::slots_law))]
 pub(crate) fn reach_of_load_cap<T: Translator, L: Ledger>(
     machine: &Machine<T>,
     p: u16,
@@ -75,8 +80,10 @@ pub(crate) fn reach_of_load_cap<T: Translator, L: Ledger>(
     fetches: &mut Steps<L>,
 ) -> Reach
     requires { p < size_of machine.now.objects.items Process }
-    ensures { (q : QueuesValue) →
+    ensures covers { (q : QueuesValue) →
         Covers (names_of result) (load_cap (set_queues (state_of machine.now) q) p at to).changed }
+    ensures least { fetches.old ≤ fetches.new }
+    ensures most { fetches.new ≤ fetches.old + a_walk }
 {
     if to > 31 {
         return reach_of_fault(machine, p, None);
@@ -91,7 +98,7 @@ pub(crate) fn reach_of_load_cap<T: Translator, L: Ledger>(
 }
 
 /// A storecap: the capability page that its walk reaches.
-#[tactic(auto, unfolding(kernel_core::specs::CapTransfer::store_cap), using(crate::proofs::Covering::covers_same))]
+#[tactic(auto, unfolding(kernel_core::specs::CapTransfer::store_cap), using(crate::proofs::Covering::covers_same, walk_meaning::proofs::SlotsLaw::slots_law))]
 pub(crate) fn reach_of_store_cap<T: Translator, L: Ledger>(
     machine: &Machine<T>,
     p: u16,
@@ -100,8 +107,10 @@ pub(crate) fn reach_of_store_cap<T: Translator, L: Ledger>(
     fetches: &mut Steps<L>,
 ) -> Reach
     requires { p < size_of machine.now.objects.items Process }
-    ensures { (q : QueuesValue) →
+    ensures covers { (q : QueuesValue) →
         Covers (names_of result) (store_cap (set_queues (state_of machine.now) q) p at from).changed }
+    ensures least { fetches.old ≤ fetches.new }
+    ensures most { fetches.new ≤ fetches.old + a_walk }
 {
     if from > 31 {
         return reach_of_fault(machine, p, None);

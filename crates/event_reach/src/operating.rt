@@ -1,5 +1,5 @@
 //! Operations of the kernel.
-ghost use Rattle.std.specs.Prelude.{◌≢◌, ◌<◌, List};
+ghost use Rattle.std.specs.Prelude.{◌≢◌, ◌<◌, ◌≤◌, ◌+◌, List};
 ghost use Rattle.cap_format.specs.declared.kind.CapKind.TheVariants.{Process, Entry};
 ghost use Rattle.cap_format.specs.Capability.{Capability, bare};
 ghost use Rattle.object_store.specs.Store.{size_of};
@@ -11,6 +11,7 @@ ghost use Rattle.machine_state.specs.State.{state_of};
 ghost use Rattle.machine_state.specs.Setters.{set_queues, advance};
 ghost use Rattle.kernel_core.specs.KernelOperation.{memory_op, control_op, kernlog_op, log_string, logged, kernel_op};
 ghost use Rattle.event_reach.specs.Reach.{names_of, Covers};
+ghost use Rattle.event_reach.specs.Reads.{a_string};
 
 use crate::faults::reach_of_fault;
 use crate::reach::Reach;
@@ -38,8 +39,10 @@ pub(crate) fn reach_of_operation<T: Translator, L: Ledger>(
 ) -> Reach
     requires there { p < size_of machine.now.objects.items Process }
     requires kind { cap.kind ≢ Entry }
-    ensures { (q : QueuesValue) →
+    ensures covers { (q : QueuesValue) →
         Covers (names_of result) (kernel_op (set_queues (state_of machine.now) q) p inv.now (bare cap)).changed }
+    ensures least { fetches.old ≤ fetches.new }
+    ensures most { fetches.new ≤ fetches.old + a_string }
 {
     match cap.kind() {
         CapKind::KernLog => reach_of_log(machine, p, inv, fetches),
@@ -84,8 +87,10 @@ fn reach_of_log<T: Translator, L: Ledger>(
     fetches: &mut Steps<L>,
 ) -> Reach
     requires there { p < size_of machine.now.objects.items Process }
-    ensures { (q : QueuesValue) (c : Capability) →
+    ensures covers { (q : QueuesValue) (c : Capability) →
         Covers (names_of result) (kernlog_op (set_queues (state_of machine.now) q) p inv.now c).changed }
+    ensures least { fetches.old ≤ fetches.new }
+    ensures most { fetches.new ≤ fetches.old + a_string }
 {
     if inv.words()[0] != LOG {
         return Reach::Nothing;
@@ -102,8 +107,10 @@ fn reach_of_logged<T: Translator, L: Ledger>(
     fetches: &mut Steps<L>,
 ) -> Reach
     requires there { p < size_of machine.now.objects.items Process }
-    ensures { (q : QueuesValue) →
+    ensures covers { (q : QueuesValue) →
         Covers (names_of result) (log_string (set_queues (state_of machine.now) q) p inv.now).changed }
+    ensures least { fetches.old ≤ fetches.new }
+    ensures most { fetches.new ≤ fetches.old + a_string }
 {
     let string = walk_string(machine, p, Kind::Load, inv.at(), inv.length(), fetches);
     reach_behind_log(machine, p, inv, string.fault)

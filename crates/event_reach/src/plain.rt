@@ -1,5 +1,5 @@
 //! Plain instructions: those that change no more than the process that performs them and the page of a store.
-ghost use Rattle.std.specs.Prelude.{◌≡◌, ◌<◌, IfSome};
+ghost use Rattle.std.specs.Prelude.{◌≡◌, ◌<◌, ◌≤◌, ◌+◌, IfSome};
 ghost use Rattle.cap_format.specs.declared.kind.CapKind.TheVariants.{Process};
 ghost use Rattle.object_store.specs.Store.{size_of};
 ghost use Rattle.rv32_decode.specs.InRange.{InRange};
@@ -11,6 +11,7 @@ ghost use Rattle.machine_state.specs.Machine.{hart_in};
 ghost use Rattle.kernel_core.specs.Event.{event_of};
 ghost use Rattle.event_reach.specs.Looked.{Looked};
 ghost use Rattle.event_reach.specs.Plain.{plain_load, plain_store, plain_effect, plain_word, plain_instruction, plain_by, plain_of, plain_names, ChangesAlone, IsThere};
+ghost use Rattle.event_reach.specs.Reads.{a_walk, a_plain_look};
 
 use crate::accesses::reach_page;
 use machine_state::{Event, Machine};
@@ -33,7 +34,7 @@ pub struct PlainInsn {
 /// The plain instruction that an event performs, if it does. Then it changes no more than that says.
 ///
 /// The machine stays as it is, and so does what its translator keeps. A page that is kept is not walked to; to any other it
-/// walks as the event will, and counts the slots that it reads. No bound on them is claimed.
+/// walks as the event will, and counts the slots that it reads.
 pub fn plain_of_event<T: Translator, L: Ledger>(
     machine: &mut Machine<T>,
     e: Event,
@@ -45,6 +46,8 @@ pub fn plain_of_event<T: Translator, L: Ledger>(
     ensures alone { let s = state_of machine.old in
         IfSome result (λ plain. ChangesAlone s (event_of s e) (plain_names plain)) }
     ensures looked { Looked T.kept T.cache (hart_in e) machine.old machine.new }
+    ensures least { fetches.old ≤ fetches.new }
+    ensures most { fetches.new ≤ fetches.old + a_plain_look }
 {
     if machine.halted() {
         return None;
@@ -62,6 +65,8 @@ fn plain_by_event<T: Translator, L: Ledger>(
     ensures value { result ≡ plain_by (state_of machine.old) e }
     ensures there { IfSome result (IsThere machine.old.objects) }
     ensures looked { Looked T.kept T.cache (hart_in e) machine.old machine.new }
+    ensures least { fetches.old ≤ fetches.new }
+    ensures most { fetches.new ≤ fetches.old + a_plain_look }
 {
     match e {
         Event::Step(hart) => match machine.on_hart(hart) {
@@ -85,6 +90,8 @@ fn plain_of_instruction<T: Translator, L: Ledger>(
     ensures value { result ≡ plain_instruction (state_of machine.old) p }
     ensures there { IfSome result (IsThere machine.old.objects) }
     ensures looked { Looked T.kept T.cache hart machine.old machine.new }
+    ensures least { fetches.old ≤ fetches.new }
+    ensures most { fetches.new ≤ fetches.old + a_plain_look }
 {
     let pc = machine.pc(p);
     match reach_page(machine, hart, p, pc, Kind::Fetch, fetches) {
@@ -109,6 +116,8 @@ fn plain_of_word<T: Translator, L: Ledger>(
     ensures value { result ≡ plain_word (state_of machine.old) p (insn_at word) }
     ensures there { IfSome result (IsThere machine.old.objects) }
     ensures looked { Looked T.kept T.cache hart machine.old machine.new }
+    ensures least { fetches.old ≤ fetches.new }
+    ensures most { fetches.new ≤ fetches.old + a_walk }
 {
     match machine.decode(word) {
         Ok(insn) => plain_of_insn(machine, hart, p, insn, fetches),
@@ -131,6 +140,8 @@ fn plain_of_insn<T: Translator, L: Ledger>(
         result ≡ plain_effect s p (effect_of (process s p).regs (pc_of s p) insn) }
     ensures there { IfSome result (IsThere machine.old.objects) }
     ensures looked { Looked T.kept T.cache hart machine.old machine.new }
+    ensures least { fetches.old ≤ fetches.new }
+    ensures most { fetches.new ≤ fetches.old + a_walk }
 {
     let outcome = evaluate(machine.registers(p), machine.pc(p), insn);
     match outcome.effect {
@@ -160,6 +171,8 @@ fn plain_of_load<T: Translator, L: Ledger>(
     ensures value { result ≡ plain_load (state_of machine.old) p at size }
     ensures there { IfSome result (IsThere machine.old.objects) }
     ensures looked { Looked T.kept T.cache hart machine.old machine.new }
+    ensures least { fetches.old ≤ fetches.new }
+    ensures most { fetches.new ≤ fetches.old + a_walk }
 {
     if at % u32::from(size) != 0 {
         return None;
@@ -189,6 +202,8 @@ fn plain_of_store<T: Translator, L: Ledger>(
     ensures value { result ≡ plain_store (state_of machine.old) p at size }
     ensures there { IfSome result (IsThere machine.old.objects) }
     ensures looked { Looked T.kept T.cache hart machine.old machine.new }
+    ensures least { fetches.old ≤ fetches.new }
+    ensures most { fetches.new ≤ fetches.old + a_walk }
 {
     if at % u32::from(size) != 0 {
         return None;

@@ -1,5 +1,5 @@
 //! Strings: the pieces of pages that the accesses to their spans reach.
-ghost use Rattle.std.specs.Prelude.{◌≡◌, ◌<◌, ◌≤◌, ◌+◌, ◌^◌, true};
+ghost use Rattle.std.specs.Prelude.{◌≡◌, ◌<◌, ◌≤◌, ◌+◌, ◌^◌, ◌*◌, true, length};
 ghost use Rattle.cap_format.specs.declared.kind.CapKind.TheVariants.{Process};
 ghost use Rattle.object_store.specs.Store.{size_of};
 ghost use Rattle.object_store.specs.Meaning.{meaning};
@@ -7,6 +7,7 @@ ghost use Rattle.string_move.specs.Spans.{spans};
 ghost use Rattle.walk_meaning.specs.Walk.{is_data};
 ghost use Rattle.machine_state.specs.State.{state_of};
 ghost use Rattle.messages.specs.Strings.{side, string_fault_map};
+ghost use Rattle.event_reach.specs.Reads.{a_walk, a_string};
 
 use machine_state::Machine;
 use messages::{Found, StringFault};
@@ -32,6 +33,8 @@ pub(crate) fn walk_string<T: Translator, L: Ledger>(
     ensures pieces { result.pieces ≡ (side (state_of machine.now) q kind (spans at size)).pieces }
     ensures fault { let f = meaning machine.now.objects.items in
         string_fault_map f result.fault ≡ (side (state_of machine.now) q kind (spans at size)).fault }
+    ensures least { fetches.old ≤ fetches.new }
+    ensures most { fetches.new ≤ fetches.old + a_string }
 {
     walk_spans(machine, q, kind, &cut(at, size), fetches)
 }
@@ -49,6 +52,8 @@ fn walk_spans<T: Translator, L: Ledger>(
     ensures pieces { result.pieces ≡ (side (state_of machine.now) q kind spans.now).pieces }
     ensures fault { let f = meaning machine.now.objects.items in
         string_fault_map f result.fault ≡ (side (state_of machine.now) q kind spans.now).fault }
+    ensures least { fetches.old ≤ fetches.new }
+    ensures most { fetches.new ≤ fetches.old + a_walk * length spans.now }
 {
     let mut pieces = Pieces::new();
     let list = spans.as_slice();

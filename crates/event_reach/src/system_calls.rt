@@ -1,5 +1,5 @@
 //! System calls, by their numbers.
-ghost use Rattle.std.specs.Prelude.{◌<◌};
+ghost use Rattle.std.specs.Prelude.{◌<◌, ◌≤◌, ◌+◌};
 ghost use Rattle.cap_format.specs.declared.kind.CapKind.TheVariants.{Process};
 ghost use Rattle.object_store.specs.Store.{size_of};
 ghost use Rattle.schedules.specs.Queues.{QueuesValue};
@@ -7,6 +7,7 @@ ghost use Rattle.machine_state.specs.State.{state_of};
 ghost use Rattle.machine_state.specs.Setters.{set_queues};
 ghost use Rattle.kernel_core.specs.SystemCall.{copy_cap, system_call};
 ghost use Rattle.event_reach.specs.Reach.{names_of, Covers};
+ghost use Rattle.event_reach.specs.Reads.{a_message};
 
 use crate::faults::reach_of_fault;
 use crate::invoking::reach_of_invoke;
@@ -26,8 +27,10 @@ pub(crate) fn reach_of_call<T: Translator, L: Ledger>(
     fetches: &mut Steps<L>,
 ) -> Reach
     requires { p < size_of machine.now.objects.items Process }
-    ensures { (q : QueuesValue) →
+    ensures covers { (q : QueuesValue) →
         Covers (names_of result) (system_call (set_queues (state_of machine.now) q) p).changed }
+    ensures least { fetches.old ≤ fetches.new }
+    ensures most { fetches.new ≤ fetches.old + a_message }
 {
     let registers = machine.registers(p);
     let (x10, x11) = (registers[10], registers[11]);

@@ -4,14 +4,14 @@ use Rattle.machine_state.specs.State.{state_of, pc_of}
 use Rattle.kernel_core.specs.CapTransfer.{store_cap}
 use Rattle.event_reach.proofs.memory.reach_of_store_cap.Goals as goal
 
-pub returns-then-from-gt31 : goal.returns-then-from-gt31
+pub returns-then-from-gt31-clause-covers : goal.returns-then-from-gt31-clause-covers
 unfolding store_cap
-returns-then-from-gt31 g c = λ q. let fault = c.reach_of_fault.ensures q MalformedSyscall (pc_of (state_of c.args.machine.now) c.args.p) in search rules
+returns-then-from-gt31-clause-covers g c = λ q. let fault = c.reach_of_fault.ensures q MalformedSyscall (pc_of (state_of c.args.machine.now) c.args.p) in search rules
 
-pub returns-then-at-ne0 : goal.returns-then-at-ne0
+pub returns-then-at-ne0-clause-covers : goal.returns-then-at-ne0-clause-covers
 unfolding store_cap
-returns-then-at-ne0 g c = λ q. let fault = c.reach_of_fault-then-at-ne0.ensures q BadAlign c.args.at in search rules
+returns-then-at-ne0-clause-covers g c = λ q. let fault = c.reach_of_fault-then-at-ne0.ensures q BadAlign c.args.at in search rules
 
-pub returns-in-Err : goal.returns-in-Err
+pub returns-in-Err-clause-covers : goal.returns-in-Err-clause-covers
 unfolding store_cap
-returns-in-Err g c = λ q. let fault = c.reach_of_fault-in-Err.ensures q c.in-Err.why.code c.args.at in search rules
+returns-in-Err-clause-covers g c = λ q. let fault = c.reach_of_fault-in-Err.ensures q c.in-Err.why.code c.args.at in search rules

@@ -10,9 +10,9 @@ use Rattle.event_reach.specs.Reach.{names_of, Covers}
 use Rattle.event_reach.proofs.Walked.{side_anywhere}
 use Rattle.event_reach.proofs.operating.reach_of_logged.Goals as goal
 
-pub returns : goal.returns
+pub returns-clause-covers : goal.returns-clause-covers
 unfolding log_string
-returns g c = λ q.
+returns-clause-covers g c = λ q.
     let s = state_of c.args.machine.now in
     let inv = c.args.inv.now in
     let there : State = set_queues s q in

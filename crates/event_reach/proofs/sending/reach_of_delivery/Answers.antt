@@ -14,8 +14,8 @@ use Rattle.event_reach.proofs.Covering.{covers_delivery}
 use Rattle.event_reach.proofs.Walked.{side_anywhere}
 use Rattle.event_reach.proofs.sending.reach_of_delivery.Goals as goal
 
-pub returns : goal.returns
-returns g c = λ q p from.
+pub returns-clause-covers : goal.returns-clause-covers
+returns-clause-covers g c = λ q p from.
     let s = state_of c.args.machine.now in
     let inv = c.args.inv.now in
     let there : State = set_queues s q in

@@ -10,9 +10,9 @@ use Rattle.event_reach.specs.Reach.{names_of, Covers}
 use Rattle.event_reach.proofs.Walked.{side_anywhere}
 use Rattle.event_reach.proofs.sending.reach_of_message.Goals as goal
 
-pub returns : goal.returns
+pub returns-clause-covers : goal.returns-clause-covers
 unfolding send_open
-returns g c = λ q.
+returns-clause-covers g c = λ q.
     let s = state_of c.args.machine.now in
     let inv = c.args.inv.now in
     let there : State = set_queues s q in
@@ -20,4 +20,4 @@ returns g c = λ q.
     let walked = rw (c.at.ensures.value, c.length.ensures.value) at c.walk_string-sent.ensures.fault in
     let is = walked ∙ ap (λ (x : Side). x.fault) (sym (side_anywhere s q c.args.p Load (spans inv.at inv.length))) in
     let Behind : Option StringFault → Type 0 = λ f. Covers (names_of c.reach_behind.result) (sent_by_fault there c.args.p c.args.endpoint c.args.to inv from.pieces f).changed in
-    subst Behind is (c.reach_behind.ensures q from.pieces)
+    subst Behind is (c.reach_behind.ensures.covers q from.pieces)

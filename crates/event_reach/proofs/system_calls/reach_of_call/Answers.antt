@@ -4,22 +4,22 @@ use Rattle.machine_state.specs.State.{state_of, pc_of}
 use Rattle.kernel_core.specs.SystemCall.{move_cap, system_call}
 use Rattle.event_reach.proofs.system_calls.reach_of_call.Goals as goal
 
-pub returns-in-None : goal.returns-in-None
+pub returns-in-None-clause-covers : goal.returns-in-None-clause-covers
 unfolding system_call move_cap
-returns-in-None g c = λ q. let fault = c.reach_of_fault.ensures q MalformedSyscall (pc_of (state_of c.args.machine.now) c.args.p) in search rules
+returns-in-None-clause-covers g c = λ q. let fault = c.reach_of_fault.ensures q MalformedSyscall (pc_of (state_of c.args.machine.now) c.args.p) in search rules
 
-pub returns-in-Some-Invoke : goal.returns-in-Some-Invoke
+pub returns-in-Some-Invoke-clause-covers : goal.returns-in-Some-Invoke-clause-covers
 unfolding system_call move_cap
-returns-in-Some-Invoke g c = λ q. let part = c.reach_of_invoke.ensures q in search rules
+returns-in-Some-Invoke-clause-covers g c = λ q. let part = c.reach_of_invoke.ensures.covers q in search rules
 
-pub returns-in-Some-LoadCap : goal.returns-in-Some-LoadCap
+pub returns-in-Some-LoadCap-clause-covers : goal.returns-in-Some-LoadCap-clause-covers
 unfolding system_call move_cap
-returns-in-Some-LoadCap g c = λ q. let part = c.reach_of_load_cap.ensures q in search rules
+returns-in-Some-LoadCap-clause-covers g c = λ q. let part = c.reach_of_load_cap.ensures.covers q in search rules
 
-pub returns-in-Some-StoreCap : goal.returns-in-Some-StoreCap
+pub returns-in-Some-StoreCap-clause-covers : goal.returns-in-Some-StoreCap-clause-covers
 unfolding system_call move_cap
-returns-in-Some-StoreCap g c = λ q. let part = c.reach_of_store_cap.ensures q in search rules
+returns-in-Some-StoreCap-clause-covers g c = λ q. let part = c.reach_of_store_cap.ensures.covers q in search rules
 
-pub returns-in-Some-CopyCap : goal.returns-in-Some-CopyCap
+pub returns-in-Some-CopyCap-clause-covers : goal.returns-in-Some-CopyCap-clause-covers
 unfolding system_call move_cap
-returns-in-Some-CopyCap g c = λ q. let part = c.reach_of_copy.ensures q in search rules
+returns-in-Some-CopyCap-clause-covers g c = λ q. let part = c.reach_of_copy.ensures q in search rules
