@@ -32,6 +32,11 @@ pub other_kind : (k : CapKind) → k ≢ Process → same_kind Process k ≡ 0
 other_kind Process other = absurd (other refl)
 other_kind k other = refl
 
+-- nor does a page
+pub no_page : (k : CapKind) → k ≢ Page → same_kind Page k ≡ 0
+no_page Page other = absurd (other refl)
+no_page k other = refl
+
 -- where none of the other kinds is kept, there is a place for one more of any
 pub place_for : (places : List Place) → ((k : CapKind) → k ≢ Process → used k places ≡ 0) → (kind : CapKind) → HasPlace kind places
 place_for places none Process = tt

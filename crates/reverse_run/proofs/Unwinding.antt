@@ -1,29 +1,32 @@
 -- From a later store back: an event that is remembered is undone, and so are those before it.
-use Rattle.std.proofs.Common.{◌≡◌, ℕ, zero, suc, ◌+◌, ◌-◌, ◌<◌, ◌≤◌, ◌⊎◌, inl, inr, List, [], ◌∷◌, ◌++◌, map, take, length, refl, sym, ap, ◌∙◌, subst, arith}
+use Rattle.std.proofs.Common.{◌≡◌, ℕ, zero, suc, ◌+◌, ◌-◌, ◌*◌, ◌<◌, ◌≤◌, ◌⊎◌, inl, inr, List, [], ◌∷◌, ◌++◌, map, take, length, refl, sym, ap, ◌∙◌, subst, arith}
 use Rattle.std.specs.List.{All}
 use Rattle.std.proofs.lemmas.Bool.{cases_lt}
 use Rattle.std.proofs.lemmas.List.{get_or_past, length-map, length_push}
+use Rattle.std.proofs.lemmas.List.Sums.{sum_by-cons}
 use Rattle.std.proofs.lemmas.List.Elements.{All-take, All-cons, All-tail, All-push}
 use Rattle.cap_format.specs.declared.kind.CapKind.{CapKind}
 use Rattle.cap_format.specs.declared.kind.CapKind.TheVariants.{Page, CapPage, Gpt, Endpoint, Process}
 use Rattle.object_store.specs.Store.{Store, size_of, sizes_of}
 use Rattle.object_store.specs.Object.{ObjectName, SameObject, IsAmong, Stays, IsEven}
-use Rattle.object_store.specs.Saved.{Saved, restored, AreThere}
+use Rattle.object_store.specs.Saved.{Saved, restored, AreThere, slots_copied}
 use Rattle.object_store.proofs.Restored.{size_of_same, there_same, restored_same, sizes_restored}
 use Rattle.gpt_objects.specs.Gpt.{empty_gpt}
 use Rattle.page_store.specs.Page.{empty_page}
 use Rattle.page_store.specs.CapPage.{empty_cappage}
 use Rattle.process_objects.specs.Process.{empty_process}
 use Rattle.endpoint_objects.specs.Endpoint.{empty_endpoint}
+use Rattle.machine_state.specs.declared.places.Place.{Place}
 use Rattle.machine_state.specs.Machine.{MachineValue, IsMachine}
 use Rattle.machine_state.specs.declared.event.Event.{Event}
 use Rattle.machine_state.specs.State.{State, state_of}
 use Rattle.kernel_core.specs.Event.{event_of}
-use Rattle.machine_state.specs.Past.{PastValue, names_in, saved_in, IsFor}
+use Rattle.machine_state.specs.Past.{PastValue, names_in, saved_in, used, same_kind, slots_back, IsFor}
 use Rattle.machine_state.proofs.Saved.{saved_holds}
-use Rattle.reverse_run.specs.Remembered.{MementoValue, LeadsBack, Remembers, queues_before, halted_before}
+use Rattle.reverse_run.specs.Remembered.{MementoValue, AtMostOneGpt, LeadsBack, Remembers, queues_before, halted_before}
 use Rattle.reverse_run.specs.Moments.{Moment, moment_of, state_at, moment_before, unwound, CanUnwind, AreKept, ReversibleValue, moments_of}
 use Rattle.reverse_run.specs.History.{history_of, after_event, remembered}
+use Rattle.reverse_run.specs.Reads.{a_copy, an_undo}
 
 -- ---- one event
 
@@ -130,11 +133,13 @@ take_front (suc depth) x xs least = let is : suc depth - 1 ≡ depth = omega ari
 
 -- after an event: the past of this event in front of all but the oldest, or with one spare past less
 pub kept_event : (m t : Moment) (kept : MementoValue) (pasts spare pasts1 spare1 : List MementoValue) (room spare_room : ℕ) → AreKept m pasts spare room spare_room → sizes_of t.objects ≡ sizes_of m.objects
-    → IsFor kept.past (sizes_of m.objects) → pasts1 ≡ take (length pasts + length spare - 1) pasts → spare1 ≡ take (length spare - 1) spare → length pasts1 + length spare1 + 1 ≡ length pasts + length spare
+    → IsFor kept.past (sizes_of m.objects) → AtMostOneGpt kept.past → pasts1 ≡ take (length pasts + length spare - 1) pasts → spare1 ≡ take (length spare - 1) spare → length pasts1 + length spare1 + 1 ≡ length pasts + length spare
     → CanUnwind t (kept ∷ pasts1) → AreKept t (kept ∷ pasts1) spare1 room spare_room
-kept_event m t kept pasts spare pasts1 spare1 room spare_room are sizes is first fewer number unwinds =
+kept_event m t kept pasts spare pasts1 spare1 room spare_room are sizes is one first fewer number unwinds =
     let Made : List MementoValue → Type 0 = λ ps. All (λ (k : MementoValue). IsFor k.past (sizes_of m.objects)) ps in
     let in_use : Made pasts1 = subst Made (sym first) (All-take (λ (k : MementoValue). IsFor k.past (sizes_of m.objects)) (length pasts + length spare - 1) pasts are.in_use) in
+    let Few : List MementoValue → Type 0 = λ ps. All (λ (k : MementoValue). AtMostOneGpt k.past) ps in
+    let few : Few pasts1 = subst Few (sym first) (All-take (λ (k : MementoValue). AtMostOneGpt k.past) (length pasts + length spare - 1) pasts are.few) in
     let not_in_use : Made spare1 = subst Made (sym fewer) (All-take (λ (k : MementoValue). IsFor k.past (sizes_of m.objects)) (length spare - 1) spare are.not_in_use) in
     let a = are.fit in
     let b = are.spare_fit in
@@ -147,6 +152,7 @@ kept_event m t kept pasts spare pasts1 spare1 room spare_room are sizes is first
       spare_fit = omega (arith, number, b);
       least = omega (arith, number, d);
       most = omega (arith, number, e);
+      few = All-cons (λ (k : MementoValue). AtMostOneGpt k.past) kept pasts1 one few;
       unwinds = unwinds;
     }
 
@@ -166,6 +172,7 @@ kept_undo m kept pasts spare room spare_room are =
       spare_fit = omega (arith, one, b);
       least = omega (arith, one, d);
       most = omega (arith, one, e);
+      few = All-tail (λ (k : MementoValue). AtMostOneGpt k.past) kept pasts are.few;
       unwinds = are.unwinds.2;
     }
 
@@ -191,3 +198,21 @@ history_event r n e state moments =
 -- and it has as many events as there are pasts
 pub remembered_pasts : {T : Type 0} (r : ReversibleValue T) → remembered (history_of r) ≡ length r.pasts
 remembered_pasts r = length-map (moments_of r) state_at ∙ length_unwound (moment_of r.machine) r.pasts
+
+-- ---- what is read to put copies back
+
+-- the copies of GPTs are read, and no others
+slots_of_gpts : (places : List Place) → slots_back places ≡ a_copy * used Gpt places
+slots_of_gpts [] = refl
+slots_of_gpts (p ∷ ps) = let first = sum_by-cons (λ (x : Place). slots_copied x.kind) p ps in let one = by p.kind in let rest = slots_of_gpts ps in omega (arith, first, one, rest)
+  where
+    by : (kind : CapKind) → slots_copied kind ≡ a_copy * same_kind kind Gpt
+    by Gpt = refl
+    by kind = refl
+
+-- of the last event that is remembered there is one at most
+pub undo_reads : (m : Moment) (kept : MementoValue) (pasts spare : List MementoValue) (room spare_room : ℕ) → AreKept m (kept ∷ pasts) spare room spare_room → slots_back kept.past.places ≤ an_undo
+undo_reads m kept pasts spare room spare_room are =
+    let one : AtMostOneGpt kept.past = are.few 0 kept (omega arith) in
+    let all = slots_of_gpts kept.past.places in
+    omega (arith, one, all)

@@ -1,3 +1,4 @@
 pub mod Remembered
 pub mod Moments
 pub mod History
+pub mod Reads

@@ -9,7 +9,7 @@ use Rattle.schedules.specs.Queues.{QueuesValue}
 use Rattle.machine_state.specs.Machine.{MachineValue, IsMachine}
 use Rattle.machine_state.specs.State.{State}
 use Rattle.machine_state.specs.Past.{names_in, saved_in, IsFor}
-use Rattle.reverse_run.specs.Remembered.{MementoValue, queues_before, halted_before}
+use Rattle.reverse_run.specs.Remembered.{MementoValue, AtMostOneGpt, queues_before, halted_before}
 
 -- a machine without its translator, as it is stored
 pub record Moment : Type 0 where
@@ -51,7 +51,7 @@ abbrev pub moments_of : {T : Type 0} → ReversibleValue T → List Moment
 moments_of r = unwound (moment_of r.machine) r.pasts
 
 -- what is kept of pasts in use, the latest first, and of spare ones, with room for so many of either: all were made for the
--- machine's sizes, all fit on either side, there are 1 to 256, and those in use lead back
+-- machine's sizes, all fit on either side, there are 1 to 256, and those in use have one GPT at most and lead back
 pub record AreKept (m : Moment) (pasts spare : List MementoValue) (room spare_room : ℕ) : Type 0 where
   pub in_use : All (λ kept. IsFor kept.past (sizes_of m.objects)) pasts
   pub not_in_use : All (λ kept. IsFor kept.past (sizes_of m.objects)) spare
@@ -59,4 +59,5 @@ pub record AreKept (m : Moment) (pasts spare : List MementoValue) (room spare_ro
   pub spare_fit : length pasts + length spare ≤ spare_room
   pub least : 1 ≤ length pasts + length spare
   pub most : length pasts + length spare ≤ 256
+  pub few : All (λ kept. AtMostOneGpt kept.past) pasts
   pub unwinds : CanUnwind m pasts

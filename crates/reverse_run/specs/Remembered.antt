@@ -1,7 +1,7 @@
 -- What is remembered of a machine before an event, and which objects it has to have. (This project's.)
-use Rattle.std.specs.Prelude.{◌≡◌, ℕ, ◌<◌, Bool, if◌then◌else◌, List}
+use Rattle.std.specs.Prelude.{◌≡◌, ℕ, ◌<◌, ◌≤◌, Bool, if◌then◌else◌, List}
 use Rattle.cap_format.specs.declared.kind.CapKind.{CapKind}
-use Rattle.cap_format.specs.declared.kind.CapKind.TheVariants.{Page, Process}
+use Rattle.cap_format.specs.declared.kind.CapKind.TheVariants.{Page, Gpt, Process}
 use Rattle.object_store.specs.Store.{Store, size_of, sizes_of}
 use Rattle.object_store.specs.Object.{ObjectName, IsAmong}
 use Rattle.object_store.specs.Saved.{AreThere}
@@ -30,6 +30,10 @@ abbrev pub HasPlace : CapKind → List Place → Type 0
 HasPlace Process places = Unit {0}
 HasPlace Page places = used Page places < 18
 HasPlace kind places = used kind places < 1
+
+-- at most one of the objects that are remembered is a GPT
+abbrev pub AtMostOneGpt : PastValue → Type 0
+AtMostOneGpt past = used Gpt past.places ≤ 1
 
 -- what is remembered of one event: a past, and whether it is whole. Where it is not, its objects alone count
 pub record MementoValue : Type 0 where

@@ -1,9 +1,10 @@
 //! Remembering what an event may change, before it is performed.
 ghost use Rattle.std.specs.Prelude.{◌≡◌, ◌+◌, ◌<◌, ◌≤◌, ◌≢◌, ◌∷◌, [], ℕ, length};
 ghost use Rattle.cap_format.specs.declared.kind.CapKind.{CapKind};
-ghost use Rattle.cap_format.specs.declared.kind.CapKind.TheVariants.{Page, Process};
+ghost use Rattle.cap_format.specs.declared.kind.CapKind.TheVariants.{Page, Gpt, Process};
 ghost use Rattle.object_store.specs.Store.{size_of, sizes_of};
 ghost use Rattle.object_store.specs.Object.{object_name, IsAmong};
+ghost use Rattle.object_store.specs.Saved.{slots_copied};
 ghost use Rattle.string_move.specs.Move.{page_names};
 ghost use Rattle.machine_state.specs.State.{state_of};
 ghost use Rattle.machine_state.specs.Machine.{hart_in};
@@ -12,7 +13,8 @@ ghost use Rattle.kernel_core.specs.Event.{event_of};
 ghost use Rattle.event_reach.specs.Reach.{names_of};
 ghost use Rattle.event_reach.specs.Looked.{Looked};
 ghost use Rattle.event_reach.specs.Plain.{plain_names, IsThere};
-ghost use Rattle.reverse_run.specs.Remembered.{StandsFor, LeadsBack, Remembers, HasPlace};
+ghost use Rattle.reverse_run.specs.Remembered.{StandsFor, LeadsBack, Remembers, HasPlace, AtMostOneGpt};
+ghost use Rattle.reverse_run.specs.Reads.{a_copy, a_past, a_memento};
 
 use crate::memento::Memento;
 use cap_format::CapKind;
@@ -26,7 +28,7 @@ use walk_engine::Translator;
 /// Remembers what an event may change: of a plain instruction its process and the page of its store, and of any other
 /// event all that `remember` does. The machine stays as it is, and so does what its translator keeps.
 ///
-/// It walks as the event will, but not to a page that is kept; no bound on the slots that it reads is claimed.
+/// It walks as the event will, but not to a page that is kept.
 pub(crate) fn keep_event<T: Translator, L: Ledger>(
     machine: &mut Machine<T>,
     e: Event,
@@ -40,6 +42,9 @@ pub(crate) fn keep_event<T: Translator, L: Ledger>(
     ensures remembers { let changed = (event_of (state_of machine.old) e).changed in
         Remembers kept.new.past machine.old.objects changed }
     ensures looked { Looked T.kept T.cache (hart_in e) machine.old machine.new }
+    ensures few { AtMostOneGpt kept.new.past }
+    ensures least { fetches.old ≤ fetches.new }
+    ensures most { fetches.new ≤ fetches.old + a_memento }
 {
     match plain_of_event(machine, e, fetches) {
         Some(plain) => {
@@ -67,6 +72,8 @@ fn keep_plain<T: Translator, L: Ledger>(
     ensures names { names_in past.new ≡ plain_names plain }
     ensures queues { past.new.queues ≡ past.old.queues }
     ensures halted { past.new.halted ≡ past.old.halted }
+    ensures few { AtMostOneGpt past.new }
+    ensures unread { fetches.new ≡ fetches.old }
 {
     past.forget_objects();
     past.keep(machine, CapKind::Process, plain.process, fetches);
@@ -79,7 +86,7 @@ fn keep_plain<T: Translator, L: Ledger>(
 /// The past then stands for the machine's present state, and for objects among which is each of which the event changes
 /// what is stored or the count. All processes are, since an event may wake any number of them.
 ///
-/// It walks as the event will; no bound on the slots that it reads is claimed.
+/// It walks as the event will.
 pub fn remember<T: Translator, L: Ledger>(
     machine: &Machine<T>,
     e: Event,
@@ -91,6 +98,9 @@ pub fn remember<T: Translator, L: Ledger>(
     ensures stands { StandsFor past.new machine.now }
     ensures remembers { let changed = (event_of (state_of machine.now) e).changed in
         Remembers past.new machine.now.objects changed }
+    ensures few { AtMostOneGpt past.new }
+    ensures least { fetches.old ≤ fetches.new }
+    ensures most { fetches.new ≤ fetches.old + a_past }
 {
     past.begin(machine);
     keep_processes(machine, past, fetches);
@@ -111,6 +121,7 @@ fn keep_processes<T: Translator, L: Ledger>(
         IsAmong Process n (names_in past.new) }
     ensures others { (k : CapKind) → k ≢ Process → used k past.new.places ≡ 0 }
     ensures count { length past.new.places ≤ 256 }
+    ensures unread { fetches.new ≡ fetches.old }
 {
     let processes = machine.objects().sizes().processes;
     'each: for p in 0..processes {
@@ -132,6 +143,9 @@ fn keep_reach<T: Translator, L: Ledger>(
     ensures more { (kind : CapKind) (n : ℕ) → IsAmong kind n (names_in past.old) →
         IsAmong kind n (names_in past.new) }
     ensures kept { Remembers past.new machine.now.objects (names_of reach.now) }
+    ensures few { AtMostOneGpt past.new }
+    ensures least { fetches.old ≤ fetches.new }
+    ensures most { fetches.new ≤ fetches.old + a_copy }
 {
     match reach {
         Reach::Nothing => {}
@@ -158,6 +172,9 @@ fn keep_pages<T: Translator, L: Ledger>(
     ensures more { (kind : CapKind) (n : ℕ) → IsAmong kind n (names_in past.old) →
         IsAmong kind n (names_in past.new) }
     ensures kept { Remembers past.new machine.now.objects (page_names pieces.now) }
+    ensures others { (k : CapKind) → k ≢ Page →
+        used k past.new.places ≤ used k past.old.places }
+    ensures unread { fetches.new ≡ fetches.old }
 {
     let list = pieces.as_slice();
     'each: for i in 0..list.len() {
@@ -184,6 +201,8 @@ fn keep_object<T: Translator, L: Ledger>(
     ensures used { (k : CapKind) →
         used k past.new.places ≤ used k past.old.places + same_kind kind k }
     ensures count { length past.new.places ≤ length past.old.places + 1 }
+    ensures least { fetches.old ≤ fetches.new }
+    ensures most { fetches.new ≤ fetches.old + slots_copied kind }
 {
     let objects = machine.objects();
     // Sizes that are read tell that a number of an object is small.

@@ -1,15 +1,16 @@
 //! A machine with its history.
-ghost use Rattle.std.specs.Prelude.{◌≡◌, ◌<◌, ◌≤◌, [], ◌∷◌, take, length, true, false, IfOk};
+ghost use Rattle.std.specs.Prelude.{◌≡◌, ◌+◌, ◌<◌, ◌≤◌, [], ◌∷◌, take, length, true, false, IfOk};
 ghost use Rattle.machine_state.specs.State.{state_of};
 ghost use Rattle.object_store.specs.Object.{IsEven};
 ghost use Rattle.object_store.specs.Saved.{restored, AreThere};
 ghost use Rattle.machine_state.specs.Machine.{hart_in, IsMachine};
-ghost use Rattle.machine_state.specs.Outcome.{kept_after};
-ghost use Rattle.machine_state.specs.Past.{names_in, saved_in};
+ghost use Rattle.machine_state.specs.Outcome.{spent, kept_after};
+ghost use Rattle.machine_state.specs.Past.{names_in, saved_in, slots_back};
 ghost use Rattle.kernel_core.specs.Event.{event_of};
 ghost use Rattle.reverse_run.specs.Remembered.{queues_before, halted_before};
 ghost use Rattle.reverse_run.specs.Moments.{moment_of, moment_before, moments_of};
 ghost use Rattle.reverse_run.specs.History.{begun, remembered, after_event, after_undo, can_undo, history_of};
+ghost use Rattle.reverse_run.specs.Reads.{a_memento, an_undo};
 
 use crate::memento::Memento;
 use crate::pasts::{make_pasts, take_past};
@@ -92,6 +93,14 @@ impl<T: Translator> Reversible<T> {
             T.kept self.new.machine.translator ≡ kept_after T.cost T.after T.without kept touches }
         ensures depth { self.new.depth ≡ self.old.depth }
         ensures harts { self.new.machine.objects.harts ≡ self.old.machine.objects.harts }
+
+        // The event fetches what it does without a history; what comes to that is read to remember it.
+        ensures least { let touches = (event_of (state_of self.old.machine) e).touches in
+            let kept = T.kept self.old.machine.translator in
+            fetches.old + spent T.cost T.after T.without kept touches ≤ fetches.new }
+        ensures most { let touches = (event_of (state_of self.old.machine) e).touches in
+            let kept = T.kept self.old.machine.translator in
+            fetches.new ≤ fetches.old + spent T.cost T.after T.without kept touches + a_memento }
     {
         let mut records = Records::new();
         self.event_into(e, &mut records, fetches);
@@ -110,6 +119,14 @@ impl<T: Translator> Reversible<T> {
             T.kept self.new.machine.translator ≡ kept_after T.cost T.after T.without kept touches }
         ensures depth { self.new.depth ≡ self.old.depth }
         ensures harts { self.new.machine.objects.harts ≡ self.old.machine.objects.harts }
+
+        // The event fetches what it does without a history; what comes to that is read to remember it.
+        ensures least { let touches = (event_of (state_of self.old.machine) e).touches in
+            let kept = T.kept self.old.machine.translator in
+            fetches.old + spent T.cost T.after T.without kept touches ≤ fetches.new }
+        ensures most { let touches = (event_of (state_of self.old.machine) e).touches in
+            let kept = T.kept self.old.machine.translator in
+            fetches.new ≤ fetches.old + spent T.cost T.after T.without kept touches + a_memento }
     {
         let mut kept = take_past(&mut self.pasts, &mut self.spare);
         tell_machine(&self.machine);
@@ -129,6 +146,8 @@ impl<T: Translator> Reversible<T> {
             moments_of self.old ≡ moment_of self.new.machine ∷ moments_of self.new }
         ensures depth { self.new.depth ≡ self.old.depth }
         ensures harts { self.new.machine.objects.harts ≡ self.old.machine.objects.harts }
+        ensures least { fetches.old ≤ fetches.new }
+        ensures most { fetches.new ≤ fetches.old + an_undo }
     {
         match self.pasts.pop_front() {
             None => false,
@@ -156,6 +175,7 @@ fn put_back<T: Translator, L: Ledger>(
     ensures queues { machine.new.queues ≡ queues_before kept.now machine.old.queues }
     ensures harts { machine.new.objects.harts ≡ machine.old.objects.harts }
     ensures halted { machine.new.halted ≡ halted_before kept.now machine.old.halted }
+    ensures counted { fetches.new ≡ fetches.old + slots_back kept.now.past.places }
 {
     if kept.whole {
         machine.restore(&kept.past, fetches);

@@ -1,7 +1,10 @@
 //! Lists of calls, one after the other.
-ghost use Rattle.std.specs.Prelude.{◌≡◌, ◌++◌, ◌∷◌, []};
+ghost use Rattle.std.specs.Prelude.{◌≡◌, ◌+◌, ◌≤◌, ◌++◌, ◌∷◌, []};
 ghost use Rattle.std.specs.List.{All};
+ghost use Rattle.machine_state.specs.Outcome.{spent};
+ghost use Rattle.machine_state.specs.State.{state_of};
 ghost use Rattle.reverse_run.specs.History.{history_of, after_call, answer_of, history_after, answers, IsOfHart};
+ghost use Rattle.reverse_run.specs.Reads.{reads_of, touches_of};
 
 use crate::calls::Call;
 use crate::reversible::Reversible;
@@ -43,6 +46,7 @@ pub fn run<T: Translator, W: Listener, L: Ledger>(
         W.told listener.new ≡ W.told listener.old ++ told }
     ensures depth { reversible.new.depth ≡ reversible.old.depth }
     ensures harts { reversible.new.machine.objects.harts ≡ reversible.old.machine.objects.harts }
+    ensures least { fetches.old ≤ fetches.new }
 {
     'each: for i in 0..calls.len() {
         call(reversible, calls[i], listener, fetches);
@@ -63,6 +67,12 @@ fn call<T: Translator, W: Listener, L: Ledger>(
         W.told listener.old ++ answer_of (history_of reversible.old) call ∷ [] }
     ensures depth { reversible.new.depth ≡ reversible.old.depth }
     ensures harts { reversible.new.machine.objects.harts ≡ reversible.old.machine.objects.harts }
+    ensures least { let touches = touches_of (state_of reversible.old.machine) call in
+        let kept = T.kept reversible.old.machine.translator in
+        fetches.old + spent T.cost T.after T.without kept touches ≤ fetches.new }
+    ensures most { let touches = touches_of (state_of reversible.old.machine) call in
+        let kept = T.kept reversible.old.machine.translator in
+        fetches.new ≤ fetches.old + spent T.cost T.after T.without kept touches + reads_of call }
 {
     match call {
         Call::Perform(e) => {

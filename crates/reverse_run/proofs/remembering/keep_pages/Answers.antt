@@ -5,7 +5,7 @@ use Rattle.object_store.specs.Object.{ObjectName}
 use Rattle.string_move.specs.declared.piece.Piece.{Piece}
 use Rattle.string_move.specs.Move.{page_name, page_names}
 use Rattle.reverse_run.specs.Remembered.{Remembers}
-use Rattle.reverse_run.proofs.Keeping.{remembers_later, remembers_both}
+use Rattle.reverse_run.proofs.Keeping.{no_page, remembers_later, remembers_both}
 use Rattle.reverse_run.proofs.remembering.keep_pages.Goals as goal
 
 pub each-preserved : goal.each-preserved
@@ -24,4 +24,6 @@ each-preserved g c =
       kept = subst Kept (sym more) (remembers_both c.keep_object.new.past s front _ (remembers_later l.past c.keep_object.new.past s front kept.more l.invariant.kept) (rw c.from-number.ensures at kept.kept));
       pages = let before = l.invariant.pages in let one = kept.used Page in omega (arith, before, one);
       count = let before = l.invariant.count in let one = kept.count in omega (arith, before, one);
+      others = λ k other. let before = l.invariant.others k other in let more = kept.used k in let none = no_page k other in omega (arith, before, more, none);
+      unread = let before = l.invariant.unread in let least = kept.least in let most = kept.most in omega (arith, before, least, most);
     }

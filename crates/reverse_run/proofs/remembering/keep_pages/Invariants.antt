@@ -1,4 +1,4 @@
-use Rattle.std.proofs.Common.{ℕ, ◌+◌, ◌≤◌, take, length}
+use Rattle.std.proofs.Common.{◌≡◌, ◌≢◌, ℕ, ◌+◌, ◌≤◌, take, length}
 use Rattle.cap_format.specs.declared.kind.CapKind.{CapKind}
 use Rattle.cap_format.specs.declared.kind.CapKind.TheVariants.{Page}
 use Rattle.object_store.specs.Object.{IsAmong}
@@ -14,4 +14,6 @@ invariant-each g l = record {
   kept : Remembers l.past l.machine.objects (page_names (take l.i l.list));
   pages : used Page l.past.places ≤ l.i;
   count : length l.past.places ≤ 257 + l.i;
+  others : (k : CapKind) → k ≢ Page → used k l.past.places ≤ used k l.fn.past.places;
+  unread : l.fetches ≡ l.fn.fetches;
 }

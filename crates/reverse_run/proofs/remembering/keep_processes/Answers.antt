@@ -19,6 +19,7 @@ each-preserved g c =
       all = below_more _ _ (λ n h. among_more l.past c.keep.new.self (object_name Process l.p) Process n kept.names (l.invariant.all n h)) (among_kept l.past c.keep.new.self Process l.p kept.names);
       others = λ k other. let before = l.invariant.others k other in let more = kept.used k in let none = other_kind k other in omega (arith, before, more, none);
       count = let before = l.invariant.count in let more = kept.count in omega (arith, before, more);
+      unread = let before = l.invariant.unread in let counted = kept.counted in omega (arith, before, counted);
     }
 
 pub returns-clause-all : goal.returns-clause-all

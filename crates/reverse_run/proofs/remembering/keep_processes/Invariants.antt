@@ -12,4 +12,5 @@ invariant-each g l = record {
   all : (n : ℕ) → n < l.p → IsAmong Process n (names_in l.past);
   others : (k : CapKind) → k ≢ Process → used k l.past.places ≡ 0;
   count : length l.past.places ≡ l.p;
+  unread : l.fetches ≡ l.fn.fetches;
 }

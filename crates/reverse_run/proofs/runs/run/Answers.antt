@@ -1,4 +1,4 @@
-use Rattle.std.proofs.Common.{◌≡◌, ◌+◌, ◌++◌, ◌∷◌, [], ℕ, drop, get_or, sym, ap, ◌∙◌, append_assoc, append-nil, List}
+use Rattle.std.proofs.Common.{◌≡◌, ◌+◌, ◌++◌, ◌∷◌, [], ℕ, drop, get_or, sym, ap, ◌∙◌, append_assoc, append-nil, List, arith}
 use Rattle.reverse_run.specs.declared.calls.Call.{Call}
 use Rattle.reverse_run.specs.declared.calls.Call.TheVariants.{Perform}
 use Rattle.machine_state.specs.declared.event.Event.TheVariants.{Step}
@@ -26,6 +26,7 @@ each-preserved g c =
           ∙ (append_assoc (told l.listener) (answer_of h next ∷ []) rest
           ∙ (ap (λ (x : List Answer). told l.listener ++ x) (sym (answers_next depth h calls l.i none c.each-test.true)) ∙ l.invariant.told)));
       depth = done.depth ∙ l.invariant.depth;
+      least = let before = l.invariant.least in let more = done.least in omega (arith, before, more);
       harts = done.harts ∙ l.invariant.harts;
     }
 

@@ -1,11 +1,11 @@
-use Rattle.std.proofs.Common.{◌≡◌, ◌+◌, ◌-◌, ◌∷◌, List, length, take, sym, ap, ◌∙◌, subst}
+use Rattle.std.proofs.Common.{◌≡◌, ℕ, ◌+◌, ◌-◌, ◌∷◌, List, length, take, sym, ap, ◌∙◌, subst, arith}
 use Rattle.std.specs.Vec.{vec_capacity}
 use Rattle.std.specs.VecDeque.{deque_capacity}
 use Rattle.object_store.specs.Store.{Store, sizes_of}
 use Rattle.object_store.specs.Object.{Stays}
 use Rattle.object_store.proofs.Restored.{there_same}
 use Rattle.machine_state.specs.State.{State, state_of}
-use Rattle.machine_state.specs.Outcome.{kept_after}
+use Rattle.machine_state.specs.Outcome.{spent, kept_after}
 use Rattle.machine_state.specs.Past.{names_in}
 use Rattle.kernel_core.specs.Event.{event_of}
 use Rattle.reverse_run.specs.Remembered.{MementoValue}
@@ -47,6 +47,17 @@ moments g c =
     rw (c.push_front_reserved.ensures.items, c.take_past-kept.ensures.in_use)
     (moments_event c.keep_event.new.kept (moment_of i.machine) (moment_of c.event_into.new.machine) i.pasts.items (length i.pasts.items + length i.spare.items) c.self.invariant.least (back g c))
 
+-- and it fetches as many slots, behind those that were read to remember it
+counted : (g : given.Over) (c : goal.After-push_front_reserved g)
+    → c.event_into.new.fetches ≡ c.keep_event.new.fetches + spent g.T.Translator.cost g.T.Translator.after g.T.Translator.without (g.T.Translator.kept c.self.inside.machine.translator) (event_of (state_of c.self.inside.machine) c.args.e).touches
+counted g c =
+    let t = g.T.Translator in
+    let looked = c.keep_event.ensures.looked in
+    let m = c.self.inside.machine in
+    let n = c.keep_event.new.machine in
+    let same = ap (λ k. spent t.cost t.after t.without k (event_of (state_of n) c.args.e).touches) looked.keeps ∙ ap (λ (s : State). spent t.cost t.after t.without (t.kept m.translator) (event_of s c.args.e).touches) looked.state in
+    c.event_into.ensures.counted ∙ ap (λ (more : ℕ). c.keep_event.new.fetches + more) same
+
 pub keep_event-requires-clause-sizes : goal.keep_event-requires-clause-sizes
 keep_event-requires-clause-sizes g c = c.take_past-kept.ensures.sizes (sizes_of c.self.inside.machine.objects) c.self.invariant.in_use c.self.invariant.not_in_use
 
@@ -65,7 +76,7 @@ invariant_of-self g c =
     let unwinds = can_unwind_event kept (moment_of m) (moment_of n) c.take_past-kept.new.pasts.items there (back g c) c.tell_machine.ensures.machine before in
     rw (c.push_front_reserved.ensures.items, c.push_front_reserved.ensures.capacity, taken.room, taken.spare_room)
     (kept_event (moment_of m) (moment_of n) kept i.pasts.items i.spare.items c.take_past-kept.new.pasts.items c.take_past-kept.new.spare.items (deque_capacity i.pasts) (vec_capacity i.spare) c.self.invariant same_sizes
-    leads.sizes taken.in_use taken.not_in_use taken.one_less unwinds)
+    leads.sizes c.keep_event.ensures.few taken.in_use taken.not_in_use taken.one_less unwinds)
 
 pub returns-clause-records : goal.returns-clause-records
 returns-clause-records g c = rw (← c.self.view_is) (c.event_into.ensures.records ∙ ap (λ (s : State). (event_of s c.args.e).records) c.keep_event.ensures.looked.state)
@@ -90,3 +101,9 @@ returns-clause-kept g c =
     (c.event_into.ensures.kept
     ∙ (ap (λ k. kept_after t.cost t.after t.without k (event_of (state_of n) c.args.e).touches) looked.keeps
     ∙ ap (λ (s : State). kept_after t.cost t.after t.without (t.kept m.translator) (event_of s c.args.e).touches) looked.state))
+
+pub returns-clause-least : goal.returns-clause-least
+returns-clause-least g c = let counted = counted g c in let read = c.keep_event.ensures.least in rw (← c.self.view_is) (omega (arith, counted, read))
+
+pub returns-clause-most : goal.returns-clause-most
+returns-clause-most g c = let counted = counted g c in let read = c.keep_event.ensures.most in rw (← c.self.view_is) (omega (arith, counted, read))

@@ -1,0 +1,38 @@
+-- How many slots of GPTs are read at most to remember an event, and to undo it. (This project's.)
+use Rattle.std.specs.Prelude.{ℕ, ◌+◌, List, []}
+use Rattle.cap_format.specs.declared.kind.CapKind.TheVariants.{Gpt}
+use Rattle.object_store.specs.Saved.{slots_copied}
+use Rattle.machine_state.specs.Outcome.{Touch}
+use Rattle.machine_state.specs.State.{State}
+use Rattle.kernel_core.specs.Event.{event_of}
+use Rattle.event_reach.specs.Reads.{an_instruction, a_plain_look}
+use Rattle.reverse_run.specs.declared.calls.Call.{Call}
+use Rattle.reverse_run.specs.declared.calls.Call.TheVariants.{Perform, Undo}
+
+-- by a copy of a GPT; a copy of any other object reads none
+abbrev pub a_copy : ℕ
+a_copy = slots_copied Gpt
+
+-- to remember all that an event may change: by the look for it, and by a copy of one GPT
+abbrev pub a_past : ℕ
+a_past = an_instruction + a_copy
+
+-- to remember an event: by the look for a plain instruction, and where it is none by that for all that it may change
+abbrev pub a_memento : ℕ
+a_memento = a_plain_look + a_past
+
+-- to undo an event: by a copy of one GPT
+abbrev pub an_undo : ℕ
+an_undo = a_copy
+
+-- ---- calls
+
+-- for a call, besides what its event fetches
+abbrev pub reads_of : Call → ℕ
+reads_of (Perform e) = a_memento
+reads_of Undo = an_undo
+
+-- the touches of a call's event
+abbrev pub touches_of : State → Call → List Touch
+touches_of s (Perform e) = (event_of s e).touches
+touches_of s Undo = []
