@@ -16,6 +16,6 @@ mod walk;
 
 pub use mapping::mapping_line;
 pub use objects::put_objects;
-pub use record::push_record;
+pub use record::{push_record, record_line};
 pub use state::{dump, put_front};
 pub use walk::walk_line;

@@ -15,6 +15,15 @@ use rv32_asm::disassemble;
 use rv32_decode::Insn;
 use walk_meaning::Kind;
 
+/// Makes the line of a record, with its line feed.
+pub fn record_line(entry: &Record, line: &mut LineBuf)
+    requires { IsRecord entry.now }
+    ensures { line.new ≡ record_text entry.now }
+{
+    line.clear();
+    push_record(line, entry);
+}
+
 /// Appends the line of a record, with its line feed. It has at most 801 bytes.
 pub fn push_record(line: &mut LineBuf, entry: &Record)
     requires room { length line.old ≤ 200 }

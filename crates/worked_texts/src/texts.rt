@@ -14,7 +14,7 @@ use kernel_core::{LogBytes, Record};
 use object_store::{Objects, Sizes};
 use page_store::CapPage;
 use process_objects::{Accept, Process, State, Wait};
-use run_text::{push_record, put_front, put_objects};
+use run_text::{put_front, put_objects, record_line};
 use rv32_decode::Insn;
 use schedules::Queues;
 use std::alloc::Global;
@@ -33,7 +33,7 @@ fn put_record(rt: &impl Abort, entry: Record, output: &mut MemSink)
     requires { IsRecord entry }
 {
     let mut line = LineBuf::new();
-    push_record(&mut line, &entry);
+    record_line(&entry, &mut line);
     put_all(output, line.as_bytes()).expect(rt, "memory");
 }
 
