@@ -13,8 +13,8 @@ use steps::{Permit, Steps};
 
 /// Rows of calls that fail, one by one. Behind the colon stand the number of the call of the source that fails and of
 /// that of the sink, 0 where none does. The output is exactly what stands then, worked out by hand. By line, the
-/// source gives line n in its call n, and a line is told to the sink by one call. A call behind the line that is
-/// refused is not made, so its failing shows nowhere.
+/// source gives line n in its call n, and the lines of an event are told to the sink by one call. A call behind the line
+/// that is refused is not made, so its failing shows nowhere.
 const FAILING_ROWS: &str = "\
 5 trace: 0 2
 coyotos 1
@@ -30,8 +30,9 @@ step 0 1
 tick 9
 =>
 fetch 0 00000000 page 0
+insn 0 00000000 addi x1 x0 5
 ==
-5 trace: 0 5
+5 trace: 0 3
 coyotos 1
 machine 1 2 0 1 1 0
 page 0 000 93005000371100002320110083210100
@@ -271,7 +272,8 @@ fn has_front(answer: &Answer, status: u8, whole: &str, lines: usize) -> bool {
         && (lines == 0 || told.ends_with('\n'))
 }
 
-/// Where a call of the sink fails, the lines before it stand, a line for each call.
+/// Where a call of the sink fails, the lines before it stand: each of the first forty lines is the only one of its event,
+/// and has a call.
 fn try_failing_puts<L: Ledger>(
     rt: &impl Abort,
     alloc: Global,

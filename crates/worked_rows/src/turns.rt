@@ -14,7 +14,7 @@ use std::rc::Rc;
 use std::sync::ledger::Ledger;
 use steps::{Permit, Steps};
 
-/// A sink that counts its calls and tells no bytes. A line is told by one call.
+/// A sink that counts the lines that it is told, and tells no bytes.
 #[derive(Drop)]
 struct TurnSink {
     told: Rc<Cell<u64>>,
@@ -26,9 +26,21 @@ impl Sink for TurnSink {
     ghost faults = { λ _. 0 };
 
     fn put(&mut self, bytes: &[u8]) -> Result<usize, Failed> {
-        self.told.set(self.told.get().saturating_add(1));
+        self.told
+            .set(self.told.get().saturating_add(lines_in(bytes)));
         Ok(bytes.len())
     }
+}
+
+/// How many of these bytes are line feeds.
+fn lines_in(bytes: &[u8]) -> u64 {
+    let mut lines = 0u64;
+    for byte in bytes {
+        if *byte == b'\n' {
+            lines = lines.saturating_add(1);
+        }
+    }
+    lines
 }
 
 /// A source that gives a line a call and tells no bytes. At each call it notes whether fewer lines were told than two
