@@ -1,5 +1,5 @@
 -- How many slots of GPTs are read at most to remember an event, and to undo it. (This project's.)
-use Rattle.std.specs.Prelude.{ℕ, ◌+◌, List, []}
+use Rattle.std.specs.Prelude.{ℕ, ◌+◌, ◌≤◌, List, []}
 use Rattle.cap_format.specs.declared.kind.CapKind.TheVariants.{Gpt}
 use Rattle.object_store.specs.Saved.{slots_copied}
 use Rattle.machine_state.specs.Outcome.{Touch}
@@ -24,6 +24,11 @@ a_memento = a_plain_look + a_past
 -- to undo an event: by a copy of one GPT
 abbrev pub an_undo : ℕ
 an_undo = a_copy
+
+-- what is fetched without a history was fetched, and at most so many slots beside it
+pub record FetchesWithin (own beside fetches fetches' : ℕ) : Type 0 where
+  pub least : fetches + own ≤ fetches'
+  pub most : fetches' ≤ fetches + own + beside
 
 -- ---- calls
 

@@ -10,7 +10,7 @@ ghost use Rattle.kernel_core.specs.Event.{event_of};
 ghost use Rattle.reverse_run.specs.Remembered.{queues_before, halted_before};
 ghost use Rattle.reverse_run.specs.Moments.{moment_of, moment_before, moments_of};
 ghost use Rattle.reverse_run.specs.History.{begun, remembered, after_event, after_undo, can_undo, history_of};
-ghost use Rattle.reverse_run.specs.Reads.{a_memento, an_undo};
+ghost use Rattle.reverse_run.specs.Reads.{FetchesWithin, a_memento, an_undo};
 
 use crate::memento::Memento;
 use crate::pasts::{make_pasts, take_past};
@@ -94,13 +94,11 @@ impl<T: Translator> Reversible<T> {
         ensures depth { self.new.depth ≡ self.old.depth }
         ensures harts { self.new.machine.objects.harts ≡ self.old.machine.objects.harts }
 
-        // The event fetches what it does without a history; what comes to that is read to remember it.
-        ensures least { let touches = (event_of (state_of self.old.machine) e).touches in
+        // It fetches what it does without a history; what comes to that is read to remember it.
+        ensures fetched { let touches = (event_of (state_of self.old.machine) e).touches in
             let kept = T.kept self.old.machine.translator in
-            fetches.old + spent T.cost T.after T.without kept touches ≤ fetches.new }
-        ensures most { let touches = (event_of (state_of self.old.machine) e).touches in
-            let kept = T.kept self.old.machine.translator in
-            fetches.new ≤ fetches.old + spent T.cost T.after T.without kept touches + a_memento }
+            let own = spent T.cost T.after T.without kept touches in
+            FetchesWithin own a_memento fetches.old fetches.new }
     {
         let mut records = Records::new();
         self.event_into(e, &mut records, fetches);
@@ -120,13 +118,11 @@ impl<T: Translator> Reversible<T> {
         ensures depth { self.new.depth ≡ self.old.depth }
         ensures harts { self.new.machine.objects.harts ≡ self.old.machine.objects.harts }
 
-        // The event fetches what it does without a history; what comes to that is read to remember it.
-        ensures least { let touches = (event_of (state_of self.old.machine) e).touches in
+        // It fetches what it does without a history; what comes to that is read to remember it.
+        ensures fetched { let touches = (event_of (state_of self.old.machine) e).touches in
             let kept = T.kept self.old.machine.translator in
-            fetches.old + spent T.cost T.after T.without kept touches ≤ fetches.new }
-        ensures most { let touches = (event_of (state_of self.old.machine) e).touches in
-            let kept = T.kept self.old.machine.translator in
-            fetches.new ≤ fetches.old + spent T.cost T.after T.without kept touches + a_memento }
+            let own = spent T.cost T.after T.without kept touches in
+            FetchesWithin own a_memento fetches.old fetches.new }
     {
         let mut kept = take_past(&mut self.pasts, &mut self.spare);
         tell_machine(&self.machine);

@@ -1,10 +1,10 @@
 //! Lists of calls, one after the other.
-ghost use Rattle.std.specs.Prelude.{◌≡◌, ◌+◌, ◌≤◌, ◌++◌, ◌∷◌, []};
+ghost use Rattle.std.specs.Prelude.{◌≡◌, ◌≤◌, ◌++◌, ◌∷◌, []};
 ghost use Rattle.std.specs.List.{All};
 ghost use Rattle.machine_state.specs.Outcome.{spent};
 ghost use Rattle.machine_state.specs.State.{state_of};
 ghost use Rattle.reverse_run.specs.History.{history_of, after_call, answer_of, history_after, answers, IsOfHart};
-ghost use Rattle.reverse_run.specs.Reads.{reads_of, touches_of};
+ghost use Rattle.reverse_run.specs.Reads.{FetchesWithin, reads_of, touches_of};
 
 use crate::calls::Call;
 use crate::reversible::Reversible;
@@ -67,12 +67,10 @@ fn call<T: Translator, W: Listener, L: Ledger>(
         W.told listener.old ++ answer_of (history_of reversible.old) call ∷ [] }
     ensures depth { reversible.new.depth ≡ reversible.old.depth }
     ensures harts { reversible.new.machine.objects.harts ≡ reversible.old.machine.objects.harts }
-    ensures least { let touches = touches_of (state_of reversible.old.machine) call in
+    ensures fetched { let touches = touches_of (state_of reversible.old.machine) call in
         let kept = T.kept reversible.old.machine.translator in
-        fetches.old + spent T.cost T.after T.without kept touches ≤ fetches.new }
-    ensures most { let touches = touches_of (state_of reversible.old.machine) call in
-        let kept = T.kept reversible.old.machine.translator in
-        fetches.new ≤ fetches.old + spent T.cost T.after T.without kept touches + reads_of call }
+        let own = spent T.cost T.after T.without kept touches in
+        FetchesWithin own (reads_of call) fetches.old fetches.new }
 {
     match call {
         Call::Perform(e) => {

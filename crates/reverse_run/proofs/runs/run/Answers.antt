@@ -26,7 +26,7 @@ each-preserved g c =
           ∙ (append_assoc (told l.listener) (answer_of h next ∷ []) rest
           ∙ (ap (λ (x : List Answer). told l.listener ++ x) (sym (answers_next depth h calls l.i none c.each-test.true)) ∙ l.invariant.told)));
       depth = done.depth ∙ l.invariant.depth;
-      least = let before = l.invariant.least in let more = done.least in omega (arith, before, more);
+      least = let before = l.invariant.least in let more = done.fetched.least in omega (arith, before, more);
       harts = done.harts ∙ l.invariant.harts;
     }
 

@@ -102,8 +102,9 @@ returns-clause-kept g c =
     ∙ (ap (λ k. kept_after t.cost t.after t.without k (event_of (state_of n) c.args.e).touches) looked.keeps
     ∙ ap (λ (s : State). kept_after t.cost t.after t.without (t.kept m.translator) (event_of s c.args.e).touches) looked.state))
 
-pub returns-clause-least : goal.returns-clause-least
-returns-clause-least g c = let counted = counted g c in let read = c.keep_event.ensures.least in rw (← c.self.view_is) (omega (arith, counted, read))
-
-pub returns-clause-most : goal.returns-clause-most
-returns-clause-most g c = let counted = counted g c in let read = c.keep_event.ensures.most in rw (← c.self.view_is) (omega (arith, counted, read))
+pub returns-clause-fetched : goal.returns-clause-fetched
+returns-clause-fetched g c =
+    let counted = counted g c in
+    let least = c.keep_event.ensures.least in
+    let most = c.keep_event.ensures.most in
+    rw (← c.self.view_is) (record { least = omega (arith, counted, least); most = omega (arith, counted, most) })
