@@ -1,6 +1,6 @@
 -- The text of a whole listing that says the objects of a state.
 use Rattle.std.specs.Prelude.{ℕ, ◌≡◌, ◌+◌, ◌≤◌, List, [], ◌++◌, length}
-use Rattle.coy_io.specs.declared.TheConstants.{INPUT_LIMIT}
+use Rattle.coy_io.specs.Limits.{input_limit}
 use Rattle.coy_io.specs.Lines.{parts_of}
 use Rattle.object_store.specs.Store.{Store, sizes_of}
 use Rattle.listing_read.specs.declared.place.Place.TheVariants.{Header}
@@ -19,5 +19,5 @@ listing_text s = format_text One ++ (machine_text (sizes_of s) ++ (objects_text 
 -- where it is no longer than an input may be, it is read to its last line as the listing of these objects
 abbrev pub PrintedIsListing : Type 0
 PrintedIsListing =
-    (s : Store) → IsListable s → length (listing_text s) ≤ INPUT_LIMIT →
+    (s : Store) → IsListable s → length (listing_text s) ≤ input_limit →
     listing_of Header 1 (parts_of (listing_text s)) ≡ Good (printed_listing s) (3 + length (statements_of s)) []

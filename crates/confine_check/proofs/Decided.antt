@@ -32,7 +32,7 @@ use Rattle.confine_check.specs.Laws.{VerdictLaw}
 
 -- ---- one capability
 
-is_range-kind : (k : CapKind) → is_range k ≡ true → k ≡ Range
+pub is_range-kind : (k : CapKind) → is_range k ≡ true → k ≡ Range
 is_range-kind Range e = refl
 is_range-kind Null e = absurd (cc (e))
 is_range-kind Page e = absurd (cc (e))

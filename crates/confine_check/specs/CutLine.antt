@@ -1,6 +1,6 @@
 -- A line of a cut: which objects it puts on the left, or its first fault. (Own.)
 use Rattle.std.specs.Prelude.{ℕ, ◌==◌, ◌||◌, nat_le, if◌then◌else◌, List, length, bytes_eq, codes, Option, Some, None, Result, Ok, Err}
-use Rattle.coy_io.specs.declared.TheConstants.{LINE_LIMIT}
+use Rattle.coy_io.specs.Limits.{line_limit}
 use Rattle.coy_text.specs.Line.{is_visible_line, is_skipped}
 use Rattle.coy_text.specs.Words.{words_of, field}
 use Rattle.listing_read.specs.Faults.{◌>>=◌, ensured}
@@ -42,7 +42,7 @@ cut_words sides words = if is_skipped words then Ok None else asked_by sides wor
 -- what a line puts on the left, which is nothing where it is skipped
 unfoldable pub cut_line : Sides → List ℕ → Result (Option Block) CutFault
 cut_line sides line = do
-  _ ← ensured (nat_le (length line) LINE_LIMIT) LineTooLong
+  _ ← ensured (nat_le (length line) line_limit) LineTooLong
   _ ← ensured (is_visible_line line) BadByte
   cut_words sides (words_of line)
 

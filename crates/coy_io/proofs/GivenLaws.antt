@@ -3,7 +3,7 @@ use Rattle.std.specs.Prelude.{◌≡◌, ◌≤◌, ℕ, List, [], ◌∷◌, �
 use Rattle.std.specs.Io.KnownBytes.{Keeps, Consumes, prepend_known}
 use Rattle.std.proofs.Common.{refl, sym, ap, ◌∙◌, subst, append_assoc, append-nil, arith}
 use Rattle.std.proofs.KnownBytes.{Consumes-nil, Consumes-trans, Consumes-kept}
-use Rattle.coy_io.specs.declared.TheConstants.{LINE_LIMIT}
+use Rattle.coy_io.specs.Limits.{line_limit}
 use Rattle.coy_io.specs.Lines.{Part, Line, IsUnfinished, whole_lines}
 use Rattle.coy_io.proofs.LineLaws.{short_part, whole_lines-unfinished, whole_lines-line_in_front}
 use Rattle.coy_io.specs.Reader.{Reader, IsLine, IsSpent, line_feed_of, bytes_ahead, new_reader, Advances, AreLines, GivesLines}
@@ -22,7 +22,7 @@ Advances-trans (Some x) (Some y) (Some z) first given p q =
     p ∙ ap (λ parts. first ++ parts) q ∙ sym (append_assoc first given z)
 
 -- a line with its line feed
-pub AreLines-line : (line : List ℕ) → IsUnfinished line → length line ≤ LINE_LIMIT → AreLines (line ++ 10 ∷ []) (Line line ∷ [])
+pub AreLines-line : (line : List ℕ) → IsUnfinished line → length line ≤ line_limit → AreLines (line ++ 10 ∷ []) (Line line ∷ [])
 AreLines-line line u short behind =
     ap (whole_lines []) (append_assoc line (10 ∷ []) behind) ∙ whole_lines-line_in_front line behind u
     ∙ ap (λ p. p ∷ whole_lines [] behind) (short_part line short)

@@ -3,7 +3,7 @@ use Rattle.std.specs.Prelude.{◌≡◌, ◌≤◌, ◌<◌, ℕ, suc, ◌+◌, 
 use Rattle.std.proofs.Common.{refl, sym, ap, ◌∙◌, append_assoc, append-nil, arith}
 use Rattle.std.proofs.Math.Nat.{sub-zero}
 use Rattle.std.proofs.lemmas.Bool.{ne_eqb, le-leb}
-use Rattle.coy_io.specs.declared.TheConstants.{LINE_LIMIT}
+use Rattle.coy_io.specs.Limits.{line_limit}
 use Rattle.coy_io.specs.Lines.{Line, is_line_feed, line_len, IsUnfinished, part_of, parts, whole_lines}
 
 tail_of : (feed : Bool) (n m : ℕ) → cond (not feed) (1 + n) 0 ≡ suc m → (feed ≡ false) × (n ≡ m)
@@ -38,11 +38,11 @@ parts-append (byte ∷ bytes) line room left u h =
     ∙ ap (λ k. parts (line ++ byte ∷ bytes) k left) same
 
 -- what stands in the place of a line that is not too long
-pub short_part : (line : List ℕ) → length line ≤ LINE_LIMIT → part_of line ≡ Line line
-short_part line h = rw (le-leb (length line) LINE_LIMIT h) refl
+pub short_part : (line : List ℕ) → length line ≤ line_limit → part_of line ≡ Line line
+short_part line h = rw (le-leb (length line) line_limit h) refl
 
 -- a whole line in front is the first part
-pub parts-line_in_front : (line bytes : List ℕ) (room : ℕ) → IsUnfinished line → length line ≤ LINE_LIMIT → length line < room
+pub parts-line_in_front : (line bytes : List ℕ) (room : ℕ) → IsUnfinished line → length line ≤ line_limit → length line < room
     → parts [] room (line ++ (10 ∷ bytes)) ≡ Line line ∷ parts [] (room - (length line + 1)) bytes
 parts-line_in_front line bytes room u short h =
     let left : room - length line - 1 ≡ room - (length line + 1) = omega arith in

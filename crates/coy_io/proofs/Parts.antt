@@ -4,7 +4,7 @@ use Rattle.std.specs.Prelude.{eqb, ◌==◌}
 use Rattle.std.proofs.lemmas.Bool.{ne_eqb, eqb-true, le-leb, lt-leb}
 use Rattle.std.proofs.lemmas.List.{take-append-drop, length-take-le, length-drop}
 use Rattle.std.proofs.lemmas.List.Sums.{split_at_first, passes_at_first}
-use Rattle.coy_io.specs.declared.TheConstants.{LINE_LIMIT}
+use Rattle.coy_io.specs.Limits.{line_limit}
 use Rattle.coy_io.specs.Lines.{Part, Line, LongLine, PastLimit, is_line_feed, line_len, part_of, cut_part_of, parts}
 use Rattle.coy_io.proofs.LineLaws.{parts-append, parts-line_in_front, short_part}
 use Rattle.coy_io.specs.Found.{HasLine, HasFront, HasLongLine, IsPastLimit}
@@ -18,13 +18,13 @@ line_split bytes n e h =
     rw e (split_at_first is_line_feed bytes 0 inside ∙ ap (λ b. take (line_len bytes) bytes ++ (b ∷ drop (line_len bytes + 1) bytes)) feed)
 
 -- what stands in the place of a line too long
-long_part : (line : List ℕ) → LINE_LIMIT < length line → part_of line ≡ LongLine
-long_part line h = rw (lt-leb (length line) LINE_LIMIT h) refl
+long_part : (line : List ℕ) → line_limit < length line → part_of line ≡ LongLine
+long_part line h = rw (lt-leb (length line) line_limit h) refl
 
-long_cut : (line : List ℕ) → LINE_LIMIT < length line → cut_part_of line ≡ LongLine
-long_cut line h = rw (lt-leb (length line) LINE_LIMIT h) refl
+long_cut : (line : List ℕ) → line_limit < length line → cut_part_of line ≡ LongLine
+long_cut line h = rw (lt-leb (length line) line_limit h) refl
 
-long_at : (last feed : Bool) (byte : ℕ) (left line : List ℕ) (room : ℕ) → LINE_LIMIT < length line
+long_at : (last feed : Bool) (byte : ℕ) (left line : List ℕ) (room : ℕ) → line_limit < length line
     → ((rest : List Part) × (parts (line ++ byte ∷ []) (room - 1) left ≡ LongLine ∷ rest))
     → (rest : List Part) × ((if last then cut_part_of line ∷ [] else (if feed then part_of line ∷ [] else []) ++ parts (if feed then [] else line ++ byte ∷ []) (room - 1) left) ≡ LongLine ∷ rest)
 long_at true feed byte left line room h more = ([], ap (λ p. p ∷ []) (long_cut line h))
@@ -32,11 +32,11 @@ long_at false true byte left line room h more = (parts [] (room - 1) left, ap (�
 long_at false false byte left line room h more = more
 
 -- a line too long stays so
-long_begins : (left line : List ℕ) (room : ℕ) → LINE_LIMIT < length line → (rest : List Part) × (parts line room left ≡ LongLine ∷ rest)
+long_begins : (left line : List ℕ) (room : ℕ) → line_limit < length line → (rest : List Part) × (parts line room left ≡ LongLine ∷ rest)
 unfolding parts
 long_begins [] line room h = ([], rw (ne_eqb (length line) 0 (λ z. omega arith)) (ap (λ p. p ∷ []) (long_part line h)))
 long_begins (byte ∷ left) line room h =
-    let longer : LINE_LIMIT < length (line ++ byte ∷ []) = omega (arith, length-append line (byte ∷ [])) in
+    let longer : line_limit < length (line ++ byte ∷ []) = omega (arith, length-append line (byte ∷ [])) in
     long_at (eqb room 0) (is_line_feed byte) byte left line room h (long_begins left (line ++ byte ∷ []) (room - 1) longer)
 
 -- where the search found a line
@@ -63,10 +63,10 @@ parts-long window room left h =
     let begins = long_begins (drop n window ++ left) front (room - length front) (omega (arith, h.long)) in
     (begins.0, ap (parts [] room) split ∙ moved ∙ begins.1)
 
-parts-cut : (left line : List ℕ) → 0 < length left → length line ≤ LINE_LIMIT → parts line 0 left ≡ PastLimit ∷ []
+parts-cut : (left line : List ℕ) → 0 < length left → length line ≤ line_limit → parts line 0 left ≡ PastLimit ∷ []
 unfolding parts
 parts-cut [] line some h = absurd (omega arith)
-parts-cut (byte ∷ left) line some h = rw (le-leb (length line) LINE_LIMIT h) refl
+parts-cut (byte ∷ left) line some h = rw (le-leb (length line) line_limit h) refl
 
 -- where the input goes on behind the last byte that is read
 pub parts-past : (window : List ℕ) (room : ℕ) (left : List ℕ) → IsPastLimit window room → parts [] room (window ++ left) ≡ PastLimit ∷ []

@@ -1,7 +1,7 @@
 -- What a search for the end of a line found in a window.
 use Rattle.std.specs.Prelude.{◌≡◌, ℕ, ◌+◌, ◌<◌, ◌≤◌, List, length, Option, Some, None, Result, Ok, Err}
 use Rattle.std.specs.Io.KnownBytes.{IsAtEnd}
-use Rattle.coy_io.specs.declared.TheConstants.{LINE_LIMIT}
+use Rattle.coy_io.specs.Limits.{line_limit}
 use Rattle.coy_io.specs.declared.lines.LineFault.{LineFault}
 use Rattle.coy_io.specs.declared.lines.LineFault.TheVariants.{ReadFault, LineTooLong, TooLong}
 use Rattle.coy_io.specs.Lines.{line_len, IsFront}
@@ -9,7 +9,7 @@ use Rattle.coy_io.specs.Lines.{line_len, IsFront}
 -- a line stands at the front of the window, and `room` bytes may be read
 pub record HasLine (n : ℕ) (window : List ℕ) (room : ℕ) : Type 0 where
   pub place : n ≡ line_len window
-  pub short : n ≤ LINE_LIMIT
+  pub short : n ≤ line_limit
   pub whole : n < length window
   pub within : length window ≤ room
 
@@ -20,14 +20,14 @@ pub record HasFront (window : List ℕ) (room : ℕ) : Type 0 where
 
 -- the line at the front of the window is too long
 pub record HasLongLine (window : List ℕ) (room : ℕ) : Type 0 where
-  pub long : LINE_LIMIT < line_len window
+  pub long : line_limit < line_len window
   pub within : length window ≤ room
 
 -- the window holds one byte more than may be read, and no line ends in the others
 pub record IsPastLimit (window : List ℕ) (room : ℕ) : Type 0 where
   pub more : length window ≡ room + 1
   pub unfinished : room ≤ line_len window
-  pub short : room ≤ LINE_LIMIT
+  pub short : room ≤ line_limit
 
 -- what the search found: where a line ends, or the end of the input, or a fault
 abbrev pub IsFound : Result (Option ℕ) LineFault → List ℕ → ℕ → Option (List ℕ) → Type 0

@@ -1,3 +1,4 @@
+pub mod Limits
 pub mod Causes
 pub mod Pieces
 pub mod Written

@@ -2,7 +2,7 @@
 -- line's place, so that nobody above speaks of places in a buffer.
 use Rattle.std.specs.Prelude.{◌≡◌, ◌≤◌, ℕ, ◌-◌, ◌==◌, nat_le, List, [], ◌∷◌, ◌++◌, length, Bool, if◌then◌else◌}
 use Rattle.std.specs.List.{position_or_len}
-use Rattle.coy_io.specs.declared.TheConstants.{LINE_LIMIT, INPUT_LIMIT}
+use Rattle.coy_io.specs.Limits.{line_limit, input_limit}
 
 -- what stands in a line's place: the line without its line feed, or that it has more bytes than a line
 -- may have, or that the input goes on behind the last byte that is read
@@ -30,15 +30,15 @@ IsUnfinished bytes = line_len bytes ≡ length bytes
 -- the front of a line: no byte is a line feed, and there are no more than a line may have
 pub record IsFront (bytes : List ℕ) : Type 0 where
   pub unfinished : IsUnfinished bytes
-  pub short : length bytes ≤ LINE_LIMIT
+  pub short : length bytes ≤ line_limit
 
 -- what stands in the place of a line that ended
 abbrev pub part_of : List ℕ → Part
-part_of line = if nat_le (length line) LINE_LIMIT then Line line else LongLine
+part_of line = if nat_le (length line) line_limit then Line line else LongLine
 
 -- what stands in the place of a line where the input goes on behind the last byte that is read
 abbrev pub cut_part_of : List ℕ → Part
-cut_part_of line = if nat_le (length line) LINE_LIMIT then PastLimit else LongLine
+cut_part_of line = if nat_le (length line) line_limit then PastLimit else LongLine
 
 -- what the next byte ends
 abbrev pub ended_by : ℕ → List ℕ → List Part
@@ -61,4 +61,4 @@ whole_lines line (byte ∷ bytes) = ended_by byte line ++ whole_lines (kept_by b
 
 -- the lines of a byte string
 abbrev pub parts_of : List ℕ → List Part
-parts_of bytes = parts [] INPUT_LIMIT bytes
+parts_of bytes = parts [] input_limit bytes

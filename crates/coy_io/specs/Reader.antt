@@ -2,7 +2,7 @@
 use Rattle.std.specs.Prelude.{◌≡◌, ℕ, ◌+◌, ◌-◌, ◌≤◌, ◌==◌, List, [], ◌∷◌, ◌++◌, length, take, drop, Bool, true, false, ⊤, Option, Some, None, Result, Ok, Err, if◌then◌else◌}
 use Rattle.std.specs.Option.{option_map}
 use Rattle.std.specs.Io.KnownBytes.{Keeps, Consumes, IsAtEnd, prepend_known}
-use Rattle.coy_io.specs.declared.TheConstants.{LINE_LIMIT, INPUT_LIMIT}
+use Rattle.coy_io.specs.Limits.{line_limit, input_limit}
 use Rattle.coy_io.specs.declared.lines.LineFault.{LineFault}
 use Rattle.coy_io.specs.declared.lines.LineFault.TheVariants.{ReadFault, LineTooLong, TooLong}
 use Rattle.coy_io.specs.Lines.{Part, Line, LongLine, PastLimit, line_feed, IsUnfinished, parts, whole_lines}
@@ -25,14 +25,14 @@ pub record Reader : Type 0 where
 -- what is so of every reader: it gives no more lines than bytes, holds at most one byte more than it
 -- may give, and that only after a fault, and none behind the end
 pub record IsReader (reader : Reader) : Type 0 where
-  pub counted : reader.number + reader.room ≤ INPUT_LIMIT
+  pub counted : reader.number + reader.room ≤ input_limit
   pub within : length reader.rest ≤ reader.room + 1
   pub unfailed : reader.failed ≡ false → length reader.rest ≤ reader.room
   pub done : reader.ended ≡ true → reader.rest ≡ []
 
 -- a reader that has taken nothing
 abbrev pub new_reader : Reader
-new_reader = record { line = []; rest = []; room = INPUT_LIMIT; number = 0; ended = false; failed = false }
+new_reader = record { line = []; rest = []; room = input_limit; number = 0; ended = false; failed = false }
 
 -- a reader that gives the first of the bytes it holds as a line
 abbrev pub giving : ℕ → ℕ → Reader → Reader
@@ -49,7 +49,7 @@ finished reader = record (if length reader.rest == 0 then reader else giving (le
 
 -- how many bytes the reader has taken from its sources
 abbrev pub taken_by : Reader → ℕ
-taken_by reader = (INPUT_LIMIT - reader.room) + length reader.rest
+taken_by reader = (input_limit - reader.room) + length reader.rest
 
 -- how many calls told the reader its source's end
 abbrev pub ends_by : Reader → ℕ
@@ -83,7 +83,7 @@ IsDone (Some old) = old ≡ []
 -- what was given is a line of so many bytes
 pub record IsLine (n : ℕ) (line : List ℕ) : Type 0 where
   pub len : n ≡ length line
-  pub short : n ≤ LINE_LIMIT
+  pub short : n ≤ line_limit
   pub unfinished : IsUnfinished line
 
 -- what each answer of `next` says of the lines that were to come and of those that still are

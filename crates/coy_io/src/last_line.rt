@@ -1,6 +1,6 @@
 //! The line that was given last.
 ghost use Rattle.std.specs.Prelude.{◌≡◌, ℕ, ◌≤◌, List, [], length, take};
-ghost use Rattle.coy_io.specs.declared.TheConstants.{LINE_LIMIT};
+ghost use Rattle.coy_io.specs.Limits.{line_limit};
 
 use crate::LINE_LIMIT;
 use std::marker::Model;
@@ -16,7 +16,7 @@ impl Model for LastLine {
 
     ghost view = { λ l. take l.len l.bytes };
 
-    ghost invariant = { λ l. l.len ≤ LINE_LIMIT };
+    ghost invariant = { λ l. l.len ≤ line_limit };
 }
 
 impl LastLine {
@@ -31,13 +31,13 @@ impl LastLine {
 
     pub(crate) fn as_slice(&self) -> &[u8]
         ensures value { result.now ≡ self.now }
-        ensures bound { length self.now ≤ LINE_LIMIT }
+        ensures bound { length self.now ≤ line_limit }
     {
         &self.bytes[..self.len]
     }
 
     pub(crate) fn set(&mut self, line: &[u8])
-        requires { length line.now ≤ LINE_LIMIT }
+        requires { length line.now ≤ line_limit }
         ensures { self.new ≡ line.now }
     {
         self.bytes[..line.len()].copy_from_slice(line);

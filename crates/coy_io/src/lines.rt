@@ -1,6 +1,7 @@
 //! The lines of a source, one after the other.
 ghost use Rattle.std.specs.Prelude.{◌≡◌, ◌≢◌, ◌+◌, ◌-◌, ◌<◌, ◌≤◌, ◌==◌, ℕ, if◌then◌else◌, length, take, drop, true, false, Ok, Err, Some, None, IfOk, IfSome, OnSome, is_err};
 ghost use Rattle.std.specs.Io.KnownBytes.{Keeps, IsAtEnd, prepend_known};
+ghost use Rattle.coy_io.specs.Limits.{line_limit, input_limit};
 ghost use Rattle.coy_io.specs.Causes.{Rose};
 ghost use Rattle.coy_io.specs.Pieces.{CountsIn};
 ghost use Rattle.coy_io.specs.Lines.{line_len, IsFront};
@@ -80,7 +81,7 @@ impl LineReader {
     /// The line given last, without its line feed.
     pub fn line(&self) -> &[u8]
         ensures value { result.now ≡ self.now.line }
-        ensures bound { length self.now.line ≤ LINE_LIMIT }
+        ensures bound { length self.now.line ≤ line_limit }
     {
         self.line.as_slice()
     }
@@ -88,7 +89,7 @@ impl LineReader {
     /// The number of the line given last. The first line has the number 1.
     pub fn number(&self) -> u32
         ensures value { result ≡ self.now.number }
-        ensures bound { result ≤ INPUT_LIMIT }
+        ensures bound { result ≤ input_limit }
     {
         self.number
     }
@@ -128,7 +129,7 @@ impl LineReader {
         ensures ended { self.old.ended ≡ true → (result ≡ Ok None) × (source.new ≡ source.old) }
         ensures told { TellsEnd self.old (S.held source.old) →
             TellsEnd self.new (S.held source.new) }
-        ensures most { taken_by self.new ≤ INPUT_LIMIT + 1 }
+        ensures most { taken_by self.new ≤ input_limit + 1 }
 
         // Each call gave a byte, but for one that told the end or failed: there is none behind it.
         ensures counts { CountsIn S.given S.calls S.idle source.old source.new
@@ -152,7 +153,7 @@ impl LineReader {
     fn give(&mut self, len: usize, spent: usize) -> usize
         requires failed { self.old.failed ≡ false }
         requires ended { self.old.ended ≡ false }
-        requires short { len ≤ LINE_LIMIT }
+        requires short { len ≤ line_limit }
         requires held { spent ≤ length self.old.rest }
         requires within { len ≤ spent }
         requires some { 1 ≤ spent }
@@ -170,7 +171,7 @@ impl LineReader {
     fn finish(&mut self) -> Option<usize>
         requires failed { self.old.failed ≡ false }
         requires ended { self.old.ended ≡ false }
-        requires short { length self.old.rest ≤ LINE_LIMIT }
+        requires short { length self.old.rest ≤ line_limit }
         ensures finished { self.new ≡ finished self.old }
         ensures given { let len = length self.old.rest in
             result ≡ (if len == 0 then None else Some len) }

@@ -1,7 +1,7 @@
 -- What an answer says of images: the bytes of a listing that was read are its image, and an image is read as its listing.
 use Rattle.std.proofs.Common.{◌≡◌, ◌≤◌, List, ◌++◌, ℕ, length, Option, Some, None, Result, Ok, Err, sym, ap, subst, ◌∙◌, append-nil}
 use Rattle.std.specs.Prelude.{IfOk, IfSome}
-use Rattle.coy_io.specs.declared.TheConstants.{INPUT_LIMIT}
+use Rattle.coy_io.specs.Limits.{input_limit}
 use Rattle.listing_read.specs.Statement.{ListingValue}
 use Rattle.image_binary.specs.declared.fault.ImageFault.{ImageFault}
 use Rattle.image_binary.specs.declared.fault.ImageFault.TheVariants.{Refused, ReadFault, TooLong, OutOfMemory}
@@ -27,7 +27,7 @@ answers_image (Err TooLong) l (Some y) read a = absurd (let same = sym a ∙ rea
 answers_image (Err ReadFault) l (Some y) read a = tt
 answers_image (Err OutOfMemory) l (Some y) read a = tt
 
-pub finds : (result : Result ListingValue ImageFault) (l : ListingValue) (old new : Option (List ℕ)) → IsPacked l → length (image_of l) ≤ INPUT_LIMIT → old ≡ Some (image_of l)
+pub finds : (result : Result ListingValue ImageFault) (l : ListingValue) (old new : Option (List ℕ)) → IsPacked l → length (image_of l) ≤ input_limit → old ≡ Some (image_of l)
     → Unpacks result old new → Finds result l
 finds result l old new packed few is u =
     answers_image result l new (images_read l packed few) (subst (λ o. Answers result o new) is u.answers)

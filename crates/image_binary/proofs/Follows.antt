@@ -8,7 +8,7 @@ use Rattle.std.proofs.lemmas.Bool.{lt-ltb, le-ltb}
 use Rattle.std.proofs.lemmas.List.{take_at, take_all}
 use Rattle.std.proofs.lemmas.List.Elements.{All-append, All-cons, All-nil}
 use Rattle.std.proofs.Math.Seq.{take-append-add}
-use Rattle.coy_io.specs.declared.TheConstants.{INPUT_LIMIT}
+use Rattle.coy_io.specs.Limits.{input_limit}
 use Rattle.object_store.specs.declared.sizes.Sizes.{Sizes}
 use Rattle.listing_read.specs.Faults.{◌>>=◌}
 use Rattle.listing_read.specs.Statement.{ListingValue}
@@ -37,7 +37,7 @@ pub record Follows (old now : Option (List ℕ)) (reader : Reader) (sizes : Size
   pub got : List ℕ
   pub bytes : AreBytes got
   pub taken : Consumes old now got
-  pub few : length got ≤ INPUT_LIMIT
+  pub few : length got ≤ input_limit
   pub total : reader.at + length reader.held ≡ length got
   pub reads : (more : List ℕ) → listing_of (got ++ more) ≡ with_front sizes listed (statements_of sizes left (reader.held ++ more))
 
@@ -161,36 +161,36 @@ module _ (old mid new : Option (List ℕ)) (reader : Reader) (sizes : Sizes) (li
 -- ---- what the whole input gives
 
 -- bytes of which more are read, behind those taken
-pub read_front : (got rest : List ℕ) → length got ≤ INPUT_LIMIT → take INPUT_LIMIT (got ++ rest) ≡ got ++ take (INPUT_LIMIT - length got) rest
+pub read_front : (got rest : List ℕ) → length got ≤ input_limit → take input_limit (got ++ rest) ≡ got ++ take (input_limit - length got) rest
 read_front got rest few =
-    let all : length got + (INPUT_LIMIT - length got) ≡ INPUT_LIMIT = omega arith in
-    ap (λ n. take n (got ++ rest)) (sym all) ∙ take-append-add got rest (INPUT_LIMIT - length got)
+    let all : length got + (input_limit - length got) ≡ input_limit = omega arith in
+    ap (λ n. take n (got ++ rest)) (sym all) ∙ take-append-add got rest (input_limit - length got)
 
 -- a fault that stands whatever follows
-wrong_input : (got rest : List ℕ) (left : ℕ) (word : ImageWord) → length got ≤ INPUT_LIMIT → left ≤ length got
+wrong_input : (got rest : List ℕ) (left : ℕ) (word : ImageWord) → length got ≤ input_limit → left ≤ length got
     → ((more : List ℕ) → listing_of (got ++ more) ≡ Err (Wrong (left + length more) word)) → unpacked (got ++ rest) ≡ Err (Refused (length got - left) word)
 unfolding unpacked
 wrong_input got rest left word few within wrong =
-    let more = take (INPUT_LIMIT - length got) rest in
-    let b = nat_lt INPUT_LIMIT (length (got ++ rest)) in
+    let more = take (input_limit - length got) rest in
+    let b = nat_lt input_limit (length (got ++ rest)) in
     let total : length (got ++ more) - (left + length more) ≡ length got - left = omega (arith, length-append got more) in
     ap (λ l. concluded b (length l) (listing_of l)) (read_front got rest few)
     ∙ ap (concluded b (length (got ++ more))) (wrong more)
     ∙ ap (λ n. Err (Refused n word)) total
 
 -- an input that ends
-whole_input : (got : List ℕ) → length got ≤ INPUT_LIMIT → unpacked got ≡ concluded false (length got) (listing_of got)
+whole_input : (got : List ℕ) → length got ≤ input_limit → unpacked got ≡ concluded false (length got) (listing_of got)
 unfolding unpacked
 whole_input got few =
-    ap (λ b. concluded b (length (take INPUT_LIMIT got)) (listing_of (take INPUT_LIMIT got))) (le-ltb INPUT_LIMIT (length got) few)
-    ∙ ap (λ l. concluded false (length l) (listing_of l)) (take_all INPUT_LIMIT got few)
+    ap (λ b. concluded b (length (take input_limit got)) (listing_of (take input_limit got))) (le-ltb input_limit (length got) few)
+    ∙ ap (λ l. concluded false (length l) (listing_of l)) (take_all input_limit got few)
 
 -- an input that goes on behind the last byte that is read
-long_input : (got rest : List ℕ) → length got ≡ INPUT_LIMIT → 0 < length rest → unpacked (got ++ rest) ≡ concluded true (length got) (listing_of got)
+long_input : (got rest : List ℕ) → length got ≡ input_limit → 0 < length rest → unpacked (got ++ rest) ≡ concluded true (length got) (listing_of got)
 unfolding unpacked
 long_input got rest all some =
-    ap (λ b. concluded b (length (take INPUT_LIMIT (got ++ rest))) (listing_of (take INPUT_LIMIT (got ++ rest)))) (lt-ltb INPUT_LIMIT (length (got ++ rest)) (omega (arith, length-append got rest)))
-    ∙ ap (λ l. concluded true (length l) (listing_of l)) (take_at got rest INPUT_LIMIT all)
+    ap (λ b. concluded b (length (take input_limit (got ++ rest))) (listing_of (take input_limit (got ++ rest)))) (lt-ltb input_limit (length (got ++ rest)) (omega (arith, length-append got rest)))
+    ∙ ap (λ l. concluded true (length l) (listing_of l)) (take_at got rest input_limit all)
 
 -- bytes of which nothing else was taken
 only_got : (got last rest : List ℕ) (all : List ℕ) → last ≡ [] → all ≡ (got ++ last) ++ rest → all ≡ got ++ rest
@@ -218,7 +218,7 @@ stop_answers fault x y s = on fault s.cause
 stop_takes : (old new : Option (List ℕ)) (fault : ImageFault) → StopsAt listing_of new_reader old new fault → Takes old new
 stop_takes old new fault s = record { taken = s.got ++ s.last; bytes = s.bytes; consumed = s.taken; few = on fault s.cause }
   where
-    on : (f : ImageFault) → IsStop f listing_of new_reader s.got s.last new → length (s.got ++ s.last) ≤ INPUT_LIMIT + 1
+    on : (f : ImageFault) → IsStop f listing_of new_reader s.got s.last new → length (s.got ++ s.last) ≤ input_limit + 1
     on (Refused offset word) cause = let none = ap length cause.3 in omega (arith, length-append s.got s.last, none, s.few)
     on TooLong cause = omega (arith, length-append s.got s.last, cause.2, cause.3)
     on ReadFault cause = let none = ap length cause.2 in omega (arith, length-append s.got s.last, none, s.few)
@@ -257,7 +257,7 @@ module _ (old mid new : Option (List ℕ)) (reader : Reader) (sizes : Sizes) (li
   read_only none =
       ap listing_of (sym (append-nil f.got)) ∙ read_all [] ∙ ap (λ (l : List ℕ). Ok (listing, l ++ [])) none
 
-  ending_takes : (got : List ℕ) → AreBytes got → Consumes mid new got → length f.got + length got ≤ INPUT_LIMIT + 1 → Takes old new
+  ending_takes : (got : List ℕ) → AreBytes got → Consumes mid new got → length f.got + length got ≤ input_limit + 1 → Takes old new
   ending_takes got are taken few = record {
     taken = f.got ++ got;
     bytes = All-append (λ byte. byte < 256) f.got got f.bytes are;
@@ -270,14 +270,14 @@ module _ (old mid new : Option (List ℕ)) (reader : Reader) (sizes : Sizes) (li
   used_all none = let len = ap length none in omega (arith, f.total)
 
   -- bytes stand behind the last statement
-  trailing : (more rest : List ℕ) → 0 < length (reader.held ++ more) → length f.got + length more ≤ INPUT_LIMIT
+  trailing : (more rest : List ℕ) → 0 < length (reader.held ++ more) → length f.got + length more ≤ input_limit
       → unpacked ((f.got ++ more) ++ rest) ≡ Err (Refused reader.at Trailing)
   unfolding unpacked
   trailing more rest some few =
       let got = f.got ++ more in
-      let beyond = take (INPUT_LIMIT - length got) rest in
-      let b = nat_lt INPUT_LIMIT (length (got ++ rest)) in
-      let fits : length got ≤ INPUT_LIMIT = omega (arith, length-append f.got more) in
+      let beyond = take (input_limit - length got) rest in
+      let b = nat_lt input_limit (length (got ++ rest)) in
+      let fits : length got ≤ input_limit = omega (arith, length-append f.got more) in
       let left = reader.held ++ (more ++ beyond) in
       let sum = length-append reader.held (more ++ beyond) in
       let front = length-append reader.held more in

@@ -6,7 +6,7 @@ use Rattle.std.proofs.lemmas.Bool.{ltb-false, le-ltb, and_from, le-leb}
 use Rattle.std.proofs.lemmas.List.{take_all}
 use Rattle.std.proofs.lemmas.List.Concat.{flat_map-cons}
 use Rattle.std.proofs.lemmas.List.Elements.{recursion_from_All}
-use Rattle.coy_io.specs.declared.TheConstants.{INPUT_LIMIT}
+use Rattle.coy_io.specs.Limits.{input_limit}
 use Rattle.object_store.specs.declared.sizes.Sizes.{Sizes}
 use Rattle.object_store.specs.Ranges.{IsWithinLimits}
 use Rattle.listing_read.specs.Faults.{◌>>=◌}
@@ -179,18 +179,18 @@ pub images_read : ImagesAreRead
 unfolding unpacked
 images_read l packed few =
     let bytes = image_of l in
-    let all : take INPUT_LIMIT bytes ≡ bytes = take_all INPUT_LIMIT bytes few in
+    let all : take input_limit bytes ≡ bytes = take_all input_limit bytes few in
     let read : listing_of bytes ≡ Ok (l, []) = ap listing_of (sym (append-nil bytes)) ∙ listing_again l [] packed in
-    ap (λ b. concluded b (length (take INPUT_LIMIT bytes)) (listing_of (take INPUT_LIMIT bytes))) (le-ltb INPUT_LIMIT (length bytes) few)
+    ap (λ b. concluded b (length (take input_limit bytes)) (listing_of (take input_limit bytes))) (le-ltb input_limit (length bytes) few)
     ∙ ap (λ l. concluded false (length l) (listing_of l)) all
     ∙ ap (concluded false (length bytes)) read
 
 pub only_images : OnlyImagesAreRead
 unfolding unpacked
 only_images bytes l are e =
-    let c = concluded_ok (nat_lt INPUT_LIMIT (length bytes)) (length (take INPUT_LIMIT bytes)) (listing_of (take INPUT_LIMIT bytes)) l e in
-    let few : length bytes ≤ INPUT_LIMIT = ltb-false INPUT_LIMIT (length bytes) c.0 in
-    let read : listing_of bytes ≡ Ok (l, []) = ap listing_of (sym (take_all INPUT_LIMIT bytes few)) ∙ c.1 in
+    let c = concluded_ok (nat_lt input_limit (length bytes)) (length (take input_limit bytes)) (listing_of (take input_limit bytes)) l e in
+    let few : length bytes ≤ input_limit = ltb-false input_limit (length bytes) c.0 in
+    let read : listing_of bytes ≡ Ok (l, []) = ap listing_of (sym (take_all input_limit bytes few)) ∙ c.1 in
     listing_spelled bytes l [] are read ∙ append-nil (image_of l)
 
 pub images_differ : ImagesDiffer

@@ -4,7 +4,7 @@ use Rattle.std.specs.Io.KnownBytes.{Consumes}
 use Rattle.std.proofs.KnownBytes.{Consumes-nil, Consumes-trans, Consumes-kept}
 use Rattle.std.proofs.lemmas.List.{drop_at}
 use Rattle.std.proofs.lemmas.List.Elements.{All-append, All-cons, All-nil}
-use Rattle.coy_io.specs.declared.TheConstants.{INPUT_LIMIT}
+use Rattle.coy_io.specs.Limits.{input_limit}
 use Rattle.image_binary.specs.declared.fault.ImageFault.{ImageFault}
 use Rattle.image_binary.specs.declared.fault.ImageFault.TheVariants.{Refused, ReadFault, TooLong, OutOfMemory}
 use Rattle.image_binary.specs.declared.fault.ImageWord.{ImageWord}
@@ -65,7 +65,7 @@ module _ {A : Type 0} (fields : Fields A) (Fits : A → Type 0) (most : ℕ) (la
       omega (arith, c.2)
 
   pub steps_to : (to : Reader) (x : A) (left : ℕ) → Ok (x, left) ≡ counted (fields.read reader.held)
-      → reader.at + length reader.held ≤ INPUT_LIMIT → to.at + left ≡ reader.at + length reader.held → to.held ≡ drop (length reader.held - left) reader.held → StepsTo fields.read from to old now x
+      → reader.at + length reader.held ≤ input_limit → to.at + left ≡ reader.at + length reader.held → to.held ≡ drop (length reader.held - left) reader.held → StepsTo fields.read from to old now x
   steps_to to x left e limit at held =
       let c = counted_ok (fields.read reader.held) x left e in
       let s = law.spelled reader.held x c.0 are c.1 in
@@ -91,7 +91,7 @@ module _ {A : Type 0} (fields : Fields A) (Fits : A → Type 0) (most : ℕ) (la
   wrong_within left fault e = (law.steady reader.held left fault are (counted_err (fields.read reader.held) (Wrong left fault) e)).within
 
   pub stops_wrong : (left offset : ℕ) (fault : ImageWord) → Err (Wrong left fault) ≡ counted (fields.read reader.held)
-      → reader.at + length reader.held ≤ INPUT_LIMIT → offset ≡ offset_of reader left → StopsAt fields.read from old now (Refused offset fault)
+      → reader.at + length reader.held ≤ input_limit → offset ≡ offset_of reader left → StopsAt fields.read from old now (Refused offset fault)
   stops_wrong left offset fault e limit is =
       let s = law.steady reader.held left fault are (counted_err (fields.read reader.held) (Wrong left fault) e) in
       let total = ap length fills.held in
@@ -118,7 +118,7 @@ module _ {A : Type 0} (fields : Fields A) (Fits : A → Type 0) (most : ℕ) (la
   short_few left e = (law.short reader.held left are (counted_err (fields.read reader.held) (Short left) e)).few
 
   pub stops_short : (left : ℕ) (to : Reader) (new : Option (List ℕ)) (fault : ImageFault) → Err (Short left) ≡ counted (fields.read reader.held)
-      → reader.at + length reader.held ≤ INPUT_LIMIT → Supplies (Err fault) left reader to now new → StopsAt fields.read from old new fault
+      → reader.at + length reader.held ≤ input_limit → Supplies (Err fault) left reader to now new → StopsAt fields.read from old new fault
   stops_short left to new (Refused offset fault) e limit s =
       let r = counted_err (fields.read reader.held) (Short left) e in
       let w = (law.short reader.held left are r).within in

@@ -1,6 +1,6 @@
 -- The image of a listing, and what the bytes of an input give.
 use Rattle.std.specs.Prelude.{◌≡◌, ℕ, zero, suc, ◌-◌, nat_lt, Bool, true, false, List, [], ◌∷◌, ◌++◌, length, take, flat_map, Result, Ok, Err, ⊤}
-use Rattle.coy_io.specs.declared.TheConstants.{INPUT_LIMIT}
+use Rattle.coy_io.specs.Limits.{input_limit}
 use Rattle.object_store.specs.declared.sizes.Sizes.{Sizes}
 use Rattle.listing_read.specs.Faults.{◌>>=◌}
 use Rattle.listing_read.specs.Statement.{ListingValue}
@@ -80,8 +80,8 @@ concluded false total (Err (Short left)) = Err (Refused (total - left) Cut)
 -- what an input gives, of which at most the first 16,777,216 bytes are read
 unfoldable pub unpacked : List ℕ → Result ListingValue ImageFault
 unpacked bytes =
-    let read = take INPUT_LIMIT bytes in
-    concluded (nat_lt INPUT_LIMIT (length bytes)) (length read) (listing_of read)
+    let read = take input_limit bytes in
+    concluded (nat_lt input_limit (length bytes)) (length read) (listing_of read)
 
 -- the bytes have no fault, but that more have to follow or the input has to end behind them
 abbrev pub IsOpen : Read ListingValue → Type 0

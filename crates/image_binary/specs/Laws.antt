@@ -2,7 +2,7 @@
 -- listing keeps, and the ranges of its values' types.
 use Rattle.std.specs.Prelude.{◌≡◌, ◌≤◌, ◌<◌, ℕ, List, length, Ok}
 use Rattle.std.specs.List.{All}
-use Rattle.coy_io.specs.declared.TheConstants.{INPUT_LIMIT}
+use Rattle.coy_io.specs.Limits.{input_limit}
 use Rattle.listing_read.specs.Statement.{IsTyped, IsListing, ListingValue}
 use Rattle.image_binary.specs.Image.{image_of, unpacked}
 
@@ -18,7 +18,7 @@ pub record IsPacked (l : ListingValue) : Type 0 where
 -- an image is read as its listing, where it has no more bytes than an input may have
 abbrev pub ImagesAreRead : Type 0
 ImagesAreRead =
-    (listing : ListingValue) → IsPacked listing → length (image_of listing) ≤ INPUT_LIMIT → unpacked (image_of listing) ≡ Ok listing
+    (listing : ListingValue) → IsPacked listing → length (image_of listing) ≤ input_limit → unpacked (image_of listing) ≡ Ok listing
 
 -- bytes that are read as a listing are its image
 abbrev pub OnlyImagesAreRead : Type 0

@@ -2,7 +2,7 @@
 -- source is said of the bytes that the source gave, whether these are known or not.
 use Rattle.std.specs.Prelude.{◌≡◌, ◌≤◌, ◌<◌, ◌+◌, ◌-◌, ◌⊎◌, ℕ, List, [], ◌∷◌, ◌++◌, length, Option, Result, Ok, Err}
 use Rattle.std.specs.Io.KnownBytes.{Keeps, Consumes, IsAtEnd}
-use Rattle.coy_io.specs.declared.TheConstants.{INPUT_LIMIT}
+use Rattle.coy_io.specs.Limits.{input_limit}
 use Rattle.coy_io.specs.declared.traits.Failed.{Failed}
 use Rattle.image_binary.specs.declared.fault.ImageFault.{ImageFault}
 use Rattle.image_binary.specs.declared.fault.ImageFault.TheVariants.{Refused, ReadFault, TooLong, OutOfMemory}
@@ -42,10 +42,10 @@ IsFilled (Err failed) from to old new = (to ≡ from) × Keeps old new
 -- bytes came, or the source told its end, or it gave one byte behind the last that is read, or it failed
 abbrev pub IsSupply : Result Supply Failed → Reader → Reader → Option (List ℕ) → Option (List ℕ) → Type 0
 IsSupply (Ok Bytes) from to old new =
-    (got : List ℕ) × (0 < length got) × Fills from to old new got × (from.at + length from.held + length got ≤ INPUT_LIMIT)
+    (got : List ℕ) × (0 < length got) × Fills from to old new got × (from.at + length from.held + length got ≤ input_limit)
 IsSupply (Ok End) from to old new = (to ≡ from) × Keeps old new × IsAtEnd new
 IsSupply (Ok Past) from to old new =
-    (to ≡ from) × (from.at + length from.held ≡ INPUT_LIMIT) × (byte : ℕ) × (byte < 256) × Consumes old new (byte ∷ [])
+    (to ≡ from) × (from.at + length from.held ≡ input_limit) × (byte : ℕ) × (byte < 256) × Consumes old new (byte ∷ [])
 IsSupply (Err failed) from to old new = (to ≡ from) × Keeps old new
 
 -- the source told its end, or gave one byte, or failed
@@ -61,7 +61,7 @@ Supplies (Ok done) left from to old new = (got : List ℕ) × (0 < length got) �
 Supplies (Err (Refused offset fault)) left from to old new =
     (offset ≡ offset_of from left) × (fault ≡ Cut) × Keeps old new × IsAtEnd new
 Supplies (Err TooLong) left from to old new =
-    (from.at + length from.held ≡ INPUT_LIMIT) × (byte : ℕ) × (byte < 256) × Consumes old new (byte ∷ [])
+    (from.at + length from.held ≡ input_limit) × (byte : ℕ) × (byte < 256) × Consumes old new (byte ∷ [])
 Supplies (Err ReadFault) left from to old new = Keeps old new
 Supplies (Err OutOfMemory) left from to old new = ⊥
 
@@ -70,7 +70,7 @@ pub record StepsTo {A : Type 0} (read : List ℕ → Read A) (from to : Reader) 
   pub got : List ℕ
   pub bytes : AreBytes got
   pub taken : Consumes old new got
-  pub few : from.at + length (from.held ++ got) ≤ INPUT_LIMIT
+  pub few : from.at + length (from.held ++ got) ≤ input_limit
   pub total : to.at + length to.held ≡ from.at + length (from.held ++ got)
   pub reads : (more : List ℕ) → read ((from.held ++ got) ++ more) ≡ Ok (x, to.held ++ more)
 
@@ -82,7 +82,7 @@ IsStop (Refused offset fault) read from got last new =
     × (((more : List ℕ) → read ((from.held ++ got) ++ more) ≡ Err (Wrong (left + length more) fault))
     ⊎ ((read (from.held ++ got) ≡ Err (Short left)) × (fault ≡ Cut) × IsAtEnd new))
 IsStop TooLong read from got last new =
-    (left : ℕ) × (read (from.held ++ got) ≡ Err (Short left)) × (from.at + length (from.held ++ got) ≡ INPUT_LIMIT)
+    (left : ℕ) × (read (from.held ++ got) ≡ Err (Short left)) × (from.at + length (from.held ++ got) ≡ input_limit)
     × (length last ≡ 1)
 IsStop ReadFault read from got last new = (left : ℕ) × (read (from.held ++ got) ≡ Err (Short left)) × (last ≡ [])
 IsStop OutOfMemory read from got last new = ⊥
@@ -93,7 +93,7 @@ pub record StopsAt {A : Type 0} (read : List ℕ → Read A) (from : Reader) (ol
   pub last : List ℕ
   pub bytes : AreBytes (got ++ last)
   pub taken : Consumes old new (got ++ last)
-  pub few : from.at + length (from.held ++ got) ≤ INPUT_LIMIT
+  pub few : from.at + length (from.held ++ got) ≤ input_limit
   pub cause : IsStop fault read from got last new
 
 -- what a step of reading did
@@ -103,11 +103,11 @@ Steps read from to old new (Err fault) = StopsAt read from old new fault
 
 -- behind the last statement: nothing follows, or a byte that is read, or one that isn't, or the source failed
 abbrev pub IsEnding : Result (Unit {0}) ImageFault → Reader → Option (List ℕ) → Option (List ℕ) → Type 0
-IsEnding (Ok done) from old new = (from.held ≡ []) × (from.at ≤ INPUT_LIMIT) × Keeps old new × IsAtEnd new
+IsEnding (Ok done) from old new = (from.held ≡ []) × (from.at ≤ input_limit) × Keeps old new × IsAtEnd new
 IsEnding (Err (Refused offset fault)) from old new =
     (offset ≡ from.at) × (fault ≡ Trailing) × (got : List ℕ) × AreBytes got × Consumes old new got × (0 < length (from.held ++ got))
-    × (from.at + length (from.held ++ got) ≤ INPUT_LIMIT)
+    × (from.at + length (from.held ++ got) ≤ input_limit)
 IsEnding (Err TooLong) from old new =
-    (from.held ≡ []) × (from.at ≡ INPUT_LIMIT) × (byte : ℕ) × (byte < 256) × Consumes old new (byte ∷ [])
-IsEnding (Err ReadFault) from old new = (from.held ≡ []) × (from.at ≤ INPUT_LIMIT) × Keeps old new
+    (from.held ≡ []) × (from.at ≡ input_limit) × (byte : ℕ) × (byte < 256) × Consumes old new (byte ∷ [])
+IsEnding (Err ReadFault) from old new = (from.held ≡ []) × (from.at ≤ input_limit) × Keeps old new
 IsEnding (Err OutOfMemory) from old new = ⊥

@@ -1,7 +1,7 @@
 -- What reading an image from a source says of the source's bytes, where these are known.
 use Rattle.std.specs.Prelude.{◌≡◌, ◌≤◌, ◌+◌, ℕ, ⊤, List, [], ◌++◌, length, Option, None, Some, Result, Ok, Err}
 use Rattle.std.specs.Io.KnownBytes.{Consumes}
-use Rattle.coy_io.specs.declared.TheConstants.{INPUT_LIMIT}
+use Rattle.coy_io.specs.Limits.{input_limit}
 use Rattle.listing_read.specs.Statement.{ListingValue}
 use Rattle.image_binary.specs.declared.fault.ImageFault.{ImageFault}
 use Rattle.image_binary.specs.declared.fault.ImageFault.TheVariants.{Refused, ReadFault, TooLong, OutOfMemory}
@@ -29,7 +29,7 @@ pub record Takes (old new : Option (List ℕ)) : Type 0 where
   pub taken : List ℕ
   pub bytes : AreBytes taken
   pub consumed : Consumes old new taken
-  pub few : length taken ≤ INPUT_LIMIT + 1
+  pub few : length taken ≤ input_limit + 1
 
 -- both
 pub record Unpacks (result : Result ListingValue ImageFault) (old new : Option (List ℕ)) : Type 0 where

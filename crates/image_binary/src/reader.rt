@@ -1,6 +1,6 @@
 //! The bytes that were taken from a source and not used yet, and where in the image they stand.
 ghost use Rattle.std.specs.Prelude.{◌≡◌, ◌+◌, ◌-◌, ◌<◌, ◌≤◌, length, drop, IfOk};
-ghost use Rattle.coy_io.specs.declared.TheConstants.{INPUT_LIMIT};
+ghost use Rattle.coy_io.specs.Limits.{input_limit};
 ghost use Rattle.coy_io.specs.declared.window.TheConstants.{WINDOW};
 ghost use Rattle.coy_io.specs.Causes.{HasCause};
 ghost use Rattle.image_binary.specs.Laws.{AreBytes};
@@ -30,14 +30,14 @@ pub struct ImageReader {
 
 impl Model for ImageReader {
     ghost use Rattle.std.specs.Prelude.{◌+◌, ◌≤◌, length};
-    ghost use Rattle.coy_io.specs.declared.TheConstants.{INPUT_LIMIT};
+    ghost use Rattle.coy_io.specs.Limits.{input_limit};
     ghost use Rattle.image_binary.specs.Reader.{Reader};
 
     ghost Value = { Reader };
 
     ghost view = { λ r. record { at = r.at; held = r.window } };
 
-    ghost invariant = { λ r. r.at + length r.window ≤ INPUT_LIMIT };
+    ghost invariant = { λ r. r.at + length r.window ≤ input_limit };
 }
 
 impl ImageReader {
@@ -55,7 +55,7 @@ impl ImageReader {
         ensures value { result.now ≡ self.now.held }
         ensures bytes { AreBytes result.now }
         ensures window { length self.now.held ≤ WINDOW }
-        ensures limit { self.now.at + length self.now.held ≤ INPUT_LIMIT }
+        ensures limit { self.now.at + length self.now.held ≤ input_limit }
     {
         let held = self.window.as_slice();
         are_bytes(held);
@@ -102,7 +102,7 @@ impl ImageReader {
     /// Takes at most `room` bytes from the source behind those that are held.
     fn fill<S: Source>(&mut self, room: usize, source: &mut S) -> Result<usize, Failed>
         requires some { 1 ≤ room }
-        requires within { self.old.at + length self.old.held + room ≤ INPUT_LIMIT }
+        requires within { self.old.at + length self.old.held + room ≤ input_limit }
         requires window { length self.old.held < WINDOW }
         ensures filled { IsFilled result self.old self.new (S.held source.old) (S.held source.new) }
         ensures most { IfOk result (λ count. count ≤ room) }

@@ -1,7 +1,7 @@
 //! A listing from its image.
 ghost use Rattle.std.specs.Prelude.{◌≡◌, ◌≢◌, ◌≤◌, ◌<◌, length, Some, Err, IfOk, IfSome, OnOk};
 ghost use Rattle.std.specs.Io.KnownBytes.{IsAtEnd};
-ghost use Rattle.coy_io.specs.declared.TheConstants.{INPUT_LIMIT};
+ghost use Rattle.coy_io.specs.Limits.{input_limit};
 ghost use Rattle.coy_io.specs.Causes.{Rose};
 ghost use Rattle.listing_read.specs.Statement.{ListingValue, IsStatement};
 ghost use Rattle.object_store.specs.Ranges.{IsWithinLimits};
@@ -36,7 +36,7 @@ pub fn unpack<S: Source>(alloc: Global, input: &mut S) -> Result<Listing, ImageF
 
     // So the bytes are the image of the listing, and the image of a listing gives that one.
     ensures image { IfOk result (λ l. IfSome (S.held input.old) (λ bytes. bytes ≡ image_of l)) }
-    ensures listing { (l : ListingValue) → IsPacked l → length (image_of l) ≤ INPUT_LIMIT →
+    ensures listing { (l : ListingValue) → IsPacked l → length (image_of l) ≤ input_limit →
         S.held input.old ≡ Some (image_of l) → Finds result l }
 
     // What happens to the source.

@@ -3,7 +3,7 @@ use Rattle.std.proofs.Common.{◌≡◌, ◌+◌, ◌∙◌, ◌∷◌, ◌++◌
 use Rattle.std.specs.Prelude.{nat_le}
 use Rattle.coy_io.specs.Lines.{Part, Line, LongLine, PastLimit, parts_of}
 use Rattle.coy_io.specs.Reader.{Reader, new_reader, ahead}
-use Rattle.coy_io.specs.declared.TheConstants.{INPUT_LIMIT, LINE_LIMIT}
+use Rattle.coy_io.specs.Limits.{input_limit, line_limit}
 use Rattle.coy_text.specs.Words.{words_of}
 use Rattle.image_binary.specs.Image.{image_of, unpacked}
 use Rattle.image_binary.specs.Laws.{ImagesAreRead, IsPacked}
@@ -35,7 +35,7 @@ use Rattle.image_commands.proofs.Passing.{passed-line, passed-long, passed-past}
 -- a line that is passed over asks for nothing
 skipped-asks : (harts : ℕ) (line : List ℕ) (done : Unit {0}) → eventless_line line ≡ Ok done → schedule_line harts line ≡ Ok None
 unfolding eventless_line schedule_line
-skipped-asks harts line done is = by (nat_le (length line) LINE_LIMIT) (is_visible_line line) (is_skipped (words_of line)) (asked_by harts (words_of line)) is
+skipped-asks harts line done is = by (nat_le (length line) line_limit) (is_visible_line line) (is_skipped (words_of line)) (asked_by harts (words_of line)) is
   where
     by : (short visible skipped : Bool) (other : Result (Option Timed) ScheduleFault)
         → (ensured short LineTooLong >>= λ _. ensured visible BadByte >>= λ _. ensured skipped EventInPack) ≡ Ok done
@@ -71,7 +71,7 @@ is_image bytes listing last rest law packed listed passes =
     ∙ ap (λ a. course_output (migrated listing a)) (passed-asks listing.sizes.harts last rest passes)
     ∙ ap (λ t. let o : Output = record { text = t; exit = Done } in o) (append-nil (listing_text listing ++ []) ∙ append-nil (listing_text listing)) in
     λ fits.
-    let read : unpacked (image_of listing) ≡ Ok listing = law listing packed (subst (λ i. length i ≤ INPUT_LIMIT) image fits) in
+    let read : unpacked (image_of listing) ≡ Ok listing = law listing packed (subst (λ i. length i ≤ input_limit) image fits) in
     ap (λ i. course_output (image_course i)) image ∙ ap (λ r. course_output (unpack_course r)) read ∙ sym migrates
 
 -- the same of the known bytes

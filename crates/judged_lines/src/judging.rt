@@ -1,6 +1,6 @@
 //! The lines of an input, judged one after the other.
 ghost use Rattle.std.specs.Prelude.{◌≡◌, ◌≢◌, ◌<◌, ◌≤◌, ◌+◌, OnOk, false, true};
-ghost use Rattle.coy_io.specs.declared.TheConstants.{INPUT_LIMIT};
+ghost use Rattle.coy_io.specs.Limits.{input_limit};
 ghost use Rattle.coy_io.specs.Causes.{Rose};
 ghost use Rattle.coy_io.specs.Reader.{TellsEnd};
 ghost use Rattle.judged_lines.specs.Judged.{IsAnswer, JudgesAll, JudgesNext};
@@ -52,7 +52,7 @@ pub fn judge_next<S: Source, J: Judge>(
     // What happens to the reader.
     ensures shorter { OnOk result (lines.new.room < lines.old.room) }
     ensures number { OnOk result (lines.new.number ≡ lines.old.number + 1) }
-    ensures bound { OnOk result (lines.new.number ≤ INPUT_LIMIT + 1) }
+    ensures bound { OnOk result (lines.new.number ≤ input_limit + 1) }
     ensures going { OnOk result (lines.new.failed ≡ false) }
     ensures told { TellsEnd lines.old (S.held source.old) → TellsEnd lines.new (S.held source.new) }
     ensures end { result ≡ Err Stop.End → lines.new.ended ≡ true }

@@ -3,7 +3,7 @@ use Rattle.std.specs.Prelude.{ℕ, ◌==◌, ◌&&◌, nat_lt, nat_le, ◌<◌, 
 use Rattle.coy_text.specs.Numeral.{dec_of}
 use Rattle.coy_text.specs.Words.{words_of, field}
 use Rattle.coy_text.specs.Line.{is_visible_line, is_skipped}
-use Rattle.coy_io.specs.declared.TheConstants.{LINE_LIMIT}
+use Rattle.coy_io.specs.Limits.{line_limit}
 use Rattle.listing_read.specs.Faults.{◌>>=◌, ensured}
 use Rattle.listing_read.specs.declared.fault.ScheduleFault.{ScheduleFault}
 use Rattle.listing_read.specs.declared.fault.ScheduleFault.TheVariants.{LineTooLong, BadByte, UnknownEvent, WrongWords, BadNumber, NoHart, BadRepeat, EventInPack}
@@ -77,13 +77,13 @@ schedule_words harts words = if is_skipped words then Ok None else asked_by hart
 -- what a line asks for, which is nothing where it is skipped
 unfoldable pub schedule_line : ℕ → List ℕ → Result (Option Timed) ScheduleFault
 schedule_line harts line = do
-  _ ← ensured (nat_le (length line) LINE_LIMIT) LineTooLong
+  _ ← ensured (nat_le (length line) line_limit) LineTooLong
   _ ← ensured (is_visible_line line) BadByte
   schedule_words harts (words_of line)
 
 -- a line where no event may stand: one that is skipped, or its fault
 unfoldable pub eventless_line : List ℕ → Result (Unit {0}) ScheduleFault
 eventless_line line = do
-  _ ← ensured (nat_le (length line) LINE_LIMIT) LineTooLong
+  _ ← ensured (nat_le (length line) line_limit) LineTooLong
   _ ← ensured (is_visible_line line) BadByte
   ensured (is_skipped (words_of line)) EventInPack

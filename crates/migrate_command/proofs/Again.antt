@@ -4,7 +4,7 @@ use Rattle.std.specs.List.{All}
 use Rattle.std.proofs.lemmas.List.Elements.{All-head, All-tail}
 use Rattle.coy_io.specs.Lines.{Part, parts_of}
 use Rattle.coy_io.specs.Reader.{Reader, new_reader, ahead}
-use Rattle.coy_io.specs.declared.TheConstants.{INPUT_LIMIT}
+use Rattle.coy_io.specs.Limits.{input_limit}
 use Rattle.listing_read.specs.Listing.{Good, IsListed, listing_of}
 use Rattle.listing_read.specs.declared.place.Place.TheVariants.{Header}
 use Rattle.listing_read.specs.Schedule.{IsTimed}
@@ -74,7 +74,7 @@ is_migrated bytes listing last rest listed again =
     ∙ ap (λ a. (course_output (migrated listing a)).text) again.asks
     ∙ append-nil (listing_text listing ++ events_text lines) in
     λ fits.
-    let told = again.again (subst (λ t. length t ≤ INPUT_LIMIT) text fits) in
+    let told = again.again (subst (λ t. length t ≤ input_limit) text fits) in
     record {
       listing = listing;
       all = scheduled listing.sizes.harts last rest;

@@ -1,7 +1,7 @@
 -- *Migration*: the migrated text says what the input says (this project's own).
 use Rattle.std.specs.Prelude.{◌≡◌, ◌≤◌, ℕ, List, ◌++◌, length}
 use Rattle.coy_io.specs.Lines.{Part, parts_of}
-use Rattle.coy_io.specs.declared.TheConstants.{INPUT_LIMIT}
+use Rattle.coy_io.specs.Limits.{input_limit}
 use Rattle.listing_read.specs.Listing.{Good, listing_of}
 use Rattle.listing_read.specs.Statement.{ListingValue}
 use Rattle.listing_read.specs.declared.place.Place.TheVariants.{Header}
@@ -27,12 +27,12 @@ pub record SaySame (bytes text : List ℕ) : Type 0 where
 
 -- a text is that of an input where it says the same, if it has no more bytes than an input may have
 abbrev pub IsMigrated : List ℕ → List ℕ → Type 0
-IsMigrated bytes text = length text ≤ INPUT_LIMIT → SaySame bytes text
+IsMigrated bytes text = length text ≤ input_limit → SaySame bytes text
 
 -- lines behind a listing end with no fault, and the text of both is read as this listing and the events of these lines, if it
 -- has no more bytes than an input may have
 pub record ReadsAgain (listing : ListingValue) (last : ℕ) (rest : List Part) : Type 0 where
   pub lines : List Timed
   pub asks : asked listing.sizes.harts last rest ≡ record { lines = lines; ending = AtEnd }
-  pub again : length (listing_text listing ++ events_text lines) ≤ INPUT_LIMIT
+  pub again : length (listing_text listing ++ events_text lines) ≤ input_limit
       → Says (listing_text listing ++ events_text lines) listing (scheduled listing.sizes.harts last rest)

@@ -4,3 +4,5 @@ pub mod Allowed
 pub mod Exactly
 pub mod Meant
 pub mod Marking
+mod Listed
+mod Every

@@ -9,10 +9,12 @@ mod capabilities;
 mod checking;
 mod crossing;
 mod found;
+mod laws;
 mod marks;
 mod sleeping;
 
 pub use checking::crossings;
 pub use crossing::Crossing;
 pub use found::Found;
+pub use laws::all_law;
 pub use marks::Marks;

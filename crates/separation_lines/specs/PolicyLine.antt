@@ -1,6 +1,6 @@
 -- A line of a policy: what it says, or its first fault, and the policy after it. (Own.)
 use Rattle.std.specs.Prelude.{ℕ, ◌<◌, ◌≤◌, ◌==◌, ◌||◌, nat_le, nat_lt, if◌then◌else◌, List, length, bytes_eq, codes, Result, Ok, Err}
-use Rattle.coy_io.specs.declared.TheConstants.{LINE_LIMIT}
+use Rattle.coy_io.specs.Limits.{line_limit}
 use Rattle.coy_text.specs.Line.{is_visible_line, is_skipped}
 use Rattle.coy_text.specs.Words.{words_of, field}
 use Rattle.listing_read.specs.Faults.{◌>>=◌, ensured}
@@ -53,7 +53,7 @@ policy_words policy words = if is_skipped words then Ok Nothing else said_by pol
 -- what a line says
 unfoldable pub policy_line : PolicyValue → List ℕ → Result Said PolicyFault
 policy_line policy line = do
-  _ ← ensured (nat_le (length line) LINE_LIMIT) LineTooLong
+  _ ← ensured (nat_le (length line) line_limit) LineTooLong
   _ ← ensured (is_visible_line line) BadByte
   policy_words policy (words_of line)
 

@@ -1,5 +1,5 @@
 -- The theorems: those of confinement and isolation, for the cuts of each domain.
-use Rattle.std.proofs.Common.{◌≡◌, ◌≢◌, ℕ, ◌==◌, Bool, true, false, not, List, refl, ◌∙◌, eqb-true, [], ◌∷◌, filter, ap₂, if◌then◌else◌, Option, Some, None, ap, sym}
+use Rattle.std.proofs.Common.{◌≡◌, ◌≢◌, ℕ, ◌==◌, Bool, true, false, not, List, refl, ◌∙◌, eqb-true, [], ◌∷◌, filter, ap₂, slice_index_or, if◌then◌else◌, Option, Some, None, ap, sym}
 use Rattle.std.proofs.lemmas.Bool.{eq-eqb}
 use Rattle.cap_format.specs.declared.kind.CapKind.{CapKind}
 use Rattle.cap_format.specs.declared.kind.CapKind.TheVariants.{Process}
@@ -7,7 +7,9 @@ use Rattle.schedules.specs.Queues.{QueuesValue, ready_queue, hart_of}
 use Rattle.operations.specs.System.{System}
 use Rattle.machine_state.specs.declared.event.Event.{Event}
 use Rattle.machine_state.specs.State.{State}
-use Rattle.kernel_core.specs.Event.{event_of}
+use Rattle.object_store.specs.Store.{Store}
+use Rattle.object_store.specs.Object.{object_at}
+use Rattle.kernel_core.specs.Event.{performer, event_of}
 use Rattle.kernel_core.specs.Run.{run_state}
 use Rattle.confinement.specs.declared.cut_side.CutSide.{CutSide}
 use Rattle.confinement.specs.Cut.{side_of, same_side}
@@ -17,8 +19,8 @@ use Rattle.confinement.proofs.Sides.{same_side-tells, same_side-true}
 use Rattle.confinement.proofs.Runs.{event_kept, holds-run, holds-event}
 use Rattle.isolation.specs.Agree.{Agree}
 use Rattle.isolation.specs.Isolation.{AlikeRuns, Isolation}
-use Rattle.separation_policy.specs.Policy.{PolicyValue, rest_domain, domain_of, PolicyHolds, StandStill, others_than, other_than, WritesAtHome, sees, domain_cut, view_side, view_cut, SameFor, Reads}
-use Rattle.separation_policy.specs.Laws.{IntegrityLaw, NoninterferenceLaw}
+use Rattle.separation_policy.specs.Policy.{PolicyValue, rest_domain, domain_of, PolicyHolds, StandStill, others_than, other_than, WritesAtHome, TakesNoTurn, StaysAsItIs, sees, domain_cut, view_side, view_cut, SameFor, Reads}
+use Rattle.separation_policy.specs.Laws.{IntegrityLaw, OwnChangesLaw, NoninterferenceLaw}
 use Rattle.separation_policy.proofs.Reading.{same_answer, reads-seen, seen-reads, sees-itself}
 use Rattle.separation_policy.proofs.Cuts.{never_across, on-one-side, both-inside, side-inside, cuts_law}
 
@@ -58,6 +60,7 @@ module _ (policy : PolicyValue) where
   stand-still p q r places = record {
     ready = λ priority. sym (others-domain p (ready_queue q priority)) ∙ (places.ready priority ∙ others-domain p (ready_queue r priority));
     harts = λ hart. sym (other-domain p (hart_of q hart)) ∙ (places.harts hart ∙ other-domain p (hart_of r hart));
+    size = places.size;
   }
 
   -- what each cut keeps, of a policy
@@ -69,6 +72,7 @@ module _ (policy : PolicyValue) where
     places = λ p by. let each = kept (domain_of policy Process p) in stand-still p s.queues t.queues (each.places p by);
     idle = let each = kept rest_domain in each.idle;
     still = let each = kept rest_domain in each.still;
+    harts = let each = kept rest_domain in each.harts;
   }
 
   -- the policy holds after each event
@@ -85,13 +89,44 @@ module _ (policy : PolicyValue) where
       (cuts_law policy (system_of (run_state s es))).1 (λ a.
       let two = cuts a in (holds-run (domain_cut policy a) s es two.0, holds-run (view_cut policy a) s es two.1))
 
+  -- an event keeps what `WritesAtHome` says
+  event_at_home : (s : State) (e : Event) → PolicyHolds policy (system_of s) → WritesAtHome policy s e (event_of s e).state
+  event_at_home s e holds =
+      at_home s e (event_of s e).state (policy-event s e holds)
+      (λ a. event_kept (domain_cut policy a) s e ((cuts_law policy (system_of s)).0 holds a).0)
+
+  -- an event that no process of domain `b` performs leaves it
+  event_stays : (b : ℕ) (s : State) (e : Event) (t : State) → WritesAtHome policy s e t → (by : Option ℕ) → performer s e ≡ by
+      → ((p : ℕ) → performer s e ≡ Some p → domain_of policy Process p ≢ b) → StaysAsItIs policy b s t
+  event_stays b s e t home None is none = let same = home.idle is in record {
+    objects = λ kind n own. ap (λ (store : Store). object_at store kind n) (sym same.0);
+    sleepers = λ on own. ap (λ (sleepers : List (List ℕ)). slice_index_or sleepers on []) (sym same.1);
+  }
+  event_stays b s e t home (Some p) is none = record {
+    objects = λ kind n own. home.objects p is kind n (λ same. none p is (sym same ∙ own));
+    sleepers = λ on own. home.sleepers p is on (λ same. none p is (sym same ∙ own));
+  }
+
+  -- and so does a run
+  run_stays : (b : ℕ) (s : State) (es : List Event) → PolicyHolds policy (system_of s) → TakesNoTurn policy b s es → StaysAsItIs policy b s (run_state s es)
+  unfolding run_state
+  run_stays b s [] holds none = record { objects = λ kind n own. refl; sleepers = λ on own. refl }
+  run_stays b s (e ∷ es) holds none =
+      let first = event_stays b s e (event_of s e).state (event_at_home s e holds) (performer s e) refl none.0 in
+      let rest = run_stays b (event_of s e).state es (policy-event s e holds) none.1 in
+      record {
+        objects = λ kind n own. first.objects kind n own ∙ rest.objects kind n own;
+        sleepers = λ on own. first.sleepers on own ∙ rest.sleepers on own;
+      }
+
 -- nobody writes across
 pub integrity_law : IntegrityLaw
 integrity_law policy s holds before e =
-    let t = run_state s before in
-    let holds_then = policy-run policy s before holds in
-    at_home policy t e (event_of t e).state (policy-event policy t e holds_then)
-    (λ a. event_kept (domain_cut policy a) t e ((cuts_law policy (system_of t)).0 holds_then a).0)
+    event_at_home policy (run_state s before) e (policy-run policy s before holds)
+
+-- a domain is changed by its own processes alone
+pub own_changes_law : OwnChangesLaw
+own_changes_law policy s holds b es none = run_stays policy b s es holds none
 
 -- ---- noninterference
 

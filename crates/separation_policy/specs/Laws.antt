@@ -4,7 +4,7 @@ use Rattle.operations.specs.System.{System}
 use Rattle.machine_state.specs.State.{State}
 use Rattle.confinement.specs.Cut.{Holds}
 use Rattle.confinement.specs.Acts.{system_of}
-use Rattle.separation_policy.specs.Policy.{PolicyValue, Reads, PolicyHolds, sees, domain_cut, view_cut, Integrity, Noninterference}
+use Rattle.separation_policy.specs.Policy.{PolicyValue, Reads, PolicyHolds, sees, domain_cut, view_cut, Integrity, ChangesItself, Noninterference}
 
 -- What `sees` decides is the closure.
 abbrev pub ReadsLaw : Type 0
@@ -18,6 +18,10 @@ CutsLaw = (policy : PolicyValue) (w : System) → PolicyHolds policy w ↔ ((a :
 -- Where a policy holds, nobody writes across, and it holds for good.
 abbrev pub IntegrityLaw : Type 0
 IntegrityLaw = (policy : PolicyValue) (s : State) → PolicyHolds policy (system_of s) → Integrity policy s
+
+-- Where a policy holds, a domain is changed by its own processes alone, over any run.
+abbrev pub OwnChangesLaw : Type 0
+OwnChangesLaw = (policy : PolicyValue) (s : State) → PolicyHolds policy (system_of s) → ChangesItself policy s
 
 -- Where a policy holds, nobody sees across, but who reads.
 abbrev pub NoninterferenceLaw : Type 0

@@ -5,7 +5,7 @@
 -- writing and sending among them, and under a scheduler that gives each domain fixed turns. Here a policy lets domains read
 -- and no more, whether it holds is decided over the objects of a machine, and the turns of domains are a premise in place
 -- of a scheduler. Nothing is said of time, here or there.
-use Rattle.std.specs.Prelude.{◌≡◌, ◌≢◌, ℕ, zero, suc, ◌<◌, ◌==◌, ◌&&◌, ◌||◌, ◌⊎◌, Bool, true, false, not, if◌then◌else◌, List, [], map, filter, length, slice_index_or, Option, Some, None}
+use Rattle.std.specs.Prelude.{◌≡◌, ◌≢◌, ℕ, zero, suc, ◌<◌, ◌==◌, ◌&&◌, ◌||◌, ◌⊎◌, Bool, true, false, not, if◌then◌else◌, List, [], ◌∷◌, map, filter, length, slice_index_or, Option, Some, None, ⊤}
 use Rattle.cap_format.specs.declared.kind.CapKind.{CapKind}
 use Rattle.cap_format.specs.declared.kind.CapKind.TheVariants.{Page, CapPage, Gpt, Endpoint, Process, Range}
 use Rattle.cap_format.specs.Kind.{is_counted, object_kind}
@@ -123,12 +123,14 @@ abbrev pub other_than : PolicyValue → ℕ → Option ℕ → Option ℕ
 other_than policy a None = None
 other_than policy a (Some p) = if domain_of policy Process p == a then None else Some p
 
--- the processes that are not of domain `a` stand in the same order in each ready queue, and on the same harts
+-- the processes that are not of domain `a` stand in the same order in each ready queue, and on the same harts, of which
+-- there are as many
 pub record StandStill (policy : PolicyValue) (a : ℕ) (q r : QueuesValue) : Type 0 where
   pub ready : (priority : ℕ) → others_than policy a (ready_queue q priority) ≡ others_than policy a (ready_queue r priority)
   pub harts : (hart : ℕ) → other_than policy a (hart_of q hart) ≡ other_than policy a (hart_of r hart)
+  pub size : length q.harts ≡ length r.harts
 
--- An event takes state `s` to state `t`. The policy holds afterwards. Each object of another domain than that of the
+-- An event takes state `s` to state `t`. The policy holds afterwards, and there are as many harts. Each object of another domain than that of the
 -- process which performs the event is the same, its age and state included, and so is who sleeps on each process of
 -- another domain; and the processes of all other domains stand where they stood. Where nobody performs the event, no object
 -- changes, and no sleeper; and where it is one of a hart that there is, no queue and no hart.
@@ -139,12 +141,28 @@ pub record WritesAtHome (policy : PolicyValue) (s : State) (e : Event) (t : Stat
   pub places : (p : ℕ) → performer s e ≡ Some p → StandStill policy (domain_of policy Process p) s.queues t.queues
   pub idle : performer s e ≡ None → (t.store ≡ s.store) × (t.queues.sleepers ≡ s.queues.sleepers)
   pub still : performer s e ≡ None → hart_in e < length s.queues.harts → t.queues ≡ s.queues
+  pub harts : length t.queues.harts ≡ length s.queues.harts
 
 -- *Nobody writes across*: so it is with every event, behind any events, from this state on.
 abbrev pub Integrity : PolicyValue → State → Type 0
 Integrity policy s = (before : List Event) (e : Event) →
     let t = run_state s before in
     WritesAtHome policy t e (event_of t e).state
+
+-- no process of domain `b` performs an event of this run
+abbrev pub TakesNoTurn : PolicyValue → ℕ → State → List Event → Type 0
+TakesNoTurn policy b s [] = ⊤
+TakesNoTurn policy b s (e ∷ es) =
+    ((p : ℕ) → performer s e ≡ Some p → domain_of policy Process p ≢ b) × TakesNoTurn policy b (event_of s e).state es
+
+-- each object of domain `b` is the same, its age and state included, and so is who sleeps on each of its processes
+pub record StaysAsItIs (policy : PolicyValue) (b : ℕ) (s t : State) : Type 0 where
+  pub objects : (kind : CapKind) (n : ℕ) → domain_of policy kind n ≡ b → SameObject kind n s.store t.store
+  pub sleepers : (on : ℕ) → domain_of policy Process on ≡ b → sleepers_of s.queues on ≡ sleepers_of t.queues on
+
+-- *A domain is changed by its own processes alone*: over a whole run in which none of them performs an event, it stays
+abbrev pub ChangesItself : PolicyValue → State → Type 0
+ChangesItself policy s = (b : ℕ) (es : List Event) → TakesNoTurn policy b s es → StaysAsItIs policy b s (run_state s es)
 
 -- ---- noninterference
 

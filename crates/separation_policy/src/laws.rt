@@ -1,5 +1,5 @@
 //! The laws of policies. The calls change nothing: what they say holds for all policies and states.
-ghost use Rattle.separation_policy.specs.Laws.{ReadsLaw, CutsLaw, IntegrityLaw, NoninterferenceLaw};
+ghost use Rattle.separation_policy.specs.Laws.{ReadsLaw, CutsLaw, IntegrityLaw, OwnChangesLaw, NoninterferenceLaw};
 
 use isolation::isolation;
 
@@ -16,6 +16,11 @@ pub fn cuts_law()
 /// Where a policy holds, nobody writes across, and it holds for good.
 pub fn integrity()
     ensures { IntegrityLaw }
+{}
+
+/// Where a policy holds, a domain is changed by its own processes alone.
+pub fn own_changes()
+    ensures { OwnChangesLaw }
 {}
 
 /// Where a policy holds, nobody sees across, but who reads.

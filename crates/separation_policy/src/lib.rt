@@ -12,5 +12,5 @@ mod policy;
 
 pub use closure::Closure;
 pub use domain_set::DomainSet;
-pub use laws::{cuts_law, integrity, noninterference, reads_law};
+pub use laws::{cuts_law, integrity, noninterference, own_changes, reads_law};
 pub use policy::{DOMAIN_LIMIT, Domain, Policy};

@@ -5,7 +5,7 @@ use Rattle.std.specs.List.{All}
 use Rattle.std.proofs.lemmas.Bool.{le-leb, lt-ltb}
 use Rattle.std.proofs.lemmas.List.Elements.{All-tail}
 use Rattle.coy_text.proofs.NumeralLaws.{dec_of-decimal}
-use Rattle.coy_io.specs.declared.TheConstants.{LINE_LIMIT, INPUT_LIMIT}
+use Rattle.coy_io.specs.Limits.{line_limit, input_limit}
 use Rattle.coy_io.specs.Lines.{Line, line_feed, parts}
 use Rattle.coy_io.proofs.LineLaws.{parts-line_in_front}
 use Rattle.listing_read.specs.Statement.{ListingValue}
@@ -41,13 +41,13 @@ pub event_reads : EventsAreRead
 unfolding schedule_line asked_by timed_of step_line tick_line round_line
 event_reads harts (Step hart times) few is =
     let line = event_is_line harts (Step hart times) few is in
-    rw (le-leb (length (event_line (Step hart times))) LINE_LIMIT line.short, line.visible, line.words_are, hart_of-decimal harts hart few is.0, times_of-decimal times is.1 is.2) refl
+    rw (le-leb (length (event_line (Step hart times))) line_limit line.short, line.visible, line.words_are, hart_of-decimal harts hart few is.0, times_of-decimal times is.1 is.2) refl
 event_reads harts (Tick hart) few is =
     let line = event_is_line harts (Tick hart) few is in
-    rw (le-leb (length (event_line (Tick hart))) LINE_LIMIT line.short, line.visible, line.words_are, hart_of-decimal harts hart few is) refl
+    rw (le-leb (length (event_line (Tick hart))) line_limit line.short, line.visible, line.words_are, hart_of-decimal harts hart few is) refl
 event_reads harts (Round times) few is =
     let line = event_is_line harts (Round times) few is in
-    rw (le-leb (length (event_line (Round times))) LINE_LIMIT line.short, line.visible, line.words_are, times_of-decimal times is.0 is.1) refl
+    rw (le-leb (length (event_line (Round times))) line_limit line.short, line.visible, line.words_are, times_of-decimal times is.0 is.1) refl
 
 -- the lines of a schedule
 events_parts : (harts : ℕ) (events : List Timed) (room : ℕ) → harts ≤ 8 → All (IsTimed harts) events → length (events_text events) ≤ room → parts [] room (events_text events) ≡ map event_part events
@@ -76,12 +76,12 @@ migrated listing events is typed timed fits =
     let text : List ℕ = statements_text listing.statements in
     let rest : List ℕ = events_text events in
     let same = in_front listing rest in
-    let whole : length (format_text Two ++ (machine_text sizes ++ (text ++ (end_text ++ rest)))) ≤ INPUT_LIMIT = rw (sym same) fits in
+    let whole : length (format_text Two ++ (machine_text sizes ++ (text ++ (end_text ++ rest)))) ≤ input_limit = rw (sym same) fits in
     let one = length-append (format_text Two) (machine_text sizes ++ (text ++ (end_text ++ rest))) in
     let two = length-append (machine_text sizes) (text ++ (end_text ++ rest)) in
     let three = length-append text (end_text ++ rest) in
     let four = length-append end_text rest in
-    ap (λ bytes. listing_of Header 1 (parts [] INPUT_LIMIT bytes)) same
+    ap (λ bytes. listing_of Header 1 (parts [] input_limit bytes)) same
     ∙ listing_listed Two sizes text listing.statements rest is.limits (all_listed sizes listing.statements is.limits is.statements typed) whole
     ∙ ap (Good listing (3 + length listing.statements))
-    (events_parts sizes.harts events (INPUT_LIMIT - (length (format_text Two) + (length (machine_text sizes) + (length text + length end_text)))) is.limits.harts timed (omega arith))
+    (events_parts sizes.harts events (input_limit - (length (format_text Two) + (length (machine_text sizes) + (length text + length end_text)))) is.limits.harts timed (omega arith))

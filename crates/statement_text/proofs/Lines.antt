@@ -8,7 +8,7 @@ use Rattle.std.proofs.lemmas.Bool.{and_parts, leb-true, not-true}
 use Rattle.coy_text.proofs.WordLaws.{words_of-join}
 use Rattle.coy_text.specs.Numeral.{hex_text}
 use Rattle.coy_text.proofs.NumeralLaws.{length-hex_text}
-use Rattle.coy_io.specs.declared.TheConstants.{LINE_LIMIT}
+use Rattle.coy_io.specs.Limits.{line_limit}
 use Rattle.coy_io.specs.Lines.{line_feed, IsUnfinished}
 use Rattle.listing_read.specs.Terms.{has_names}
 use Rattle.listing_read.specs.declared.terms.Terms.{Terms}
@@ -52,7 +52,7 @@ is_opening word =
 pub record IsLine (words : List (List ℕ)) : Type 0 where
   pub words_are : words_of (line_of words) ≡ words
   pub visible : list_all is_visible (line_of words) ≡ true
-  pub short : length (line_of words) ≤ LINE_LIMIT
+  pub short : length (line_of words) ≤ line_limit
   pub whole : IsUnfinished (line_of words)
 
 -- how long the line of printed words is

@@ -6,7 +6,7 @@ use Rattle.std.proofs.lemmas.Bool.{and_parts, le-leb, not-true}
 use Rattle.std.proofs.lemmas.List.Elements.{All-tail}
 use Rattle.coy_text.proofs.NumeralLaws.{dec_of-decimal}
 use Rattle.coy_text.proofs.WordLaws.{words_of-join}
-use Rattle.coy_io.specs.declared.TheConstants.{LINE_LIMIT, INPUT_LIMIT}
+use Rattle.coy_io.specs.Limits.{line_limit, input_limit}
 use Rattle.coy_io.specs.Lines.{line_feed, IsUnfinished, parts}
 use Rattle.coy_io.proofs.LineLaws.{parts-line_in_front}
 use Rattle.object_store.specs.declared.sizes.Sizes.{Sizes}
@@ -60,7 +60,7 @@ nothing terms = record {
 }
 
 -- a line in front of other lines
-line_in_front : (terms : Terms) (line rest : List ℕ) (statement : Statement) (n room : ℕ) → IsUnfinished line → length line ≤ LINE_LIMIT → judged (Statements terms) line ≡ Ok (Says statement) → length line < room → listing_of (Statements terms) n (parts [] room (line ++ (10 ∷ rest))) ≡ with_front (statement ∷ []) (listing_of (Statements terms) (n + 1) (parts [] (room - (length line + 1)) rest))
+line_in_front : (terms : Terms) (line rest : List ℕ) (statement : Statement) (n room : ℕ) → IsUnfinished line → length line ≤ line_limit → judged (Statements terms) line ≡ Ok (Says statement) → length line < room → listing_of (Statements terms) n (parts [] room (line ++ (10 ∷ rest))) ≡ with_front (statement ∷ []) (listing_of (Statements terms) (n + 1) (parts [] (room - (length line + 1)) rest))
 unfolding listing_of
 line_in_front terms line rest statement n room whole short said fits =
     rw (parts-line_in_front line rest room whole short fits, said) refl
@@ -103,7 +103,7 @@ all_listed sizes (x ∷ xs) limits are typed =
 -- ---- the two lines in front
 
 -- a line that opens a place, in front of other lines
-opened : (place next : Place) (line rest : List ℕ) (n room : ℕ) → IsUnfinished line → length line ≤ LINE_LIMIT → judged place line ≡ Ok (Opens next) → length line < room → listing_of place n (parts [] room (line ++ (10 ∷ rest))) ≡ listing_of next (n + 1) (parts [] (room - (length line + 1)) rest)
+opened : (place next : Place) (line rest : List ℕ) (n room : ℕ) → IsUnfinished line → length line ≤ line_limit → judged place line ≡ Ok (Opens next) → length line < room → listing_of place n (parts [] room (line ++ (10 ∷ rest))) ≡ listing_of next (n + 1) (parts [] (room - (length line + 1)) rest)
 unfolding listing_of
 opened place next line rest n room whole short said fits = rw (parts-line_in_front line rest room whole short fits, said) refl
 
@@ -176,10 +176,10 @@ listing_listed version sizes text statements rest is lists fits =
     let three = length-append text (end_text ++ rest) in
     let four = length-append end_text rest in
     let last : length end_text ≡ 4 = refl in
-    let left : (((INPUT_LIMIT - length (format_text version)) - length (machine_text sizes)) - length text) - 4 ≡ INPUT_LIMIT - (length (format_text version) + (length (machine_text sizes) + (length text + length end_text))) = omega arith in
-    format_opens version (machine_text sizes ++ (text ++ (end_text ++ rest))) 1 INPUT_LIMIT (omega arith)
-    ∙ machine_opens version sizes is (text ++ (end_text ++ rest)) 2 (INPUT_LIMIT - length (format_text version)) (omega arith)
-    ∙ lists.listed 3 ((INPUT_LIMIT - length (format_text version)) - length (machine_text sizes)) (end_text ++ rest) (omega arith)
-    ∙ ap (with_front statements) (ends terms rest (3 + length statements) (((INPUT_LIMIT - length (format_text version)) - length (machine_text sizes)) - length text) (omega arith))
-    ∙ ap (λ xs. let l : ListingValue = record { sizes = sizes; statements = xs } in Good l (3 + length statements) (parts [] ((((INPUT_LIMIT - length (format_text version)) - length (machine_text sizes)) - length text) - 4) rest)) (append-nil statements)
+    let left : (((input_limit - length (format_text version)) - length (machine_text sizes)) - length text) - 4 ≡ input_limit - (length (format_text version) + (length (machine_text sizes) + (length text + length end_text))) = omega arith in
+    format_opens version (machine_text sizes ++ (text ++ (end_text ++ rest))) 1 input_limit (omega arith)
+    ∙ machine_opens version sizes is (text ++ (end_text ++ rest)) 2 (input_limit - length (format_text version)) (omega arith)
+    ∙ lists.listed 3 ((input_limit - length (format_text version)) - length (machine_text sizes)) (end_text ++ rest) (omega arith)
+    ∙ ap (with_front statements) (ends terms rest (3 + length statements) (((input_limit - length (format_text version)) - length (machine_text sizes)) - length text) (omega arith))
+    ∙ ap (λ xs. let l : ListingValue = record { sizes = sizes; statements = xs } in Good l (3 + length statements) (parts [] ((((input_limit - length (format_text version)) - length (machine_text sizes)) - length text) - 4) rest)) (append-nil statements)
     ∙ ap (λ room. let l : ListingValue = record { sizes = sizes; statements = statements } in Good l (3 + length statements) (parts [] room rest)) left

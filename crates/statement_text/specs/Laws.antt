@@ -3,7 +3,7 @@
 -- word shows a count, so capabilities are without theirs.
 use Rattle.std.specs.Prelude.{ℕ, ◌≡◌, ◌+◌, ◌-◌, ◌≤◌, List, [], ◌∷◌, ◌++◌, length, map, Some, Ok}
 use Rattle.std.specs.List.{All}
-use Rattle.coy_io.specs.declared.TheConstants.{INPUT_LIMIT}
+use Rattle.coy_io.specs.Limits.{input_limit}
 use Rattle.coy_io.specs.Lines.{Part, Line, parts, parts_of}
 use Rattle.cap_format.specs.Capability.{Capability, IsCapability, bare}
 use Rattle.object_store.specs.Ranges.{IsWithinLimits}
@@ -56,9 +56,9 @@ ListedIsListing =
     Lists (terms_of version sizes) text statements →
     let whole = format_text version ++ (machine_text sizes ++ (text ++ (end_text ++ rest))) in
     let front = length (format_text version) + (length (machine_text sizes) + (length text + length end_text)) in
-    length whole ≤ INPUT_LIMIT →
+    length whole ≤ input_limit →
     listing_of Header 1 (parts_of whole) ≡
-    Good (record { sizes = sizes; statements = statements }) (3 + length statements) (parts [] (INPUT_LIMIT - front) rest)
+    Good (record { sizes = sizes; statements = statements }) (3 + length statements) (parts [] (input_limit - front) rest)
 
 -- a line of a schedule as a reader gives it
 abbrev pub event_part : Timed → Part
@@ -75,6 +75,6 @@ abbrev pub MigratedIsRead : Type 0
 MigratedIsRead =
     (listing : ListingValue) (events : List Timed) → IsListing listing → All IsTyped listing.statements →
     All (IsTimed listing.sizes.harts) events →
-    length (listing_text listing ++ events_text events) ≤ INPUT_LIMIT →
+    length (listing_text listing ++ events_text events) ≤ input_limit →
     listing_of Header 1 (parts_of (listing_text listing ++ events_text events)) ≡
     Good listing (3 + length listing.statements) (map event_part events)

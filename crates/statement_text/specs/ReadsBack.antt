@@ -1,6 +1,6 @@
 -- Text that is read as what it was written for.
 use Rattle.std.specs.Prelude.{ℕ, ◌≡◌, ◌≤◌, ◌<◌, ⊤, true, List, ◌++◌, length, Ok}
-use Rattle.coy_io.specs.declared.TheConstants.{LINE_LIMIT}
+use Rattle.coy_io.specs.Limits.{line_limit}
 use Rattle.coy_io.specs.Lines.{line_feed, IsUnfinished}
 use Rattle.rv32_decode.specs.InRange.{InRange}
 use Rattle.listing_read.specs.declared.place.Place.TheVariants.{Statements}
@@ -17,7 +17,7 @@ use Rattle.listing_read.specs.Listing.{judged}
 pub record ReadsBack (terms : Terms) (text : List ℕ) (statement : Statement) : Type 0 where
   pub line : List ℕ
   pub text_is : text ≡ line ++ line_feed
-  pub short : length line ≤ LINE_LIMIT
+  pub short : length line ≤ line_limit
   pub whole : IsUnfinished line
   pub said : judged (Statements terms) line ≡ Ok (Says statement)
 

@@ -1,5 +1,5 @@
 use Rattle.std.proofs.Common.{◌≡◌, ◌≤◌, ◌+◌, ◌*◌, ◌^◌, false, length}
-use Rattle.coy_io.specs.declared.TheConstants.{INPUT_LIMIT}
+use Rattle.coy_io.specs.Limits.{input_limit}
 use Rattle.coy_io.specs.Reader.{TellsEnd}
 use Rattle.schedule_replay.specs.Events.{left, OfHarts}
 use Rattle.schedule_replay.specs.declared.mode.Mode.TheVariants.{Silent}
@@ -14,7 +14,7 @@ invariant-each g l = record {
   harts : l.harts ≡ l.fn.machine.objects.harts;
   there : OfHarts l.harts (left l.left);
   few : length (left l.left) ≤ 255000000;
-  bound : l.lines.number ≤ l.fn.lines.number + INPUT_LIMIT + 1;
+  bound : l.lines.number ≤ l.fn.lines.number + input_limit + 1;
   going : l.lines.failed ≡ false;
   told : TellsEnd l.fn.lines (g.S.Source.held l.fn.source) → TellsEnd l.lines (g.S.Source.held l.source);
   read : g.S.Source.faults l.source ≡ g.S.Source.faults l.fn.source;

@@ -1,0 +1,345 @@
+-- Each crossing that is told is one, none is missing, and they come in order.
+use Rattle.std.proofs.Common.{◌≡◌, ◌≢◌, ◌↔◌, ℕ, ◌<◌, ◌≤◌, ◌==◌, ◌⊎◌, inl, inr, ◌++◌, Bool, true, false, if◌then◌else◌, List, length, Option, Some, None, refl, sym, ◌∙◌, ap, subst, arith, eqb-true}
+use Rattle.std.specs.List.{Contains, AllPairs}
+use Rattle.std.proofs.lemmas.Bool.{eq-eqb}
+use Rattle.std.proofs.lemmas.List.Elements.{Contains-append_left, Contains-append_right, Contains-append_cases}
+use Rattle.cap_format.specs.declared.kind.CapKind.{CapKind}
+use Rattle.cap_format.specs.declared.kind.CapKind.TheVariants.{CapPage, Gpt, Endpoint, Process, Range}
+use Rattle.cap_format.specs.Kind.{is_counted}
+use Rattle.cap_format.specs.Capability.{Capability}
+use Rattle.object_store.specs.Store.{Store, size_of}
+use Rattle.schedules.specs.Queues.{QueuesValue, sleepers_of, stands_in}
+use Rattle.machine_state.specs.State.{State}
+use Rattle.confine_check.specs.Breach.{is_range, places_in, cap_in}
+use Rattle.confine_check.proofs.Decided.{is_range-kind}
+use Rattle.separation_policy.specs.Policy.{PolicyValue, domain_of, domain_named, MayStand}
+use Rattle.separation_check.specs.declared.crossing.Crossing.{Crossing}
+use Rattle.separation_check.specs.declared.crossing.Crossing.TheVariants.{Capability as CapabilityCrosses, Range as RangeStands, Sleeper}
+use Rattle.separation_check.specs.Crossings.{all_below, listed, may_name, crossing_with, crossing_by, object_crossings, kind_crossings, capability_crossings, sleeper_by, sleeper_on, process_crossings, sleeper_limit, sleeper_crossings, crossings_in}
+use Rattle.separation_check.specs.Each.{IsPlace, CapabilityStands, RangeStandsIn, SleepsAcross, IsSo, rank, PlaceBefore, Before, AreAll, AllLaw}
+use Rattle.separation_check.proofs.Allowed.{tested, none-may, may-none}
+use Rattle.separation_check.proofs.Most.{sleeps-there, below-limit}
+use Rattle.separation_check.proofs.Listed.{Across, below-has, has-below, listed-is, is-listed, pairs-append, pairs-below, pairs-listed}
+
+
+module _ (policy : PolicyValue) (s : State) where
+  -- what is told of a place, if anything
+  abbrev told_at : CapKind → ℕ → ℕ → Option Crossing
+  told_at kind n i = crossing_by policy kind n i (cap_in s.store kind n i)
+
+  -- a crossing is of this place
+  abbrev IsOf : CapKind → ℕ → ℕ → Crossing → Type 0
+  IsOf kind n i (CapabilityCrosses k m j c from to) = (k ≡ kind) × (m ≡ n) × (j ≡ i)
+  IsOf kind n i (RangeStands k m j domain) = (k ≡ kind) × (m ≡ n) × (j ≡ i)
+  IsOf kind n i (Sleeper p from to) = ⊥
+
+  -- ---- places
+
+  module _ (kind : CapKind) (n i : ℕ) where
+    abbrev held : Capability
+    held = cap_in s.store kind n i
+
+    abbrev may : Bool
+    may = may_name policy (domain_of policy kind n) held
+
+    -- the test by its three answers
+    tested-is : (range counted named : Bool) → is_range held.kind ≡ range → is_counted held.kind ≡ counted → may ≡ named
+        → told_at kind n i ≡ tested policy kind n i held range counted named
+    tested-is range counted named r k m =
+        ap (λ (b : Bool). tested policy kind n i held b (is_counted held.kind) may) r
+        ∙ (ap (λ (b : Bool). tested policy kind n i held range b may) k ∙ ap (λ (b : Bool). tested policy kind n i held range counted b) m)
+
+    -- what is told of a place is of that place
+    place-of : (x : Crossing) → told_at kind n i ≡ Some x → IsOf kind n i x
+    place-of x e = by (is_range held.kind) (is_counted held.kind) may e
+      where
+        by : (range counted named : Bool) → tested policy kind n i held range counted named ≡ Some x → IsOf kind n i x
+        by true counted named e = let same : RangeStands kind n i (domain_of policy kind n) ≡ x = cc (e) in subst (λ (y : Crossing). IsOf kind n i y) same (refl, refl, refl)
+        by false false named e = absurd (cc (e))
+        by false true true e = absurd (cc (e))
+        by false true false e = let same : crossing_with policy kind n i held ≡ x = cc (e) in subst (λ (y : Crossing). IsOf kind n i y) same (refl, refl, refl)
+
+    -- and is so
+    place-so : (x : Crossing) → IsPlace s.store kind n i → told_at kind n i ≡ Some x → IsSo policy s x
+    place-so x place e = by (is_range held.kind) (is_counted held.kind) may refl refl refl
+      where
+        by : (range counted named : Bool) → is_range held.kind ≡ range → is_counted held.kind ≡ counted → may ≡ named → IsSo policy s x
+        by true counted named r k m =
+            let is = sym (tested-is true counted named r k m) ∙ e in
+            let same : RangeStands kind n i (domain_of policy kind n) ≡ x = cc (is) in
+            subst (λ (y : Crossing). IsSo policy s y) same (record { at = place; held = is_range-kind held.kind r; home = refl })
+        by false false named r k m = let is = sym (tested-is false false named r k m) ∙ e in absurd (cc (is))
+        by false true true r k m = let is = sym (tested-is false true true r k m) ∙ e in absurd (cc (is))
+        by false true false r k m =
+            let is = sym (tested-is false true false r k m) ∙ e in
+            let same : crossing_with policy kind n i held ≡ x = cc (is) in
+            subst (λ (y : Crossing). IsSo policy s y) same (record {
+              at = place;
+              held = refl;
+              no_range = λ range. let yes = ap (λ (j : CapKind). is_range j) range in absurd (cc (r, yes));
+              names = k;
+              forbidden = λ stands. let none = may-none policy kind n i held stands in absurd (cc (none, e));
+              domain = refl;
+              other = refl;
+            })
+
+    same_crossing : (c d : Capability) (from to : ℕ) → c ≡ d → from ≡ domain_of policy kind n → to ≡ domain_named policy c
+        → Some (crossing_with policy kind n i d) ≡ Some (CapabilityCrosses kind n i c from to)
+    same_crossing c d from to same home other =
+        subst (λ (d : Capability). Some (crossing_with policy kind n i d) ≡ Some (CapabilityCrosses kind n i c from to)) same
+        (sym (ap (λ (a : ℕ). Some (CapabilityCrosses kind n i c a to)) home ∙ ap (λ (b : ℕ). Some (CapabilityCrosses kind n i c (domain_of policy kind n) b)) other))
+
+    -- a capability that may not stand in a place is told
+    capability-told : (c : Capability) (from to : ℕ) → CapabilityStands policy s.store kind n i c from to → told_at kind n i ≡ Some (CapabilityCrosses kind n i c from to)
+    capability-told c from to so = by (is_range held.kind) (is_counted held.kind) may refl refl refl
+      where
+        kinds : c.kind ≡ held.kind
+        kinds = ap (λ (c : Capability). c.kind) so.held
+
+        by : (range counted named : Bool) → is_range held.kind ≡ range → is_counted held.kind ≡ counted → may ≡ named → told_at kind n i ≡ Some (CapabilityCrosses kind n i c from to)
+        by true counted named r k m = absurd (so.no_range (kinds ∙ is_range-kind held.kind r))
+        by false false named r k m = let yes = sym (ap (λ (j : CapKind). is_counted j) kinds) ∙ so.names in absurd (cc (k, yes))
+        by false true true r k m =
+            absurd (so.forbidden (subst (λ (d : Capability). MayStand policy (domain_of policy kind n) d) (sym so.held) (none-may policy kind n i held (tested-is false true true r k m))))
+        by false true false r k m = tested-is false true false r k m ∙ same_crossing c held from to so.held so.domain so.other
+
+    -- and so is a Range
+    range-told : (domain : ℕ) → RangeStandsIn policy s.store kind n i domain → told_at kind n i ≡ Some (RangeStands kind n i domain)
+    range-told domain so =
+        ap (λ (b : Bool). tested policy kind n i held b (is_counted held.kind) may) (ap (λ (j : CapKind). is_range j) so.held)
+        ∙ ap (λ (d : ℕ). Some (RangeStands kind n i d)) (sym so.home)
+
+  -- ---- lists of places
+
+  abbrev OfKind : CapKind → List Crossing
+  OfKind kind = kind_crossings policy (cap_in s.store) kind (size_of s.store.items kind)
+
+  abbrev OfPlaces : List Crossing
+  OfPlaces = capability_crossings policy (cap_in s.store) s.store
+
+  -- what is told of a kind is of a place
+  record ToldOf (kind : CapKind) (x : Crossing) : Type 0 where
+    number : ℕ
+    place : ℕ
+    at : IsPlace s.store kind number place
+    told : told_at kind number place ≡ Some x
+
+  kind-told : (kind : CapKind) (x : Crossing) → Contains (OfKind kind) x → ToldOf kind x
+  kind-told kind x has =
+      let object = below-has (object_crossings policy (cap_in s.store) kind) (size_of s.store.items kind) x has in
+      let place = below-has (λ i. listed (told_at kind object.0 i)) (places_in kind) x object.2 in
+      record { number = object.0; place = place.0; at = record { there = object.1; place = place.1 }; told = listed-is (told_at kind object.0 place.0) x place.2 }
+
+  told-kind : (kind : CapKind) (n i : ℕ) (x : Crossing) → IsPlace s.store kind n i → told_at kind n i ≡ Some x → Contains (OfKind kind) x
+  told-kind kind n i x at told =
+      has-below (object_crossings policy (cap_in s.store) kind) (size_of s.store.items kind) x n at.there
+      (has-below (λ i. listed (told_at kind n i)) (places_in kind) x i at.place (is-listed (told_at kind n i) x told))
+
+  -- what is told of the places of any kind
+  record ToldSomewhere (x : Crossing) : Type 0 where
+    kind : CapKind
+    of : ToldOf kind x
+
+  places-told : (x : Crossing) → Contains OfPlaces x → ToldSomewhere x
+  places-told x has = elim (Contains-append_cases (OfKind CapPage) _ x has) [
+    | inl first ↦ record { kind = CapPage; of = kind-told CapPage x first }
+    | inr rest ↦ elim (Contains-append_cases (OfKind Gpt) _ x rest) [
+      | inl second ↦ record { kind = Gpt; of = kind-told Gpt x second }
+      | inr rest ↦ elim (Contains-append_cases (OfKind Endpoint) (OfKind Process) x rest) [
+        | inl third ↦ record { kind = Endpoint; of = kind-told Endpoint x third }
+        | inr last ↦ record { kind = Process; of = kind-told Process x last }
+      ]
+    ]
+  ]
+
+  in-cappages : (x : Crossing) → Contains (OfKind CapPage) x → Contains OfPlaces x
+  in-cappages x has = Contains-append_left (OfKind CapPage) (OfKind Gpt ++ (OfKind Endpoint ++ OfKind Process)) x has
+
+  in-gpts : (x : Crossing) → Contains (OfKind Gpt) x → Contains OfPlaces x
+  in-gpts x has = Contains-append_right (OfKind CapPage) (OfKind Gpt ++ (OfKind Endpoint ++ OfKind Process)) x (Contains-append_left (OfKind Gpt) (OfKind Endpoint ++ OfKind Process) x has)
+
+  in-others : (x : Crossing) → Contains (OfKind Endpoint ++ OfKind Process) x → Contains OfPlaces x
+  in-others x has = Contains-append_right (OfKind CapPage) (OfKind Gpt ++ (OfKind Endpoint ++ OfKind Process)) x (Contains-append_right (OfKind Gpt) (OfKind Endpoint ++ OfKind Process) x has)
+
+  told-places : (kind : CapKind) (n i : ℕ) (x : Crossing) → IsPlace s.store kind n i → told_at kind n i ≡ Some x → Contains OfPlaces x
+  told-places CapPage n i x at told = in-cappages x (told-kind CapPage n i x at told)
+  told-places Gpt n i x at told = in-gpts x (told-kind Gpt n i x at told)
+  told-places Endpoint n i x at told = in-others x (Contains-append_left (OfKind Endpoint) (OfKind Process) x (told-kind Endpoint n i x at told))
+  told-places Process n i x at told = in-others x (Contains-append_right (OfKind Endpoint) (OfKind Process) x (told-kind Process n i x at told))
+  told-places Null n i x at told = let none = at.place in absurd (omega (arith, none))
+  told-places Page n i x at told = let none = at.place in absurd (omega (arith, none))
+  told-places Window n i x at told = let none = at.place in absurd (omega (arith, none))
+  told-places LocalWindow n i x at told = let none = at.place in absurd (omega (arith, none))
+  told-places Entry n i x at told = let none = at.place in absurd (omega (arith, none))
+  told-places Schedule n i x at told = let none = at.place in absurd (omega (arith, none))
+  told-places Range n i x at told = let none = at.place in absurd (omega (arith, none))
+  told-places Discrim n i x at told = let none = at.place in absurd (omega (arith, none))
+  told-places KernLog n i x at told = let none = at.place in absurd (omega (arith, none))
+  told-places SysCtl n i x at told = let none = at.place in absurd (omega (arith, none))
+
+  -- ---- sleepers
+
+  abbrev Sleepers : List Crossing
+  Sleepers = sleeper_crossings policy s.queues
+
+  -- a crossing is of this process
+  abbrev IsOfSleeper : ℕ → Crossing → Type 0
+  IsOfSleeper p (Sleeper q from to) = q ≡ p
+  IsOfSleeper p _ = ⊥
+
+  record SleeperTold (x : Crossing) : Type 0 where
+    process : ℕ
+    on : ℕ
+    told : sleeper_on policy s.queues process on ≡ Some x
+
+  sleepers-told : (x : Crossing) → Contains Sleepers x → SleeperTold x
+  sleepers-told x has =
+      let process = below-has (process_crossings policy s.queues) (sleeper_limit s.queues) x has in
+      let on = below-has (λ on. listed (sleeper_on policy s.queues process.0 on)) (length s.queues.sleepers) x process.2 in
+      record { process = process.0; on = on.0; told = listed-is (sleeper_on policy s.queues process.0 on.0) x on.2 }
+
+  sleeper-so : (p on : ℕ) (x : Crossing) → sleeper_on policy s.queues p on ≡ Some x → IsSo policy s x × IsOfSleeper p x
+  sleeper-so p on x e = by (stands_in (sleepers_of s.queues on) p) (domain_of policy Process p == domain_of policy Process on) refl refl
+    where
+      found : (stands same : Bool) → Option Crossing
+      found stands same = if stands then (if same then None else Some (Sleeper p (domain_of policy Process p) (domain_of policy Process on))) else None
+
+      found-is : (stands same : Bool) → stands_in (sleepers_of s.queues on) p ≡ stands → (domain_of policy Process p == domain_of policy Process on) ≡ same → found stands same ≡ Some x
+      found-is stands same a b =
+          sym (ap (λ (v : Bool). found v (domain_of policy Process p == domain_of policy Process on)) a ∙ ap (λ (v : Bool). found stands v) b) ∙ e
+
+      by : (stands same : Bool) → stands_in (sleepers_of s.queues on) p ≡ stands → (domain_of policy Process p == domain_of policy Process on) ≡ same → IsSo policy s x × IsOfSleeper p x
+      by false same a b = let is = found-is false same a b in absurd (cc (is))
+      by true true a b = let is = found-is true true a b in absurd (cc (is))
+      by true false a b =
+          let is = found-is true false a b in
+          let same : Sleeper p (domain_of policy Process p) (domain_of policy Process on) ≡ x = cc (is) in
+          subst (λ (y : Crossing). IsSo policy s y × IsOfSleeper p y) same
+          (record { on = on; sleeps = a; domain = refl; other = refl; apart = λ equal. let yes = eq-eqb _ _ equal in absurd (cc (b, yes)) }, refl)
+
+  so-sleeper : (p from to : ℕ) → SleepsAcross policy s.queues p from to → Contains Sleepers (Sleeper p from to)
+  so-sleeper p from to so =
+      let x = Sleeper p from to in
+      has-below (process_crossings policy s.queues) (sleeper_limit s.queues) x p (below-limit s.queues so.on p so.sleeps)
+      (has-below (λ on. listed (sleeper_on policy s.queues p on)) (length s.queues.sleepers) x so.on (sleeps-there s.queues so.on p so.sleeps)
+      (is-listed (sleeper_on policy s.queues p so.on) x
+      (ap (λ (b : Bool). if b then sleeper_by policy p so.on else None) so.sleeps
+      ∙ by (domain_of policy Process p == domain_of policy Process so.on) refl)))
+    where
+      by : (same : Bool) → (domain_of policy Process p == domain_of policy Process so.on) ≡ same → (if same then None else Some (Sleeper p (domain_of policy Process p) (domain_of policy Process so.on))) ≡ Some (Sleeper p from to)
+      by true e = absurd (so.apart (so.domain ∙ (eqb-true _ _ e ∙ sym so.other)))
+      by false e = sym (ap (λ (a : ℕ). Some (Sleeper p a to)) so.domain ∙ ap (λ (b : ℕ). Some (Sleeper p (domain_of policy Process p) b)) so.other)
+
+  -- ---- each
+
+  told-so : (x : Crossing) → Contains (crossings_in policy s) x → IsSo policy s x
+  told-so x has = elim (Contains-append_cases OfPlaces Sleepers x has) [
+    | inl place ↦ let found = places-told x place in let of = found.of in place-so found.kind of.number of.place x of.at of.told
+    | inr sleeper ↦ let found = sleepers-told x sleeper in (sleeper-so found.process found.on x found.told).0
+  ]
+
+  so-told : (x : Crossing) → IsSo policy s x → Contains (crossings_in policy s) x
+  so-told (CapabilityCrosses kind n i c from to) so = Contains-append_left OfPlaces Sleepers _ (told-places kind n i _ so.at (capability-told kind n i c from to so))
+  so-told (RangeStands kind n i domain) so = Contains-append_left OfPlaces Sleepers _ (told-places kind n i _ so.at (range-told kind n i domain so))
+  so-told (Sleeper p from to) so = Contains-append_right OfPlaces Sleepers _ (so-sleeper p from to so)
+
+  -- ---- order
+
+  moved : (k l k' l' : CapKind) (m n j i m' n' j' i' : ℕ) → k ≡ l → m ≡ n → j ≡ i → k' ≡ l' → m' ≡ n' → j' ≡ i' → PlaceBefore l n i l' n' i' → PlaceBefore k m j k' m' j'
+  moved k l k' l' m n j i m' n' j' i' a b c a' b' c' h =
+      subst (λ (v : CapKind). PlaceBefore v m j k' m' j') (sym a)
+      (subst (λ (v : ℕ). PlaceBefore l v j k' m' j') (sym b)
+      (subst (λ (v : ℕ). PlaceBefore l n v k' m' j') (sym c)
+      (subst (λ (v : CapKind). PlaceBefore l n i v m' j') (sym a')
+      (subst (λ (v : ℕ). PlaceBefore l n i l' v j') (sym b')
+      (subst (λ (v : ℕ). PlaceBefore l n i l' n' v) (sym c') h)))))
+
+  -- crossings are in the order of their places
+  in-order : (kind kind' : CapKind) (n i n' i' : ℕ) (x y : Crossing) → IsOf kind n i x → IsOf kind' n' i' y → PlaceBefore kind n i kind' n' i' → Before x y
+  in-order kind kind' n i n' i' (CapabilityCrosses k m j c f t) (CapabilityCrosses k' m' j' c' f' t') a b h = moved k kind k' kind' m n j i m' n' j' i' a.0 a.1 a.2 b.0 b.1 b.2 h
+  in-order kind kind' n i n' i' (CapabilityCrosses k m j c f t) (RangeStands k' m' j' d) a b h = moved k kind k' kind' m n j i m' n' j' i' a.0 a.1 a.2 b.0 b.1 b.2 h
+  in-order kind kind' n i n' i' (CapabilityCrosses k m j c f t) (Sleeper p f' t') a b h = absurd b
+  in-order kind kind' n i n' i' (RangeStands k m j d) (CapabilityCrosses k' m' j' c' f' t') a b h = moved k kind k' kind' m n j i m' n' j' i' a.0 a.1 a.2 b.0 b.1 b.2 h
+  in-order kind kind' n i n' i' (RangeStands k m j d) (RangeStands k' m' j' d') a b h = moved k kind k' kind' m n j i m' n' j' i' a.0 a.1 a.2 b.0 b.1 b.2 h
+  in-order kind kind' n i n' i' (RangeStands k m j d) (Sleeper p f' t') a b h = absurd b
+  in-order kind kind' n i n' i' (Sleeper p f t) y a b h = absurd a
+
+  before_sleeper : (kind : CapKind) (n i p : ℕ) (x y : Crossing) → IsOf kind n i x → IsOfSleeper p y → Before x y
+  before_sleeper kind n i p (CapabilityCrosses k m j c f t) (Sleeper q f' t') a b = tt
+  before_sleeper kind n i p (RangeStands k m j d) (Sleeper q f' t') a b = tt
+  before_sleeper kind n i p (Sleeper q f t) y a b = absurd a
+  before_sleeper kind n i p x (CapabilityCrosses k m j c f t) a b = absurd b
+  before_sleeper kind n i p x (RangeStands k m j d) a b = absurd b
+
+  among_sleepers : (p q : ℕ) (x y : Crossing) → IsOfSleeper p x → IsOfSleeper q y → p ≤ q → Before x y
+  among_sleepers p q (Sleeper p' f t) (Sleeper q' f' t') a b h = let c : p' ≡ p = a in let d : q' ≡ q = b in omega (arith, c, d, h)
+  among_sleepers p q (CapabilityCrosses k m j c f t) y a b h = absurd a
+  among_sleepers p q (RangeStands k m j d) y a b h = absurd a
+  among_sleepers p q x (CapabilityCrosses k m j c f t) a b h = absurd b
+  among_sleepers p q x (RangeStands k m j d) a b h = absurd b
+
+  object-order : (kind : CapKind) (n : ℕ) → AllPairs Before (object_crossings policy (cap_in s.store) kind n)
+  object-order kind n =
+      pairs-below Before (λ i. listed (told_at kind n i)) (places_in kind) (λ i lt. pairs-listed Before (told_at kind n i))
+      (λ i j less lt x y at bt.
+      in-order kind kind n i n j x y (place-of kind n i x (listed-is (told_at kind n i) x at)) (place-of kind n j y (listed-is (told_at kind n j) y bt)) (inr (refl, inr (refl, less))))
+
+  object-of : (kind : CapKind) (n : ℕ) (x : Crossing) → Contains (object_crossings policy (cap_in s.store) kind n) x → (i : ℕ) × IsOf kind n i x
+  object-of kind n x has =
+      let place = below-has (λ i. listed (told_at kind n i)) (places_in kind) x has in
+      (place.0, place-of kind n place.0 x (listed-is (told_at kind n place.0) x place.2))
+
+  kind-order : (kind : CapKind) → AllPairs Before (OfKind kind)
+  kind-order kind =
+      pairs-below Before (object_crossings policy (cap_in s.store) kind) (size_of s.store.items kind) (λ n lt. object-order kind n)
+      (λ m n less lt x y at bt.
+      let a = object-of kind m x at in
+      let b = object-of kind n y bt in
+      in-order kind kind m a.0 n b.0 x y a.1 b.1 (inr (refl, inl less)))
+
+  across-kinds : (kind kind' : CapKind) (x y : Crossing) → rank kind < rank kind' → ToldOf kind x → ToldOf kind' y → Before x y
+  across-kinds kind kind' x y less a b =
+      in-order kind kind' a.number a.place b.number b.place x y (place-of kind a.number a.place x a.told) (place-of kind' b.number b.place y b.told) (inl less)
+
+  places-order : AllPairs Before OfPlaces
+  places-order =
+      pairs-append Before (OfKind CapPage) (OfKind Gpt ++ (OfKind Endpoint ++ OfKind Process)) (kind-order CapPage)
+      (pairs-append Before (OfKind Gpt) (OfKind Endpoint ++ OfKind Process) (kind-order Gpt)
+      (pairs-append Before (OfKind Endpoint) (OfKind Process) (kind-order Endpoint) (kind-order Process)
+      (λ x y at bt. across-kinds Endpoint Process x y (omega arith) (kind-told Endpoint x at) (kind-told Process y bt)))
+      (λ x y at bt. elim (Contains-append_cases (OfKind Endpoint) (OfKind Process) y bt) [
+        | inl third ↦ across-kinds Gpt Endpoint x y (omega arith) (kind-told Gpt x at) (kind-told Endpoint y third)
+        | inr last ↦ across-kinds Gpt Process x y (omega arith) (kind-told Gpt x at) (kind-told Process y last)
+      ]))
+      (λ x y at bt. elim (Contains-append_cases (OfKind Gpt) _ y bt) [
+        | inl second ↦ across-kinds CapPage Gpt x y (omega arith) (kind-told CapPage x at) (kind-told Gpt y second)
+        | inr rest ↦ elim (Contains-append_cases (OfKind Endpoint) (OfKind Process) y rest) [
+          | inl third ↦ across-kinds CapPage Endpoint x y (omega arith) (kind-told CapPage x at) (kind-told Endpoint y third)
+          | inr last ↦ across-kinds CapPage Process x y (omega arith) (kind-told CapPage x at) (kind-told Process y last)
+        ]
+      ])
+
+  process-of : (p : ℕ) (x : Crossing) → Contains (process_crossings policy s.queues p) x → IsOfSleeper p x
+  process-of p x has =
+      let on = below-has (λ on. listed (sleeper_on policy s.queues p on)) (length s.queues.sleepers) x has in
+      (sleeper-so p on.0 x (listed-is (sleeper_on policy s.queues p on.0) x on.2)).1
+
+  sleepers-order : AllPairs Before Sleepers
+  sleepers-order =
+      pairs-below Before (process_crossings policy s.queues) (sleeper_limit s.queues)
+      (λ p lt. pairs-below Before (λ on. listed (sleeper_on policy s.queues p on)) (length s.queues.sleepers) (λ on lt. pairs-listed Before (sleeper_on policy s.queues p on))
+      (λ i j less lt x y at bt.
+      among_sleepers p p x y (sleeper-so p i x (listed-is (sleeper_on policy s.queues p i) x at)).1 (sleeper-so p j y (listed-is (sleeper_on policy s.queues p j) y bt)).1 (omega arith)))
+      (λ p q less lt x y at bt. among_sleepers p q x y (process-of p x at) (process-of q y bt) (omega (arith, less)))
+
+  order : AllPairs Before (crossings_in policy s)
+  order =
+      pairs-append Before OfPlaces Sleepers places-order sleepers-order (λ x y at bt.
+      let a = places-told x at in
+      let of = a.of in
+      let b = sleepers-told y bt in
+      before_sleeper a.kind of.number of.place b.process x y (place-of a.kind of.number of.place x of.told) (sleeper-so b.process b.on y b.told).1)
+
+-- the law
+pub all_law : AllLaw
+all_law policy s = record { each = λ x. (told-so policy s x, so-told policy s x); order = order policy s }
