@@ -2,8 +2,9 @@
 written."""
 import os
 import pathlib
-import signal
 import sys
+
+GONE = 141  # the status of a shell where a reader has gone away
 
 
 def fail(sentence, status=2):
@@ -12,12 +13,19 @@ def fail(sentence, status=2):
     os._exit(status)
 
 
+def unwritten(error):
+    """Ends the script where its output can't be written; without a word if its reader has gone away."""
+    if isinstance(error, BrokenPipeError):
+        os._exit(GONE)
+    fail(f"standard output: {error.strerror}")
+
+
 def flushed():
     """Hands on all that was written."""
     try:
         sys.stdout.flush()
     except OSError as error:
-        fail(f"standard output: {error.strerror}")
+        unwritten(error)
 
 
 def text_out(parts):
@@ -25,7 +33,7 @@ def text_out(parts):
     try:
         sys.stdout.writelines(parts)
     except OSError as error:
-        fail(f"standard output: {error.strerror}")
+        unwritten(error)
 
 
 def lines_out(lines):
@@ -34,15 +42,16 @@ def lines_out(lines):
 
 
 def run(main, about):
-    """Runs a script on its words, where --help asks what it is about, and ends with its status. A reader that goes away
-    ends it without a word."""
-    signal.signal(signal.SIGPIPE, signal.SIG_DFL)
+    """Runs a script on its words, where --help asks what it is about, and ends with its status."""
     if sys.stdout is None:
         fail("standard output is closed")
     if sys.argv[1:] == ["--help"]:
         lines_out(about.strip().splitlines())
         status = 0
     else:
-        status = main(sys.argv[1:])
+        try:
+            status = main(sys.argv[1:])
+        except BrokenPipeError as error:
+            unwritten(error)
     flushed()
     sys.exit(status)

@@ -1,6 +1,6 @@
 // The lanes: what ran on each hart, and the marks of each process, for a part of the run that can be moved and scaled.
 const HIGH = 34, MIDDLE = 14, GAP = 10, MOST_WIDE = 40, BOX = 22;
-const LABEL_FONT = '12px sans-serif', LEAST_LEFT = 110, LETTERS_OF_LABEL = 40;
+const LABEL_FONT = '12px sans-serif', LEAST_LEFT = 110, LETTERS_OF_LABEL = 44;
 const HUES = [210, 30, 120, 280, 0, 180, 60, 320];
 const box = document.getElementById('lanes'), canvas = document.getElementById('drawing');
 const pen = canvas.getContext('2d');
@@ -11,7 +11,7 @@ const laneLabel = process => process === NOBODY ? 'destructions'
   : nameOf('process', process) ? `${process} ${nameOf('process', process)}` : `process ${process}`;
 const allLabels = [...Array(run.lanes).keys()].map(hartLabel).concat(laneOwners.map(laneLabel));
 
-// The column of labels is as wide as the longest, and at most as 40 letters and a third of the window.
+// The column of labels is as wide as the longest, and at most as a number and 40 letters, or as a third of the window.
 const LEFT = (() => {
   pen.font = LABEL_FONT;
   const most = Math.min(pen.measureText('n'.repeat(LETTERS_OF_LABEL)).width + 16, box.clientWidth / 3);

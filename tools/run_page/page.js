@@ -3,16 +3,14 @@ const RECORDS = ['record', 'records'];
 const tip = document.getElementById('tip');
 const lines = new Rows(document.getElementById('lines'), run.count,
   at => [`${String(at + 1).padStart(8)}  ${lineAt(at)}`, remarkOf(lineAt(at))], at => choose(at));
-const log = new Rows(document.getElementById('log'), logLines.length,
-  at => [`${processNamed(logLines[at][1])}: ${logLines[at][2]}`, ''], at => choose(logLines[at][0]));
-
-const logStarts = logLines.map(([at]) => at);
+const log = new Rows(document.getElementById('log'), logLines.count,
+  at => [`${processNamed(logLines.process[at])}: ${logText(at)}`, ''], at => choose(logLines.at[at]));
 
 // Marks a record in the list and in the lanes, and brings it into sight.
 function choose(at) {
   view.chosen = at;
   lines.mark(at);
-  log.mark(firstFrom(logStarts, at + 1) - 1);
+  log.mark(firstFrom(logLines.at, at + 1) - 1);
   const isOut = at < view.from || at > atOf(LEFT + wide());
   look(isOut ? at - wide() / view.scale / 2 : view.from, view.scale);
 }

@@ -14,12 +14,17 @@ from runs.steps import steps_of
 
 MARKS = ("msg", "fault", "log", "destroy", "halt")
 KINDS = (*MARKS, "fetch", "load", "store", "capload", "capstore", "insn")
+MARKED = {kind.encode() for kind in MARKS}
 PIECE = 1 << 20  # bytes that are read at once
-BEFORE = 64  # lines of one step, at most
+BEFORE = 8192  # bytes of the records of one step, at most
 MOST_CALLS, MOST_TOLD = 1000, 20  # calls that are kept, and told
 LOG_PIECE = 512  # digits of a full piece of the log, behind which its line may go on
 REFUSAL = re.compile(r"(refused \d+ \w+|too long|usage: .*)")
 LINKS = (b"x1", b"x5")
+LINKING = rb"insn \d+ \w{8} jalr? (?:x[15] [^\n]*|x0 0\(x[15]\))"
+FOLLOWED = re.compile(rb"\ninsn (\d+) (\w{8}) (jalr? (?:x[15] [^\n]*|x0 0\(x[15]\)))")
+BUSY = re.compile(rb"\n(?:insn \d+ \w{8} e(?:call|break)\n|fault |msg |log |destroy |halt |cap)")
+LEAST_QUIET = 2000  # bytes of records that are taken together
 RETURNS = (b"jalr x0 0(x1)", b"jalr x0 0(x5)")
 
 
@@ -35,14 +40,21 @@ class Options:
 class Calls:
     """The calls from which each process has not returned, followed through a trace."""
 
-    def __init__(self, entries):
-        self.entries, self.stacks = entries, {}
+    def __init__(self, programs):
+        self.programs, self.stacks, self.first = programs, {}, {}
+
+    def is_first(self, process, pc):
+        """Whether a call stands where the program begins."""
+        if (process, pc) not in self.first:
+            self.first[process, pc] = pc == self.programs.entries.get(process) \
+                or self.programs.function(process, pc)[0] == "_start"
+        return self.first[process, pc]
 
     def follow(self, process, pc, insn):
         """An instruction that jumps and may link."""
         stack = self.stacks.setdefault(process, [])
         if insn.split(b" ", 2)[1] in LINKS:
-            if 0 <= pc - self.entries.get(process, -1) < 16:
+            if stack and self.is_first(process, pc):
                 stack.clear()  # it begins anew
             stack.append(pc)
             if len(stack) > MOST_CALLS:
@@ -60,7 +72,7 @@ class Explainer:
         words = next((line.split() for line in listing.splitlines() if line.split() and line.split()[0][0] != "#"), [])
         if words[:1] != ["coyotos"]:
             raise Wrong("the first file is no listing")
-        self.listing, self.options, self.out, self.lines = listing, options, out, []
+        self.listing, self.options, self.out, self.lines, self.has_told = listing, options, out, [], False
         self.programs = Programs(listing, options.symbols)
         self.who = self.programs.numbers_of(options.process) if options.process else None
         if self.who == set():
@@ -69,7 +81,7 @@ class Explainer:
         self.counts = Counts(self.programs) if options.profile or options.coverage else None
         kinds = options.only.split(",") if options.only else () if self.counts else MARKS
         self.wanted = {kind.encode() for kind in kinds}
-        self.calls, self.open, self.rest, self.refusal = Calls(self.programs.entries), {}, [], ""
+        self.calls, self.open, self.rest, self.refusal = Calls(self.programs), {}, [], ""
         self.width = max((len(self.programs.process(first)) for first, _, _ in self.programs.names["process"]), default=9)
 
     # -- what is read
@@ -77,12 +89,12 @@ class Explainer:
     def read(self, output):
         """Tells all of an output."""
         pieces = self.pieces(output)
-        first = next(pieces, [])
-        if first and crossings.is_told(first[0].decode("ascii", "replace")):
-            for line in itertools.chain(first, *pieces):
-                self.say(crossings.told(line.decode(), self.programs))
+        first = next(pieces, b"")
+        if crossings.is_told(first[:20].decode("ascii", "replace")):
+            for line in itertools.chain(*map(bytes.splitlines, [first, *pieces])):
+                self.say(crossings.told(line.decode("ascii", "replace"), self.programs))
             return self.flush()
-        kinds = {line.split(b" ", 1)[0].decode("ascii", "replace") for line in first}
+        kinds = {line.split(b" ", 1)[0].decode("ascii", "replace") for line in first.splitlines()}
         if not kinds <= set(KINDS):
             raise Wrong(f"that is not what `run` or `trace` wrote: {sorted(kinds - set(KINDS))[0][:40]}")
         self.is_trace = "fetch" in kinds
@@ -93,13 +105,13 @@ class Explainer:
         self.harts = None
         records = itertools.chain([first], pieces)
         if self.is_trace and Schedule(self.listing).harts > 1 and self.wanted:
-            self.by_steps(itertools.chain.from_iterable(records))
+            self.by_steps(records)
         else:
             self.by_lines(records)
         return self.end()
 
     def pieces(self, output):
-        """The records, as lists of lines; what stands behind them is kept."""
+        """The records, as pieces of whole lines; what stands behind them is kept."""
         left = b""
         while data := output.read(PIECE):
             data = left + data
@@ -114,48 +126,76 @@ class Explainer:
         yield from self.records(left and left + b"\n")
 
     def records(self, data):
-        """The lines of a piece, if it has some; a refusal at the end is none."""
-        lines = data.split(b"\n")[:-1]
-        if lines and REFUSAL.fullmatch(lines[-1].decode("ascii", "replace")):
-            self.refusal = lines.pop().decode()
+        """A piece, if it has lines; a refusal at the end is none."""
+        last = data.rfind(b"\n", 0, -1) + 1
+        if REFUSAL.fullmatch(data[last:-1].decode("ascii", "replace")):
+            self.refusal, data = data[last:-1].decode(), data[:last]
         if self.counts:
             self.counts.add(data)
-        if lines:
-            yield lines
+        if data:
+            yield data
 
     # -- records
 
     def by_lines(self, pieces):
-        """Tells records without looking at each step: of those that nobody wants to see no more is read than the kind."""
-        keys = {kind[:3] for kind in self.wanted}
+        """Tells records without looking at each step: of what nobody wants to see, nothing is read but where it ends."""
         follows = self.is_trace and b"fault" in self.wanted
-        hart = "0" if self.is_trace else None
-        before, base = [], 0
-        for lines in pieces:
-            if follows:
-                seen = [(i, line) for i, line in enumerate(lines) if line[:3] in keys or b" jal" in line]
-            else:
-                seen = [(i, line) for i, line in enumerate(lines) if line[:3] in keys]
-            for i, line in seen:
-                if follows and b" jal" in line:
+        forms = [b"(?:%s) [^\n]*" % b"|".join(sorted(self.wanted))] if self.wanted else []
+        forms += [LINKING] if follows and b"insn" not in self.wanted else []
+        sought = re.compile(b"\n(%s)" % b"|".join(forms)) if forms else None
+        before, base, hart = b"", 0, "0" if self.is_trace else None
+        for data in pieces:
+            block, number, at = b"\n" + data, base, 0
+            for found in sought.finditer(block) if sought else ():
+                number, at = number + block.count(b"\n", at, found.start()), found.start()
+                line = found[1]
+                if line[:2] == b"in" and follows and b" jal" in line:
                     words = line.split(b" ", 3)
                     self.calls.follow(int(words[1]), int(words[2], 16), words[3])
-                    if b"insn" not in self.wanted:
-                        continue
                 step = (None, None, None)
                 if self.is_trace and line[:2] in (b"fa", b"de"):
-                    step = last_step(before, lines, i)
-                self.record(line, base + i, hart, *step)
-            base += len(lines)
-            before = lines[-BEFORE:]
+                    step = last_step(before, block, found.end())
+                self.record(line, number, hart, *step)
+            base += data.count(b"\n")
+            before = block[-BEFORE:]
             self.flush()
 
-    def by_steps(self, lines):
-        """Tells records with their harts, for which each step is looked at."""
+    def by_steps(self, pieces):
+        """Tells records with their harts, for which the steps are looked at."""
         self.harts = Harts(self.listing, Schedule(self.listing), self.options.program)
-        step, end, wanted, follow = self.harts.step, self.harts.end, self.wanted, self.calls.follow
-        are_all = bool(wanted - {kind.encode() for kind in MARKS})
-        for process, pc, insn, rest, first, behind, page in steps_of(lines):
+        self.number, left = 0, b""
+        for data in pieces:
+            data = left + data
+            cut = data.rfind(b"\nfetch ") + 1
+            left = data[cut:]
+            self.some_steps(data[:cut])
+        self.some_steps(left)
+
+    def some_steps(self, data):
+        """Whole steps. Those between two that may change who is on a hart are taken together, where that can be."""
+        at = 0
+        while at < len(data):
+            busy = BUSY.search(data, at)
+            quiet = data.rfind(b"\nfetch ", at, busy.start()) + 1 if busy else len(data)
+            if quiet - at >= LEAST_QUIET and self.wanted <= MARKED and self.harts.are_quiet(b"\n" + data[at:quiet]):
+                for process, pc, insn in FOLLOWED.findall(b"\n" + data[at:quiet]):
+                    self.calls.follow(int(process), int(pc, 16), insn)
+                self.number += data.count(b"\n", at, quiet)
+                at = quiet
+            # who left a hart, and who takes it, shows within two rounds
+            behind = busy.end() if busy else len(data)
+            for _ in range(2 * len(self.harts.on) if busy else 0):
+                behind = data.find(b"\nfetch ", behind) + 1 or len(data)
+            if at < behind:
+                self.each_step(data[at:behind].split(b"\n")[:-1])
+            at = max(at, behind)
+            self.flush()
+
+    def each_step(self, lines):
+        """Steps one by one."""
+        step, end, follow = self.harts.step, self.harts.end, self.calls.follow
+        are_all = not self.wanted <= MARKED
+        for process, pc, insn, rest, first, behind, page in steps_of(lines, self.number):
             hart = step(process, pc, first)
             if insn is None or rest or insn[:1] in b"jlsbe" or b" x17 " in insn:
                 end(process, pc, insn, rest)
@@ -171,8 +211,7 @@ class Explainer:
             for line in rest:
                 self.record(line, place, told_hart, process, pc, insn)
                 place += 1
-            if len(self.lines) > 10000:
-                self.flush()
+        self.number += len(lines)
 
     def record(self, line, number, hart, process=None, pc=None, insn=None):
         """Tells a record, if it is wanted, with what is known of its step."""
@@ -208,15 +247,15 @@ class Explainer:
 
     def log(self, front, process, digits):
         """A piece of the log as lines; a full piece without an end of a line waits for the next one."""
-        front, text = self.open.pop(process, (front, ""))
-        text += text_of(digits)
-        *whole, last = text.split("\n")
+        begun, text = self.open.pop(process, (front, ""))
+        *whole, last = (text + text_of(digits)).split("\n")
         for line in whole:
-            self.say(f'{front}log "{line}"')
+            self.say(f'{begun}log "{line}"')
+            begun = front
         if last and len(digits) == LOG_PIECE:
-            self.open[process] = front, last
+            self.open[process] = begun, last
         elif last:
-            self.say(f'{front}log "{last}"')
+            self.say(f'{begun}log "{last}"')
 
     # -- the end
 
@@ -225,9 +264,9 @@ class Explainer:
         for front, text in self.open.values():
             self.say(f'{front}log "{text}"')
         if self.counts and self.options.profile:
-            self.lines += [f"{line}\n" for line in self.counts.profile()]
+            self.say_all(self.counts.profile())
         if self.counts and self.options.coverage:
-            self.lines += [f"{line}\n" for line in self.counts.coverage()]
+            self.say_all(self.counts.coverage())
         if self.refusal:
             self.say(f"The run ended where the program said: {self.refusal} (tools/why says why)")
         elif not self.rest:
@@ -241,7 +280,7 @@ class Explainer:
             self.say("On which harts things ran is not known from the first ? on: name a --program to ask.")
         elif self.harts and not self.harts.agrees(state.harts, state.is_halted):
             self.say("The harts told above don't agree with the last state: don't rely on them.")
-        if self.lines or self.wanted:
+        if self.has_told:
             self.say("")
         if state.is_halted:
             self.say("The machine is halted.")
@@ -254,7 +293,12 @@ class Explainer:
                 self.tell_calls(process, [back - 4 for back in frames.calls(state, process, rules)])
 
     def say(self, line):
+        self.has_told = True
         self.lines.append(f"{line}\n")
+
+    def say_all(self, lines):
+        for line in lines:
+            self.say(line)
 
     def flush(self):
         if self.lines:
@@ -262,9 +306,11 @@ class Explainer:
             self.lines = []
 
 
-def last_step(before, lines, at):
-    """Process, pc and instruction of the step to which the record at this place belongs."""
-    near = before + lines[:at + 1] if at < BEFORE else lines[at - BEFORE:at + 1]
-    first = next((i for i in range(len(near) - 2, -1, -1) if near[i].startswith(b"fetch ")), 0)
-    *_, (process, pc, insn, *_) = steps_of(near[first:])
+def last_step(before, block, end):
+    """Process, pc and instruction of the step to which the record belongs that ends here; what is in front of the block
+    is known, too."""
+    near = block[max(0, end - BEFORE):end]
+    near = before + near if end < BEFORE else near
+    first = near.rfind(b"\nfetch ", 0, near.rfind(b"\n"))
+    *_, (process, pc, insn, *_) = steps_of(near[max(0, first):].strip(b"\n").split(b"\n"))
     return process, pc, insn

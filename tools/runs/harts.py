@@ -15,8 +15,10 @@ leave. The first three show in what comes next of the process: that it was heard
 instruction again. A yield shows in x17, if the trace tells what is in it. What can't be told so is asked of the program,
 with the schedule cut behind the event in question; and without a program, the harts of all that follows aren't known.
 """
+import itertools
 import re
 import subprocess
+import tempfile
 
 from runs.steps import ACCESSES, BRANCHES, JUMPS, STORES
 
@@ -24,6 +26,7 @@ MOST_ASKED = 100  # runs of the program
 UNKNOWN = -1  # what x17 has, where that is not known
 SELF = re.compile(rb"(?:jal x\d+ 0|b\w+ x\d+ x\d+ 0|jalr .*)$")
 CALL = re.compile(rb"addi x17 x0 (-?\d+)$")
+X17 = re.compile(rb"\ninsn (\d+) \w{8} ((?!s[bhw] |b)\w+ x17 [^\n]*)")
 
 
 class Asked:
@@ -37,17 +40,12 @@ class Asked:
         if not self.program or self.runs == MOST_ASKED:
             return None
         self.runs += 1
-        with subprocess.Popen([self.program, "trace"], stdin=subprocess.PIPE, stdout=subprocess.PIPE) as run:
-            run.stdin.write(self.schedule.cut(events).encode())
-            run.stdin.close()
-            count = 0
-            for line in run.stdout:
-                if line == b"state\n":
-                    break
-                count += 1
-            else:
-                count = None
-            run.stdout.read()
+        with tempfile.TemporaryFile() as cut:
+            cut.write(self.schedule.cut(events).encode())
+            cut.seek(0)
+            with subprocess.Popen([self.program, "trace"], stdin=cut, stdout=subprocess.PIPE) as run:
+                count = sum(1 for _ in itertools.takewhile(lambda line: line != b"state\n", run.stdout))
+                run.stdout.read()
         return count if run.returncode == 0 else None
 
 
@@ -76,9 +74,8 @@ class Harts:
     """Follows the steps of a trace through the events of its schedule."""
 
     def __init__(self, listing, schedule, program=None):
-        self.events, self.asked, self.powers = schedule.events(), Asked(program, schedule), Powers(listing)
+        self.events, self.asked, self.powers = schedule.cursor(), Asked(program, schedule), Powers(listing)
         self.on = [None] * schedule.harts
-        self.number = 0  # events that are over
         self.lost = False  # no longer known
         self.place = {}  # the hart of each process that has one
         self.ended = {}  # of a process whose last step may have taken it off its hart: its pc and its call, or no call
@@ -95,7 +92,6 @@ class Harts:
             return None
         doubtful = process in self.place and self.may_have_left(process, pc)
         for is_step, hart in self.events:
-            self.number += 1
             other = self.on[hart]
             if other == process and is_step:
                 return hart
@@ -138,9 +134,49 @@ class Harts:
 
     def has_records(self, at):
         """Whether the event that was reached has the record at this place: the program says so, or nobody knows."""
-        count = self.asked.records(self.number)
+        count = self.asked.records(self.events.number)
         self.lost = count is None
         return not self.lost and count > at
+
+    def are_quiet(self, records):
+        """Takes many steps at once, with a line feed in front of each record, in which no process comes or goes: each is
+        of a process that has a hart, and each hart makes as many as the schedule asks of it. Otherwise it takes none."""
+        if self.lost:
+            return True
+        steps = {process: records.count(b"\nfetch %d " % process) for process in self.place}
+        if sum(steps.values()) != records.count(b"\nfetch ") or not all(
+                self.is_quiet(process, records) for process in self.place):
+            return False
+        before = self.events.line, self.events.done, self.events.number
+        counts = self.events.skip(self.on, sum(steps.values()))
+        if counts is None or any(steps[self.on[hart]] != count for hart, count in counts.items()):
+            self.events.line, self.events.done, self.events.number = before
+            return False
+        for process, insn in X17.findall(records):
+            self.write(int(process), insn)
+        for process in self.place:
+            if steps[process]:
+                self.end_quiet(process, records)
+        return True
+
+    def is_quiet(self, process, records):
+        """Whether nothing is open about the last step of a process, as its next one shows."""
+        if self.silent - self.seen.get(process, 0) >= 2:
+            return False
+        if process not in self.ended:
+            return True
+        ended_at, call = self.ended[process]
+        found = re.search(rb"\nfetch %d (\w+)" % process, records)
+        return call is None and (not found or found[1] != ended_at)
+
+    def end_quiet(self, process, records):
+        """Takes note of how the last of many steps ended."""
+        at = records.rfind(b"\ninsn %d " % process)
+        _, _, pc, insn = records[at + 1:records.index(b"\n", at + 1)].split(b" ", 3)
+        self.ended.pop(process, None)
+        if insn[:3] in JUMPS and not SELF.match(insn):
+            self.ended[process] = pc, None
+        self.seen[process] = self.silent
 
     # -- what a step left
 
@@ -156,9 +192,13 @@ class Harts:
         elif insn[:3] in JUMPS and process in self.place and not SELF.match(insn):
             self.ended[process] = pc, None
         if insn and b" x17 " in insn[:9] and insn[:3] not in (*BRANCHES, *STORES):
-            found = CALL.match(insn)
-            self.calls[process] = int(found[1]) if found else UNKNOWN
+            self.write(process, insn)
         self.seen[process] = self.silent
+
+    def write(self, process, insn):
+        """An instruction that writes x17."""
+        found = CALL.match(insn)
+        self.calls[process] = int(found[1]) if found else UNKNOWN
 
     def look_at(self, process, line):
         """What a record says of who was reached, and of who is gone."""
@@ -192,4 +232,5 @@ class Harts:
         for is_step, hart in self.events if not self.lost and not is_halted else ():
             if not is_step or self.on[hart] is not None:
                 self.leave(self.on[hart])
-        return not self.lost and all(self.on[hart] == process for hart, process in enumerate(harts))
+        return not self.lost and all(self.on[hart] == process or process is None and self.on[hart] in self.ended
+                                     for hart, process in enumerate(harts))
