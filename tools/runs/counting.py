@@ -50,7 +50,7 @@ class Counts:
         lines = self.counted_lines()
         if not lines:
             yield "There is no line to tell of: name the ELF files by --symbols; they need -g."
-        for file in sorted(lines):
+        for file in sorted(lines, key=lambda name: (name.endswith(".h"), name)):
             yield from source(file, lines[file])
 
     def counted_lines(self):
