@@ -19,6 +19,7 @@ PIECE = 1 << 20  # bytes that are read at once
 BEFORE = 8192  # bytes of the records of one step, at most
 MOST_CALLS, MOST_TOLD = 1000, 20  # calls that are kept, and told
 LOG_PIECE = 512  # digits of a full piece of the log, behind which its line may go on
+MOST_KNOWN = 1000  # records of which the words are kept, as the same often come again
 REFUSAL = re.compile(r"(refused \d+ \w+|too long|usage: .*)")
 LINKS = (b"x1", b"x5")
 LINKING = rb"insn \d+ \w{8} jalr? (?:x[15] [^\n]*|x0 0\(x[15]\))"
@@ -81,7 +82,7 @@ class Explainer:
         self.counts = Counts(self.programs) if options.profile or options.coverage else None
         kinds = options.only.split(",") if options.only else () if self.counts else MARKS
         self.wanted = {kind.encode() for kind in kinds}
-        self.calls, self.open, self.rest, self.refusal = Calls(self.programs), {}, [], ""
+        self.calls, self.open, self.rest, self.refusal, self.known = Calls(self.programs), {}, [], "", {}
         self.width = max((len(self.programs.process(first)) for first, _, _ in self.programs.names["process"]), default=9)
 
     # -- what is read
@@ -147,8 +148,12 @@ class Explainer:
         for data in pieces:
             block, number, at = b"\n" + data, base, 0
             for found in sought.finditer(block) if sought else ():
-                number, at = number + block.count(b"\n", at, found.start()), found.start()
-                line = found[1]
+                start, line = found.start(), found[1]
+                number, at = number + block.count(b"\n", at, start), start
+                known = self.known.get(line)
+                if known is not None:
+                    self.lines.append(f"{number + 1:>9}  {known}")
+                    continue
                 if line[:2] == b"in" and follows and b" jal" in line:
                     words = line.split(b" ", 3)
                     self.calls.follow(int(words[1]), int(words[2], 16), words[3])
@@ -222,15 +227,26 @@ class Explainer:
         owner = process if kind == b"destroy" else int(words[1])
         if self.who and not self.is_asked_for(kind, words, owner):
             return
-        front = f"{number + 1:>9}  " + (f"{hart:>4}  " if hart is not None else "") \
+        behind = (f"{hart:>4}  " if hart is not None else "") \
             + (self.programs.process(owner) if owner is not None else "").ljust(self.width + 2)
-        if kind == b"log":
-            self.log(front, owner, words[2])
+        text = text_of(words[2]) if kind == b"log" else ""
+        if kind == b"log" and (len(words[2]) == LOG_PIECE or owner in self.open or "\n" in text[:-1]):
+            self.log(f"{number + 1:>9}  {behind}", owner, text, len(words[2]) == LOG_PIECE)
             return
-        self.say(front + told(line, self.programs, b"" if pc and insn is None else insn))
+        behind += 'log "{}"\n'.format(text.rstrip("\n")) if kind == b"log" else \
+            f'{told(line, self.programs, b"" if pc and insn is None else insn)}\n'
+        self.has_told = True
+        self.lines.append(f"{number + 1:>9}  {behind}")
         if kind == b"fault" and pc is not None:
             self.say(f"{'':>11}at {self.programs.place(owner, int(pc, 16))}")
             self.tell_calls(owner, self.calls.of(owner))
+        elif self.harts is None and kind in (b"msg", b"log"):
+            self.keep(line, behind)
+
+    def keep(self, line, told_line):
+        """Keeps how a record was told that is told the same wherever it stands, for the first of them."""
+        if len(self.known) < MOST_KNOWN:
+            self.known[line] = told_line
 
     def is_asked_for(self, kind, words, owner):
         heard = kind == b"msg" and int(words[2]) in self.who or kind == b"fault" and words[4] == b"to" \
@@ -245,14 +261,14 @@ class Explainer:
         if len(places) > MOST_TOLD:
             self.say(f"{'':>11}and {len(places) - MOST_TOLD:,} calls further out")
 
-    def log(self, front, process, digits):
+    def log(self, front, process, piece, is_full):
         """A piece of the log as lines; a full piece without an end of a line waits for the next one."""
         begun, text = self.open.pop(process, (front, ""))
-        *whole, last = (text + text_of(digits)).split("\n")
+        *whole, last = (text + piece).split("\n")
         for line in whole:
             self.say(f'{begun}log "{line}"')
             begun = front
-        if last and len(digits) == LOG_PIECE:
+        if last and is_full:
             self.open[process] = begun, last
         elif last:
             self.say(f'{begun}log "{last}"')

@@ -17,7 +17,7 @@ class Programs:
 
     def __init__(self, listing, directory=None):
         self.names = names_of(listing)
-        self.files, self.symbols, self.starts, self.known = {}, {}, {}, {}
+        self.files, self.symbols, self.starts, self.known, self.given = {}, {}, {}, {}, {}
         self.reader = next(filter(None, map(shutil.which, READERS)), None)
         self.entries = {int(number): int(pc, 16) for number, pc
                         in re.findall(r"^process +(\d+) +([0-9a-fA-F]+)", listing, re.M)}
@@ -30,10 +30,11 @@ class Programs:
     # -- objects
 
     def name_of(self, kind, number):
-        for first, last, name in self.names[kind]:
-            if first <= number <= last:
-                return name if first == last or " " in name else f"{name}.{number - first}"
-        return ""
+        """The name that the listing gives to an object; there are not more of them than a machine has objects."""
+        if (kind, number) not in self.given:
+            self.given[kind, number] = next((name if first == last or " " in name else f"{name}.{number - first}"
+                                             for first, last, name in self.names[kind] if first <= number <= last), "")
+        return self.given[kind, number]
 
     def process(self, number):
         return self.name_of("process", number) or f"process {number}"

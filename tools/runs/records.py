@@ -1,4 +1,6 @@
 """Records in words."""
+import re
+
 FAULTS = {
     "InvalidDataReference": "nothing is there", "InvalidCapReference": "nothing is there for a capability",
     "DataAccessTypeError": "a capability page is there, which has no bytes",
@@ -8,6 +10,8 @@ FAULTS = {
     "BadOpcode": "that is no instruction of RV32I", "Breakpoint": "a breakpoint"}
 VIOLATIONS = {b"s": "it may not be written", b"e": "it may not be written", b"": "it may not be executed"}
 LIMITS = {"r": "no stores", "x": "no fetches", "w": "weak", "o": "opaque", "n": "no handlers"}
+MESSAGE = re.compile(r"msg \d+ (\d+) endpoint=(\d+) payload=0*(\w+) words=0*(\w+),0*(\w+),0*(\w+),0*(\w+) "
+                     r"len=(\d+) caps=(\d+)")
 LETTERS = ["\n" if byte == 10 else chr(byte) if 32 <= byte < 127 else f"\\x{byte:02x}" for byte in range(256)]
 
 
@@ -22,17 +26,19 @@ def text_of(digits):
         text = data.decode()
     except UnicodeDecodeError:
         return "".join(LETTERS[byte] for byte in data)
+    if text.isprintable():
+        return text
     return "".join(letter if letter == "\n" or letter.isprintable() else f"\\x{ord(letter):02x}" for letter in text)
 
 
-def message(words, programs):
+def message(line, programs):
     """`msg FROM TO endpoint=E payload=X words=X,X,X,X len=L caps=C`."""
-    endpoint, payload, sent, length, caps = (word.split(b"=", 1)[1].decode() for word in words[3:8])
-    numbers = [number.lstrip("0") or "0" for number in sent.split(",")]
-    told = f"message to {programs.process(int(words[2]))} by {programs.called('endpoint', int(endpoint))}, payload " \
-        f"{payload.lstrip('0') or '0'}: {' '.join(numbers)}"
-    return told + (f", {count(int(length), 'byte')}" if length != "0" else "") \
-        + (f", {count(int(caps), 'capability', 'capabilities')}" if caps != "0" else "")
+    to, endpoint, payload, one, two, three, four, length, caps = MESSAGE.fullmatch(line.decode()).groups()
+    told = f"message to {programs.process(int(to))} by {programs.called('endpoint', int(endpoint))}, payload " \
+        f"{payload}: {one} {two} {three} {four}"
+    if length != "0":
+        told += f", {count(int(length), 'byte')}"
+    return told if caps == "0" else f"{told}, {count(int(caps), 'capability', 'capabilities')}"
 
 
 def fault(words, programs, insn):
@@ -62,7 +68,7 @@ def told(line, programs, insn=None):
     words = line.split(b" ")
     kind = words[0]
     if kind == b"msg":
-        return message(words, programs)
+        return message(line, programs)
     if kind == b"fault":
         return fault(words, programs, insn)
     if kind == b"destroy":
