@@ -1,10 +1,7 @@
 """What the scripts of this folder read of the crates: definitions in specs/, and contracts in src/."""
 import pathlib
 import re
-import signal
 import textwrap
-
-signal.signal(signal.SIGPIPE, signal.SIG_DFL)
 
 TOP = pathlib.Path(__file__).resolve().parent.parent
 CRATES = TOP / "crates"

@@ -92,6 +92,15 @@ def no_overlap(path, segments):
              "them alone is to be written: link them to pages of their own")
 
 
+def count_of(segments):
+    """How many pages segments take that stand in order."""
+    count = behind = 0
+    for one in segments:
+        count += one.last_page() + 1 - max(behind, one.first_page())
+        behind = one.last_page() + 1
+    return count
+
+
 def pages_of(segments):
     """The pages of segments in order: number, bytes, whether it may be written and executed, names of segments."""
     found = {}

@@ -5,7 +5,9 @@ MOST_BYTES, MOST_REMARK = 16_777_216, 500
 
 
 def remark(text):
-    return f"# {text}" if len(text) <= MOST_REMARK else f"# {text[:MOST_REMARK]}.."
+    """A line that readers of a listing skip, in the letters that it may have."""
+    told = "".join(letter if " " <= letter <= "~" else ascii(letter)[1:-1] for letter in text)
+    return f"# {told}" if len(told) <= MOST_REMARK else f"# {told[:MOST_REMARK]}.."
 
 
 def numbered(kind, first, last, text):
@@ -92,7 +94,7 @@ def statements(plan):
 
 def listing_lines(plan, name):
     """The listing of a plan, with its schedule."""
-    lines = [f"# Made by tools/listing-of from {name}.", *statements(plan), *plan.schedule]
+    lines = [remark(f"Made by tools/listing-of from {name}."), *statements(plan), *plan.schedule]
     size = sum(len(line) + 1 for line in lines)
     need(size <= MOST_BYTES, f"the listing has {size:,} bytes, and an input has at most {MOST_BYTES:,}")
     return lines

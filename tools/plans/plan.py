@@ -41,6 +41,7 @@ class Plan:
         self.at, self.harts, self.gpts, self.cappages = 0, 1, 0, 0
         self.things, self.lines, self.domains, self.reads = {}, {}, {}, []
         self.pages, self.named_pages, self.schedule, self.mapped = [], [], [], []
+        self.page_count = 0
         self.waiting = {turn: [] for turn in self.TURNS}
 
     # -- things and their names
@@ -86,17 +87,28 @@ class Plan:
         self.gpts += 1
         return self.gpts - 1
 
-    def new_pages(self, contents, about):
-        """Numbers pages with these contents and this name; the first number."""
-        self.pages.extend(contents)
-        self.named_pages.extend([about] * len(contents))
-        return len(self.pages) - len(contents)
+    def room(self):
+        """How many pages a machine has beside those that were counted so far."""
+        return LIMITS["pages"] - self.page_count
+
+    def new_pages(self, count, contents, about):
+        """Numbers pages with these contents and this name; the first number. Beyond what a machine has they are counted
+        and no more."""
+        first = self.page_count
+        if count <= self.room():
+            self.pages.extend(contents)
+            self.named_pages.extend([about] * count)
+        self.page_count += count
+        return first
 
     # -- programs
 
     def program_line(self, words):
         made = Program(len(self.all("program")), words)
         self.add(made)
+        other = next(one for one in self.all("program") if one.file == made.file)
+        need(other.libc == made.libc, f"{made.file} is to be linked both with the C library and without it: line "
+             f"{self.lines[other.name]} says the other")
         made.load(self)
         self.wait("said places", made.place_said)
         self.wait("chosen places", made.place_chosen)
@@ -124,19 +136,19 @@ class Plan:
     def page_line(self, words):
         need(words and words[1:2] in ([], ["from"]) and len(words) != 2, "page NAME [from FILE [OFFSET]]")
         contents = self.contents(words[2:], 1)
-        self.add(Memory(words[0], "page", self.new_pages(contents, words[0]), 1, False))
+        self.add(Memory(words[0], "page", self.new_pages(1, contents, words[0]), 1, False))
 
     def pages_line(self, words):
         need(len(words) >= 2 and words[2:3] in ([], ["from"]) and len(words) != 3, "pages NAME N [from FILE [OFFSET]]")
         count = number(words[1], "the number of pages", MOST_PAGES)
         need(count > 0, "there is at least one page")
         contents = self.contents(words[3:], count)
-        self.add(Memory(words[0], "page", self.new_pages(contents, words[0]), count, True))
+        self.add(Memory(words[0], "page", self.new_pages(count, contents, words[0]), count, True))
 
     def contents(self, words, count):
         """What pages have from a file, which stands beside the plan."""
         if not words:
-            return [b""] * count
+            return (b"" for _ in range(count))
         need(len(words) <= 2, f"too many words behind {words[0]}")
         offset = number(words[1], "an offset", TOP - 1, 16) if words[1:] else 0
         try:
@@ -144,7 +156,7 @@ class Plan:
         except OSError as error:
             raise Wrong(f"{words[0]}: {error.strerror}")
         need(offset < len(found), f"{words[0]} has {len(found):x} bytes (hexadecimal), and none at {offset:x}")
-        return [found[offset + i * PAGE:offset + (i + 1) * PAGE] for i in range(count)]
+        return (found[offset + i * PAGE:offset + (i + 1) * PAGE] for i in range(count))
 
     def cappage_line(self, words):
         need(len(words) == 1, "cappage NAME")
@@ -276,33 +288,48 @@ class Plan:
     def schedule_line(self, words):
         lengths = {"step": 3, "tick": 2, "round": 2}
         need(words and lengths.get(words[0]) == len(words), "a line of the schedule is step H N, tick H or round N")
+        numbers = []
+        if words[0] != "round":
+            numbers.append(number(words[1], "a hart", TOP - 1))
         if words[0] != "tick":
-            times = number(words[-1], f"the times of a {words[0]}", 1_000_000)
-            need(times > 0, f"a {words[0]} is done at least once")
+            numbers.append(number(words[-1], f"the times of a {words[0]}", 1_000_000))
+            need(numbers[-1] > 0, f"a {words[0]} is done at least once")
 
         def name():
             if words[0] != "round":
-                hart = number(words[1], "a hart", TOP - 1)
-                need(hart < self.harts, f"there is no hart {hart}: the machine has {self.harts}, from 0 on")
-            self.schedule.append(" ".join(words))
+                need(numbers[0] < self.harts,
+                     f"there is no hart {numbers[0]}: the machine has {self.harts}, from 0 on")
+            self.schedule.append(" ".join([words[0], *map(str, numbers)]))
         self.wait("names", name)
 
     # -- the whole
 
-    def read(self, text):
-        for self.at, line in enumerate(text.splitlines(), 1):
-            words = line.split("#")[0].split()
+    def lines_of(self, data):
+        """The words of each line of a plan that has some, from its bytes: they stand between spaces, and # begins a
+        remark. Each line is the one that is looked at while its words are gone through."""
+        for self.at, line in enumerate(data.removeprefix(b"\xef\xbb\xbf").split(b"\n"), 1):
+            try:
+                words = line.decode().split("#")[0].split()
+            except UnicodeDecodeError:
+                raise Wrong("the line is no text in UTF-8")
             if words:
-                method = getattr(self, words[0] + "_line", None) if re.fullmatch("[a-z]+", words[0]) else None
-                need(method, f"no line of a plan begins with {words[0]}")
-                method(words[1:])
+                yield words
+
+    def read(self, data):
+        for words in self.lines_of(data):
+            method = getattr(self, words[0] + "_line", None) if re.fullmatch("[a-z]+", words[0]) else None
+            need(method, f"no line of a plan begins with {words[0]}")
+            method(words[1:])
+        self.at = 0
+        self.within_limits({"pages": self.page_count})
         for turn in ("said places", "chosen places"):
             self.take(turn)
         self.number_gpts()
         self.take("names")
         self.at = 0
         need(self.all("program"), "the plan has no program")
-        self.within_limits()
+        self.within_limits({"capability pages": self.cappages, "GPTs": self.gpts,
+                            "processes": len(self.all("program")), "endpoints": len(self.all("endpoint"))})
 
     def take(self, turn):
         for self.at, function in self.waiting[turn]:
@@ -318,14 +345,20 @@ class Plan:
         for made in self.all("program"):
             made.space.build(self.new_gpt)
 
-    def within_limits(self):
-        for what, count in (("pages", len(self.pages)), ("capability pages", self.cappages), ("GPTs", self.gpts),
-                            ("processes", len(self.all("program"))), ("endpoints", len(self.all("endpoint")))):
+    def within_limits(self, counts):
+        for what, count in counts.items():
             need(count <= LIMITS[what], f"the system needs {count:,} {what}, a machine has {LIMITS[what]:,}")
 
-
-def programs_of(text):
-    """The ELF files of a plan, each once, with `libc` behind those that are linked with it."""
-    lines = [line.split("#")[0].split() for line in text.splitlines()]
-    return list(dict.fromkeys(words[2] + (" libc" if words[3:4] == ["libc"] else "")
-                              for words in lines if words[:1] == ["program"] and len(words) > 2))
+    def files(self, data):
+        """The ELF files of a plan, each once, with `libc` behind those that are linked with it: its other lines are
+        passed over."""
+        found = {}
+        for words in self.lines_of(data):
+            if words[0] == "program":
+                made = Program(0, words[1:])
+                libc, line = found.setdefault(made.file, (made.libc, self.at))
+                need(libc == made.libc, f"{made.file} is to be linked both with the C library and without it: line "
+                     f"{line} says the other")
+        self.at = 0
+        need(found, "the plan has no program")
+        return [file + (" libc" if libc else "") for file, (libc, _) in found.items()]

@@ -1,5 +1,5 @@
 """The domains of a plan as lines for `separation`, or one of them as a cut for `coyotos confine`."""
-from plans.listing import runs
+from plans.listing import remark, runs
 from plans.words import need
 
 KINDS = ("page", "cappage", "gpt", "endpoint", "process")
@@ -34,7 +34,7 @@ def lines_of(plan, domain, words):
 def policy_lines(plan, name):
     """The policy of a plan."""
     need(plan.domains, "the plan has no line `domain`")
-    yield f"# The domains of {name}, made by tools/listing-of."
+    yield remark(f"The domains of {name}, made by tools/listing-of.")
     for domain in plan.domains.values():
         yield from lines_of(plan, domain, f"domain {domain.name}")
     for one, other in plan.reads:
@@ -44,5 +44,5 @@ def policy_lines(plan, name):
 def cut_lines(plan, name, domain):
     """The cut that has this domain on the left."""
     need(domain in plan.domains, f"no domain was named {domain}")
-    yield f"# Domain {domain} of {name} on the left, made by tools/listing-of."
+    yield remark(f"Domain {domain} of {name} on the left, made by tools/listing-of.")
     yield from lines_of(plan, plan.domains[domain], "left")

@@ -3,7 +3,7 @@ import struct
 
 from plans import elf
 from plans.space import Space
-from plans.words import AREA, PAGE, need, number, page_address, TOP
+from plans.words import AREA, PAGE, TOP, is_file_name, need, number, page_address
 
 DATA = AREA  # where data stand that a plan adds to a program without any
 MOST_PAGES = TOP // PAGE
@@ -19,9 +19,11 @@ class Program:
     def __init__(self, number_of_process, words):
         need(len(words) >= 4, FORM)
         self.number, self.name, self.file = number_of_process, words[0], words[1]
+        need(is_file_name(self.file),
+             f"a program's file is named by printable letters of ASCII, and lies below the directory: {self.file}")
         self.libc, self.priority, self.data, self.state, self.args = False, None, None, "run", None
         self.sizes, self.places, self.first = {"stack": 1, "heap": 0}, {}, {}
-        self.pages, self.held, self.handler = [], {}, "null"
+        self.pages, self.held, self.handler, self.said = [], {}, "null", set()
         self.space = Space(self.name)
         rest = words[2:]
         while rest:
@@ -30,6 +32,8 @@ class Program:
 
     def option(self, word, rest):
         """Takes an option; the words behind it."""
+        need(word not in self.said, f"{word} is said twice")
+        self.said.add(word)
         if word == "libc":
             self.libc = True
             return rest
@@ -72,16 +76,20 @@ class Program:
             rights = "r" + ("w" if one.writable else "-") + ("x" if one.executable else "-")
             size = (one.last_page() - one.first_page() + 1) * PAGE
             self.space.claim(one.first_page() * PAGE, size, rights, one.name, ("segment", "image", "more"))
+        count = elf.count_of(segments)
+        if count > plan.room():
+            plan.page_count += count  # they are told, and not made
+            segments = []
         for at, content, writable, executable, names in elf.pages_of(segments):
-            page = self.own_pages(plan, [content], " and ".join(names))
+            page = self.own_pages(plan, 1, [content], " and ".join(names))
             self.space.put(at, f"page:{page}", ("" if writable else "r") + ("" if executable else "x"))
         for part, size in self.sizes.items():
-            self.first[part] = self.own_pages(plan, [b""] * size, part)
+            self.first[part] = self.own_pages(plan, size, (b"" for _ in range(size)), part)
 
-    def own_pages(self, plan, contents, part):
+    def own_pages(self, plan, count, contents, part):
         """Numbers pages of a part of the program; the first number."""
-        first = plan.new_pages(contents, f"{part} of {self.name}")
-        self.pages.extend(range(first, first + len(contents)))
+        first = plan.new_pages(count, contents, f"{part} of {self.name}")
+        self.pages.extend(range(first, first + count))
         return first
 
     # -- the stack and the heap
@@ -100,12 +108,13 @@ class Program:
     def place_chosen(self):
         """Chooses places for what has none: first for the stack, then for the heap."""
         for part, choose in (("stack", self.space.stack_place), ("heap", self.space.heap_place)):
-            if part not in self.places:
+            if part not in self.places and (part == "stack" or self.sizes[part]):
                 self.places[part] = choose(self.sizes[part] * PAGE, self.behind)
                 self.place(part)
 
     def end_of(self, part):
-        return self.places[part] + self.sizes[part] * PAGE
+        """The address behind it; behind the last one is 0."""
+        return (self.places[part] + self.sizes[part] * PAGE) % TOP
 
     # -- the beginning
 
@@ -119,9 +128,10 @@ class Program:
             taken = array + sum(map(len, texts)) + 15 & ~15
             need(taken <= self.sizes["stack"] * PAGE,
                  f"the words for {self.name} take {taken} bytes, and its stack has {self.sizes['stack'] * PAGE}")
-            places = [end - taken + array + sum(map(len, texts[:i])) for i in range(len(texts))]
+            start = (end - taken) % TOP
+            places = [start + array + sum(map(len, texts[:i])) for i in range(len(texts))]
             block = struct.pack(f"<{len(places) + 1}I", *places, 0) + b"".join(texts)
             plan.write(self.first["stack"], self.sizes["stack"] * PAGE - taken, block)
-            self.registers = {2: end - taken, 10: len(texts), 11: end - taken}
+            self.registers = {2: start, 10: len(texts), 11: start}
         if self.sizes["heap"]:
             self.registers.update({12: self.places["heap"], 13: self.end_of("heap")})

@@ -66,8 +66,10 @@ class Space:
         raise Wrong(f"{self.program} has no room for a stack of {size // PAGE} pages")
 
     def heap_place(self, size, behind):
-        """Where a heap begins whose place isn't said: the first multiple of 10000 behind the segments that has room."""
-        for first in range(-(-behind // AREA) * AREA, TOP, AREA):
+        """Where a heap begins whose place isn't said: the first multiple of 10000 behind the segments that has room, or
+        the first of all if there is none."""
+        start = -(-behind // AREA) * AREA
+        for first in (*range(start, TOP, AREA), *range(AREA, start, AREA)):
             if self.is_free(first, size):
                 return first
         raise Wrong(f"{self.program} has no room for a heap of {size // PAGE} pages")

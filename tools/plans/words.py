@@ -4,6 +4,8 @@ import re
 PAGE = 4096
 AREA = 16 * PAGE
 TOP = 1 << 32
+MOST_DIGITS = 20  # no number that means anything has more of them
+MOST_SHOWN = 200  # letters of a word that a complaint shows
 
 
 class Wrong(Exception):
@@ -12,14 +14,15 @@ class Wrong(Exception):
 
 def need(truth, sentence):
     if not truth:
-        raise Wrong(sentence)
+        raise Wrong(re.sub(rf"(\S{{{MOST_SHOWN}}})\S+", r"\1..", sentence))
 
 
 def number(word, what, most, base=10):
     """The number that a word spells, in decimal or (base 16) in hexadecimal digits, and at most `most`."""
     digits = "[0-9]+" if base == 10 else "[0-9a-fA-F]+"
     need(re.fullmatch(digits, word), f"{what} is no number: {word}")
-    value = int(word, base)
+    told = word.lstrip("0") or "0"
+    value = int(told, base) if len(told) <= MOST_DIGITS else most + 1
     need(value <= most, f"{what} is over {f'{most:,}' if base == 10 else format(most, 'x')}: {word}")
     return value
 
@@ -48,6 +51,11 @@ def restricted(found):
 def is_name(word):
     """Whether a word may be the name of something in a plan."""
     return re.fullmatch("[A-Za-z_][A-Za-z0-9_-]*", word) is not None
+
+
+def is_file_name(word):
+    """Whether a word may name a program's file: below the directory, in letters that a remark of a listing may have."""
+    return re.fullmatch("[!-~]+", word) is not None and not word.startswith("/") and ".." not in word.split("/")
 
 
 def is_domain_name(word):

@@ -53,8 +53,9 @@ function kindsOf(i) {
   return [...counts].map((number, kind) => number && count(number, WORDS[kind])).filter(told => told).join(', ');
 }
 
-// What ran on each hart, in columns: the process, the first record, and the one behind the last.
-const stretches = Array.from({length: run.harts}, () => ({process: [], first: [], behind: []}));
+// What ran on each hart, in columns: the process, the first record, and the one behind the last. A lane behind those of
+// the harts has what ran on one that isn't known.
+const stretches = Array.from({length: run.lanes}, () => ({process: [], first: [], behind: []}));
 for (let i = 0; i < run.stretches.length; i += 4) {
   const [hart, process, first, behind] = run.stretches.slice(i, i + 4), columns = stretches[hart];
   columns.process.push(process);

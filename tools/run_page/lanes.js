@@ -1,9 +1,31 @@
 // The lanes: what ran on each hart, and the marks of each process, for a part of the run that can be moved and scaled.
-const HIGH = 34, MIDDLE = 14, LEFT = 150, GAP = 10, MOST_WIDE = 40, BOX = 22;
+const HIGH = 34, MIDDLE = 14, GAP = 10, MOST_WIDE = 40, BOX = 22;
+const LABEL_FONT = '12px sans-serif', LEAST_LEFT = 110, LETTERS_OF_LABEL = 44;
 const HUES = [210, 30, 120, 280, 0, 180, 60, 320];
 const box = document.getElementById('lanes'), canvas = document.getElementById('drawing');
 const pen = canvas.getContext('2d');
 const view = {from: 0, scale: 1, chosen: -1, clustered: 0};
+
+const hartLabel = hart => hart === run.unknown ? 'hart not known' : `hart ${hart}`;
+const laneLabel = process => process === NOBODY ? 'destructions'
+  : nameOf('process', process) ? `${process} ${nameOf('process', process)}` : `process ${process}`;
+const allLabels = [...Array(run.lanes).keys()].map(hartLabel).concat(laneOwners.map(laneLabel));
+
+// The column of labels is as wide as the longest, and at most as a number and 40 letters, or as a third of the window.
+const LEFT = (() => {
+  pen.font = LABEL_FONT;
+  const most = Math.min(pen.measureText('n'.repeat(LETTERS_OF_LABEL)).width + 16, box.clientWidth / 3);
+  return Math.ceil(Math.min(most, Math.max(LEAST_LEFT, ...allLabels.map(label => pen.measureText(label).width + 16))));
+})();
+
+// A label as it fits into its column, with a sign where it is cut.
+function fitted(label) {
+  const room = LEFT - 12;
+  if (pen.measureText(label).width <= room) return label;
+  let letters = label.length;
+  while (letters > 1 && pen.measureText(`${label.slice(0, letters)}…`).width > room) letters--;
+  return `${label.slice(0, letters)}…`;
+}
 
 const colorOf = process => `hsl(${HUES[process % 8]},55%,${process % 16 < 8 ? 70 : 50}%)`;
 const wide = () => canvas.clientWidth - LEFT - 30;
@@ -11,7 +33,7 @@ const least = () => wide() / Math.max(1, run.count);
 const xOf = at => LEFT + (at - view.from) * view.scale;
 const atOf = x => view.from + (x - LEFT) / view.scale;
 const hartTop = hart => 8 + hart * HIGH - box.scrollTop;
-const laneTop = lane => 8 + run.harts * HIGH + GAP + lane * HIGH - box.scrollTop;
+const laneTop = lane => 8 + run.lanes * HIGH + GAP + lane * HIGH - box.scrollTop;
 const clusterX = i => xOf(marks.at[clusters.first[i]]) + (clusters.size[i] > 1 ? BOX / 2 : 0);
 const isSeen = top => top > -HIGH && top < canvas.clientHeight;
 
@@ -25,12 +47,11 @@ function drawLabels() {
   pen.fillStyle = '#fff';
   pen.fillRect(0, 0, LEFT - 6, canvas.clientHeight);
   pen.fillStyle = '#222';
-  pen.font = '12px sans-serif';
+  pen.font = LABEL_FONT;
   pen.textAlign = 'left';
-  for (let hart = 0; hart < run.harts; hart++) pen.fillText(`hart ${hart}`, 4, hartTop(hart) + 19, LEFT - 12);
+  for (let hart = 0; hart < run.lanes; hart++) pen.fillText(fitted(hartLabel(hart)), 4, hartTop(hart) + 19);
   for (const [lane, process] of laneOwners.entries()) {
-    const told = process === NOBODY ? 'destructions' : `process ${process} ${nameOf('process', process)}`;
-    pen.fillText(told, 4, laneTop(lane) + 19, LEFT - 12);
+    if (isSeen(laneTop(lane))) pen.fillText(fitted(laneLabel(process)), 4, laneTop(lane) + 19);
   }
 }
 
@@ -54,6 +75,23 @@ function drawShares(x, y, shares) {
   }
 }
 
+// Strokes over what ran on a hart that isn't known.
+function drawHatching(x, y, width) {
+  pen.save();
+  pen.beginPath();
+  pen.rect(x, y, width, 24);
+  pen.clip();
+  pen.strokeStyle = '#fff';
+  pen.lineWidth = 2;
+  pen.beginPath();
+  for (let at = x - x % 9 - 27; at < x + width; at += 9) {
+    pen.moveTo(at, y + 24);
+    pen.lineTo(at + 24, y);
+  }
+  pen.stroke();
+  pen.restore();
+}
+
 // What ran on a hart, as far as one sees.
 function drawHart(hart) {
   const {process, first, behind} = stretches[hart], y = hartTop(hart), last = atOf(LEFT + wide());
@@ -69,8 +107,10 @@ function drawHart(hart) {
       shares.set(process[i], (shares.get(process[i]) || 0) + behind[i] - first[i]);
       continue;
     }
+    const seen = Math.min(width, LEFT + wide() - x);
     pen.fillStyle = colorOf(process[i]);
-    pen.fillRect(x, y + 2, Math.min(width, LEFT + wide() - x), 24);
+    pen.fillRect(x, y + 2, seen, 24);
+    if (hart === run.unknown) drawHatching(x, y + 2, seen);
     pen.fillStyle = '#222';
     if (width > 16) pen.fillText(String(process[i]), x + 3, y + 19, width - 4);
   }
@@ -128,9 +168,9 @@ function draw() {
   if (view.clustered !== view.scale) cluster(NEAR / view.scale);
   view.clustered = view.scale;
   drawLines();
-  pen.font = '12px sans-serif';
+  pen.font = LABEL_FONT;
   pen.textAlign = 'left';
-  for (let hart = 0; hart < run.harts; hart++) if (isSeen(hartTop(hart))) drawHart(hart);
+  for (let hart = 0; hart < run.lanes; hart++) if (isSeen(hartTop(hart))) drawHart(hart);
   const from = clusterFrom(view.from - NEAR / view.scale), last = atOf(LEFT + wide() + NEAR);
   const isNear = i => i < clusters.count && marks.at[clusters.first[i]] <= last;
   for (let i = firstFrom(arrows.cluster, from, arrows.count); i < arrows.count && isNear(arrows.cluster[i]); i++) {
@@ -155,6 +195,13 @@ function look(from, scale) {
   view.scale = Math.min(MOST_WIDE, Math.max(least(), scale));
   view.from = Math.max(0, Math.min(from, run.count - wide() / view.scale));
   window.requestAnimationFrame(draw);
+}
+
+// Scales around what is chosen, which is brought into sight, or around the middle if nothing is.
+function scaleAtChosen(times) {
+  const x = view.chosen < 0 ? LEFT + wide() / 2 : xOf(view.chosen);
+  if (x < LEFT || x > LEFT + wide()) look(view.chosen - wide() / view.scale / 2, view.scale);
+  scaleAt(view.chosen < 0 ? x : xOf(view.chosen), times);
 }
 
 // Scales around a place of the canvas.

@@ -1,0 +1,106 @@
+"""What things are called: programs, objects, functions, and lines of sources."""
+import bisect
+import pathlib
+import re
+import shutil
+import subprocess
+
+from run_page.remarks import names_of
+from run_page.symbols import read_symbols
+
+READERS = ("riscv64-unknown-elf-addr2line", "llvm-addr2line", "llvm-addr2line-14")
+KINDS = {"page": "page", "cappage": "capability page", "gpt": "GPT", "endpoint": "endpoint", "process": "process"}
+
+
+class Programs:
+    """The names of a listing, and with a directory of ELF files those of functions and lines."""
+
+    def __init__(self, listing, directory=None):
+        self.names = names_of(listing)
+        self.files, self.symbols, self.starts, self.known, self.given = {}, {}, {}, {}, {}
+        self.reader = next(filter(None, map(shutil.which, READERS)), None)
+        self.entries = {int(number): int(pc, 16) for number, pc
+                        in re.findall(r"^process +(\d+) +([0-9a-fA-F]+)", listing, re.M)}
+        if directory:
+            folder = pathlib.Path(directory)
+            self.symbols = read_symbols(folder, self.names["file"])
+            self.files = {process: folder / self.names["file"][process] for process in self.symbols}
+            self.starts = {process: [one[0] for one in found] for process, found in self.symbols.items()}
+
+    # -- objects
+
+    def name_of(self, kind, number):
+        """The name that the listing gives to an object; there are not more of them than a machine has objects."""
+        if (kind, number) not in self.given:
+            self.given[kind, number] = next((name if first == last or " " in name else f"{name}.{number - first}"
+                                             for first, last, name in self.names[kind] if first <= number <= last), "")
+        return self.given[kind, number]
+
+    def process(self, number):
+        return self.name_of("process", number) or f"process {number}"
+
+    def called(self, kind, number):
+        name = self.name_of(kind, number)
+        return f"{KINDS[kind]} {number}" + (f" ({name})" if name else "")
+
+    def numbers_of(self, word):
+        """The processes that a name or a number means."""
+        found = {n for first, last, name in self.names["process"] for n in range(first, last + 1)
+                 if word in (name, self.process(n))}
+        return found or ({int(word)} if word.isascii() and word.isdigit() else set())
+
+    def there(self, process, address):
+        """What the plan put at an address."""
+        for line in self.names["memory"].get(process, ()):
+            found = re.match(r"([0-9a-f]{8}) to ([0-9a-f]{8}) \S+ (.*)", line)
+            if found and int(found[1], 16) <= address <= int(found[2], 16):
+                return found[3]
+        return ""
+
+    # -- functions and lines
+
+    def function(self, process, address):
+        """The function at an address, and how far it is from its beginning."""
+        starts = self.starts.get(process)
+        at = bisect.bisect_right(starts, address) - 1 if starts else -1
+        if at < 0:
+            return "", 0
+        start, size, name = self.symbols[process][at]
+        if size and address - start >= size:  # what is written in assembler has no size, and goes on to the next one
+            return "", 0
+        return name, address - start
+
+    def look_up(self, process, addresses):
+        """Reads the lines of sources at addresses: for each its functions and places, those that were inlined first."""
+        wanted = sorted({each for each in addresses if (process, each) not in self.known})
+        for each in wanted:
+            self.known[process, each] = []
+        if not wanted or process not in self.files or not self.reader:
+            return
+        done = subprocess.run([self.reader, "-a", "-i", "-f", "-e", str(self.files[process])], text=True,
+                              input="".join(f"{each:#x}\n" for each in wanted), capture_output=True)
+        found = None
+        lines = iter(done.stdout.splitlines())
+        for line in lines:
+            if line.startswith("0x"):
+                found = self.known[process, int(line, 16)]
+            elif found is not None:
+                place = re.sub(r" \(discriminator \d+\)$", "", next(lines, ""))
+                if not place.startswith("??") and not place.endswith((":?", ":0")):
+                    found.append((line, place))
+
+    def place(self, process, address):
+        """An address with its function and line, as far as they are known."""
+        self.look_up(process, [address])
+        name, past = self.function(process, address)
+        told = f"{address:08x}" + (f" {name}" if name else "") + (f"+{past:x}" if past else "")
+        found = self.known[process, address]
+        if found:
+            told += ", " + ", in ".join((f"{function} " if len(found) > 1 else "") + short(place)
+                                        for function, place in found)
+        return told
+
+
+def short(place):
+    """A place without the folders of its file."""
+    return place.rsplit("/", 1)[-1]
