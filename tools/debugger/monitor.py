@@ -5,6 +5,7 @@ from debugger.walk import DENIED, memory_of, walk
 
 MOST_BACK = 1_000_000  # events that are looked at for the last messages and the last fault
 MESSAGES = 10
+LOAD, STORE, SYSTEM = 0x03, 0x23, 0x73  # opcodes
 LETTERS = {"r": "no stores", "x": "no fetches", "w": "weakened", "o": "opaque", "n": "no handlers behind it"}
 HELP = """\
 monitor event [N]       the number of the event that comes next; with N the next continue goes there
@@ -14,6 +15,16 @@ monitor messages        the last ten messages, with faults that were heard
 monitor why             who waits for whom, and why the last fault came
 monitor walk ADDRESS    how the selected process gets to an address
 monitor process [NAME]  breakpoints count for this process alone; with `all` for each"""
+
+
+def kind_of_access(state, process):
+    """The kind of access that the next instruction of a process may fault at; None if it makes none."""
+    pc = state.process(process).pc
+    if walk(state, process, "fetch", pc).name != "reach":
+        return "fetch"
+    opcode = state.memory(process, pc, 1)[0] & 127
+    call = state.register_values(process)[17]
+    return {LOAD: "load", STORE: "store", SYSTEM: {0: "load", 1: "capload", 2: "capstore"}.get(call)}.get(opcode)
 
 
 class Monitor:
@@ -34,9 +45,8 @@ class Monitor:
         return self.run.state(self.session.at)
 
     def named(self, word):
-        """The process of a word; else it says that there is none."""
-        number = self.names.number_of(word, self.session.process_count)
-        return number
+        """The process of this name or number; None if there is none."""
+        return self.names.number_of(word, self.session.process_count)
 
     # -- where
 
@@ -121,21 +131,11 @@ class Monitor:
         """How a walk came to the fault of a record, if it is one of a walk."""
         process, name, address = int(words[1]), words[2], int(words[3], 16)
         before = self.run.state(event)
-        for kind in ("fetch", "load", "store", "capload", "capstore"):
-            end = walk(before, process, kind, address)
-            if end.name == name and self.may_be(kind, before.process(process).pc, process, address, before):
-                yield f"a {kind} of {address:08x} by {self.names.process(process)} meets"
-                yield from self.way(end, kind)
-                return
-
-    @staticmethod
-    def may_be(kind, pc, process, address, state):
-        """Whether the instruction at pc may have made this access."""
-        code = int.from_bytes(state.memory(process, pc, 4), "little") & 127
-        if kind == "fetch":
-            return address == pc and len(state.memory(process, pc, 4)) < 4 or walk(
-                state, process, "fetch", pc).name != "reach"
-        return {3: kind == "load", 35: kind == "store"}.get(code, code == 115)
+        kind = kind_of_access(before, process)
+        end = walk(before, process, kind, address) if kind else None
+        if end and end.name == name:
+            yield f"a {kind} of {address:08x} by {self.names.process(process)} meets"
+            yield from self.way(end, kind)
 
     def way(self, end, kind):
         """The capabilities that a walk met, and how it ended."""

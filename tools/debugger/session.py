@@ -41,6 +41,24 @@ def thread_of(word):
     return number
 
 
+def greet(line):
+    """Answers what needs no run, since gdb waits but two seconds for the first answers; the first packet that does, or
+    None where gdb is gone."""
+    try:
+        while True:
+            packet = line.packet()
+            word = packet.decode("latin-1").split(":")[0]
+            if word == "QStartNoAckMode":
+                line.answer("OK")
+                line.acknowledges = False
+            elif word in ("qSupported", "vMustReplyEmpty"):
+                line.answer(FEATURES if word == "qSupported" else "")
+            else:
+                return packet
+    except Closed:
+        return None
+
+
 class Session:
     """gdb's view of a run: the event that comes next, the process that is selected, and where to stop."""
 
@@ -65,14 +83,14 @@ class Session:
 
     # -- packets
 
-    def serve(self):
-        """Answers packets until gdb is gone."""
+    def serve(self, packet):
+        """Answers this packet and all others until gdb is gone."""
         try:
-            while not self.ended:
-                packet = self.line.packet()
+            while packet is not None:
                 answer = None if packet == INTERRUPT else self.answer(packet.decode("latin-1"))
                 if answer is not None:
                     self.line.answer(answer)
+                packet = None if self.ended else self.line.packet()
         except Closed:
             return
 
@@ -94,10 +112,6 @@ class Session:
 
     def take_qSupported(self, _rest):
         return FEATURES
-
-    def take_QStartNoAckMode(self, _rest):
-        self.line.answer("OK")
-        self.line.acknowledges = False
 
     def take_QPassSignals(self, rest):
         self.passed = {int(word, 16) for word in rest[1:].split(";") if word}
