@@ -1,0 +1,3 @@
+#define ME 0
+#define MISTAKEN
+#include "lock.h"

@@ -1,0 +1,3 @@
+#define ME 1
+#define MISTAKEN
+#include "lock.h"

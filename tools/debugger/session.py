@@ -1,0 +1,336 @@
+"""A session with gdb: what its packets ask for, of one run."""
+import sys
+from xml.sax.saxutils import escape, quoteattr
+
+from debugger.monitor import Monitor
+from debugger.names import standing
+from debugger.packets import INTERRUPT, Closed
+from debugger.search import Arrivals, Faults, Leaves, Search, Steps, Watch
+
+REFUSED = "a recording can't be changed: neither registers nor memory can be written"
+# gdb's numbers of signals
+SIGNALS = {"Breakpoint": 5, "BadOpcode": 4, "BadAlign": 10, "MalformedSyscall": 12, "NoSchedule": 24}
+SEGMENTATION, TRAP, INTERRUPTED = 11, 5, 2
+WATCHES = {"2": "write", "3": "read", "4": "access"}
+WORDS = {"write": "watch", "read": "rwatch", "access": "awatch"}
+FEATURES = ("PacketSize=4000;QStartNoAckMode+;qXfer:features:read+;qXfer:threads:read+;ReverseStep+;ReverseContinue+;"
+            "vContSupported+;swbreak+;hwbreak+;QPassSignals+")
+REGISTERS = ("zero ra sp gp tp t0 t1 t2 fp s1 a0 a1 a2 a3 a4 a5 a6 a7 s2 s3 s4 s5 s6 s7 s8 s9 s10 s11 t3 t4 t5 t6 pc"
+             .split())
+POINTERS = {"ra": "code_ptr", "sp": "data_ptr", "gp": "data_ptr", "tp": "data_ptr", "fp": "data_ptr", "pc": "code_ptr"}
+
+
+def target_description():
+    registers = "".join(f'<reg name="{name}" bitsize="32" type="{POINTERS.get(name, "int")}" regnum="{i}"/>'
+                        for i, name in enumerate(REGISTERS))
+    return ('<?xml version="1.0"?><!DOCTYPE target SYSTEM "gdb-target.dtd"><target version="1.0">'
+            '<architecture>riscv:rv32</architecture>'
+            f'<feature name="org.gnu.gdb.riscv.cpu">{registers}</feature></target>')
+
+
+def part(text, words):
+    """A part of a text, as the packet qXfer asks for it."""
+    offset, length = (int(word, 16) for word in words.split(","))
+    piece = text.encode()[offset:offset + length]
+    return (b"l" if offset + length >= len(text.encode()) else b"m") + piece
+
+
+def thread_of(word):
+    """The number in a thread's name; 0 where any is meant."""
+    number = int(word.split(".")[-1].lstrip("p"), 16) if word not in ("-1", "") else 0
+    return number
+
+
+def greet(line):
+    """Answers what needs no run, since gdb waits but two seconds for the first answers; the first packet that does, or
+    None where gdb is gone."""
+    try:
+        while True:
+            packet = line.packet()
+            word = packet.decode("latin-1").split(":")[0]
+            if word == "QStartNoAckMode":
+                line.answer("OK")
+                line.acknowledges = False
+            elif word in ("qSupported", "vMustReplyEmpty"):
+                line.answer(FEATURES if word == "qSupported" else "")
+            else:
+                return packet
+    except Closed:
+        return None
+
+
+class Session:
+    """gdb's view of a run: the event that comes next, the process that is selected, and where to stop."""
+
+    def __init__(self, line, run, names, process_count, at=0, only=None):
+        self.line, self.run, self.names, self.process_count = line, run, names, process_count
+        self.at, self.only, self.goal = at, only, None
+        self.selected = only if only is not None else 0  # whose registers and memory are asked for
+        self.going = self.selected  # who steps
+        self.breakpoints, self.watches, self.passed = set(), {}, set()
+        self.set_before, self.bound = set(), {}  # breakpoints and watches when gdb last went on
+        self.monitor, self.ended = Monitor(self), False
+        self.why = f"T05thread:{self.selected + 1:x};"
+
+    @property
+    def state(self):
+        return self.run.state(self.at)
+
+    def processes(self):
+        """Those that there are, or that have a name."""
+        named = {number for first, last, _ in self.names.found["process"] for number in range(first, last + 1)}
+        return sorted(named | set(self.state.processes)) or [0]
+
+    # -- packets
+
+    def serve(self, packet):
+        """Answers this packet and all others until gdb is gone."""
+        try:
+            while packet is not None:
+                answer = None if packet == INTERRUPT else self.answer(packet.decode("latin-1"))
+                if answer is not None:
+                    self.line.answer(answer)
+                packet = None if self.ended else self.line.packet()
+        except Closed:
+            return
+
+    def answer(self, packet):
+        """The answer to a packet; an empty one to what isn't known."""
+        letter, rest = packet[:1], packet[1:]
+        if letter in ("v", "q", "Q"):
+            word = packet.split(":")[0].split(",")[0].split(";")[0].rstrip("?")
+            do = getattr(self, f"take_{word}", None)
+            return do(packet[len(word):]) if do else ""
+        do = {"?": self.take_reason, "g": self.take_registers, "p": self.take_register, "m": self.take_memory,
+              "H": self.take_thread, "T": self.take_alive, "Z": self.take_stop, "z": self.take_go, "b": self.take_back,
+              "s": self.take_step, "c": self.take_continue, "k": self.take_end, "D": self.take_detach}.get(letter)
+        if letter in ("G", "P", "M"):
+            if letter == "M":  # of which gdb doesn't tell what was answered
+                print(f"tools/gdb: {REFUSED}", file=sys.stderr, flush=True)
+            return f"E.{REFUSED}"
+        return do(rest) if do else ""
+
+    def take_qSupported(self, _rest):
+        return FEATURES
+
+    def take_QPassSignals(self, rest):
+        self.passed = {int(word, 16) for word in rest[1:].split(";") if word}
+        return "OK"
+
+    def take_qXfer(self, rest):
+        words = rest[1:].split(":")
+        if words[:3] == ["features", "read", "target.xml"]:
+            return part(target_description(), words[3])
+        if words[:2] == ["threads", "read"]:
+            return part(self.threads(), words[3])
+        return ""
+
+    def threads(self):
+        """The processes, with where each stands."""
+        made = ['<?xml version="1.0"?><threads>']
+        for number in self.processes():
+            hart = self.state.hart_of(number)
+            core = "" if hart is None else f' core="{hart}"'
+            made.append(f'<thread id="{number + 1:x}"{core} name={quoteattr(self.names.process(number))}>'
+                        f'{escape(standing(self.state, self.names, number))}</thread>')
+        return "".join([*made, "</threads>"])
+
+    def take_qfThreadInfo(self, _rest):
+        return "m" + ",".join(f"{number + 1:x}" for number in self.processes())
+
+    def take_qsThreadInfo(self, _rest):
+        return "l"
+
+    def take_qThreadExtraInfo(self, rest):
+        number = thread_of(rest[1:]) - 1
+        return f"{self.names.process(number)}: {standing(self.state, self.names, number)}".encode().hex()
+
+    def take_qC(self, _rest):
+        return f"QC{self.selected + 1:x}"
+
+    def take_qAttached(self, _rest):
+        return "1"
+
+    def take_qSymbol(self, _rest):
+        return "OK"
+
+    def take_qRcmd(self, rest):
+        words = bytes.fromhex(rest[1:]).decode("utf-8", "replace").split()
+        self.say(self.monitor.answer(words))
+        return "OK"
+
+    def take_reason(self, _rest):
+        return self.why
+
+    def take_thread(self, rest):
+        number = thread_of(rest[1:])
+        if number > self.process_count:
+            return "E01"
+        if number and rest[0] == "g":
+            self.selected = number - 1
+        elif number:
+            self.going = number - 1
+        return "OK"
+
+    def take_alive(self, rest):
+        return "OK" if thread_of(rest) - 1 in self.processes() else "E01"
+
+    def take_end(self, _rest):
+        self.ended = True
+
+    def take_detach(self, _rest):
+        self.ended = True
+        return "OK"
+
+    def take_vKill(self, _rest):
+        self.ended = True
+        return "OK"
+
+    # -- registers and memory
+
+    def take_registers(self, _rest):
+        return b"".join(value.to_bytes(4, "little") for value in self.state.register_values(self.selected)).hex()
+
+    def take_register(self, rest):
+        values = self.state.register_values(self.selected)
+        number = int(rest, 16)
+        return values[number].to_bytes(4, "little").hex() if number < len(values) else ""
+
+    def take_memory(self, rest):
+        address, count = (int(word, 16) for word in rest.split(","))
+        data = self.state.memory(self.selected, address, count)
+        return data.hex() if data or not count else "E01"
+
+    # -- where to stop
+
+    def take_stop(self, rest):
+        kind, address, count = self.place_of(rest)
+        if kind in ("0", "1"):
+            self.breakpoints.add(address)
+        elif kind in WATCHES:
+            key = kind, address, count
+            self.watches[key] = self.bound.setdefault(key, Watch(self.selected, address, count, WATCHES[kind]))
+        else:
+            return ""
+        return "OK"
+
+    def take_go(self, rest):
+        kind, address, count = self.place_of(rest)
+        if kind in ("0", "1"):
+            self.breakpoints.discard(address)
+        elif kind in WATCHES:
+            self.watches.pop((kind, address, count), None)
+        else:
+            return ""
+        return "OK"
+
+    @staticmethod
+    def place_of(rest):
+        kind, address, count = rest.split(";")[0].split(",")
+        return kind, int(address, 16), int(count, 16)
+
+    # -- going on
+
+    def take_vCont(self, rest):
+        if rest == "?":
+            return "vCont;c;C;s;S;r"
+        action, _, thread = rest[1:].split(";")[0].partition(":")
+        process = thread_of(thread) - 1 if thread_of(thread) else self.going
+        if action[0] in "sS":
+            return self.step(Steps(process))
+        if action[0] == "r":
+            first, behind = (int(word, 16) for word in action[1:].split(","))
+            stands = self.state.process(process).pc
+            return self.step(Leaves(process, first, behind) if first <= stands < behind else Steps(process))
+        return self.go_on(False)
+
+    def take_step(self, _rest):
+        return self.step(Steps(self.going))
+
+    def take_continue(self, _rest):
+        return self.go_on(False)
+
+    def take_back(self, rest):
+        if rest == "s":
+            search = self.search([Steps(self.going)], self.breakpoints, self.is_meant)
+            return self.stop(search.backwards(self.at))
+        return self.go_on(True) if rest == "c" else ""
+
+    def step(self, want):
+        """Goes on until a process did something, if nothing else happens before.
+
+        gdb takes out a breakpoint where a process steps over it; for other processes it stays.
+        """
+        search = self.search([want, Faults(self.is_passed)], self.breakpoints | self.set_before,
+                             lambda process: process != want.process and self.is_meant(process))
+        return self.stop(search.forwards(self.at))
+
+    def go_on(self, backwards):
+        """Goes on to where something happens, or to an event that was asked for."""
+        if self.goal is not None:
+            self.at, self.goal = self.goal, None
+            return self.stopped(self.selected, INTERRUPTED)
+        search = self.search([Faults(self.is_passed)], self.breakpoints, self.is_meant)
+        return self.stop(search.backwards(self.at) if backwards else search.forwards(self.at))
+
+    def search(self, wants, breakpoints, is_meant):
+        """What to look for, with all that gdb has set. It takes out all at each stop and sets it again to go on; a watch
+        that is set again is of the same process."""
+        self.set_before, self.bound = set(self.breakpoints), dict(self.watches)
+        wants = wants + [Arrivals(breakpoints, is_meant)] + list(self.watches.values())
+        return Search(self.run, wants, self.line.is_interrupted)
+
+    def is_meant(self, process):
+        return self.only is None or process == self.only
+
+    def is_passed(self, name):
+        return SIGNALS.get(name, SEGMENTATION) in self.passed
+
+    # -- stopping
+
+    def stop(self, hit):
+        """Stands where something happened, and says what."""
+        self.at = hit.at
+        process = self.going if hit.process is None else hit.process
+        if hit.why[0] == "fault":
+            self.say([self.fault_in_words(hit.at, hit.more)])
+            return self.stopped(process, SIGNALS.get(hit.why[1], SEGMENTATION))
+        if hit.why[0] == "watch":
+            watch = hit.why[1]
+            self.say(self.writer_in_words(watch, hit.more))
+            return self.stopped(process, TRAP, f"{WORDS[watch.how]}:{watch.address:x};")
+        if hit.why[0] == "interrupt":
+            return self.stopped(process, INTERRUPTED)
+        more = {"break": "swbreak:;", "end": "replaylog:end;", "begin": "replaylog:begin;"}.get(hit.why[0], "")
+        return self.stopped(process, TRAP, more)
+
+    def stopped(self, process, signal, more=""):
+        self.selected = self.going = process
+        hart = self.state.hart_of(process)
+        core = "" if hart is None else f"core:{hart:x};"
+        self.why = f"T{signal:02x}thread:{process + 1:x};{core}{more}"
+        return self.why
+
+    def fault_in_words(self, at, line):
+        """A record of a fault, with who hears of it and where the process stood before this event."""
+        _, process, name, address, *to = line.split()
+        heard = f"{self.names.process(int(to[1]))} hears of it" if len(to) > 1 else "nobody hears of it"
+        stood = self.run.state(at - 1).process(int(process)).pc
+        return (f"{self.names.process(int(process))} faults: {name} {address} at "
+                f"{self.names.place(int(process), stood)}; {heard}")
+
+    def writer_in_words(self, watch, line):
+        """Who touched watched bytes, if it was another process or the kernel."""
+        if line is None:
+            return [f"the bytes at {watch.address:08x} of {self.names.process(watch.process)} changed by the kernel"]
+        kind, process, address, _, page = line.split()
+        if int(process) == watch.process:
+            return []
+        did = "reads" if kind == "load" else "writes"
+        return [f"{self.names.process(int(process))} {did} it: {kind} of {address}, "
+                f"{self.names.object('page', int(page))}"]
+
+    def say(self, lines):
+        """Text for gdb's user."""
+        for line in lines:
+            self.line.answer(b"O" + f"{line}\n".encode().hex().encode())
