@@ -46,9 +46,9 @@ use Rattle.machine_state.specs.Reply.{answered, replied_with, replied, set_reply
 use Rattle.kernel_core.specs.LoadStore.{loaded_from, load, stored_to, store}
 use Rattle.kernel_core.specs.CapTransfer.{cap_loaded_from, load_cap, cap_stored_to, store_cap}
 use Rattle.kernel_core.specs.KernelOperation.{asked_number, answered_call, memory_answered, memory_op, destroyed_by, is_end_of, replied_unless, control_answered, control_op, kind_table, halting, sysctl_op, is_no_log, logged_side, logged, log_string, kernlog_op, asked_for, kernel_op}
-use Rattle.kernel_core.specs.declared.system_call.SystemCall.{SystemCall}
-use Rattle.kernel_core.specs.declared.system_call.SystemCall.TheVariants.{Invoke, LoadCap, StoreCap, CopyCap, Yield}
-use Rattle.kernel_core.specs.SystemCall.{call_with, copied, copy_cap, moved, move_cap, Sending, refused_call, sent_to, send, received_after, invoked, invoke, called, system_call}
+use Rattle.kernel_core.specs.declared.system_calls.SystemCall.{SystemCall}
+use Rattle.kernel_core.specs.declared.system_calls.SystemCall.TheVariants.{Invoke, LoadCap, StoreCap, CopyCap, Yield}
+use Rattle.kernel_core.specs.SystemCall.{call_with, copied, copy_cap, Sending, refused_call, sent_to, send, received_after, invoked, invoke, called, system_call}
 use Rattle.kernel_core.specs.Instruction.{performed, perform}
 use Rattle.kernel_core.specs.Event.{decoded_to, fetched_from, instruction}
 use Rattle.confinement.specs.declared.cut_side.CutSide.{CutSide}
@@ -137,18 +137,6 @@ module _ (cut : Cut) (side : CutSide) (p : ℕ) (own : side_of cut Process p ≡
       cond_both (nat_le from 31 && nat_le to 31) _ _ (Leaves s)
       (λ e. acts-next cut side s t (advance t p) (acts-set_capreg cut side p own s to (capreg_of (process s p) from) (may-capreg cut side p own s from holds) holds) (λ h. acts-advance cut side p own t h))
       (λ e. acts-malformed cut side p own s holds)
-
-  leaves-moved : (s : State) (call : Option SystemCall) → Holds cut (system_of s) → Leaves s (moved s p call)
-  leaves-moved s (Some LoadCap) holds = leaves-load_cap s (register_of s p 10) (register_of s p 11) holds
-  leaves-moved s (Some StoreCap) holds = leaves-store_cap s (register_of s p 10) (register_of s p 11) holds
-  leaves-moved s (Some CopyCap) holds = leaves-copy_cap s (register_of s p 10) (register_of s p 11) holds
-  leaves-moved s (Some Invoke) holds = acts-malformed cut side p own s holds
-  leaves-moved s (Some Yield) holds = acts-malformed cut side p own s holds
-  leaves-moved s None holds = acts-malformed cut side p own s holds
-
-  leaves-move_cap : (s : State) → Holds cut (system_of s) → Leaves s (move_cap s p)
-  unfolding move_cap
-  leaves-move_cap s holds = leaves-moved s (call_with (register_of s p 17)) holds
 
   -- ---- replies
 
@@ -297,17 +285,17 @@ module _ (cut : Cut) (side : CutSide) (p : ℕ) (own : side_of cut Process p ≡
   unfolding invoke
   leaves-invoke s holds = leaves-invoked s (parsed (process s p).regs) holds
 
-  leaves-called : (s : State) (call : Option SystemCall) → Holds cut (system_of s) → Leaves s (called s p call)
-  leaves-called s None holds = acts-malformed cut side p own s holds
-  leaves-called s (Some Invoke) holds = leaves-invoke s holds
-  leaves-called s (Some Yield) holds = acts-yielded cut side p own s holds
-  leaves-called s (Some LoadCap) holds = leaves-move_cap s holds
-  leaves-called s (Some StoreCap) holds = leaves-move_cap s holds
-  leaves-called s (Some CopyCap) holds = leaves-move_cap s holds
+  leaves-called : (s : State) (call : Option SystemCall) (x10 x11 : ℕ) → Holds cut (system_of s) → Leaves s (called s p call x10 x11)
+  leaves-called s None x10 x11 holds = acts-malformed cut side p own s holds
+  leaves-called s (Some Invoke) x10 x11 holds = leaves-invoke s holds
+  leaves-called s (Some LoadCap) x10 x11 holds = leaves-load_cap s x10 x11 holds
+  leaves-called s (Some StoreCap) x10 x11 holds = leaves-store_cap s x10 x11 holds
+  leaves-called s (Some CopyCap) x10 x11 holds = leaves-copy_cap s x10 x11 holds
+  leaves-called s (Some Yield) x10 x11 holds = acts-yielded cut side p own s holds
 
   leaves-system_call : (s : State) → Holds cut (system_of s) → Leaves s (system_call s p)
   unfolding system_call
-  leaves-system_call s holds = leaves-called s (call_with (register_of s p 17)) holds
+  leaves-system_call s holds = leaves-called s (call_with (register_of s p 17)) (register_of s p 10) (register_of s p 11) holds
 
   -- ---- instructions
 

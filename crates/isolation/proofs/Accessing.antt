@@ -1,8 +1,8 @@
 -- Loads, stores and the calls that move a capability, by a process of this side: in two states that match they tell the
 -- same and leave states that match.
-use Rattle.std.proofs.Common.{◌≡◌, ℕ, Bool, false, ◌==◌, ◌&&◌, ◌%◌, nat_le, List, Option, Some, None, Result, Ok, Err, refl, sym, ap, ap₂, subst, subst₂}
+use Rattle.std.proofs.Common.{◌≡◌, ℕ, Bool, false, ◌==◌, ◌&&◌, ◌%◌, nat_le, List, Result, Ok, Err, refl, ap, ap₂, subst}
 use Rattle.cap_format.specs.declared.kind.CapKind.TheVariants.{CapPage, Process}
-use Rattle.process_objects.specs.Process.{ProcessValue, reg_of, capreg_of}
+use Rattle.process_objects.specs.Process.{ProcessValue, capreg_of}
 use Rattle.page_store.specs.CapPage.{cap_at}
 use Rattle.object_store.specs.Store.{cappage_at}
 use Rattle.object_store.specs.Object.{ObjectName}
@@ -11,17 +11,14 @@ use Rattle.walk_meaning.specs.declared.place.Place.{Place}
 use Rattle.walk_meaning.specs.declared.place.WalkFault.{WalkFault}
 use Rattle.walk_engine.specs.declared.hit.Hit.{Hit}
 use Rattle.rv32_user.specs.Step.{loaded}
-use Rattle.messages.specs.Fault.{malformed}
-use Rattle.machine_state.specs.State.{State, process, register_of}
+use Rattle.machine_state.specs.State.{State, process}
 use Rattle.machine_state.specs.Setters.{set_registers, set_capreg}
 use Rattle.machine_state.specs.Outcome.{Outcome, Touch, touched}
 use Rattle.machine_state.specs.DataAccess.{data_access, data_touch, number_at, written}
 use Rattle.machine_state.specs.CapAccess.{cap_access, cap_touch, slot_in, cap_found, cap_stored}
 use Rattle.kernel_core.specs.LoadStore.{loaded_from, load, stored_to, store}
 use Rattle.kernel_core.specs.CapTransfer.{cap_loaded_from, load_cap, cap_stored_to, store_cap}
-use Rattle.kernel_core.specs.declared.system_call.SystemCall.{SystemCall}
-use Rattle.kernel_core.specs.declared.system_call.SystemCall.TheVariants.{Invoke, LoadCap, StoreCap, CopyCap, Yield}
-use Rattle.kernel_core.specs.SystemCall.{call_with, copied, copy_cap, moved, move_cap}
+use Rattle.kernel_core.specs.SystemCall.{copied, copy_cap}
 use Rattle.confinement.specs.declared.cut_side.CutSide.{CutSide}
 use Rattle.confinement.specs.Cut.{Cut, side_of, MayHold}
 use Rattle.confinement.proofs.Machine.{may-capreg}
@@ -94,7 +91,8 @@ module _ (cut : Cut) (on : CutSide) (alone : cut.weakly on ≡ false) (p : ℕ) 
             (match-set_capreg cut on p own s t m to (cap_found s place) (cap_found t place) (same-found cut on s t m place ends) may);
       }
 
-  alike-load_cap : (s t : State) → Matches cut on s t → (at to : ℕ) → Alike cut on (load_cap s p at to) (load_cap t p at to)
+  -- a loadcap
+  pub alike-load_cap : (s t : State) → Matches cut on s t → (at to : ℕ) → Alike cut on (load_cap s p at to) (load_cap t p at to)
   unfolding load_cap
   alike-load_cap s t m at to =
       alike-if cut on (nat_le to 31) _ _ _ _
@@ -121,7 +119,8 @@ module _ (cut : Cut) (on : CutSide) (alone : cut.weakly on ≡ false) (p : ℕ) 
             (match-cap_stored cut on s t m place c d (same-capreg s t m from) ends (may-capreg cut on p own s from m.holds));
       }
 
-  alike-store_cap : (s t : State) → Matches cut on s t → (at from : ℕ) → Alike cut on (store_cap s p at from) (store_cap t p at from)
+  -- a storecap
+  pub alike-store_cap : (s t : State) → Matches cut on s t → (at from : ℕ) → Alike cut on (store_cap s p at from) (store_cap t p at from)
   unfolding store_cap
   alike-store_cap s t m at from =
       alike-if cut on (nat_le from 31) _ _ _ _
@@ -132,7 +131,8 @@ module _ (cut : Cut) (on : CutSide) (alone : cut.weakly on ≡ false) (p : ℕ) 
       (alike-misaligned cut on p own s t m at))
       (alike-malformed cut on p own s t m)
 
-  alike-copy_cap : (s t : State) → Matches cut on s t → (from to : ℕ) → Alike cut on (copy_cap s p from to) (copy_cap t p from to)
+  -- a copycap
+  pub alike-copy_cap : (s t : State) → Matches cut on s t → (from to : ℕ) → Alike cut on (copy_cap s p from to) (copy_cap t p from to)
   unfolding copy_cap
   alike-copy_cap s t m from to =
       alike-if cut on (nat_le from 31 && nat_le to 31) _ _ _ _
@@ -142,33 +142,3 @@ module _ (cut : Cut) (on : CutSide) (alone : cut.weakly on ≡ false) (p : ℕ) 
             (match-set_capreg cut on p own s t m to _ _ (same-capreg s t m from) (may-capreg cut on p own s from m.holds));
       })
       (alike-malformed cut on p own s t m)
-
-  -- the calls that move a capability, by the operands that the process has in its registers
-  abbrev moved_as : State → Option SystemCall → ℕ → ℕ → Outcome
-  moved_as s (Some LoadCap) a b = load_cap s p a b
-  moved_as s (Some StoreCap) a b = store_cap s p a b
-  moved_as s (Some CopyCap) a b = copy_cap s p a b
-  moved_as s _ a b = malformed s p
-
-  alike-moved_as : (s t : State) → Matches cut on s t → (call : Option SystemCall) (a b : ℕ) → Alike cut on (moved_as s call a b) (moved_as t call a b)
-  alike-moved_as s t m (Some LoadCap) a b = alike-load_cap s t m a b
-  alike-moved_as s t m (Some StoreCap) a b = alike-store_cap s t m a b
-  alike-moved_as s t m (Some CopyCap) a b = alike-copy_cap s t m a b
-  alike-moved_as s t m _ a b = alike-malformed cut on p own s t m
-
-  moved-as : (s : State) (call : Option SystemCall) → moved s p call ≡ moved_as s call (register_of s p 10) (register_of s p 11)
-  moved-as s (Some LoadCap) = refl
-  moved-as s (Some StoreCap) = refl
-  moved-as s (Some CopyCap) = refl
-  moved-as s (Some Invoke) = refl
-  moved-as s (Some Yield) = refl
-  moved-as s None = refl
-
-  -- a call that moves a capability
-  pub alike-move_cap : (s t : State) → Matches cut on s t → Alike cut on (move_cap s p) (move_cap t p)
-  unfolding move_cap
-  alike-move_cap s t m =
-      let call = call_with (register_of s p 17) in
-      subst₂ (λ (o u : Outcome). Alike cut on o u) (sym (moved-as s call)) (sym (moved-as t (call_with (register_of t p 17))))
-      (subst (λ (q : ProcessValue). Alike cut on (moved_as s call (register_of s p 10) (register_of s p 11)) (moved_as t (call_with (reg_of q 17)) (reg_of q 10) (reg_of q 11))) (same-it s t m)
-      (alike-moved_as s t m call (register_of s p 10) (register_of s p 11)))

@@ -28,8 +28,8 @@ use Rattle.machine_state.specs.State.{State, process, pc_of, register_of}
 use Rattle.machine_state.specs.Setters.{set_registers}
 use Rattle.machine_state.specs.Outcome.{process_name, recorded, touched, changing}
 use Rattle.machine_state.specs.DataAccess.{data_access, data_touch, reached, number_at}
-use Rattle.kernel_core.specs.declared.system_call.SystemCall.{SystemCall}
-use Rattle.kernel_core.specs.declared.system_call.SystemCall.TheVariants.{Invoke, LoadCap, StoreCap, CopyCap, Yield}
+use Rattle.kernel_core.specs.declared.system_calls.SystemCall.{SystemCall}
+use Rattle.kernel_core.specs.declared.system_calls.SystemCall.TheVariants.{Invoke, LoadCap, StoreCap, CopyCap, Yield}
 use Rattle.kernel_core.specs.SystemCall.{call_with, Sending, refused_call, sent_to, send, received_after, invoked, invoke, called, system_call}
 use Rattle.kernel_core.specs.Instruction.{performed, perform}
 use Rattle.kernel_core.specs.Event.{decoded_to, fetched_from, instruction}
@@ -42,7 +42,7 @@ use Rattle.isolation.proofs.Answering.{same-callee}
 use Rattle.isolation.proofs.States.{Matches, HitOwn, same-number_at, same-data_access, hit-here, match-set_pc, match-set_registers, match-yielded}
 use Rattle.isolation.proofs.Messaging.{Alike, alike-recorded, alike-followed, alike-misaligned, alike-at_pc, alike-malformed, alike-wait_on, alike-listen, same-delivers, alike-send_open}
 use Rattle.isolation.proofs.Kernel.{alike-if, alike-answered, alike-kernel_op}
-use Rattle.isolation.proofs.Accessing.{alike-load, alike-store, alike-move_cap, same-capreg, same-it, alike-besides}
+use Rattle.isolation.proofs.Accessing.{alike-load, alike-store, alike-load_cap, alike-store_cap, alike-copy_cap, same-capreg, same-it, alike-besides}
 
 module _ (cut : Cut) (on : CutSide) (alone : cut.weakly on ≡ false) (p : ℕ) (own : side_of cut Process p ≡ on) where
   -- ---- invocations
@@ -92,19 +92,19 @@ module _ (cut : Cut) (on : CutSide) (alone : cut.weakly on ≡ false) (p : ℕ) 
       subst (λ (q : ProcessValue). Alike cut on (invoked s p (parsed (process s p).regs)) (invoked t p (parsed q.regs))) (same-it cut on alone p own s t m)
       (alike-invoked s t m (parsed (process s p).regs))
 
-  alike-called : (s t : State) → Matches cut on s t → (call : Option SystemCall) → Alike cut on (called s p call) (called t p call)
-  alike-called s t m None = alike-malformed cut on p own s t m
-  alike-called s t m (Some Invoke) = alike-invoke s t m
-  alike-called s t m (Some Yield) = record { records = refl; state = match-yielded cut on p own s t m }
-  alike-called s t m (Some LoadCap) = alike-move_cap cut on alone p own s t m
-  alike-called s t m (Some StoreCap) = alike-move_cap cut on alone p own s t m
-  alike-called s t m (Some CopyCap) = alike-move_cap cut on alone p own s t m
+  alike-called : (s t : State) → Matches cut on s t → (call : Option SystemCall) (x10 x11 : ℕ) → Alike cut on (called s p call x10 x11) (called t p call x10 x11)
+  alike-called s t m None x10 x11 = alike-malformed cut on p own s t m
+  alike-called s t m (Some Invoke) x10 x11 = alike-invoke s t m
+  alike-called s t m (Some LoadCap) x10 x11 = alike-load_cap cut on alone p own s t m x10 x11
+  alike-called s t m (Some StoreCap) x10 x11 = alike-store_cap cut on alone p own s t m x10 x11
+  alike-called s t m (Some CopyCap) x10 x11 = alike-copy_cap cut on alone p own s t m x10 x11
+  alike-called s t m (Some Yield) x10 x11 = record { records = refl; state = match-yielded cut on p own s t m }
 
   alike-system_call : (s t : State) → Matches cut on s t → Alike cut on (system_call s p) (system_call t p)
   unfolding system_call
   alike-system_call s t m =
-      let call = call_with (register_of s p 17) in
-      subst (λ (q : ProcessValue). Alike cut on (called s p call) (called t p (call_with (reg_of q 17)))) (same-it cut on alone p own s t m) (alike-called s t m call)
+      subst (λ (q : ProcessValue). Alike cut on (system_call s p) (called t p (call_with (reg_of q 17)) (reg_of q 10) (reg_of q 11))) (same-it cut on alone p own s t m)
+      (alike-called s t m (call_with (register_of s p 17)) (register_of s p 10) (register_of s p 11))
 
   -- ---- instructions
 

@@ -55,12 +55,12 @@ use Rattle.messages.specs.Fault.{fault, malformed}
 use Rattle.messages.specs.Strings.{side, span_side, side_outcome}
 use Rattle.messages.specs.Message.{accept_in, sent_side, received_side, bytes_moved, message_of, sent_off, message_told, delivered, sent_on, sent_by_fault, send_open}
 use Rattle.messages.specs.Waiting.{wait_on, listen}
-use Rattle.kernel_core.specs.declared.system_call.SystemCall.{SystemCall}
-use Rattle.kernel_core.specs.declared.system_call.SystemCall.TheVariants.{Invoke, LoadCap, StoreCap, CopyCap, Yield}
+use Rattle.kernel_core.specs.declared.system_calls.SystemCall.{SystemCall}
+use Rattle.kernel_core.specs.declared.system_calls.SystemCall.TheVariants.{Invoke, LoadCap, StoreCap, CopyCap, Yield}
 use Rattle.kernel_core.specs.LoadStore.{load, loaded_from, store, stored_to}
 use Rattle.kernel_core.specs.CapTransfer.{load_cap, cap_loaded_from, store_cap, cap_stored_to}
 use Rattle.kernel_core.specs.KernelOperation.{asked_number, memory_op, destroyed_by, is_end_of, control_op, sysctl_op, is_no_log, logged_side, logged, log_string, kernlog_op, asked_for, kernel_op}
-use Rattle.kernel_core.specs.SystemCall.{call_with, copy_cap, moved, move_cap, Sending, sent_to, send, received_after, invoked, invoke, called, system_call}
+use Rattle.kernel_core.specs.SystemCall.{call_with, copy_cap, Sending, sent_to, send, received_after, invoked, invoke, called, system_call}
 use Rattle.kernel_core.specs.Instruction.{performed, perform}
 use Rattle.kernel_core.specs.Event.{decoded_to, fetched_from, instruction, stepped, tick_of, event_by, event_of}
 use Rattle.kernel_core.specs.Run.{run_state, run_touches}
@@ -204,16 +204,6 @@ module _ (s : State) (p : ℕ) where
   unfolding copy_cap
   copy_cap-follows from to = cond_both (nat_le from 31 && nat_le to 31) _ _ (IsFollowed s) (λ e. refl) (λ e. malformed-follows s p)
 
-  cap_moved-follows : (call : Option SystemCall) → IsFollowed s (moved s p call)
-  cap_moved-follows (Some LoadCap) = load_cap-follows (register_of s p 10) (register_of s p 11)
-  cap_moved-follows (Some StoreCap) = store_cap-follows (register_of s p 10) (register_of s p 11)
-  cap_moved-follows (Some CopyCap) = copy_cap-follows (register_of s p 10) (register_of s p 11)
-  cap_moved-follows call = malformed-follows s p
-
-  move_cap-follows : IsFollowed s (move_cap s p)
-  unfolding move_cap
-  move_cap-follows = cap_moved-follows (call_with (register_of s p 17))
-
   -- ---- operations of the kernel
 
   -- an operation tells the item that it changes
@@ -296,17 +286,17 @@ module _ (s : State) (p : ℕ) where
   unfolding invoke
   invoke-follows = invoked-follows (parsed (process s p).regs)
 
-  called-follows : (call : Option SystemCall) → IsFollowed s (called s p call)
-  called-follows None = malformed-follows s p
-  called-follows (Some Invoke) = invoke-follows
-  called-follows (Some Yield) = refl
-  called-follows (Some LoadCap) = move_cap-follows s p
-  called-follows (Some StoreCap) = move_cap-follows s p
-  called-follows (Some CopyCap) = move_cap-follows s p
+  called-follows : (call : Option SystemCall) (x10 x11 : ℕ) → IsFollowed s (called s p call x10 x11)
+  called-follows None x10 x11 = malformed-follows s p
+  called-follows (Some Invoke) x10 x11 = invoke-follows
+  called-follows (Some LoadCap) x10 x11 = load_cap-follows s p x10 x11
+  called-follows (Some StoreCap) x10 x11 = store_cap-follows s p x10 x11
+  called-follows (Some CopyCap) x10 x11 = copy_cap-follows s p x10 x11
+  called-follows (Some Yield) x10 x11 = refl
 
   system_call-follows : IsFollowed s (system_call s p)
   unfolding system_call
-  system_call-follows = called-follows (call_with (register_of s p 17))
+  system_call-follows = called-follows (call_with (register_of s p 17)) (register_of s p 10) (register_of s p 11)
 
   -- ---- instructions
 

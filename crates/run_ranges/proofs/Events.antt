@@ -64,12 +64,12 @@ use Rattle.messages.specs.Fault.{fault, malformed}
 use Rattle.messages.specs.Strings.{side_outcome}
 use Rattle.messages.specs.Message.{accept_in, sent_side, received_side, bytes_moved, message_of, sent_off, message_told, delivered, sent_on, sent_by_fault, send_open}
 use Rattle.messages.specs.Waiting.{wait_on, listening_from, listen}
-use Rattle.kernel_core.specs.declared.system_call.SystemCall.{SystemCall}
-use Rattle.kernel_core.specs.declared.system_call.SystemCall.TheVariants.{Invoke, LoadCap, StoreCap, CopyCap, Yield}
+use Rattle.kernel_core.specs.declared.system_calls.SystemCall.{SystemCall}
+use Rattle.kernel_core.specs.declared.system_calls.SystemCall.TheVariants.{Invoke, LoadCap, StoreCap, CopyCap, Yield}
 use Rattle.kernel_core.specs.LoadStore.{load, loaded_from, store, stored_to}
 use Rattle.kernel_core.specs.CapTransfer.{load_cap, cap_loaded_from, store_cap, cap_stored_to}
 use Rattle.kernel_core.specs.KernelOperation.{asked_number, answered_call, memory_op, destroyed_by, is_end_of, control_op, kind_table, sysctl_op, is_no_log, logged_side, logged, log_string, kernlog_op, asked_for, kernel_op}
-use Rattle.kernel_core.specs.SystemCall.{call_with, copy_cap, moved, move_cap, Sending, sent_to, send, received_after, invoked, invoke, called, system_call}
+use Rattle.kernel_core.specs.SystemCall.{call_with, copy_cap, Sending, sent_to, send, received_after, invoked, invoke, called, system_call}
 use Rattle.kernel_core.specs.Instruction.{performed, perform}
 use Rattle.kernel_core.specs.Event.{decoded_to, fetched_from, instruction, stepped, tick_of, event_by, event_of}
 use Rattle.kernel_core.specs.Run.{run_state, run_touches}
@@ -428,27 +428,17 @@ module _ (s : State) (r : AreInRanges s.store) (p : ℕ) where
       let cap = capreg_of (process s p) from in
       cond_both (nat_le from 31 && nat_le to 31) _ _ IsKept (λ e. (tt, advance-in (set_capreg s p to cap) (set_capreg-in s r p to cap (capreg-in s.store r p from)) p)) (λ e. malformed-kept s r p)
 
-  cap_moved-kept : (call : Option SystemCall) → IsKept (moved s p call)
-  cap_moved-kept (Some LoadCap) = load_cap-kept (register_of s p 10) (register_of s p 11) (reg-in s.store r p 10)
-  cap_moved-kept (Some StoreCap) = store_cap-kept (register_of s p 10) (register_of s p 11) (reg-in s.store r p 10)
-  cap_moved-kept (Some CopyCap) = copy_cap-kept (register_of s p 10) (register_of s p 11)
-  cap_moved-kept call = malformed-kept s r p
-
-  move_cap-kept : IsKept (move_cap s p)
-  unfolding move_cap
-  move_cap-kept = cap_moved-kept (call_with (register_of s p 17))
-
-  called-kept : (call : Option SystemCall) → IsKept (called s p call)
-  called-kept None = malformed-kept s r p
-  called-kept (Some Invoke) = invoke-kept
-  called-kept (Some Yield) = (tt, readied_at-in (advance s p).store (advance-in s r p) (schedule_slot (advance s p) p) p (leave (advance s p) p).queues)
-  called-kept (Some LoadCap) = move_cap-kept
-  called-kept (Some StoreCap) = move_cap-kept
-  called-kept (Some CopyCap) = move_cap-kept
+  called-kept : (call : Option SystemCall) (x10 x11 : ℕ) → IsWord x10 → IsKept (called s p call x10 x11)
+  called-kept None x10 x11 word = malformed-kept s r p
+  called-kept (Some Invoke) x10 x11 word = invoke-kept
+  called-kept (Some LoadCap) x10 x11 word = load_cap-kept x10 x11 word
+  called-kept (Some StoreCap) x10 x11 word = store_cap-kept x10 x11 word
+  called-kept (Some CopyCap) x10 x11 word = copy_cap-kept x10 x11
+  called-kept (Some Yield) x10 x11 word = (tt, readied_at-in (advance s p).store (advance-in s r p) (schedule_slot (advance s p) p) p (leave (advance s p) p).queues)
 
   system_call-kept : IsKept (system_call s p)
   unfolding system_call
-  system_call-kept = called-kept (call_with (register_of s p 17))
+  system_call-kept = called-kept (call_with (register_of s p 17)) (register_of s p 10) (register_of s p 11) (reg-in s.store r p 10)
 
   -- ---- instructions
 
