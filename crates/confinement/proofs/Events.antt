@@ -1,56 +1,35 @@
 -- What an event makes of a state stays on the side of the process that performs it.
-use Rattle.std.proofs.Common.{◌≡◌, ℕ, Bool, ◌==◌, ◌&&◌, ◌%◌, nat_le, if◌then◌else◌, List, Option, Some, None, Result, Ok, Err, refl, slice_get}
+use Rattle.std.proofs.Common.{◌≡◌, ℕ, ◌==◌, Option, Some, None, refl, slice_get, subst, min}
 use Rattle.std.proofs.lemmas.Bool.{cond_both}
-use Rattle.cap_format.specs.declared.fault.FaultCode.TheVariants.{BadOpcode, Breakpoint}
-use Rattle.cap_format.specs.declared.kind.CapKind.{CapKind}
-use Rattle.cap_format.specs.declared.kind.CapKind.TheVariants.{Process, KernLog, SysCtl}
-use Rattle.cap_format.specs.declared.code.Code.{Code}
-use Rattle.cap_format.specs.declared.code.Code.TheVariants.{InvalidCap, WouldBlock, RequestError}
+use Rattle.cap_format.specs.declared.kind.CapKind.TheVariants.{Endpoint, Process}
 use Rattle.cap_format.specs.declared.request.Request.{Request}
 use Rattle.cap_format.specs.declared.request.Reply.{Reply}
-use Rattle.cap_format.specs.Kind.{is_memory}
 use Rattle.cap_format.specs.Capability.{Capability}
 use Rattle.process_objects.specs.Accept.{AcceptValue}
-use Rattle.process_objects.specs.Process.{ProcessValue, capreg_of}
+use Rattle.process_objects.specs.Process.{ProcessValue}
 use Rattle.object_store.specs.Object.{ObjectName}
-use Rattle.walk_meaning.specs.declared.kind.Kind.TheVariants.{Fetch, Load, Store as Put, CapLoad, CapStore}
-use Rattle.walk_meaning.specs.declared.place.Place.{Place}
-use Rattle.walk_meaning.specs.declared.place.WalkFault.{WalkFault}
+use Rattle.walk_meaning.specs.declared.kind.Kind.{Kind}
+use Rattle.walk_meaning.specs.declared.kind.Kind.TheVariants.{Load, Store as Put, CapLoad, CapStore}
 use Rattle.walk_meaning.specs.Walk.{access}
-use Rattle.walk_engine.specs.declared.hit.Hit.{Hit}
-use Rattle.rv32_decode.specs.declared.insn.Insn.{Insn}
-use Rattle.rv32_decode.specs.Table.{insn_at}
-use Rattle.rv32_user.specs.declared.effect.Effect.{Effect}
-use Rattle.rv32_user.specs.declared.effect.Effect.TheVariants.{Next, Load as LoadIt, Store as StoreIt, Syscall, Break, Misaligned}
-use Rattle.rv32_user.specs.Step.{effect_of, registers_after, loaded}
-use Rattle.invocation.specs.Invocation.{InvocationValue, parsed}
-use Rattle.invocation.specs.declared.malformed.MalformedSyscall.{MalformedSyscall}
+use Rattle.invocation.specs.Invocation.{InvocationValue}
 use Rattle.invocation.specs.declared.callee.Callee.{Callee}
-use Rattle.invocation.specs.declared.callee.Callee.TheVariants.{Kernel, Open, Busy, Dead}
+use Rattle.invocation.specs.declared.callee.Callee.TheVariants.{Kernel, Open, Busy}
 use Rattle.invocation.specs.Target.{callee}
-use Rattle.string_move.specs.declared.piece.Piece.{Piece}
 use Rattle.string_move.specs.Spans.{spans}
 use Rattle.operations.specs.System.{Meant}
-use Rattle.operations.specs.Row.{Row, Settled, nothing, granted, refused, settled_row, reply_of}
+use Rattle.operations.specs.Row.{Row, Settled, settled_row, reply_of}
 use Rattle.operations.specs.Memory.{kind_row, memory_operation}
 use Rattle.operations.specs.Control.{control_operation}
-use Rattle.messages.specs.declared.string_fault.StringFault.{StringFault}
-use Rattle.messages.specs.Waiting.{listen}
-use Rattle.machine_state.specs.State.{State, process, pc_of, space_of, register_of}
-use Rattle.machine_state.specs.Setters.{set_pc, set_registers, set_capreg, advance, halted}
+use Rattle.machine_state.specs.State.{State, process, space_of}
 use Rattle.machine_state.specs.Outcome.{Outcome}
-use Rattle.machine_state.specs.DataAccess.{data_access, number_at, written}
-use Rattle.machine_state.specs.CapAccess.{cap_access, cap_found, cap_stored}
+use Rattle.machine_state.specs.DataAccess.{data_access}
 use Rattle.machine_state.specs.Operation.{first_sent, request_of, changed_by}
 use Rattle.machine_state.specs.Reply.{answered, replied_with, replied, set_reply}
-use Rattle.kernel_core.specs.LoadStore.{loaded_from, load, stored_to, store}
-use Rattle.kernel_core.specs.CapTransfer.{cap_loaded_from, load_cap, cap_stored_to, store_cap}
-use Rattle.kernel_core.specs.KernelOperation.{asked_number, answered_call, memory_answered, memory_op, destroyed_by, is_end_of, replied_unless, control_answered, control_op, kind_table, halting, sysctl_op, is_no_log, logged_side, logged, log_string, kernlog_op, asked_for, kernel_op}
-use Rattle.kernel_core.specs.declared.system_call.SystemCall.{SystemCall}
-use Rattle.kernel_core.specs.declared.system_call.SystemCall.TheVariants.{Invoke, LoadCap, StoreCap, CopyCap, Yield}
-use Rattle.kernel_core.specs.SystemCall.{call_with, copied, copy_cap, moved, move_cap, Sending, refused_call, sent_to, send, received_after, invoked, invoke, called, system_call}
-use Rattle.kernel_core.specs.Instruction.{performed, perform}
-use Rattle.kernel_core.specs.Event.{decoded_to, fetched_from, instruction}
+use Rattle.messages.specs.Message.{accept_in, sent_side, received_side}
+use Rattle.kernel_core.specs.KernelOperation.{memory_answered, memory_op, destroyed_by, is_end_of, replied_unless, control_answered, control_op, kind_table}
+use Rattle.kernel_core.specs.Event.{instruction}
+use Rattle.kernel_core.specs.Induction.{Notions, alone, Origins, Parts, Cases}
+use Rattle.kernel_core.proofs.Induction.{instruction-alone}
 use Rattle.confinement.specs.declared.cut_side.CutSide.{CutSide}
 use Rattle.confinement.specs.Cut.{Cut, side_of, MayHold, Holds}
 use Rattle.confinement.specs.Acts.{Acts, ProcessHeld, MayHoldIf, AnswerPermitted, CalleeOwn, system_of}
@@ -60,95 +39,13 @@ use Rattle.confinement.proofs.Acting.{acts-same, acts-process, held-process}
 use Rattle.confinement.proofs.Answering.{callee-own}
 use Rattle.confinement.proofs.Delivering.{held-capreg}
 use Rattle.confinement.proofs.Operating.{memory_operation-may, control_operation-may}
-use Rattle.confinement.proofs.Machine.{acts-next, may-capreg, acts-set_pc, acts-advance, acts-set_registers, acts-set_capreg, acts-yielded, acts-changed_by, ends-here, ends-hit, EndsHit, acts-written, may-found, acts-cap_stored}
-use Rattle.confinement.proofs.Messaging.{StringFaultOwn, side-own, acts-fault_part, acts-misaligned, acts-malformed, acts-wait_on, acts-listen, acts-send_open}
+use Rattle.confinement.proofs.Machine.{acts-next, may-capreg, acts-set_pc, acts-set_registers, acts-set_capreg, acts-ticked, acts-changed_by, ends-here, ends-hit, EndsHit, acts-written, may-found, acts-cap_stored}
+use Rattle.confinement.proofs.Messaging.{StringFaultOwn, side-own, acts-fault_part, acts-wait_on, acts-listen, acts-delivered_part}
 
 module _ (cut : Cut) (side : CutSide) (p : ℕ) (own : side_of cut Process p ≡ side) where
   -- from state `s` this side made state `t`, in which the cut holds
   abbrev Moves : State → State → Type 0
   Moves s t = Acts cut side (system_of s) (system_of t)
-
-  -- the same of a part of an event
-  abbrev Leaves : State → Outcome → Type 0
-  Leaves s o = Moves s o.state
-
-  -- ---- loads and stores
-
-  leaves-loaded : (s : State) (at size : ℕ) (signed : Bool) (rd : ℕ) (r : Result Hit WalkFault) → EndsHit cut side Load r → Holds cut (system_of s) → Leaves s (loaded_from s p at size signed rd r)
-  leaves-loaded s at size signed rd (Err f) ends holds = acts-fault_part cut side p own s f.code at f.handler ends holds
-  leaves-loaded s at size signed rd (Ok hit) ends holds =
-      let registers = loaded (process s p).regs rd size signed (number_at s hit size) in
-      let t = set_registers s p registers in
-      acts-next cut side s t (advance t p) (acts-set_registers cut side p own s registers holds) (λ h. acts-advance cut side p own t h)
-
-  leaves-load : (s : State) (at size : ℕ) (signed : Bool) (rd : ℕ) → Holds cut (system_of s) → Leaves s (load s p at size signed rd)
-  unfolding load
-  leaves-load s at size signed rd holds =
-      cond_both (at % size == 0) _ _ (Leaves s)
-      (λ e. leaves-loaded s at size signed rd (data_access s p at Load) (ends-hit cut side Load (access s.store.items (space_of s p) at Load) (ends-here cut side p own s Load at holds)) holds)
-      (λ e. acts-misaligned cut side p own s at holds)
-
-  leaves-stored : (s : State) (at size value : ℕ) (r : Result Hit WalkFault) → EndsHit cut side Put r → Holds cut (system_of s) → Leaves s (stored_to s p at size value r)
-  leaves-stored s at size value (Err f) ends holds = acts-fault_part cut side p own s f.code at f.handler ends holds
-  leaves-stored s at size value (Ok hit) ends holds =
-      let t = written s hit size value in
-      acts-next cut side s t (advance t p) (acts-written cut side s hit size value (ends refl) holds) (λ h. acts-advance cut side p own t h)
-
-  leaves-store : (s : State) (at size value : ℕ) → Holds cut (system_of s) → Leaves s (store s p at size value)
-  unfolding store
-  leaves-store s at size value holds =
-      cond_both (at % size == 0) _ _ (Leaves s)
-      (λ e. leaves-stored s at size value (data_access s p at Put) (ends-hit cut side Put (access s.store.items (space_of s p) at Put) (ends-here cut side p own s Put at holds)) holds)
-      (λ e. acts-misaligned cut side p own s at holds)
-
-  -- ---- capabilities
-
-  leaves-cap_loaded : (s : State) (at to : ℕ) (r : Result Place WalkFault) → Ends cut side CapLoad r → Holds cut (system_of s) → Leaves s (cap_loaded_from s p at to r)
-  leaves-cap_loaded s at to (Err f) ends holds = acts-fault_part cut side p own s f.code at f.handler ends holds
-  leaves-cap_loaded s at to (Ok place) ends holds =
-      let t = set_capreg s p to (cap_found s place) in
-      acts-next cut side s t (advance t p) (acts-set_capreg cut side p own s to (cap_found s place) (may-found cut side s place ends holds) holds) (λ h. acts-advance cut side p own t h)
-
-  leaves-load_cap : (s : State) (at to : ℕ) → Holds cut (system_of s) → Leaves s (load_cap s p at to)
-  unfolding load_cap
-  leaves-load_cap s at to holds =
-      cond_both (nat_le to 31) _ _ (Leaves s)
-      (λ e. cond_both (at % 16 == 0) _ _ (Leaves s) (λ e. leaves-cap_loaded s at to (cap_access s p at CapLoad) (ends-here cut side p own s CapLoad at holds) holds) (λ e. acts-misaligned cut side p own s at holds))
-      (λ e. acts-malformed cut side p own s holds)
-
-  leaves-cap_stored : (s : State) (at from : ℕ) (r : Result Place WalkFault) → Ends cut side CapStore r → Holds cut (system_of s) → Leaves s (cap_stored_to s p at from r)
-  leaves-cap_stored s at from (Err f) ends holds = acts-fault_part cut side p own s f.code at f.handler ends holds
-  leaves-cap_stored s at from (Ok place) ends holds =
-      let t = cap_stored s place (capreg_of (process s p) from) in
-      acts-next cut side s t (advance t p)
-      (acts-cap_stored cut side s place (capreg_of (process s p) from) ends (may-capreg cut side p own s from holds) holds) (λ h. acts-advance cut side p own t h)
-
-  leaves-store_cap : (s : State) (at from : ℕ) → Holds cut (system_of s) → Leaves s (store_cap s p at from)
-  unfolding store_cap
-  leaves-store_cap s at from holds =
-      cond_both (nat_le from 31) _ _ (Leaves s)
-      (λ e. cond_both (at % 16 == 0) _ _ (Leaves s) (λ e. leaves-cap_stored s at from (cap_access s p at CapStore) (ends-here cut side p own s CapStore at holds) holds) (λ e. acts-misaligned cut side p own s at holds))
-      (λ e. acts-malformed cut side p own s holds)
-
-  leaves-copy_cap : (s : State) (from to : ℕ) → Holds cut (system_of s) → Leaves s (copy_cap s p from to)
-  unfolding copy_cap
-  leaves-copy_cap s from to holds =
-      let t = copied s p from to in
-      cond_both (nat_le from 31 && nat_le to 31) _ _ (Leaves s)
-      (λ e. acts-next cut side s t (advance t p) (acts-set_capreg cut side p own s to (capreg_of (process s p) from) (may-capreg cut side p own s from holds) holds) (λ h. acts-advance cut side p own t h))
-      (λ e. acts-malformed cut side p own s holds)
-
-  leaves-moved : (s : State) (call : Option SystemCall) → Holds cut (system_of s) → Leaves s (moved s p call)
-  leaves-moved s (Some LoadCap) holds = leaves-load_cap s (register_of s p 10) (register_of s p 11) holds
-  leaves-moved s (Some StoreCap) holds = leaves-store_cap s (register_of s p 10) (register_of s p 11) holds
-  leaves-moved s (Some CopyCap) holds = leaves-copy_cap s (register_of s p 10) (register_of s p 11) holds
-  leaves-moved s (Some Invoke) holds = acts-malformed cut side p own s holds
-  leaves-moved s (Some Yield) holds = acts-malformed cut side p own s holds
-  leaves-moved s None holds = acts-malformed cut side p own s holds
-
-  leaves-move_cap : (s : State) → Holds cut (system_of s) → Leaves s (move_cap s p)
-  unfolding move_cap
-  leaves-move_cap s holds = leaves-moved s (call_with (register_of s p 17)) holds
 
   -- ---- replies
 
@@ -169,11 +66,6 @@ module _ (cut : Cut) (side : CutSide) (p : ℕ) (own : side_of cut Process p ≡
       acts-process cut side (system_of s) p (replied (process s p) accept reply) own
       (held-replied_with (process s p) accept reply reply.cap may (held-process cut side (system_of s) p own holds)) holds
 
-  leaves-answered : (s : State) (inv : InvocationValue) (reply : Reply) → MayHoldIf cut side reply.cap → Holds cut (system_of s) → Leaves s (answered_call s p inv reply)
-  leaves-answered s inv reply may holds =
-      let t = advance s p in
-      acts-next cut side s t (set_reply t p inv.accept reply) (acts-advance cut side p own s holds) (λ h. moves-reply t inv.accept reply may h)
-
   -- ---- operations
 
   may-sent : (v : ProcessValue) (i : Option ℕ) → ProcessHeld cut side v → MayHold cut side (first_sent v i)
@@ -185,12 +77,12 @@ module _ (cut : Cut) (side : CutSide) (p : ℕ) (own : side_of cut Process p ≡
   may-request s inv holds = may-sent (process s p) (slice_get inv.sent 0) (held-process cut side (system_of s) p own holds)
 
   leaves-memory_answered : (s : State) (inv : InvocationValue) (cap : Capability) (request : Request) (settled : Settled) → AnswerPermitted cut side settled.answer → Holds cut (system_of s)
-      → Leaves s (memory_answered s p inv cap request settled)
+      → Moves s (memory_answered s p inv cap request settled).state
   leaves-memory_answered s inv cap request settled may holds =
       let t = changed_by s settled.answer.changes in
       acts-next cut side s t (set_reply t p inv.accept (reply_of settled)) (acts-changed_by cut side s settled.answer.changes may.changes holds) (λ h. moves-reply t inv.accept (reply_of settled) may.cap h)
 
-  leaves-memory_op : (s : State) (inv : InvocationValue) (cap : Capability) → MayHold cut side cap → Holds cut (system_of s) → Leaves s (memory_op s p inv cap)
+  leaves-memory_op : (s : State) (inv : InvocationValue) (cap : Capability) → MayHold cut side cap → Holds cut (system_of s) → Moves s (memory_op s p inv cap).state
   leaves-memory_op s inv cap may holds =
       let request = request_of (process s p) inv in
       leaves-memory_answered s inv cap request (memory_operation s.store cap request) (memory_operation-may cut side s.store holds.each cap may request (may-request s inv holds)) holds
@@ -200,142 +92,115 @@ module _ (cut : Cut) (side : CutSide) (p : ℕ) (own : side_of cut Process p ≡
       cond_both (is_end_of p destroyed) _ _ (Moves s) (λ e. acts-same cut side (system_of s) holds) (λ e. moves-reply s accept reply may holds)
 
   leaves-control_answered : (s : State) (inv : InvocationValue) (settled : Settled) (destroyed : Option ObjectName) → AnswerPermitted cut side settled.answer → Holds cut (system_of s)
-      → Leaves s (control_answered s p inv settled destroyed)
+      → Moves s (control_answered s p inv settled destroyed).state
   leaves-control_answered s inv settled destroyed may holds =
       let t = changed_by s settled.answer.changes in
       acts-next cut side s t (replied_unless destroyed t p inv.accept (reply_of settled)) (acts-changed_by cut side s settled.answer.changes may.changes holds) (λ h. moves-unless destroyed t inv.accept (reply_of settled) may.cap h)
 
-  leaves-control_op : (s : State) (inv : InvocationValue) (cap : Capability) → MayHold cut side cap → Holds cut (system_of s) → Leaves s (control_op s p inv cap)
+  leaves-control_op : (s : State) (inv : InvocationValue) (cap : Capability) → MayHold cut side cap → Holds cut (system_of s) → Moves s (control_op s p inv cap).state
   leaves-control_op s inv cap may holds =
       let request = request_of (process s p) inv in
       let settled = control_operation Meant s.store cap request in
       leaves-control_answered s inv settled (destroyed_by settled.answer.changes) (control_operation-may cut side s.store holds.each cap may request (may-request s inv holds) Meant) holds
 
-  -- ---- KernLog and SysCtl
+-- ---- every part
+
+module _ (cut : Cut) (side : CutSide) where
+  -- states in which the cut holds, processes and endpoints of this side, and capabilities that it may hold
+  abbrev pub on_side : Notions
+  on_side = record {
+    holds = λ s. Holds cut (system_of s);
+    by = λ p. side_of cut Process p ≡ side;
+    over = λ e. side_of cut Endpoint e ≡ side;
+    word = λ number. Unit {0};
+    regs = λ registers. Unit {0};
+    has = λ c. MayHold cut side c;
+    handler = λ s p c. MayHoldIf cut side c;
+    reply = λ reply. MayHoldIf cut side reply.cap;
+    does = λ effect. Unit {0};
+    asks = λ inv. Unit {0};
+  }
+
+  -- where accesses of its processes end
+  hit-here : (s : State) (p at : ℕ) (kind : Kind) → Holds cut (system_of s) → side_of cut Process p ≡ side → EndsHit cut side kind (data_access s p at kind)
+  hit-here s p at kind holds own = ends-hit cut side kind (access s.store.items (space_of s p) at kind) (ends-here cut side p own s kind at holds)
+
+  called-own : (s : State) (c : Capability) (to : Callee) → Holds cut (system_of s) → MayHold cut side c → callee s.store c ≡ to → CalleeOwn cut side to
+  called-own s c to holds may e = subst (CalleeOwn cut side) e (callee-own cut side s.store holds.each c may)
 
   -- a request for the kind gives nothing
   pub kind-may : (number : ℕ) (cap : Capability) → MayHoldIf cut side (settled_row (kind_table cap number)).answer.cap
   unfolding kind_row
   kind-may number cap = cond_both (number == 0) _ _ (λ (row : Option Row). MayHoldIf cut side (settled_row row).answer.cap) (λ e. tt) (λ e. tt)
 
-  leaves-halting : (s : State) (inv : InvocationValue) → Holds cut (system_of s) → Leaves s (halting s p inv)
-  leaves-halting s inv holds =
-      let t = halted s in
-      acts-next cut side s t (answered_call t p inv (reply_of (granted nothing))).state (acts-same cut side (system_of s) holds) (λ h. leaves-answered t inv (reply_of (granted nothing)) tt h)
+  -- what its processes read they may have
+  pub on_side-origins : Origins on_side
+  on_side-origins = record {
+    register = λ s p i holds own. tt;
+    capreg = λ s p i holds own. may-capreg cut side p own s i holds;
+    pc = λ s p holds own. tt;
+    next = λ pc. tt;
+    effect = λ s p word insn holds own e. tt;
+    computed = λ s p word insn holds own e. tt;
+    target = λ pc does. tt;
+    load = λ at size signed rd does. tt;
+    store = λ at size value does. tt;
+    misaligned = λ target does. tt;
+    loads = λ s p at size signed rd hit holds own does e. tt;
+    found = λ s p at place holds own e. may-found cut side s place (subst (Ends cut side CapLoad) e (ends-here cut side p own s CapLoad at holds)) holds;
+    unhandled = λ s p. tt;
+    handled = λ s p at kind f holds own e. subst (EndsHit cut side kind) e (hit-here s p at kind holds own);
+    cap_handled = λ s p at kind f holds own e. subst (Ends cut side kind) e (ends-here cut side p own s kind at holds);
+    asked = λ s p inv holds own e. tt;
+    kernel = λ s c cap holds may e. called-own s c (Kernel cap) holds may e;
+    busy = λ s c q holds may e. called-own s c (Busy q) holds may e;
+    open_by = λ s c e q holds may is. (called-own s c (Open e q) holds may is).1;
+    open_over = λ s c e q holds may is. (called-own s c (Open e q) holds may is).0;
+    sent_at = λ s p inv f holds own asks e. tt;
+    sent_handled = λ s p inv f holds own asks e. subst (StringFaultOwn cut side) e (side-own cut side p own s Load (spans inv.at inv.length) holds).fault;
+    refusal = λ code. tt;
+    grant = tt;
+    kind = λ cap number may. kind-may number cap;
+  }
 
-  leaves-sysctl : (s : State) (inv : InvocationValue) (cap : Capability) → Holds cut (system_of s) → Leaves s (sysctl_op s p inv cap)
-  unfolding sysctl_op
-  leaves-sysctl s inv cap holds =
-      cond_both (asked_number inv == 8) _ _ (Leaves s) (λ e. leaves-halting s inv holds)
-      (λ e. leaves-answered s inv (reply_of (settled_row (kind_table cap (asked_number inv)))) (kind-may (asked_number inv) cap) holds)
+  -- from a state this side made what a part of an event leaves
+  abbrev Leaves : State → Outcome → Type 0
+  Leaves s o = Acts cut side (system_of s) (system_of o.state)
 
-  leaves-logged : (s : State) (inv : InvocationValue) (pieces : List Piece) (f : Option StringFault) → StringFaultOwn cut side f → Holds cut (system_of s) → Leaves s (logged s p inv pieces f)
-  leaves-logged s inv pieces None may holds = leaves-answered s inv (reply_of (granted nothing)) tt holds
-  leaves-logged s inv pieces (Some f) may holds = acts-fault_part cut side p own s f.why.code f.address f.why.handler may holds
+  parts : Parts (Unit {0}) on_side (alone on_side Leaves)
+  parts = record {
+    left = λ s o acts. acts.holds;
+    idle = λ s holds. acts-same cut side (system_of (s tt)) holds;
+    told = λ s r o acts. acts;
+    named = λ s name o acts. acts;
+    walked = λ s p at kind o holds own word is acts. acts;
+    cap_walked = λ s p at kind o holds own acts. acts;
+    behind = λ s o u first second. acts-next cut side (s tt) (o tt).state (u tt).state first (λ h. second);
+  }
 
-  leaves-log_string : (s : State) (inv : InvocationValue) → Holds cut (system_of s) → Leaves s (log_string s p inv)
-  unfolding log_string
-  leaves-log_string s inv holds =
-      let string = logged_side s p inv in
-      let is = side-own cut side p own s Load (spans inv.at inv.length) holds in
-      leaves-logged s inv string.pieces string.fault is.fault holds
-
-  leaves-kernlog : (s : State) (inv : InvocationValue) (cap : Capability) → Holds cut (system_of s) → Leaves s (kernlog_op s p inv cap)
-  unfolding kernlog_op
-  leaves-kernlog s inv cap holds =
-      cond_both (asked_number inv == 8) _ _ (Leaves s)
-      (λ e. cond_both (is_no_log inv.length) _ _ (Leaves s) (λ e. leaves-answered s inv (reply_of (refused RequestError)) tt holds) (λ e. leaves-log_string s inv holds))
-      (λ e. leaves-answered s inv (reply_of (settled_row (kind_table cap (asked_number inv)))) (kind-may (asked_number inv) cap) holds)
-
-  leaves-operation : (s : State) (inv : InvocationValue) (k : CapKind) (cap : Capability) → MayHold cut side cap → Holds cut (system_of s)
-      → Leaves s (if is_memory k then memory_op (advance s p) p inv cap else control_op (advance s p) p inv cap)
-  leaves-operation s inv k cap may holds =
-      let t = advance s p in
-      cond_both (is_memory k) _ _ (Leaves s)
-      (λ e. acts-next cut side s t (memory_op t p inv cap).state (acts-advance cut side p own s holds) (λ h. leaves-memory_op t inv cap may h))
-      (λ e. acts-next cut side s t (control_op t p inv cap).state (acts-advance cut side p own s holds) (λ h. leaves-control_op t inv cap may h))
-
-  leaves-asked_for : (s : State) (inv : InvocationValue) (k : CapKind) (cap : Capability) → MayHold cut side cap → Holds cut (system_of s) → Leaves s (asked_for s p inv k cap)
-  leaves-asked_for s inv KernLog cap may holds = leaves-kernlog s inv cap holds
-  leaves-asked_for s inv SysCtl cap may holds = leaves-sysctl s inv cap holds
-  leaves-asked_for s inv k cap may holds = leaves-operation s inv k cap may holds
-
-  leaves-kernel_op : (s : State) (inv : InvocationValue) (cap : Capability) → MayHold cut side cap → Holds cut (system_of s) → Leaves s (kernel_op s p inv cap)
-  unfolding kernel_op
-  leaves-kernel_op s inv cap may holds = leaves-asked_for s inv cap.kind cap may holds
-
-  -- ---- invocations
-
-  leaves-refused : (s : State) (inv : InvocationValue) (code : Code) → Holds cut (system_of s) → Leaves s (refused_call s p inv code)
-  leaves-refused s inv code holds = leaves-answered s inv (reply_of (refused code)) tt holds
-
-  leaves-sent_to : (s : State) (inv : InvocationValue) (to : Callee) → CalleeOwn cut side to → Holds cut (system_of s) → Leaves s (sent_to s p inv to).outcome
-  leaves-sent_to s inv (Kernel cap) may holds = leaves-kernel_op s inv cap may holds
-  leaves-sent_to s inv Dead may holds = leaves-refused s inv InvalidCap holds
-  leaves-sent_to s inv (Busy q) may holds =
-      cond_both inv.nonblocking _ _ (Leaves s) (λ e. leaves-refused s inv WouldBlock holds) (λ e. acts-wait_on cut side p own s q may holds)
-  leaves-sent_to s inv (Open e q) may holds = acts-send_open cut side p own e q may.0 may.1 inv s holds
-
-  leaves-send : (s : State) (inv : InvocationValue) → Holds cut (system_of s) → Leaves s (send s p inv).outcome
-  unfolding send
-  leaves-send s inv holds =
-      let cap = capreg_of (process s p) inv.capreg in
-      leaves-sent_to s inv (callee s.store cap) (callee-own cut side s.store holds.each cap (may-capreg cut side p own s inv.capreg holds)) holds
-
-  leaves-received : (s : State) (inv : InvocationValue) (sending : Sending) → Leaves s sending.outcome → Leaves s (received_after p inv sending)
-  leaves-received s inv sending sent =
-      cond_both (sending.delivers && inv.receive) _ _ (Leaves s)
-      (λ e. acts-next cut side s sending.outcome.state (listen sending.outcome.state p inv).state sent (λ h. acts-listen cut side p own sending.outcome.state inv h))
-      (λ e. sent)
-
-  leaves-invoked : (s : State) (r : Result InvocationValue MalformedSyscall) → Holds cut (system_of s) → Leaves s (invoked s p r)
-  leaves-invoked s (Err f) holds = acts-malformed cut side p own s holds
-  leaves-invoked s (Ok inv) holds =
-      cond_both inv.send _ _ (Leaves s) (λ e. leaves-received s inv (send s p inv) (leaves-send s inv holds)) (λ e. acts-listen cut side p own s inv holds)
-
-  leaves-invoke : (s : State) → Holds cut (system_of s) → Leaves s (invoke s p)
-  unfolding invoke
-  leaves-invoke s holds = leaves-invoked s (parsed (process s p).regs) holds
-
-  leaves-called : (s : State) (call : Option SystemCall) → Holds cut (system_of s) → Leaves s (called s p call)
-  leaves-called s None holds = acts-malformed cut side p own s holds
-  leaves-called s (Some Invoke) holds = leaves-invoke s holds
-  leaves-called s (Some Yield) holds = acts-yielded cut side p own s holds
-  leaves-called s (Some LoadCap) holds = leaves-move_cap s holds
-  leaves-called s (Some StoreCap) holds = leaves-move_cap s holds
-  leaves-called s (Some CopyCap) holds = leaves-move_cap s holds
-
-  leaves-system_call : (s : State) → Holds cut (system_of s) → Leaves s (system_call s p)
-  unfolding system_call
-  leaves-system_call s holds = leaves-called s (call_with (register_of s p 17)) holds
-
-  -- ---- instructions
-
-  leaves-performed : (s : State) (insn : Insn) (effect : Effect) → Holds cut (system_of s) → Leaves s (performed s p insn effect)
-  leaves-performed s insn (Next pc) holds =
-      let registers = registers_after (process s p).regs (pc_of s p) insn in
-      let t = set_registers s p registers in
-      acts-next cut side s t (set_pc t p pc) (acts-set_registers cut side p own s registers holds) (λ h. acts-set_pc cut side p own t pc h)
-  leaves-performed s insn (LoadIt at size signed rd) holds = leaves-load s at size signed rd holds
-  leaves-performed s insn (StoreIt at size value) holds = leaves-store s at size value holds
-  leaves-performed s insn Syscall holds = leaves-system_call s holds
-  leaves-performed s insn Break holds = acts-fault_part cut side p own s Breakpoint (pc_of s p) None tt holds
-  leaves-performed s insn (Misaligned target) holds = acts-misaligned cut side p own s target holds
-
-  leaves-perform : (s : State) (insn : Insn) → Holds cut (system_of s) → Leaves s (perform s p insn)
-  unfolding perform
-  leaves-perform s insn holds = leaves-performed s insn (effect_of (process s p).regs (pc_of s p) insn) holds
-
-  leaves-decoded : (s : State) (insn : Option Insn) → Holds cut (system_of s) → Leaves s (decoded_to s p insn)
-  leaves-decoded s None holds = acts-fault_part cut side p own s BadOpcode (pc_of s p) None tt holds
-  leaves-decoded s (Some insn) holds = leaves-perform s insn holds
-
-  leaves-fetched : (s : State) (r : Result Hit WalkFault) → EndsHit cut side Fetch r → Holds cut (system_of s) → Leaves s (fetched_from s p r)
-  leaves-fetched s (Err f) ends holds = acts-fault_part cut side p own s f.code (pc_of s p) f.handler ends holds
-  leaves-fetched s (Ok hit) ends holds = leaves-decoded s (insn_at (number_at s hit 4)) holds
+  cases : Cases (Unit {0}) on_side (alone on_side Leaves)
+  cases = record {
+    pc_is = λ s p pc holds own word. acts-set_pc cut side p own (s tt) pc holds;
+    regs_are = λ s p registers holds own are. acts-set_registers cut side p own (s tt) registers holds;
+    capreg_is = λ s p j c holds own may. acts-set_capreg cut side p own (s tt) j c may holds;
+    replied = λ s p accept reply holds own may. moves-reply cut side p own (s tt) accept reply may holds;
+    page_is = λ s p at hit size value holds own e. acts-written cut side (s tt) hit size value (subst (EndsHit cut side Put) e (hit-here (s tt) p at Put holds own) refl) holds;
+    cappage_is = λ s p at place c holds own may e. acts-cap_stored cut side (s tt) place c (subst (Ends cut side CapStore) e (ends-here cut side p own (s tt) CapStore at holds)) may holds;
+    ready_again = λ s p holds own. acts-ticked cut side p own (s tt) holds;
+    halts = λ s holds. acts-same cut side (system_of (s tt)) holds;
+    faults = λ s p code address handler holds own word may. acts-fault_part cut side p own (s tt) code address handler may holds;
+    waits = λ s p q holds own other. acts-wait_on cut side p own (s tt) q other holds;
+    listens = λ s p inv holds own asks. acts-listen cut side p own (s tt) inv holds;
+    sends = λ s p inv holds own asks. acts-same cut side (system_of (s tt)) holds;
+    receives = λ s q inv holds own asks. acts-same cut side (system_of (s tt)) holds;
+    delivers = λ s p e q inv holds own over other asks.
+        let accept = accept_in (s tt) q in
+        let to = side-own cut side q other (s tt) Put (spans accept.at (min inv.length accept.bound)) holds in
+        acts-delivered_part cut side p own e q over other inv (s tt) (sent_side (s tt) p inv).pieces (received_side (s tt) q inv.length).pieces (to.pieces refl) holds;
+    memory = λ s p inv cap holds own asks may memory. leaves-memory_op cut side p own (s tt) inv cap may holds;
+    control = λ s p inv cap holds own asks may. leaves-control_op cut side p own (s tt) inv cap may holds;
+  }
 
   -- one instruction
-  pub leaves-instruction : (s : State) → Holds cut (system_of s) → Leaves s (instruction s p)
-  unfolding instruction
-  leaves-instruction s holds =
-      leaves-fetched s (data_access s p (pc_of s p) Fetch) (ends-hit cut side Fetch (access s.store.items (space_of s p) (pc_of s p) Fetch) (ends-here cut side p own s Fetch (pc_of s p) holds)) holds
+  pub leaves-instruction : (p : ℕ) → side_of cut Process p ≡ side → (s : State) → Holds cut (system_of s) → Leaves s (instruction s p)
+  leaves-instruction p own s holds = instruction-alone on_side Leaves on_side-origins parts cases s p holds own

@@ -25,7 +25,7 @@ use Rattle.operations.specs.Change.{Change}
 use Rattle.schedules.specs.Queues.{dispatched, hart_of}
 use Rattle.rv32_user.specs.Word.{next_of}
 use Rattle.machine_state.specs.State.{State, process, pc_of, space_of, schedule_slot}
-use Rattle.machine_state.specs.Setters.{set_store, set_pc, set_registers, set_capreg, advance, leave, ready, yielded, dispatch, ticked}
+use Rattle.machine_state.specs.Setters.{set_store, set_pc, set_registers, set_capreg, advance, leave, ready, dispatch, ticked}
 use Rattle.machine_state.specs.Faulting.{fault_state}
 use Rattle.machine_state.specs.Messaging.{told_state, waiting_state, listening_state}
 use Rattle.machine_state.specs.DataAccess.{bytes_of, written}
@@ -89,10 +89,6 @@ module _ (cut : Cut) (side : CutSide) where
     -- a tick
     pub acts-ticked : (s : State) → Holds cut (system_of s) → Acts cut side (system_of s) (system_of (ticked s (Some p)))
     acts-ticked s holds = acts-next s (leave s p) (ready (leave s p) p) (acts-leave s holds) (λ h. acts-ready (leave s p) h)
-
-    -- a yield
-    pub acts-yielded : (s : State) → Holds cut (system_of s) → Acts cut side (system_of s) (system_of (yielded s p))
-    acts-yielded s holds = acts-next s (advance s p) (yielded s p) (acts-advance s holds) (λ h. acts-ticked (advance s p) h)
 
     -- ---- faults, messages, changes
 

@@ -1,12 +1,11 @@
 -- A message of a process of one side, its waits and its receiving stay on its side.
-use Rattle.std.proofs.Common.{◌≡◌, ℕ, Bool, true, false, min, List, [], ◌∷◌, slice_set, Option, Some, None, Result, Ok, Err, refl}
+use Rattle.std.proofs.Common.{◌≡◌, ℕ, Bool, true, false, List, [], ◌∷◌, slice_set, Option, Some, None, Result, Ok, Err}
 use Rattle.std.proofs.lemmas.Bool.{cond_both}
 use Rattle.cap_format.specs.declared.fault.FaultCode.{FaultCode}
-use Rattle.cap_format.specs.declared.fault.FaultCode.TheVariants.{BadAlign, MalformedSyscall}
 use Rattle.cap_format.specs.declared.kind.CapKind.TheVariants.{Endpoint, Process}
 use Rattle.cap_format.specs.Capability.{Capability}
 use Rattle.walk_meaning.specs.declared.kind.Kind.{Kind}
-use Rattle.walk_meaning.specs.declared.kind.Kind.TheVariants.{Load, Store as Put}
+use Rattle.walk_meaning.specs.declared.kind.Kind.TheVariants.{Store as Put}
 use Rattle.walk_meaning.specs.declared.place.WalkFault.{WalkFault}
 use Rattle.walk_meaning.specs.Walk.{access}
 use Rattle.walk_engine.specs.declared.hit.Hit.{Hit}
@@ -15,14 +14,14 @@ use Rattle.string_move.specs.declared.piece.Piece.{Piece}
 use Rattle.string_move.specs.declared.span.Span.{Span}
 use Rattle.string_move.specs.Spans.{spans}
 use Rattle.string_move.specs.Move.{size_of_pieces}
-use Rattle.machine_state.specs.State.{State, process, pc_of, space_of}
+use Rattle.machine_state.specs.State.{State, process, space_of}
 use Rattle.machine_state.specs.Setters.{advance}
 use Rattle.machine_state.specs.DataAccess.{data_access}
 use Rattle.machine_state.specs.Messaging.{told_state, listening_state}
 use Rattle.messages.specs.declared.string_fault.StringFault.{StringFault}
-use Rattle.messages.specs.Fault.{fault, misaligned, malformed}
+use Rattle.messages.specs.Fault.{fault}
 use Rattle.messages.specs.Strings.{Side, span_side, side}
-use Rattle.messages.specs.Message.{sent_side, accept_in, received_side, bytes_moved, message_of, sent_off, message_told, delivered, sent_on, sent_by_fault, send_open}
+use Rattle.messages.specs.Message.{bytes_moved, message_of, sent_off, message_told, delivered}
 use Rattle.messages.specs.Waiting.{wait_on, listening_from, listen}
 use Rattle.confinement.specs.declared.cut_side.CutSide.{CutSide}
 use Rattle.confinement.specs.Cut.{Cut, side_of, Holds}
@@ -63,12 +62,6 @@ module _ (cut : Cut) (side_is : CutSide) where
     unfolding fault
     acts-fault_part s code address handler may holds = acts-fault_state cut side_is p own s code address handler may holds
 
-    pub acts-misaligned : (s : State) (address : ℕ) → Holds cut (system_of s) → Acts cut side_is (system_of s) (system_of (misaligned s p address).state)
-    acts-misaligned s address holds = acts-fault_part s BadAlign address None tt holds
-
-    pub acts-malformed : (s : State) → Holds cut (system_of s) → Acts cut side_is (system_of s) (system_of (malformed s p).state)
-    acts-malformed s holds = acts-fault_part s MalformedSyscall (pc_of s p) None tt holds
-
     -- ---- waiting and listening
 
     pub acts-wait_on : (s : State) (q : ℕ) → side_of cut Process q ≡ side_is → Holds cut (system_of s) → Acts cut side_is (system_of s) (system_of (wait_on s p q).state)
@@ -103,29 +96,10 @@ module _ (cut : Cut) (side_is : CutSide) where
           (acts-told_state cut side_is s e q message endpoint recipient (all-sent cut side_is (process s p) inv.sent (held-process cut side_is (system_of s) p own holds)) holds)
           (λ h. acts-sent_off t inv.receive h)
 
-      acts-delivered_part : (s : State) (from to : List Piece) → PiecesOwn cut side_is to → Holds cut (system_of s) → Acts cut side_is (system_of s) (system_of (delivered s p e q inv from to).state)
+      -- the bytes and the message
+      pub acts-delivered_part : (s : State) (from to : List Piece) → PiecesOwn cut side_is to → Holds cut (system_of s) → Acts cut side_is (system_of s) (system_of (delivered s p e q inv from to).state)
       acts-delivered_part s from to pieces holds =
           let t = (bytes_moved s from to).state in
           acts-next cut side_is s t (message_told t p e q inv (size_of_pieces to)).state
           (acts-copied cut side_is s from to pieces holds)
           (λ h. acts-message_told t (size_of_pieces to) h)
-
-      received-own : (s : State) (length : ℕ) → Holds cut (system_of s) → SideOwn Put (received_side s q length)
-      received-own s length holds = let accept = accept_in s q in side-own q recipient s Put (spans accept.at (min length accept.bound)) holds
-
-      acts-sent_on : (s : State) (from : List Piece) → Holds cut (system_of s) → Acts cut side_is (system_of s) (system_of (sent_on s p e q inv from).state)
-      acts-sent_on s from holds =
-          let to = received-own s inv.length holds in
-          acts-delivered_part s from (received_side s q inv.length).pieces (to.pieces refl) holds
-
-      acts-by_fault : (s : State) (from : List Piece) (f : Option StringFault) → StringFaultOwn f → Holds cut (system_of s) → Acts cut side_is (system_of s) (system_of (sent_by_fault s p e q inv from f).state)
-      acts-by_fault s from None may holds = acts-sent_on s from holds
-      acts-by_fault s from (Some f) may holds = acts-fault_part s f.why.code f.address f.why.handler may holds
-
-      -- a message to a process of the same side
-      pub acts-send_open : (s : State) → Holds cut (system_of s) → Acts cut side_is (system_of s) (system_of (send_open s p e q inv).state)
-      unfolding send_open
-      acts-send_open s holds =
-          let from = sent_side s p inv in
-          let string = side-own p own s Load (spans inv.at inv.length) holds in
-          acts-by_fault s from.pieces from.fault string.fault holds

@@ -20,7 +20,7 @@ use steps::Steps;
 use walk_engine::Translator;
 
 /// The system call whose number is in x17.
-#[tactic(auto, unfolding(kernel_core::specs::SystemCall::system_call, kernel_core::specs::SystemCall::move_cap), using(crate::proofs::Covering::covers_none))]
+#[tactic(auto, unfolding(kernel_core::specs::SystemCall::system_call), using(crate::proofs::Covering::covers_none))]
 pub(crate) fn reach_of_call<T: Translator, L: Ledger>(
     machine: &Machine<T>,
     p: u16,

@@ -1,153 +1,131 @@
 -- What a process of this side performs: in two states that match, the same instruction tells the same and leaves states
 -- that match.
-use Rattle.std.proofs.Common.{◌≡◌, ℕ, Bool, false, ◌&&◌, if◌then◌else◌, Option, Some, None, Result, Ok, Err, refl, ◌∙◌, ap, subst, subst₂}
-use Rattle.cap_format.specs.declared.fault.FaultCode.TheVariants.{BadOpcode, Breakpoint}
-use Rattle.cap_format.specs.declared.kind.CapKind.TheVariants.{Process}
-use Rattle.cap_format.specs.declared.code.Code.{Code}
-use Rattle.cap_format.specs.declared.code.Code.TheVariants.{InvalidCap, WouldBlock}
-use Rattle.cap_format.specs.Capability.{Capability}
-use Rattle.process_objects.specs.Process.{ProcessValue, reg_of, capreg_of}
-use Rattle.walk_meaning.specs.declared.kind.Kind.TheVariants.{Fetch}
-use Rattle.walk_meaning.specs.declared.place.WalkFault.{WalkFault}
+use Rattle.std.proofs.Common.{◌≡◌, ℕ, Bool, true, false, true≢false, List, ◌∷◌, Ok, refl, sym, ◌∙◌, ap, subst, subst₂}
+use Rattle.cap_format.specs.declared.kind.CapKind.TheVariants.{Page, Endpoint, Process}
+use Rattle.walk_meaning.specs.declared.kind.Kind.{Kind}
+use Rattle.walk_meaning.specs.declared.kind.Kind.TheVariants.{Fetch, Load, Store as Put, CapLoad, CapStore}
+use Rattle.walk_meaning.specs.declared.place.Place.{Place}
+use Rattle.walk_meaning.specs.Laws.{serving}
+use Rattle.walk_meaning.specs.Walk.{is_data}
 use Rattle.walk_engine.specs.declared.hit.Hit.{Hit}
-use Rattle.rv32_decode.specs.declared.insn.Insn.{Insn}
-use Rattle.rv32_decode.specs.Table.{insn_at}
-use Rattle.rv32_user.specs.declared.effect.Effect.{Effect}
-use Rattle.rv32_user.specs.declared.effect.Effect.TheVariants.{Next, Load as LoadIt, Store as StoreIt, Syscall, Break, Misaligned}
-use Rattle.rv32_user.specs.Step.{effect_of, registers_after}
-use Rattle.invocation.specs.Invocation.{InvocationValue, parsed}
-use Rattle.invocation.specs.declared.malformed.MalformedSyscall.{MalformedSyscall}
-use Rattle.invocation.specs.declared.callee.Callee.{Callee}
-use Rattle.invocation.specs.declared.callee.Callee.TheVariants.{Kernel, Open, Busy, Dead}
+use Rattle.invocation.specs.Invocation.{InvocationValue}
 use Rattle.invocation.specs.Target.{callee}
-use Rattle.operations.specs.Row.{refused, reply_of}
-use Rattle.messages.specs.Followed.{followed}
-use Rattle.messages.specs.Waiting.{listen}
-use Rattle.machine_state.specs.declared.record.Record.TheVariants.{Insn as InsnRead}
-use Rattle.machine_state.specs.State.{State, process, pc_of, register_of}
-use Rattle.machine_state.specs.Setters.{set_registers}
-use Rattle.machine_state.specs.Outcome.{process_name, recorded, touched, changing}
-use Rattle.machine_state.specs.DataAccess.{data_access, data_touch, reached, number_at}
-use Rattle.kernel_core.specs.declared.system_call.SystemCall.{SystemCall}
-use Rattle.kernel_core.specs.declared.system_call.SystemCall.TheVariants.{Invoke, LoadCap, StoreCap, CopyCap, Yield}
-use Rattle.kernel_core.specs.SystemCall.{call_with, Sending, refused_call, sent_to, send, received_after, invoked, invoke, called, system_call}
-use Rattle.kernel_core.specs.Instruction.{performed, perform}
-use Rattle.kernel_core.specs.Event.{decoded_to, fetched_from, instruction}
+use Rattle.string_move.specs.declared.piece.Piece.{Piece}
+use Rattle.string_move.specs.Spans.{spans}
+use Rattle.string_move.specs.Move.{gathered}
+use Rattle.machine_state.specs.declared.record.Record.{Record}
+use Rattle.machine_state.specs.State.{State, process}
+use Rattle.machine_state.specs.DataAccess.{data_access, number_at}
+use Rattle.machine_state.specs.CapAccess.{cap_access, cap_found}
+use Rattle.messages.specs.Message.{sent_side, received_side, delivered}
+use Rattle.kernel_core.specs.Event.{instruction}
+use Rattle.kernel_core.specs.Induction.{Together, Reads, Parts, Cases}
+use Rattle.kernel_core.proofs.Induction.{of_instructions}
 use Rattle.confinement.specs.declared.cut_side.CutSide.{CutSide}
 use Rattle.confinement.specs.Cut.{Cut, side_of}
-use Rattle.confinement.specs.Acts.{CalleeOwn, system_of}
-use Rattle.confinement.proofs.Answering.{callee-own}
-use Rattle.confinement.proofs.Machine.{may-capreg}
+use Rattle.confinement.specs.Acts.{system_of}
+use Rattle.confinement.proofs.Events.{on_side, on_side-origins}
 use Rattle.isolation.proofs.Answering.{same-callee}
-use Rattle.isolation.proofs.States.{Matches, HitOwn, same-number_at, same-data_access, hit-here, match-set_pc, match-set_registers, match-yielded}
-use Rattle.isolation.proofs.Messaging.{Alike, alike-recorded, alike-followed, alike-misaligned, alike-at_pc, alike-malformed, alike-wait_on, alike-listen, same-delivers, alike-send_open}
-use Rattle.isolation.proofs.Kernel.{alike-if, alike-answered, alike-kernel_op}
-use Rattle.isolation.proofs.Accessing.{alike-load, alike-store, alike-move_cap, same-capreg, same-it, alike-besides}
+use Rattle.isolation.proofs.States.{Matches, EndsOwn, HitOwn, same-number_at, same-found, same-gathered, match-written, match-cap_stored, same-here, same-cap_access, same-data_access, place-here, hit-here, match-set_pc, match-set_registers, match-set_capreg, match-ticked}
+use Rattle.isolation.proofs.Messaging.{Alike, SameString, alike-followed, alike-fault, alike-wait_on, alike-listen, alike-delivered, same-side, same-received}
+use Rattle.isolation.proofs.Kernel.{match-reply, alike-memory_op, alike-control_op}
 
-module _ (cut : Cut) (on : CutSide) (alone : cut.weakly on ≡ false) (p : ℕ) (own : side_of cut Process p ≡ on) where
-  -- ---- invocations
+-- a value of the first of two states, and one of the second
+abbrev pub beside : {A : Type 0} → A → A → Bool → A
+beside a b true = a
+beside a b false = b
 
-  alike-refused : (s t : State) → Matches cut on s t → (inv : InvocationValue) (code : Code) → Alike cut on (refused_call s p inv code) (refused_call t p inv code)
-  alike-refused s t m inv code = alike-answered cut on p own s t m inv (reply_of (refused code)) tt
+-- what is the same in the second is so in each
+in-both : {A : Type 0} (f : Bool → A) → f true ≡ f false → (i : Bool) → f true ≡ f i
+in-both f e true = refl
+in-both f e false = e
 
-  -- two send phases with like outcomes, which both deliver or both don't
-  record AlikeSending (x y : Sending) : Type 0 where
-    outcome : Alike cut on x.outcome y.outcome
-    delivers : x.delivers ≡ y.delivers
+serves-page : (kind : Kind) → is_data kind ≡ true → serving kind ≡ Page
+serves-page Fetch e = refl
+serves-page Load e = refl
+serves-page Put e = refl
+serves-page CapLoad e = absurd (true≢false (sym e))
+serves-page CapStore e = absurd (true≢false (sym e))
 
-  alike-sent_to : (s t : State) → Matches cut on s t → (inv : InvocationValue) (to : Callee) → CalleeOwn cut on to
-      → AlikeSending (sent_to s p inv to) (sent_to t p inv to)
-  alike-sent_to s t m inv (Kernel cap) may = record { outcome = alike-kernel_op cut on alone p own s t m inv cap may; delivers = refl }
-  alike-sent_to s t m inv Dead may = record { outcome = alike-refused s t m inv InvalidCap; delivers = refl }
-  alike-sent_to s t m inv (Busy q) may =
-      record { outcome = alike-if cut on inv.nonblocking _ _ _ _ (alike-refused s t m inv WouldBlock) (alike-wait_on cut on p own s t m q may); delivers = refl }
-  alike-sent_to s t m inv (Open e q) may =
-      record { outcome = alike-send_open cut on alone p own e q may.0 may.1 inv s t m; delivers = same-delivers cut on alone p own s t m inv }
+module _ (cut : Cut) (on : CutSide) (alone : cut.weakly on ≡ false) where
+  -- two states that match, and what an instruction makes of them
+  abbrev two : Together Bool (on_side cut on)
+  two = record {
+    first = true;
+    kept = λ s. Matches cut on (s true) (s false);
+    makes = λ s o. Alike cut on (o true) (o false);
+    each = λ s m. m.holds;
+  }
 
-  alike-send : (s t : State) → Matches cut on s t → (inv : InvocationValue) → AlikeSending (send s p inv) (send t p inv)
-  unfolding send
-  alike-send s t m inv =
-      let c = capreg_of (process s p) inv.capreg in
-      let may = may-capreg cut on p own s inv.capreg m.holds in
-      let to = callee s.store c in
-      let same = same-callee cut on (system_of s) (system_of t) m.holds.each m.agree c may ∙ ap (λ (c : Capability). callee t.store c) (same-capreg cut on alone p own s t m inv.capreg) in
-      subst (λ (other : Callee). AlikeSending (sent_to s p inv to) (sent_to t p inv other)) same
-      (alike-sent_to s t m inv to (callee-own cut on s.store m.holds.each c may))
+  -- where accesses end
+  page-here : (s t : State) (p at : ℕ) (kind : Kind) (hit : Hit) → Matches cut on s t → side_of cut Process p ≡ on → is_data kind ≡ true → data_access s p at kind ≡ Ok hit
+      → side_of cut Page hit.page ≡ on
+  page-here s t p at kind hit m own is e = subst (HitOwn cut on) e (hit-here cut on alone p own s t m at kind (serves-page kind is))
 
-  alike-received : (inv : InvocationValue) (x y : Sending) → AlikeSending x y → Alike cut on (received_after p inv x) (received_after p inv y)
-  alike-received inv x y a =
-      subst (λ (b : Bool). Alike cut on (received_after p inv x) (if b && inv.receive then followed y.outcome (listen y.outcome.state p inv) else y.outcome)) a.delivers
-      (alike-if cut on (x.delivers && inv.receive) _ _ _ _
-      (alike-followed cut on x.outcome y.outcome _ _ a.outcome.records (alike-listen cut on p own x.outcome.state y.outcome.state a.outcome.state inv))
-      a.outcome)
+  slot-here : (s t : State) (p at : ℕ) (kind : Kind) (place : Place) → Matches cut on s t → side_of cut Process p ≡ on → cap_access s p at kind ≡ Ok place
+      → side_of cut (serving kind) place.number ≡ on
+  slot-here s t p at kind place m own e = subst (EndsOwn cut on (serving kind)) e (place-here cut on alone p own s t m at kind)
 
-  alike-invoked : (s t : State) → Matches cut on s t → (r : Result InvocationValue MalformedSyscall) → Alike cut on (invoked s p r) (invoked t p r)
-  alike-invoked s t m (Err f) = alike-malformed cut on p own s t m
-  alike-invoked s t m (Ok inv) =
-      alike-if cut on inv.send _ _ _ _ (alike-received inv (send s p inv) (send t p inv) (alike-send s t m inv)) (alike-listen cut on p own s t m inv)
+  string-here : (s t : State) (p : ℕ) (inv : InvocationValue) → Matches cut on s t → side_of cut Process p ≡ on → SameString cut on (sent_side s p inv) (sent_side t p inv)
+  string-here s t p inv m own = same-side cut on alone p own s t m Load refl (spans inv.at inv.length)
 
-  alike-invoke : (s t : State) → Matches cut on s t → Alike cut on (invoke s p) (invoke t p)
-  unfolding invoke
-  alike-invoke s t m =
-      subst (λ (q : ProcessValue). Alike cut on (invoked s p (parsed (process s p).regs)) (invoked t p (parsed q.regs))) (same-it cut on alone p own s t m)
-      (alike-invoked s t m (parsed (process s p).regs))
+  same-bytes : (s t : State) (p : ℕ) (inv : InvocationValue) → Matches cut on s t → side_of cut Process p ≡ on
+      → gathered s.store (sent_side s p inv).pieces ≡ gathered t.store (sent_side t p inv).pieces
+  same-bytes s t p inv m own =
+      let string = string-here s t p inv m own in
+      same-gathered cut on s t m (sent_side s p inv).pieces string.own ∙ ap (λ (pieces : List Piece). gathered t.store pieces) string.pieces
 
-  alike-called : (s t : State) → Matches cut on s t → (call : Option SystemCall) → Alike cut on (called s p call) (called t p call)
-  alike-called s t m None = alike-malformed cut on p own s t m
-  alike-called s t m (Some Invoke) = alike-invoke s t m
-  alike-called s t m (Some Yield) = record { records = refl; state = match-yielded cut on p own s t m }
-  alike-called s t m (Some LoadCap) = alike-move_cap cut on alone p own s t m
-  alike-called s t m (Some StoreCap) = alike-move_cap cut on alone p own s t m
-  alike-called s t m (Some CopyCap) = alike-move_cap cut on alone p own s t m
+  reads : Reads Bool (on_side cut on) two
+  reads = record {
+    itself = λ s p m own. in-both (λ i. process (s i) p) (same-here cut on p own (s true) (s false) m);
+    hit = λ s p at kind m own. in-both (λ i. data_access (s i) p at kind) (same-data_access cut on alone p own (s true) (s false) m at kind);
+    number = λ s p at kind hit size m own is e. in-both (λ i. number_at (s i) hit size) (same-number_at cut on (s true) (s false) m hit size (page-here (s true) (s false) p at kind hit m own is e));
+    place = λ s p at kind m own. in-both (λ i. cap_access (s i) p at kind) (same-cap_access cut on alone p own (s true) (s false) m at kind);
+    found = λ s p at place m own e. in-both (λ i. cap_found (s i) place) (same-found cut on (s true) (s false) m place (slot-here (s true) (s false) p at CapLoad place m own e));
+    answers = λ s c m may. in-both (λ i. callee (s i).store c) (same-callee cut on (system_of (s true)) (system_of (s false)) m.holds.each m.agree c may);
+    faulted = λ s p inv m own asks. in-both (λ i. (sent_side (s i) p inv).fault) (string-here (s true) (s false) p inv m own).fault;
+    bytes = λ s p inv m own asks. in-both (λ i. gathered (s i).store (sent_side (s i) p inv).pieces) (same-bytes (s true) (s false) p inv m own);
+  }
 
-  alike-system_call : (s t : State) → Matches cut on s t → Alike cut on (system_call s p) (system_call t p)
-  unfolding system_call
-  alike-system_call s t m =
-      let call = call_with (register_of s p 17) in
-      subst (λ (q : ProcessValue). Alike cut on (called s p call) (called t p (call_with (reg_of q 17)))) (same-it cut on alone p own s t m) (alike-called s t m call)
+  parts : Parts Bool (on_side cut on) two
+  parts = record {
+    left = λ s o a. a.state;
+    idle = λ s m. record { records = refl; state = m };
+    told = λ s r o a. record { records = ap (λ (rs : List Record). r ∷ rs) a.records; state = a.state };
+    named = λ s name o a. record { records = a.records; state = a.state };
+    walked = λ s p at kind o m own word is a. record { records = a.records; state = a.state };
+    cap_walked = λ s p at kind o m own a. record { records = a.records; state = a.state };
+    behind = λ s o u first second. alike-followed cut on (o true) (o false) (u true) (u false) first.records second;
+  }
 
-  -- ---- instructions
+  alike-delivery : (s t : State) (p e q : ℕ) (inv : InvocationValue) → Matches cut on s t → side_of cut Process p ≡ on → side_of cut Endpoint e ≡ on → side_of cut Process q ≡ on
+      → Alike cut on (delivered s p e q inv (sent_side s p inv).pieces (received_side s q inv.length).pieces) (delivered t p e q inv (sent_side t p inv).pieces (received_side t q inv.length).pieces)
+  alike-delivery s t p e q inv m own over other =
+      let from = string-here s t p inv m own in
+      let to = same-received cut on alone q other s t m inv.length in
+      subst₂ (λ (xs ys : List Piece). Alike cut on (delivered s p e q inv (sent_side s p inv).pieces (received_side s q inv.length).pieces) (delivered t p e q inv xs ys)) from.pieces to.pieces
+      (alike-delivered cut on p own e q over other inv s t m (sent_side s p inv).pieces (received_side s q inv.length).pieces from.own to.own)
 
-  alike-performed : (s t : State) → Matches cut on s t → (insn : Insn) (effect : Effect) → Alike cut on (performed s p insn effect) (performed t p insn effect)
-  alike-performed s t m insn (Next pc) =
-      let regs = registers_after (process s p).regs (pc_of s p) insn in
-      let others = registers_after (process t p).regs (pc_of t p) insn in
-      record {
-        records = refl;
-        state = match-set_pc cut on p own (set_registers s p regs) (set_registers t p others)
-            (match-set_registers cut on p own s t m regs others (ap (λ (q : ProcessValue). registers_after q.regs q.pc insn) (same-it cut on alone p own s t m))) pc pc refl;
-      }
-  alike-performed s t m insn (LoadIt at size signed rd) = alike-load cut on alone p own s t m at size signed rd
-  alike-performed s t m insn (StoreIt at size value) = alike-store cut on alone p own s t m at size value
-  alike-performed s t m insn Syscall = alike-system_call s t m
-  alike-performed s t m insn Break = alike-at_pc cut on p own s t m Breakpoint None tt
-  alike-performed s t m insn (Misaligned target) = alike-misaligned cut on p own s t m target
-
-  alike-perform : (s t : State) → Matches cut on s t → (insn : Insn) → Alike cut on (perform s p insn) (perform t p insn)
-  unfolding perform
-  alike-perform s t m insn =
-      let effect = effect_of (process s p).regs (pc_of s p) insn in
-      subst (λ (q : ProcessValue). Alike cut on (performed s p insn effect) (performed t p insn (effect_of q.regs q.pc insn))) (same-it cut on alone p own s t m)
-      (alike-performed s t m insn effect)
-
-  alike-decoded : (s t : State) → Matches cut on s t → (insn : Option Insn) → Alike cut on (decoded_to s p insn) (decoded_to t p insn)
-  alike-decoded s t m None = alike-at_pc cut on p own s t m BadOpcode None tt
-  alike-decoded s t m (Some insn) =
-      subst (λ (q : ProcessValue). Alike cut on (decoded_to s p (Some insn)) (recorded (InsnRead p q.pc insn) (perform t p insn))) (same-it cut on alone p own s t m)
-      (alike-recorded cut on (InsnRead p (pc_of s p) insn) (perform s p insn) (perform t p insn) (alike-perform s t m insn))
-
-  alike-fetched : (s t : State) → Matches cut on s t → (r : Result Hit WalkFault) → HitOwn cut on r → Alike cut on (fetched_from s p r) (fetched_from t p r)
-  alike-fetched s t m (Err f) ends = alike-at_pc cut on p own s t m f.code f.handler ends
-  alike-fetched s t m (Ok hit) ends =
-      let insn = insn_at (number_at s hit 4) in
-      subst₂ (λ (q : ProcessValue) (n : ℕ). Alike cut on (fetched_from s p (Ok hit)) (recorded (reached p Fetch q.pc hit) (decoded_to t p (insn_at n)))) (same-it cut on alone p own s t m) (same-number_at cut on s t m hit 4 ends)
-      (alike-recorded cut on (reached p Fetch (pc_of s p) hit) (decoded_to s p insn) (decoded_to t p insn) (alike-decoded s t m insn))
+  cases : Cases Bool (on_side cut on) two
+  cases = record {
+    pc_is = λ s p pc m own word. record { records = refl; state = match-set_pc cut on p own (s true) (s false) m pc pc refl };
+    regs_are = λ s p registers m own are. record { records = refl; state = match-set_registers cut on p own (s true) (s false) m registers registers refl };
+    capreg_is = λ s p j c m own may. record { records = refl; state = match-set_capreg cut on p own (s true) (s false) m j c may };
+    replied = λ s p accept reply m own may. record { records = refl; state = match-reply cut on p own (s true) (s false) m accept reply may };
+    page_is = λ s p at hit size value m own e. record { records = refl; state = match-written cut on (s true) (s false) m hit size value (page-here (s true) (s false) p at Put hit m own refl e) };
+    cappage_is = λ s p at place c m own may e. record { records = refl; state = match-cap_stored cut on (s true) (s false) m place c (slot-here (s true) (s false) p at CapStore place m own e) may };
+    ready_again = λ s p m own. record { records = refl; state = match-ticked cut on p own (s true) (s false) m };
+    halts = λ s m. record { records = refl; state = record { holds = m.holds; agree = m.agree } };
+    faults = λ s p code address handler m own word may. alike-fault cut on p own (s true) (s false) m code address handler may;
+    waits = λ s p q m own other. alike-wait_on cut on p own (s true) (s false) m q other;
+    listens = λ s p inv m own asks. alike-listen cut on p own (s true) (s false) m inv;
+    sends = λ s p inv m own asks. record { records = (string-here (s true) (s false) p inv m own).records; state = m };
+    receives = λ s q inv m own asks. record { records = (same-received cut on alone q own (s true) (s false) m inv.length).records; state = m };
+    delivers = λ s p e q inv m own over other asks. alike-delivery (s true) (s false) p e q inv m own over other;
+    memory = λ s p inv cap m own asks may memory. alike-memory_op cut on alone p own (s true) (s false) m inv cap may;
+    control = λ s p inv cap m own asks may. alike-control_op cut on alone p own (s true) (s false) m inv cap may;
+  }
 
   -- one instruction
-  pub alike-instruction : (s t : State) → Matches cut on s t → Alike cut on (instruction s p) (instruction t p)
-  unfolding instruction
-  alike-instruction s t m =
-      let at = pc_of s p in
-      subst (λ (r : Result Hit WalkFault). Alike cut on (instruction s p) (changing (process_name p) (touched (data_touch t p (pc_of t p) Fetch) (fetched_from t p r))))
-      (same-data_access cut on alone p own s t m at Fetch ∙ ap (λ (q : ProcessValue). data_access t p q.pc Fetch) (same-it cut on alone p own s t m))
-      (alike-besides cut on alone p own _ _ _ _ _ _ (alike-fetched s t m (data_access s p at Fetch) (hit-here cut on alone p own s t m at Fetch refl)))
+  pub alike-instruction : (p : ℕ) → side_of cut Process p ≡ on → (s t : State) → Matches cut on s t → Alike cut on (instruction s p) (instruction t p)
+  alike-instruction p own s t m = of_instructions Bool (on_side cut on) two (on_side-origins cut on) reads parts cases p own (beside s t) m

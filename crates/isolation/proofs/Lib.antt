@@ -7,7 +7,6 @@ mod Operating
 mod States
 mod Messaging
 mod Kernel
-mod Accessing
 mod Events
 mod Turns
 mod Runs

@@ -1,14 +1,13 @@
 -- Parts of events in which a process of this side faults, sends, waits or receives: in two states that match they tell the
 -- same and leave states that match.
-use Rattle.std.proofs.Common.{◌≡◌, ℕ, min, nat_lt, Bool, true, false, if◌then◌else◌, List, [], ◌∷◌, ◌++◌, map, slice_set, Option, Some, None, Result, Ok, Err, refl, ap, ap₂, subst, subst₂}
+use Rattle.std.proofs.Common.{◌≡◌, ℕ, min, nat_lt, Bool, true, false, if◌then◌else◌, List, [], ◌∷◌, ◌++◌, map, slice_set, Option, Result, Ok, Err, refl, ap, ap₂, subst}
 use Rattle.cap_format.specs.declared.fault.FaultCode.{FaultCode}
-use Rattle.cap_format.specs.declared.fault.FaultCode.TheVariants.{BadAlign, MalformedSyscall}
 use Rattle.cap_format.specs.declared.kind.CapKind.TheVariants.{Page, Endpoint, Process}
 use Rattle.cap_format.specs.Capability.{Capability}
 use Rattle.process_objects.specs.Process.{ProcessValue, capreg_of}
 use Rattle.object_store.specs.Object.{object_name}
 use Rattle.walk_meaning.specs.declared.kind.Kind.{Kind}
-use Rattle.walk_meaning.specs.declared.kind.Kind.TheVariants.{Load, Store as Put}
+use Rattle.walk_meaning.specs.declared.kind.Kind.TheVariants.{Store as Put}
 use Rattle.walk_meaning.specs.declared.place.WalkFault.{WalkFault}
 use Rattle.walk_meaning.specs.Laws.{serving}
 use Rattle.walk_engine.specs.declared.hit.Hit.{Hit}
@@ -23,16 +22,15 @@ use Rattle.string_move.specs.Move.{size_of_pieces}
 use Rattle.fault_path.specs.Fault.{outcome_of}
 use Rattle.machine_state.specs.declared.record.Record.{Record}
 use Rattle.machine_state.specs.declared.record.Record.TheVariants.{Message as MessageTold}
-use Rattle.machine_state.specs.State.{State, process, pc_of}
+use Rattle.machine_state.specs.State.{State, process}
 use Rattle.machine_state.specs.Setters.{advance}
 use Rattle.machine_state.specs.Outcome.{Outcome, process_name}
 use Rattle.machine_state.specs.DataAccess.{data_access, reached}
 use Rattle.machine_state.specs.Messaging.{told_state}
-use Rattle.messages.specs.declared.string_fault.StringFault.{StringFault}
 use Rattle.messages.specs.Followed.{followed}
-use Rattle.messages.specs.Fault.{fault_records, fault, misaligned, malformed}
-use Rattle.messages.specs.Strings.{Side, span_side, side, side_outcome}
-use Rattle.messages.specs.Message.{sent_side, accept_in, received_side, bytes_moved, message_of, message_record, sent_off, message_told, delivered, sent_on, sent_by_fault, send_open, is_whole, is_delivered}
+use Rattle.messages.specs.Fault.{fault_records, fault}
+use Rattle.messages.specs.Strings.{Side, span_side, side}
+use Rattle.messages.specs.Message.{accept_in, received_side, bytes_moved, message_of, message_record, sent_off, message_told, delivered}
 use Rattle.messages.specs.Waiting.{wait_on, listening_from, listen}
 use Rattle.confinement.specs.declared.cut_side.CutSide.{CutSide}
 use Rattle.confinement.specs.Cut.{Cut, side_of}
@@ -79,21 +77,6 @@ module _ (cut : Cut) (on : CutSide) where
       records = ap (λ (a : Answer). fault_records p code address (outcome_of a)) (same-heard cut on (system_of s) (system_of t) m p handler own may);
       state = match-fault_state cut on p own s t m code address handler may;
     }
-
-    -- a fault of an address that is not aligned
-    pub alike-misaligned : (s t : State) → Matches cut on s t → (address : ℕ) → Alike cut on (misaligned s p address) (misaligned t p address)
-    alike-misaligned s t m address = alike-fault s t m BadAlign address None tt
-
-    -- a fault at the pc
-    pub alike-at_pc : (s t : State) → Matches cut on s t → (code : FaultCode) (handler : Option Capability) → MayHoldIf cut on handler
-        → Alike cut on (fault s p code (pc_of s p) handler) (fault t p code (pc_of t p) handler)
-    alike-at_pc s t m code handler may =
-        subst (λ (q : ProcessValue). Alike cut on (fault s p code (pc_of s p) handler) (fault t p code q.pc handler)) (same-here cut on p own s t m)
-        (alike-fault s t m code (pc_of s p) handler may)
-
-    -- a fault of a system call that is none
-    pub alike-malformed : (s t : State) → Matches cut on s t → Alike cut on (malformed s p) (malformed t p)
-    alike-malformed s t m = alike-at_pc s t m MalformedSyscall None tt
 
     -- ---- waiting and listening
 
@@ -156,7 +139,8 @@ module _ (cut : Cut) (on : CutSide) where
                 (match-told_state cut on s t m e q message endpoint recipient (all-held s t m inv length)) inv.receive;
           })
 
-      alike-delivered : (s t : State) → Matches cut on s t → (from to : List Piece) → PiecesOwn cut on from → PiecesOwn cut on to
+      -- the bytes and the message
+      pub alike-delivered : (s t : State) → Matches cut on s t → (from to : List Piece) → PiecesOwn cut on from → PiecesOwn cut on to
           → Alike cut on (delivered s p e q inv from to) (delivered t p e q inv from to)
       alike-delivered s t m from to read written =
           let x = bytes_moved s from to in
@@ -188,40 +172,8 @@ module _ (cut : Cut) (on : CutSide) (alone : cut.weakly on ≡ false) where
       (same-data_access cut on alone q own s t m span.address kind)
       (same-span s t q kind span (side s q kind ss) (side t q kind ss) (data_access s q span.address kind) (hit-here cut on alone q own s t m span.address kind data_is) (same-side q own s t m kind data_is ss))
 
-  module _ (p : ℕ) (own : side_of cut Process p ≡ on) where
-    -- whether it is delivered is the same
-    pub same-delivers : (s t : State) → Matches cut on s t → (inv : InvocationValue) → is_delivered s p inv ≡ is_delivered t p inv
-    unfolding is_delivered
-    same-delivers s t m inv = let string = same-side p own s t m Load refl (spans inv.at inv.length) in ap is_whole string.fault
-
-    module _ (e q : ℕ) (endpoint : side_of cut Endpoint e ≡ on) (recipient : side_of cut Process q ≡ on) (inv : InvocationValue) where
-      same-received : (s t : State) → Matches cut on s t → (length : ℕ) → SameString cut on (received_side s q length) (received_side t q length)
-      same-received s t m length =
-          subst (λ (z : ProcessValue). SameString cut on (received_side s q length) (side t q Put (spans (accepted z.state).at (min length (accepted z.state).bound)))) (same-here cut on q recipient s t m)
-          (same-side q recipient s t m Put refl (spans (accept_in s q).at (min length (accept_in s q).bound)))
-
-      alike-sent_on : (s t : State) → Matches cut on s t → (from : List Piece) → PiecesOwn cut on from
-          → Alike cut on (sent_on s p e q inv from) (sent_on t p e q inv from)
-      alike-sent_on s t m from read =
-          let x = received_side s q inv.length in
-          let y = received_side t q inv.length in
-          let string = same-received s t m inv.length in
-          subst (λ (to : List Piece). Alike cut on (sent_on s p e q inv from) (followed (side_outcome t y) (delivered t p e q inv from to))) string.pieces
-          (alike-followed cut on (side_outcome s x) (side_outcome t y) (delivered s p e q inv from x.pieces) (delivered t p e q inv from x.pieces) string.records
-          (alike-delivered cut on p own e q endpoint recipient inv s t m from x.pieces read string.own))
-
-      alike-by_fault : (s t : State) → Matches cut on s t → (from : List Piece) → PiecesOwn cut on from → (f : Option StringFault) → StringFaultOwn cut on f
-          → Alike cut on (sent_by_fault s p e q inv from f) (sent_by_fault t p e q inv from f)
-      alike-by_fault s t m from read None may = alike-sent_on s t m from read
-      alike-by_fault s t m from read (Some f) may = alike-fault cut on p own s t m f.why.code f.address f.why.handler may
-
-      -- a message to a process of the same side
-      pub alike-send_open : (s t : State) → Matches cut on s t → Alike cut on (send_open s p e q inv) (send_open t p e q inv)
-      unfolding send_open
-      alike-send_open s t m =
-          let x = sent_side s p inv in
-          let y = sent_side t p inv in
-          let string = same-side p own s t m Load refl (spans inv.at inv.length) in
-          subst₂ (λ (from : List Piece) (f : Option StringFault). Alike cut on (send_open s p e q inv) (followed (side_outcome t y) (sent_by_fault t p e q inv from f))) string.pieces string.fault
-          (alike-followed cut on (side_outcome s x) (side_outcome t y) (sent_by_fault s p e q inv x.pieces x.fault) (sent_by_fault t p e q inv x.pieces x.fault) string.records
-          (alike-by_fault s t m x.pieces string.own x.fault string.may))
+  -- and where a message of this length is received
+  pub same-received : (q : ℕ) → side_of cut Process q ≡ on → (s t : State) → Matches cut on s t → (length : ℕ) → SameString cut on (received_side s q length) (received_side t q length)
+  same-received q own s t m length =
+      subst (λ (z : ProcessValue). SameString cut on (received_side s q length) (side t q Put (spans (accepted z.state).at (min length (accepted z.state).bound)))) (same-here cut on q own s t m)
+      (same-side q own s t m Put refl (spans (accept_in s q).at (min length (accept_in s q).bound)))

@@ -25,7 +25,7 @@ use Rattle.operations.specs.Change.{Change}
 use Rattle.schedules.specs.Queues.{dispatched}
 use Rattle.rv32_user.specs.Word.{next_of}
 use Rattle.machine_state.specs.State.{State, process, pc_of, space_of, schedule_slot}
-use Rattle.machine_state.specs.Setters.{set_store, set_pc, set_registers, set_capreg, advance, leave, ready, yielded, dispatch, ticked}
+use Rattle.machine_state.specs.Setters.{set_store, set_pc, set_registers, set_capreg, advance, leave, ready, dispatch, ticked}
 use Rattle.machine_state.specs.Faulting.{fault_state}
 use Rattle.machine_state.specs.Messaging.{told_state, waiting_state, listening_state}
 use Rattle.machine_state.specs.DataAccess.{number_of, bytes_of, data_access, number_at, written}
@@ -99,12 +99,12 @@ module _ (cut : Cut) (side : CutSide) where
         (ap (λ (page : List ℕ). with_bytes page hit.offset (bytes_of size value)) (same-page cut side (system_of s) (system_of t) m.agree hit.page own)) own
 
     -- a slot of a capability page of this side
-    pub match-cap_stored : (place : Place) (c d : Capability) → c ≡ d → side_of cut CapPage place.number ≡ side → MayHold cut side c
-        → Matches cut side (cap_stored s place c) (cap_stored t place d)
-    match-cap_stored place c d e own may =
+    pub match-cap_stored : (place : Place) (c : Capability) → side_of cut CapPage place.number ≡ side → MayHold cut side c
+        → Matches cut side (cap_stored s place c) (cap_stored t place c)
+    match-cap_stored place c own may =
         let page = cappage_at s.store place.number in
         match-cappage cut side (system_of s) (system_of t) m place.number _ _
-        (ap₂ (λ (page : List Capability) (c : Capability). with_cap page (slot_in place) c) (same-cappage cut side (system_of s) (system_of t) m.agree place.number own) e) own
+        (ap (λ (page : List Capability). with_cap page (slot_in place) c) (same-cappage cut side (system_of s) (system_of t) m.agree place.number own)) own
         (each_set (λ j (c : Capability). MayHold cut side c) page (slot_in place) c null may (λ j. subst (λ b. MayHold cut b (cap_at page j)) own (m.holds.each.cappages place.number j)))
 
     -- a message is told
@@ -174,9 +174,9 @@ module _ (cut : Cut) (side : CutSide) where
         (record { capregs = held-here.capregs; slots = held-here.slots })
 
     -- another capability in a register
-    pub match-set_capreg : (i : ℕ) (c d : Capability) → c ≡ d → MayHold cut side c → Matches cut side (set_capreg s p i c) (set_capreg t p i d)
-    match-set_capreg i c d e may =
-        match-process cut side (system_of s) (system_of t) m p _ _ (ap₂ (λ (q : ProcessValue) (c : Capability). with_capreg q i c) same-here e) own
+    pub match-set_capreg : (i : ℕ) (c : Capability) → MayHold cut side c → Matches cut side (set_capreg s p i c) (set_capreg t p i c)
+    match-set_capreg i c may =
+        match-process cut side (system_of s) (system_of t) m p _ _ (ap (λ (q : ProcessValue). with_capreg q i c) same-here) own
         (held-capreg cut side (process s p) i c may held-here)
 
     -- ---- its place
@@ -213,11 +213,6 @@ module _ (cut : Cut) (side : CutSide) where
     -- a tick
     pub match-ticked : Matches cut side (ticked s (Some p)) (ticked t (Some p))
     match-ticked = match-ready p own (leave s p) (leave t p) (match-leave p own s t m)
-
-  module _ (p : ℕ) (own : side_of cut Process p ≡ side) (s t : State) (m : Matches cut side s t) where
-    -- a yield
-    pub match-yielded : Matches cut side (yielded s p) (yielded t p)
-    match-yielded = match-ticked p own (advance s p) (advance t p) (match-advance p own s t m)
 
 -- ---- accesses of the process
 

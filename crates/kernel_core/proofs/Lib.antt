@@ -1,3 +1,4 @@
 pub mod Ran
+pub mod Induction
 mod Destroyed
 mod Told

@@ -9,7 +9,7 @@ use Rattle.machine_state.specs.declared.record.Record.{Record}
 use Rattle.machine_state.specs.State.{State}
 use Rattle.machine_state.specs.Outcome.{Touch, kept_at, spent, kept_after}
 use Rattle.kernel_core.specs.Event.{event_of}
-use Rattle.kernel_core.specs.Run.{run_state, run_records, run_touches}
+use Rattle.kernel_core.specs.Run.{run_state, run_records, run_touches, run_of}
 
 -- where there is no event the state stays
 pub run_state-nil : (s : State) → run_state s [] ≡ s
@@ -62,6 +62,24 @@ run_touches-append s [] fs = refl
 run_touches-append s (e ∷ es) fs =
     ap (λ ts. (event_of s e).touches ++ ts) (run_touches-append (event_of s e).state es fs)
     ∙ sym (append_assoc (event_of s e).touches (run_touches (event_of s e).state es) (run_touches (run_state (event_of s e).state es) fs))
+
+-- what comes of a run: its state
+pub run_of-state : (s : State) (es : List Event) → (run_of s es).state ≡ run_state s es
+unfolding run_of run_state
+run_of-state s [] = refl
+run_of-state s (e ∷ es) = run_of-state (event_of s e).state es
+
+-- its records
+pub run_of-records : (s : State) (es : List Event) → (run_of s es).records ≡ run_records s es
+unfolding run_of run_records
+run_of-records s [] = refl
+run_of-records s (e ∷ es) = ap (λ rs. (event_of s e).records ++ rs) (run_of-records (event_of s e).state es)
+
+-- its touches
+pub run_of-touches : (s : State) (es : List Event) → (run_of s es).touches ≡ run_touches s es
+unfolding run_of run_touches
+run_of-touches s [] = refl
+run_of-touches s (e ∷ es) = ap (λ ts. (event_of s e).touches ++ ts) (run_of-touches (event_of s e).state es)
 
 -- touches, and those behind them, by what a translator says of one access and of one change
 module _ {K : Type 0} (cost : K → Items → Capability → ℕ → Kind → ℕ) (after : K → Items → Capability → ℕ → Kind → K) (without : K → Item → K) where

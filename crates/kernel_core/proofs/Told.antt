@@ -40,12 +40,12 @@ use Rattle.messages.specs.Strings.{side_outcome}
 use Rattle.messages.specs.Waiting.{wait_on, listen}
 use Rattle.messages.proofs.Few.{AtMost, followed-most, fault-most, string-most, send_open-most}
 use Rattle.kernel_core.specs.Laws.{FewRecords}
-use Rattle.kernel_core.specs.declared.system_call.SystemCall.{SystemCall}
-use Rattle.kernel_core.specs.declared.system_call.SystemCall.TheVariants.{Invoke, LoadCap, StoreCap, CopyCap, Yield}
+use Rattle.kernel_core.specs.declared.system_calls.SystemCall.{SystemCall}
+use Rattle.kernel_core.specs.declared.system_calls.SystemCall.TheVariants.{Invoke, LoadCap, StoreCap, CopyCap, Yield}
 use Rattle.kernel_core.specs.LoadStore.{loaded_from, load, stored_to, store}
 use Rattle.kernel_core.specs.CapTransfer.{cap_loaded_from, load_cap, cap_stored_to, store_cap}
 use Rattle.kernel_core.specs.KernelOperation.{destroyed_by, destroy_records, control_answered, logged, logged_side, log_string, kernlog_op, asked_number, is_no_log, sysctl_op, memory_op, control_op, asked_for, kernel_op}
-use Rattle.kernel_core.specs.SystemCall.{call_with, copy_cap, moved, move_cap, Sending, busy_call, sent_to, send, received_after, invoked, invoke, called, system_call}
+use Rattle.kernel_core.specs.SystemCall.{call_with, copy_cap, Sending, busy_call, sent_to, send, received_after, invoked, invoke, called, system_call}
 use Rattle.kernel_core.specs.Instruction.{performed, perform}
 use Rattle.kernel_core.specs.Event.{decoded_to, fetched_from, instruction, stepped, event_by}
 
@@ -95,18 +95,6 @@ store_cap-most s p at from =
 copy_cap-most : (s : State) (p from to : ℕ) → AtMost 1 (copy_cap s p from to)
 unfolding copy_cap
 copy_cap-most s p from to = cond_both (nat_le from 31 && nat_le to 31) _ _ (AtMost 1) (λ e. omega arith) (λ e. malformed-most s p)
-
-moved-most : (s : State) (p : ℕ) (call : Option SystemCall) → AtMost 1 (moved s p call)
-moved-most s p (Some LoadCap) = load_cap-most s p (register_of s p 10) (register_of s p 11)
-moved-most s p (Some StoreCap) = store_cap-most s p (register_of s p 10) (register_of s p 11)
-moved-most s p (Some CopyCap) = copy_cap-most s p (register_of s p 10) (register_of s p 11)
-moved-most s p (Some Invoke) = malformed-most s p
-moved-most s p (Some Yield) = malformed-most s p
-moved-most s p None = malformed-most s p
-
-move_cap-most : (s : State) (p : ℕ) → AtMost 1 (move_cap s p)
-unfolding move_cap
-move_cap-most s p = moved-most s p (call_with (register_of s p 17))
 
 -- ---- operations of the kernel
 
@@ -200,17 +188,17 @@ invoke-most s p = cond_both (is_malformed (process s p).regs) _ _ (λ (r : Resul
 
 -- ---- instructions and events
 
-called-most : (s : State) (p : ℕ) (call : Option SystemCall) → AtMost 35 (called s p call)
-called-most s p None = let one = malformed-most s p in omega (arith, one)
-called-most s p (Some Invoke) = invoke-most s p
-called-most s p (Some Yield) = omega arith
-called-most s p (Some LoadCap) = let one = move_cap-most s p in omega (arith, one)
-called-most s p (Some StoreCap) = let one = move_cap-most s p in omega (arith, one)
-called-most s p (Some CopyCap) = let one = move_cap-most s p in omega (arith, one)
+called-most : (s : State) (p : ℕ) (call : Option SystemCall) (x10 x11 : ℕ) → AtMost 35 (called s p call x10 x11)
+called-most s p None x10 x11 = let one = malformed-most s p in omega (arith, one)
+called-most s p (Some Invoke) x10 x11 = invoke-most s p
+called-most s p (Some LoadCap) x10 x11 = let one = load_cap-most s p x10 x11 in omega (arith, one)
+called-most s p (Some StoreCap) x10 x11 = let one = store_cap-most s p x10 x11 in omega (arith, one)
+called-most s p (Some CopyCap) x10 x11 = let one = copy_cap-most s p x10 x11 in omega (arith, one)
+called-most s p (Some Yield) x10 x11 = omega arith
 
 system_call-most : (s : State) (p : ℕ) → AtMost 35 (system_call s p)
 unfolding system_call
-system_call-most s p = called-most s p (call_with (register_of s p 17))
+system_call-most s p = called-most s p (call_with (register_of s p 17)) (register_of s p 10) (register_of s p 11)
 
 performed-most : (s : State) (p : ℕ) (insn : Insn) (effect : Effect) → AtMost 35 (performed s p insn effect)
 performed-most s p insn (Next pc) = omega arith

@@ -21,4 +21,5 @@ pub mod SystemCall
 pub mod Instruction
 pub mod Event
 pub mod Run
+pub mod Induction
 pub mod Laws

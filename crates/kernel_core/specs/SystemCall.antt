@@ -9,8 +9,8 @@ use Rattle.invocation.specs.declared.callee.Callee.TheVariants.{Kernel, Open, Bu
 use Rattle.invocation.specs.declared.malformed.MalformedSyscall.{MalformedSyscall}
 use Rattle.invocation.specs.Invocation.{InvocationValue, parsed}
 use Rattle.invocation.specs.Target.{callee}
-use Rattle.kernel_core.specs.declared.system_call.SystemCall.{SystemCall}
-use Rattle.kernel_core.specs.declared.system_call.SystemCall.TheVariants.{Invoke, LoadCap, StoreCap, CopyCap, Yield}
+use Rattle.kernel_core.specs.declared.system_calls.SystemCall.{SystemCall}
+use Rattle.kernel_core.specs.declared.system_calls.SystemCall.TheVariants.{Invoke, LoadCap, StoreCap, CopyCap, Yield}
 use Rattle.machine_state.specs.State.{State, process, register_of}
 use Rattle.machine_state.specs.Setters.{set_capreg, advance, yielded}
 use Rattle.machine_state.specs.Outcome.{Outcome, done}
@@ -40,17 +40,6 @@ unfoldable pub copy_cap : State → ℕ → ℕ → ℕ → Outcome
 copy_cap s p from to =
     if nat_le from 31 && nat_le to 31 then done (advance (copied s p from to) p)
     else malformed s p
-
--- the calls 1 to 3, which move a capability; their operands are in x10 and x11
-abbrev pub moved : State → ℕ → Option SystemCall → Outcome
-moved s p (Some LoadCap) = load_cap s p (register_of s p 10) (register_of s p 11)
-moved s p (Some StoreCap) = store_cap s p (register_of s p 10) (register_of s p 11)
-moved s p (Some CopyCap) = copy_cap s p (register_of s p 10) (register_of s p 11)
-moved s p _ = malformed s p
-
--- the call of the calls 1 to 3 whose number is in x17
-unfoldable pub move_cap : State → ℕ → Outcome
-move_cap s p = moved s p (call_with (register_of s p 17))
 
 -- ---- call 0, invoke
 
@@ -99,15 +88,29 @@ invoke s p = invoked s p (parsed (process s p).regs)
 
 -- ---- all
 
--- what a system call comes to
-abbrev pub called : State → ℕ → Option SystemCall → Outcome
-called s p None = malformed s p
-called s p (Some Invoke) = invoke s p
-called s p (Some Yield) = done (yielded s p)
-called s p (Some LoadCap) = move_cap s p
-called s p (Some StoreCap) = move_cap s p
-called s p (Some CopyCap) = move_cap s p
+-- what a system call comes to, by the operands of those that move a capability, which are in x10 and x11
+abbrev pub called : State → ℕ → Option SystemCall → ℕ → ℕ → Outcome
+called s p None x10 x11 = malformed s p
+called s p (Some Invoke) x10 x11 = invoke s p
+called s p (Some LoadCap) x10 x11 = load_cap s p x10 x11
+called s p (Some StoreCap) x10 x11 = store_cap s p x10 x11
+called s p (Some CopyCap) x10 x11 = copy_cap s p x10 x11
+called s p (Some Yield) x10 x11 = done (yielded s p)
+
+-- such a call of a process, whose operands are in its registers
+abbrev pub call_of : State → ℕ → Option SystemCall → Outcome
+call_of s p call = called s p call (register_of s p 10) (register_of s p 11)
 
 -- the system call whose number is in x17
 unfoldable pub system_call : State → ℕ → Outcome
-system_call s p = called s p (call_with (register_of s p 17))
+system_call s p = call_of s p (call_with (register_of s p 17))
+
+-- a call, where it is one of those that move a capability, 1 to 3
+abbrev pub moving : Option SystemCall → Option SystemCall
+moving (Some Invoke) = None
+moving (Some Yield) = None
+moving call = call
+
+-- the system call whose number is in x17, where it moves a capability; any other is no call
+unfoldable pub move_cap : State → ℕ → Outcome
+move_cap s p = call_of s p (moving (call_with (register_of s p 17)))

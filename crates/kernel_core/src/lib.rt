@@ -19,11 +19,10 @@ mod operating;
 pub mod parts;
 mod runs;
 mod stores;
-mod system_call;
 mod system_calls;
 
 pub use events::{event, event_into};
 pub use laws::few_records;
 pub use machine_state::{Event, LogBytes, Machine, Record, Records};
 pub use runs::{Listener, run};
-pub use system_call::SystemCall;
+pub use system_calls::SystemCall;

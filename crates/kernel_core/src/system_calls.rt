@@ -1,21 +1,51 @@
-//! System calls, by their numbers, and those that move a capability.
-ghost use Rattle.std.specs.Prelude.{◌<◌, ◌∷◌};
+//! System calls, by their numbers.
+ghost use Rattle.std.specs.Prelude.{◌≡◌, ◌<◌, ◌∷◌};
 ghost use Rattle.cap_format.specs.declared.kind.CapKind.TheVariants.{Process};
 ghost use Rattle.object_store.specs.Store.{size_of};
 ghost use Rattle.machine_state.specs.State.{state_of, IsOnHart};
 ghost use Rattle.machine_state.specs.Outcome.{process_name};
 ghost use Rattle.machine_state.specs.Came.{Came, Leaves};
 ghost use Rattle.machine_state.specs.Room.{HasRoom, call_room};
-ghost use Rattle.kernel_core.specs.SystemCall.{copy_cap, move_cap, system_call};
+ghost use Rattle.kernel_core.specs.SystemCall.{call_with, copy_cap, move_cap, system_call};
 
 use crate::cap_accesses::{load_cap, store_cap};
 use crate::invoking::invoke;
-use crate::system_call::SystemCall;
 use machine_state::{Machine, Records};
 use messages::malformed;
 use std::sync::ledger::Ledger;
 use steps::Steps;
 use walk_engine::Translator;
+
+/// What a process asks of the kernel with ECALL.
+#[derive(Clone, Copy)]
+pub enum SystemCall {
+    /// 0: the phases of a message, or an operation of the kernel.
+    Invoke,
+    /// 1: a capability is read through the space.
+    LoadCap,
+    /// 2: a capability is written through the space.
+    StoreCap,
+    /// 3: a capability goes from one register to another.
+    CopyCap,
+    /// 4: the process gives way.
+    Yield,
+}
+
+impl SystemCall {
+    /// The call with this number in x17, if there is one.
+    pub fn from_number(number: u32) -> Option<SystemCall>
+        ensures { result ≡ call_with number }
+    {
+        match number {
+            0 => Some(SystemCall::Invoke),
+            1 => Some(SystemCall::LoadCap),
+            2 => Some(SystemCall::StoreCap),
+            3 => Some(SystemCall::CopyCap),
+            4 => Some(SystemCall::Yield),
+            _ => None,
+        }
+    }
+}
 
 /// The system call whose number is in x17.
 #[tactic(auto, unfolding(crate::specs::SystemCall::system_call))]
@@ -35,19 +65,20 @@ pub(crate) fn system_call<T: Translator, L: Ledger>(
     ensures leaves { let outcome = system_call (state_of machine.old) p in
         Leaves (process_name p ∷ outcome.changed) machine.old machine.new }
 {
-    let number = machine.registers(p)[17];
-    match SystemCall::from_number(number) {
+    let registers = machine.registers(p);
+    let (x10, x11) = (registers[10], registers[11]);
+    match SystemCall::from_number(registers[17]) {
         None => malformed(machine, p, records, fetches),
         Some(SystemCall::Invoke) => invoke(machine, p, records, fetches),
+        Some(SystemCall::LoadCap) => load_cap(machine, p, records, x10, x11, fetches),
+        Some(SystemCall::StoreCap) => store_cap(machine, p, records, x10, x11, fetches),
+        Some(SystemCall::CopyCap) => copy_cap(machine, p, records, x10, x11, fetches),
         Some(SystemCall::Yield) => machine.give_way(p),
-        Some(SystemCall::LoadCap) => move_cap(machine, p, records, fetches),
-        Some(SystemCall::StoreCap) => move_cap(machine, p, records, fetches),
-        Some(SystemCall::CopyCap) => move_cap(machine, p, records, fetches),
     }
 }
 
-/// The system calls 1 to 3, which move a capability.
-#[tactic(auto, unfolding(crate::specs::SystemCall::move_cap))]
+/// The system calls 1 to 3, which move a capability: any other number is no call.
+#[tactic(auto, unfolding(crate::specs::SystemCall::system_call, crate::specs::SystemCall::move_cap))]
 pub fn move_cap<T: Translator, L: Ledger>(
     machine: &mut Machine<T>,
     p: u16,
@@ -63,15 +94,11 @@ pub fn move_cap<T: Translator, L: Ledger>(
     ensures leaves { let outcome = move_cap (state_of machine.old) p in
         Leaves (process_name p ∷ outcome.changed) machine.old machine.new }
 {
-    let registers = machine.registers(p);
-    let (x10, x11) = (registers[10], registers[11]);
-    match SystemCall::from_number(registers[17]) {
-        Some(SystemCall::LoadCap) => load_cap(machine, p, records, x10, x11, fetches),
-        Some(SystemCall::StoreCap) => store_cap(machine, p, records, x10, x11, fetches),
-        Some(SystemCall::CopyCap) => copy_cap(machine, p, records, x10, x11, fetches),
+    match SystemCall::from_number(machine.registers(p)[17]) {
+        None => malformed(machine, p, records, fetches),
         Some(SystemCall::Invoke) => malformed(machine, p, records, fetches),
         Some(SystemCall::Yield) => malformed(machine, p, records, fetches),
-        None => malformed(machine, p, records, fetches),
+        Some(_) => system_call(machine, p, records, fetches),
     }
 }
 

@@ -1,86 +1,74 @@
 -- Ranges along events, case by case, and along runs.
-use Rattle.std.proofs.Common.{◌≡◌, ℕ, ◌+◌, ◌*◌, ◌<◌, ◌≤◌, ◌^◌, ◌%◌, ◌==◌, nat_le, ◌&&◌, ◌++◌, Bool, true, false, if◌then◌else◌, List, [], ◌∷◌, All, length, min, drop, slice_get, slice_index, slice_set, Option, Some, None, IfSome, Result, Ok, Err, refl, ap, ◌∙◌, arith}
+use Rattle.std.proofs.Common.{◌≡◌, ℕ, ◌+◌, ◌≤◌, ◌^◌, ◌==◌, ◌&&◌, ◌++◌, Bool, true, false, if◌then◌else◌, List, [], ◌∷◌, All, length, min, drop, slice_get, slice_index, slice_set, Option, Some, None, IfSome, refl, subst, arith}
 use Rattle.std.proofs.lemmas.Bool.{cond_both}
 use Rattle.std.proofs.lemmas.List.{length-map}
 use Rattle.std.proofs.lemmas.List.Elements.{All-map, All-set, All-drop}
 use Rattle.cap_format.specs.declared.kind.CapKind.{CapKind}
-use Rattle.cap_format.specs.declared.kind.CapKind.TheVariants.{Entry, KernLog, SysCtl}
+use Rattle.cap_format.specs.declared.kind.CapKind.TheVariants.{Entry}
 use Rattle.cap_format.specs.declared.code.Code.{Code}
 use Rattle.cap_format.specs.declared.code.Code.TheVariants.{Ok as OkCode, InvalidCap, UnknownRequest, NoAccess, RequestError, CountSpent, WouldBlock}
 use Rattle.cap_format.specs.declared.fault.FaultCode.{FaultCode}
-use Rattle.cap_format.specs.declared.fault.FaultCode.TheVariants.{BadAlign, BadOpcode, Breakpoint, MalformedSyscall}
 use Rattle.cap_format.specs.declared.item.Item.{Item}
 use Rattle.cap_format.specs.declared.request.Reply.{Reply}
 use Rattle.cap_format.specs.declared.request.Request.{Request}
 use Rattle.cap_format.specs.Codes.{reply_number}
-use Rattle.cap_format.specs.Kind.{is_memory}
+use Rattle.cap_format.specs.Kind.{is_memory, number_of}
 use Rattle.cap_format.specs.Capability.{Capability}
+use Rattle.cap_format.proofs.KindNumbers.{number_small}
 use Rattle.page_store.specs.Page.{with_bytes}
 use Rattle.page_store.specs.CapPage.{cap_at, with_cap}
 use Rattle.process_objects.specs.Accept.{AcceptValue}
 use Rattle.process_objects.specs.Process.{ProcessValue, capreg_of, with_pc, with_regs, with_capreg}
-use Rattle.object_store.specs.Store.{page_at, cappage_at, with_page, with_cappage}
-use Rattle.schedules.specs.Queues.{hart_of}
+use Rattle.object_store.specs.Store.{page_at, cappage_at}
 use Rattle.operations.specs.System.{System, Meant, system}
 use Rattle.operations.specs.Change.{item_in}
 use Rattle.operations.specs.Memory.{is_gpt, is_granted, kind_row, memory_operation}
 use Rattle.operations.specs.Request.{w1}
-use Rattle.operations.specs.Row.{Settled, nothing, refused, granted, settled, settled_row, reply_of}
+use Rattle.operations.specs.Row.{Row, Settled, refused, settled, settled_row, reply_of}
 use Rattle.operations.specs.Control.{control_operation}
-use Rattle.operations.proofs.Fits.{table_fits}
 use Rattle.invocation.specs.declared.callee.Callee.{Callee}
 use Rattle.invocation.specs.declared.callee.Callee.TheVariants.{Kernel, Open, Busy, Dead}
-use Rattle.invocation.specs.declared.malformed.MalformedSyscall.{MalformedSyscall as Malformed}
-use Rattle.invocation.specs.Invocation.{InvocationValue, parsed}
+use Rattle.invocation.specs.Invocation.{InvocationValue}
 use Rattle.invocation.specs.Answerer.{Answer as WhoAnswers, entered}
 use Rattle.invocation.specs.Answerer.Answer.{Dead as Nobody, Open as Receiver, Busy as Busied}
 use Rattle.invocation.specs.Target.{called_by, called as called_through, callee}
 use Rattle.string_move.specs.declared.piece.Piece.{Piece}
+use Rattle.string_move.specs.Spans.{spans}
 use Rattle.string_move.specs.Move.{size_of_pieces}
 use Rattle.walk_meaning.specs.declared.kind.Kind.{Kind}
-use Rattle.walk_meaning.specs.declared.kind.Kind.TheVariants.{Fetch, Load, Store as Put, CapLoad, CapStore}
-use Rattle.walk_meaning.specs.declared.place.Place.{Place}
-use Rattle.walk_meaning.specs.declared.place.WalkFault.{WalkFault}
-use Rattle.walk_engine.specs.declared.hit.Hit.{Hit}
+use Rattle.walk_meaning.specs.declared.kind.Kind.TheVariants.{Load, Store as Put}
+use Rattle.walk_meaning.specs.Walk.{is_data}
 use Rattle.rv32_decode.specs.declared.insn.Insn.{Insn}
 use Rattle.rv32_decode.specs.Table.{insn_at}
-use Rattle.rv32_user.specs.declared.effect.Effect.{Effect}
-use Rattle.rv32_user.specs.declared.effect.Effect.TheVariants.{Next, Load as LoadOf, Store as StoreOf, Syscall, Break, Misaligned}
 use Rattle.rv32_user.specs.Word.{next_of}
-use Rattle.rv32_user.specs.Step.{effect_of, registers_after, loaded}
 use Rattle.machine_state.specs.declared.event.Event.{Event}
-use Rattle.machine_state.specs.declared.event.Event.TheVariants.{Step, Tick}
-use Rattle.machine_state.specs.State.{State, process, register_of, pc_of, space_of, schedule_slot}
-use Rattle.machine_state.specs.Setters.{advance, dispatch, halted, leave, set_registers, set_capreg}
-use Rattle.machine_state.specs.Outcome.{Outcome, touched}
+use Rattle.machine_state.specs.State.{State, process, pc_of, schedule_slot}
+use Rattle.machine_state.specs.Setters.{advance, leave, set_registers, set_capreg}
+use Rattle.machine_state.specs.Outcome.{Outcome}
 use Rattle.machine_state.specs.Outcome.Touch.{GptCall}
-use Rattle.machine_state.specs.DataAccess.{data_access, data_touch, number_at, bytes_of}
-use Rattle.machine_state.specs.CapAccess.{cap_access, cap_found, slot_in}
+use Rattle.machine_state.specs.DataAccess.{bytes_of}
+use Rattle.machine_state.specs.CapAccess.{slot_in}
 use Rattle.machine_state.specs.Messaging.{told_state}
 use Rattle.machine_state.specs.Operation.{first_sent, request_of, change_touches, changed_by}
 use Rattle.machine_state.specs.Reply.{answered, replied_with, replied, set_reply}
 use Rattle.messages.specs.declared.string_fault.StringFault.{StringFault}
-use Rattle.messages.specs.Fault.{fault, malformed}
-use Rattle.messages.specs.Strings.{side_outcome}
-use Rattle.messages.specs.Message.{accept_in, sent_side, received_side, bytes_moved, message_of, sent_off, message_told, delivered, sent_on, sent_by_fault, send_open}
+use Rattle.messages.specs.Fault.{fault}
+use Rattle.messages.specs.Strings.{side, side_outcome}
+use Rattle.messages.specs.Message.{accept_in, sent_side, received_side, bytes_moved, message_of, sent_off, message_told, delivered}
 use Rattle.messages.specs.Waiting.{wait_on, listening_from, listen}
-use Rattle.kernel_core.specs.declared.system_call.SystemCall.{SystemCall}
-use Rattle.kernel_core.specs.declared.system_call.SystemCall.TheVariants.{Invoke, LoadCap, StoreCap, CopyCap, Yield}
-use Rattle.kernel_core.specs.LoadStore.{load, loaded_from, store, stored_to}
-use Rattle.kernel_core.specs.CapTransfer.{load_cap, cap_loaded_from, store_cap, cap_stored_to}
-use Rattle.kernel_core.specs.KernelOperation.{asked_number, answered_call, memory_op, destroyed_by, is_end_of, control_op, kind_table, sysctl_op, is_no_log, logged_side, logged, log_string, kernlog_op, asked_for, kernel_op}
-use Rattle.kernel_core.specs.SystemCall.{call_with, copy_cap, moved, move_cap, Sending, sent_to, send, received_after, invoked, invoke, called, system_call}
-use Rattle.kernel_core.specs.Instruction.{performed, perform}
-use Rattle.kernel_core.specs.Event.{decoded_to, fetched_from, instruction, stepped, tick_of, event_by, event_of}
-use Rattle.kernel_core.specs.Run.{run_state, run_touches}
-use Rattle.shared_economy.specs.Accesses.{IsAccess, AreAccesses}
+use Rattle.kernel_core.specs.KernelOperation.{memory_op, destroyed_by, is_end_of, control_op, kind_table}
+use Rattle.kernel_core.specs.Run.{run_of}
+use Rattle.kernel_core.specs.Induction.{Notions, alone, Origins, Parts, Cases}
+use Rattle.kernel_core.proofs.Ran.{run_of-state, run_of-touches}
+use Rattle.kernel_core.proofs.Induction.{of_runs}
+use Rattle.shared_economy.specs.Accesses.{AreAccesses}
 use Rattle.run_ranges.specs.Ranges.{IsModelCap, IsWord, IsByte, IsRangedProcess, AreInRanges}
 use Rattle.run_ranges.specs.Laws.{RunsKeepRanges, RunsAreAccesses}
 use Rattle.run_ranges.proofs.Words.{HasOperand, IsWordEffect, insn_at-operand, effect-small, registers-small, loaded-small, bytes_of-bytes, word_at}
 use Rattle.run_ranges.proofs.Objects.{null-in, process-in, page-in, cappage-in, cap-in, capreg-in, reg-in, with_pc-in, with_reg-in, with_regs-in, with_capreg-in, with_process-in, with_page-in, with_cappage-in}
 use Rattle.run_ranges.proofs.Messages.{IsRangedMessage, IsHandler, IsHitAnswer, IsPlaceAnswer, readied_at-in, told_state-in, waiting_state-in, listening_state-in, cap_access-answer, data_access-answer, payload-small, fault_state-in}
-use Rattle.run_ranges.proofs.Rows.{IsRangedAnswer, applied_all-in, read_through-in, kind-in, refusal-in, zeros-in, memory-in, control-in}
-use Rattle.run_ranges.proofs.Strings.{IsRangedInvocation, IsParsed, parsed-in, accepted-in, IsKept, accesses-append, kept-followed, access-in, IsStringAnswer, IsRangedSide, string_side-in, with_bytes-in, copied-in}
+use Rattle.run_ranges.proofs.Rows.{three-in, IsRangedAnswer, applied_all-in, read_through-in, zeros-in, memory-in, control-in}
+use Rattle.run_ranges.proofs.Strings.{IsRangedInvocation, IsParsed, parsed-in, accepted-in, IsKept, kept-followed, access-in, IsStringAnswer, IsRangedSide, string_side-in, with_bytes-in, copied-in}
 
 -- ---- one process
 
@@ -105,12 +93,6 @@ module _ (s : State) (r : AreInRanges s.store) (p : ℕ) where
   fault-kept : (code : FaultCode) (address : ℕ) → IsWord address → (handler : Option Capability) → IsHandler s p handler → IsKept (fault s p code address handler)
   unfolding fault
   fault-kept code address word handler is = (tt, fault_state-in s r p code address word handler is)
-
-  malformed-kept : IsKept (malformed s p)
-  malformed-kept = fault-kept MalformedSyscall (pc_of s p) pc-in None (tt, λ past. refl)
-
-  misaligned-kept : (at : ℕ) → IsWord at → IsKept (fault s p BadAlign at None)
-  misaligned-kept at word = fault-kept BadAlign at word None (tt, λ past. refl)
 
   wait-kept : (q : ℕ) → IsKept (wait_on s p q)
   unfolding wait_on
@@ -152,30 +134,6 @@ delivered-kept s r p e q inv is from to word =
     let moved_first = bytes_moved s from to in
     kept-followed moved_first (message_told moved_first.state p e q inv (size_of_pieces to)) (moved-kept s r from to)
     (message-kept moved_first.state (moved-kept s r from to).1 p e q inv is (size_of_pieces to) word)
-
-sent_on-kept : (s : State) → AreInRanges s.store → (p e q : ℕ) (inv : InvocationValue) → IsRangedInvocation inv → (from : List Piece) → IsKept (sent_on s p e q inv from)
-sent_on-kept s r p e q inv is from =
-    let to = received_side s q inv.length in
-    let accept = accept_in s q in
-    let room = accepted-in (process s q).state (process-in s.store r q).state in
-    let len = min inv.length accept.bound in
-    let x : IsRangedSide s r q accept.at (accept.at + len) to = string_side-in s r q Put refl accept.at len (omega (arith, room)) in
-    let bytes = x.bytes in
-    let most = is.bytes in
-    kept-followed (side_outcome s to) (delivered s p e q inv from to.pieces) (x.touches, r)
-    (delivered-kept s r p e q inv is from to.pieces (omega (arith, bytes, most)))
-
-sent_by_fault-kept : (s : State) (r : AreInRanges s.store) (p e q : ℕ) (inv : InvocationValue) → IsRangedInvocation inv → (from : List Piece) (f : Option StringFault) → IsStringAnswer s r p f → IsKept (sent_by_fault s p e q inv from f)
-sent_by_fault-kept s r p e q inv is from None has = sent_on-kept s r p e q inv is from
-sent_by_fault-kept s r p e q inv is from (Some f) has = fault-kept s r p f.why.code f.address has.0 f.why.handler has.1
-
-send_open-kept : (s : State) → AreInRanges s.store → (p e q : ℕ) (inv : InvocationValue) → IsRangedInvocation inv → IsKept (send_open s p e q inv)
-unfolding send_open
-send_open-kept s r p e q inv is =
-    let from = sent_side s p inv in
-    let x : IsRangedSide s r p inv.at (inv.at + inv.length) from = string_side-in s r p Load refl inv.at inv.length is.string in
-    kept-followed (side_outcome s from) (sent_by_fault s p e q inv from.pieces from.fault) (x.touches, r)
-    (sent_by_fault-kept s r p e q inv is from.pieces from.fault x.fault)
 
 -- ---- replies
 
@@ -222,8 +180,12 @@ settled-reply w settled is = record { words = is.words; cap = is.cap }
 nothing-reply : (code : Code) → IsRangedReply (reply_of (refused code))
 nothing-reply code = record { words = zeros-in; cap = tt }
 
-answered_call-kept : (s : State) → AreInRanges s.store → (p : ℕ) (inv : InvocationValue) (reply : Reply) → IsRangedReply reply → IsKept (answered_call s p inv reply)
-answered_call-kept s r p inv reply is = (tt, set_reply-in (advance s p) (advance-in s r p) p inv.accept reply is)
+kind-reply : (cap : Capability) (number : ℕ) → IsRangedReply (reply_of (settled_row (kind_table cap number)))
+unfolding kind_row
+kind-reply cap number =
+    cond_both (number == 0) _ _ (λ (row : Option Row). IsRangedReply (reply_of (settled_row row)))
+    (λ e. record { words = three-in (number_of cap.kind) 0 0 (let small = number_small cap.kind in omega (arith, small)) (omega arith) (omega arith); cap = tt })
+    (λ e. nothing-reply UnknownRequest)
 
 -- ---- operations of the kernel
 
@@ -266,250 +228,146 @@ module _ (s : State) (r : AreInRanges s.store) (p : ℕ) (inv : InvocationValue)
             (λ e. set_reply-in (changed_by s settled.answer.changes) changed p inv.accept (reply_of settled) (settled-reply (system s.store s.queues) settled answer)),
       )
 
-  kind_table-reply : (number : ℕ) → IsRangedReply (reply_of (settled_row (kind_table cap number)))
-  kind_table-reply number =
-      settled-reply (system s.store s.queues) (settled_row (kind_table cap number))
-      (table_fits (λ (settled : Settled). IsRangedAnswer (system s.store s.queues) settled.answer) (number == 0) (kind_row cap) None
-      (kind-in s.store s.queues r cap model request is.words sent-in) (refusal-in s.store s.queues r cap model request is.words sent-in UnknownRequest))
+-- the kernel is asked through a capability of the model
+abbrev IsModelCallee : Callee → Type 0
+IsModelCallee (Kernel cap) = IsModelCap cap
+IsModelCallee (Open e q) = Unit {0}
+IsModelCallee (Busy q) = Unit {0}
+IsModelCallee Dead = Unit {0}
 
-  logged-kept : (pieces : List Piece) (f : Option StringFault) → IsStringAnswer s r p f → IsKept (logged s p inv pieces f)
-  logged-kept pieces None has = answered_call-kept s r p inv (reply_of (granted nothing)) (record { words = zeros-in; cap = tt })
-  logged-kept pieces (Some f) has = fault-kept s r p f.why.code f.address has.0 f.why.handler has.1
+callee-in : (s : State) (cap : Capability) → IsModelCap cap → IsModelCallee (callee s.store cap)
+unfolding callee
+callee-in s cap model = by cap.kind
+  where
+    answers : (answer : WhoAnswers) → IsModelCallee (called_by answer)
+    answers Nobody = tt
+    answers (Receiver e q) = tt
+    answers (Busied q) = tt
 
-  log_string-kept : IsKept (log_string s p inv)
-  unfolding log_string
-  log_string-kept =
-      let string = logged_side s p inv in
-      let x : IsRangedSide s r p inv.at (inv.at + inv.length) string = string_side-in s r p Load refl inv.at inv.length is.string in
-      kept-followed (side_outcome s string) (logged s p inv string.pieces string.fault) (x.touches, r) (logged-kept string.pieces string.fault x.fault)
+    by : (kind : CapKind) → IsModelCallee (called_through s.store kind cap)
+    by Entry = answers (entered s.store cap.object cap.payload)
+    by kind = model
 
-  kernlog-kept : IsKept (kernlog_op s p inv cap)
-  unfolding kernlog_op
-  kernlog-kept =
-      cond_both (asked_number inv == 8) _ _ IsKept
-      (λ e. cond_both (is_no_log inv.length) _ _ IsKept (λ f. answered_call-kept s r p inv (reply_of (refused RequestError)) (nothing-reply RequestError)) (λ f. log_string-kept))
-      (λ e. answered_call-kept s r p inv (reply_of (settled_row (kind_table cap (asked_number inv)))) (kind_table-reply (asked_number inv)))
+-- ---- every part
 
-  sysctl-kept : IsKept (sysctl_op s p inv cap)
-  unfolding sysctl_op
-  sysctl-kept =
-      cond_both (asked_number inv == 8) _ _ IsKept
-      (λ e. answered_call-kept (halted s) r p inv (reply_of (granted nothing)) (record { words = zeros-in; cap = tt }))
-      (λ e. answered_call-kept s r p inv (reply_of (settled_row (kind_table cap (asked_number inv)))) (kind_table-reply (asked_number inv)))
+-- states whose objects are in their ranges, of which any process reads what is in its range
+abbrev ranged : Notions
+ranged = record {
+  holds = λ s. AreInRanges s.store;
+  by = λ p. Unit {0};
+  over = λ e. Unit {0};
+  word = λ number. IsWord number;
+  regs = λ registers. All IsWord registers;
+  has = λ c. IsModelCap c;
+  handler = λ s p c. IsHandler s p c;
+  reply = λ reply. IsRangedReply reply;
+  does = λ effect. IsWordEffect effect;
+  asks = λ inv. IsRangedInvocation inv;
+}
 
-module _ (s : State) (r : AreInRanges s.store) (p : ℕ) (inv : InvocationValue) (is : IsRangedInvocation inv) where
-  others-kept : (cap : Capability) → IsModelCap cap → (memory : Bool) → is_memory cap.kind ≡ memory → IsKept (if memory then memory_op (advance s p) p inv cap else control_op (advance s p) p inv cap)
-  others-kept cap model true e = memory-kept (advance s p) (advance-in s r p) p inv is cap model e
-  others-kept cap model false e = control-kept (advance s p) (advance-in s r p) p inv is cap model
+abbrev Kept : State → Outcome → Type 0
+Kept s o = IsKept o
 
-  asked-kept : (cap : Capability) → IsModelCap cap → (kind : CapKind) → cap.kind ≡ kind → IsKept (asked_for s p inv kind cap)
-  asked-kept cap model KernLog e = kernlog-kept s r p inv is cap model
-  asked-kept cap model SysCtl e = sysctl-kept s r p inv is cap model
-  asked-kept cap model kind e = others-kept cap model (is_memory kind) (ap is_memory e)
+operand : (word : ℕ) (insn : Insn) → insn_at word ≡ Some insn → HasOperand insn
+operand word insn e = subst (λ (found : Option Insn). IfSome found HasOperand) e (insn_at-operand word)
 
-  kernel_op-kept : (cap : Capability) → IsModelCap cap → IsKept (kernel_op s p inv cap)
-  unfolding kernel_op
-  kernel_op-kept cap model = asked-kept cap model cap.kind refl
+sent-answer : (s : State) (r : AreInRanges s.store) (p : ℕ) (inv : InvocationValue) (f : StringFault) → IsRangedInvocation inv → (sent_side s p inv).fault ≡ Some f → IsStringAnswer s r p (Some f)
+sent-answer s r p inv f is e =
+    let x : IsRangedSide s r p inv.at (inv.at + inv.length) (sent_side s p inv) = string_side-in s r p Load refl inv.at inv.length is.string in
+    subst (IsStringAnswer s r p) e x.fault
 
-  -- ---- system calls
+origins : Origins ranged
+origins = record {
+  register = λ s p i r own. reg-in s.store r p i;
+  capreg = λ s p i r own. capreg-in s.store r p i;
+  pc = λ s p r own. pc-in s r p;
+  next = next-word;
+  effect = λ s p word insn r own e. effect-small (process s p).regs (pc_of s p) (process-in s.store r p).regs insn (operand word insn e);
+  computed = λ s p word insn r own e. registers-small (process s p).regs (pc_of s p) (process-in s.store r p).regs insn (operand word insn e);
+  target = λ pc does. does;
+  load = λ at size signed rd does. does.0;
+  store = λ at size value does. does;
+  misaligned = λ target does. does;
+  loads = λ s p at size signed rd hit r own does e. loaded-small (process s p).regs rd size signed (drop hit.offset (page_at s.store hit.page)) does.1 (All-drop IsByte hit.offset (page_at s.store hit.page) (page-in s.store r hit.page)) (process-in s.store r p).regs;
+  found = λ s p at place r own e. read_through-in place.restr.0 (cap_at (cappage_at s.store place.number) (slot_in place)) (cap-in s.store r place.number (slot_in place));
+  unhandled = λ s p. (tt, λ past. refl);
+  handled = λ s p at kind f r own e. subst (IsHitAnswer s p) e (data_access-answer s r p at kind);
+  cap_handled = λ s p at kind f r own e. subst (IsPlaceAnswer s p) e (cap_access-answer s r p at kind);
+  asked = λ s p inv r own e. subst IsParsed e (parsed-in (process s p).regs (process-in s.store r p).regs);
+  kernel = λ s c cap r model e. subst IsModelCallee e (callee-in s c model);
+  busy = λ s c q r model e. tt;
+  open_by = λ s c e q r model is. tt;
+  open_over = λ s c e q r model is. tt;
+  sent_at = λ s p inv f r own is e. (sent-answer s r p inv f is e).0;
+  sent_handled = λ s p inv f r own is e. (sent-answer s r p inv f is e).1;
+  refusal = nothing-reply;
+  grant = record { words = zeros-in; cap = tt };
+  kind = λ cap number model. kind-reply cap number;
+}
 
-  -- the kernel is asked through a capability of the model
-  abbrev IsModelCallee : Callee → Type 0
-  IsModelCallee (Kernel cap) = IsModelCap cap
-  IsModelCallee (Open e q) = Unit {0}
-  IsModelCallee (Busy q) = Unit {0}
-  IsModelCallee Dead = Unit {0}
+parts : Parts (Unit {0}) ranged (alone ranged Kept)
+parts = record {
+  left = λ s o kept. kept.1;
+  idle = λ s r. (tt, r);
+  told = λ s record_is o kept. kept;
+  named = λ s name o kept. kept;
+  walked = λ s p at kind o r own word is kept. ((access-in (s tt) r p at kind word is, kept.0), kept.1);
+  cap_walked = λ s p at kind o r own kept. kept;
+  behind = λ s o u first second. kept-followed (o tt) (u tt) first second;
+}
 
-  callee-in : (cap : Capability) → IsModelCap cap → IsModelCallee (callee s.store cap)
-  unfolding callee
-  callee-in cap model = by cap.kind
-    where
-      answers : (answer : WhoAnswers) → IsModelCallee (called_by answer)
-      answers Nobody = tt
-      answers (Receiver e q) = tt
-      answers (Busied q) = tt
+string-kept : (s : State) (r : AreInRanges s.store) (p : ℕ) (kind : Kind) → is_data kind ≡ true → (at len : ℕ) → at + len ≤ 2 ^ 32 → IsKept (side_outcome s (side s p kind (spans at len)))
+string-kept s r p kind is at len low =
+    let x : IsRangedSide s r p at (at + len) (side s p kind (spans at len)) = string_side-in s r p kind is at len low in
+    (x.touches, r)
 
-      by : (kind : CapKind) → IsModelCallee (called_through s.store kind cap)
-      by Entry = answers (entered s.store cap.object cap.payload)
-      by kind = model
+module _ (s : State) (r : AreInRanges s.store) (q : ℕ) (inv : InvocationValue) (is : IsRangedInvocation inv) where
+  -- the bytes that a process accepts of a message
+  abbrev bytes_in : ℕ
+  bytes_in = min inv.length (accept_in s q).bound
 
-  sent_to-kept : (answers : Callee) → IsModelCallee answers → IsKept (sent_to s p inv answers).outcome
-  sent_to-kept (Kernel cap) model = kernel_op-kept cap model
-  sent_to-kept Dead model = answered_call-kept s r p inv (reply_of (refused InvalidCap)) (nothing-reply InvalidCap)
-  sent_to-kept (Busy q) model =
-      cond_both inv.nonblocking _ _ IsKept (λ e. answered_call-kept s r p inv (reply_of (refused WouldBlock)) (nothing-reply WouldBlock)) (λ e. wait-kept s r p q)
-  sent_to-kept (Open e q) model = send_open-kept s r p e q inv is
+  accept-low : (accept_in s q).at + bytes_in ≤ 2 ^ 32
+  accept-low = let room = accepted-in (process s q).state (process-in s.store r q).state in omega (arith, room)
 
-  send-kept : IsKept (send s p inv).outcome
-  unfolding send
-  send-kept = sent_to-kept (callee s.store (capreg_of (process s p) inv.capreg)) (callee-in (capreg_of (process s p) inv.capreg) (capreg-in s.store r p inv.capreg))
+  received-word : IsWord (size_of_pieces (received_side s q inv.length).pieces)
+  received-word =
+      let x : IsRangedSide s r q (accept_in s q).at ((accept_in s q).at + bytes_in) (received_side s q inv.length) = string_side-in s r q Put refl (accept_in s q).at bytes_in accept-low in
+      let bytes = x.bytes in
+      let most = is.bytes in
+      omega (arith, bytes, most)
 
-  received-kept : (sending : Sending) → IsKept sending.outcome → IsKept (received_after p inv sending)
-  received-kept sending sent =
-      cond_both (sending.delivers && inv.receive) _ _ IsKept
-      (λ e. kept-followed sending.outcome (listen sending.outcome.state p inv) sent (listen-kept sending.outcome.state sent.1 p inv is))
-      (λ e. sent)
+cases : Cases (Unit {0}) ranged (alone ranged Kept)
+cases = record {
+  pc_is = λ s p pc r own word. (tt, with_process-in (s tt).store r p (with_pc (process (s tt) p) pc) (with_pc-in (process (s tt) p) (process-in (s tt).store r p) pc word));
+  regs_are = λ s p registers r own words. (tt, set_registers-in (s tt) r p registers words);
+  capreg_is = λ s p j c r own model. (tt, set_capreg-in (s tt) r p j c model);
+  replied = λ s p accept reply r own is. (tt, set_reply-in (s tt) r p accept reply is);
+  page_is = λ s p at hit size value r own e.
+      let page = page_at (s tt).store hit.page in
+      (tt, with_page-in (s tt).store r hit.page (with_bytes page hit.offset (bytes_of size value)) (with_bytes-in page hit.offset (bytes_of size value) (page-in (s tt).store r hit.page) (bytes_of-bytes size value)));
+  cappage_is = λ s p at place c r own model e.
+      let page = cappage_at (s tt).store place.number in
+      (tt, with_cappage-in (s tt).store r place.number (with_cap page (slot_in place) c) (All-set IsModelCap page (slot_in place) c model (cappage-in (s tt).store r place.number)));
+  ready_again = λ s p r own. (tt, readied_at-in (s tt).store r (schedule_slot (s tt) p) p (leave (s tt) p).queues);
+  halts = λ s r. (tt, r);
+  faults = λ s p code address handler r own word is. fault-kept (s tt) r p code address word handler is;
+  waits = λ s p q r own other. wait-kept (s tt) r p q;
+  listens = λ s p inv r own is. listen-kept (s tt) r p inv is;
+  sends = λ s p inv r own is. string-kept (s tt) r p Load refl inv.at inv.length is.string;
+  receives = λ s q inv r own is. string-kept (s tt) r q Put refl (accept_in (s tt) q).at (bytes_in (s tt) r q inv is) (accept-low (s tt) r q inv is);
+  delivers = λ s p e q inv r own over other is. delivered-kept (s tt) r p e q inv is (sent_side (s tt) p inv).pieces (received_side (s tt) q inv.length).pieces (received-word (s tt) r q inv is);
+  memory = λ s p inv cap r own is model memory. memory-kept (s tt) r p inv is cap model memory;
+  control = λ s p inv cap r own is model. control-kept (s tt) r p inv is cap model;
+}
 
--- an access of data in front
-touched-kept : (s : State) (p at : ℕ) (kind : Kind) (o : Outcome) → IsAccess s.store.items (space_of s p) at kind → IsKept o → IsKept (touched (data_touch s p at kind) o)
-touched-kept s p at kind o access kept = ((access, kept.0), kept.1)
+-- ---- runs
 
-module _ (s : State) (r : AreInRanges s.store) (p : ℕ) where
-  invoked-kept : (answer : Result InvocationValue Malformed) → IsParsed answer → IsKept (invoked s p answer)
-  invoked-kept (Err why) is = malformed-kept s r p
-  invoked-kept (Ok inv) is = cond_both inv.send _ _ IsKept (λ e. received-kept s r p inv is (send s p inv) (send-kept s r p inv is)) (λ e. listen-kept s r p inv is)
-
-  invoke-kept : IsKept (invoke s p)
-  unfolding invoke
-  invoke-kept = invoked-kept (parsed (process s p).regs) (parsed-in (process s p).regs (process-in s.store r p).regs)
-
-  -- ---- loads, stores and capabilities
-
-  loaded-kept : (at size : ℕ) (signed : Bool) (rd : ℕ) (answer : Result Hit WalkFault) → IsWord at → size ≤ 4 → IsHitAnswer s p answer → IsKept (loaded_from s p at size signed rd answer)
-  loaded-kept at size signed rd (Ok hit) word few is =
-      let regs = loaded-small (process s p).regs rd size signed (drop hit.offset (page_at s.store hit.page)) few (All-drop IsByte hit.offset (page_at s.store hit.page) (page-in s.store r hit.page)) (process-in s.store r p).regs in
-      let t = set_registers s p (loaded (process s p).regs rd size signed (number_at s hit size)) in
-      (tt, advance-in t (set_registers-in s r p (loaded (process s p).regs rd size signed (number_at s hit size)) regs) p)
-  loaded-kept at size signed rd (Err f) word few is = fault-kept s r p f.code at word f.handler is
-
-  load-kept : (at size : ℕ) (signed : Bool) (rd : ℕ) → IsWord at → size ≤ 4 → IsKept (load s p at size signed rd)
-  unfolding load
-  load-kept at size signed rd word few =
-      cond_both (at % size == 0) _ _ IsKept
-      (λ e. touched-kept s p at Load (loaded_from s p at size signed rd (data_access s p at Load)) (access-in s r p at Load word refl) (loaded-kept at size signed rd (data_access s p at Load) word few (data_access-answer s r p at Load)))
-      (λ e. misaligned-kept s r p at word)
-
-  stored-kept : (at size value : ℕ) (answer : Result Hit WalkFault) → IsWord at → IsHitAnswer s p answer → IsKept (stored_to s p at size value answer)
-  stored-kept at size value (Ok hit) word is =
-      let page = page_at s.store hit.page in
-      let bytes = with_bytes page hit.offset (bytes_of size value) in
-      let t : State = record { store = with_page s.store hit.page bytes; queues = s.queues; halted = s.halted } in
-      (tt, advance-in t (with_page-in s.store r hit.page bytes (with_bytes-in page hit.offset (bytes_of size value) (page-in s.store r hit.page) (bytes_of-bytes size value))) p)
-  stored-kept at size value (Err f) word is = fault-kept s r p f.code at word f.handler is
-
-  store-kept : (at size value : ℕ) → IsWord at → IsKept (store s p at size value)
-  unfolding store
-  store-kept at size value word =
-      cond_both (at % size == 0) _ _ IsKept
-      (λ e. touched-kept s p at Put (stored_to s p at size value (data_access s p at Put)) (access-in s r p at Put word refl) (stored-kept at size value (data_access s p at Put) word (data_access-answer s r p at Put)))
-      (λ e. misaligned-kept s r p at word)
-
-  cap_loaded-kept : (at to : ℕ) (answer : Result Place WalkFault) → IsWord at → IsPlaceAnswer s p answer → IsKept (cap_loaded_from s p at to answer)
-  cap_loaded-kept at to (Ok place) word is =
-      let found = read_through-in place.restr.0 (cap_at (cappage_at s.store place.number) (slot_in place)) (cap-in s.store r place.number (slot_in place)) in
-      (tt, advance-in (set_capreg s p to (cap_found s place)) (set_capreg-in s r p to (cap_found s place) found) p)
-  cap_loaded-kept at to (Err f) word is = fault-kept s r p f.code at word f.handler is
-
-  load_cap-kept : (at to : ℕ) → IsWord at → IsKept (load_cap s p at to)
-  unfolding load_cap
-  load_cap-kept at to word =
-      cond_both (nat_le to 31) _ _ IsKept
-      (λ e. cond_both (at % 16 == 0) _ _ IsKept (λ f. cap_loaded-kept at to (cap_access s p at CapLoad) word (cap_access-answer s r p at CapLoad)) (λ f. misaligned-kept s r p at word))
-      (λ e. malformed-kept s r p)
-
-  cap_stored-kept : (at from : ℕ) (answer : Result Place WalkFault) → IsWord at → IsPlaceAnswer s p answer → IsKept (cap_stored_to s p at from answer)
-  cap_stored-kept at from (Ok place) word is =
-      let page = cappage_at s.store place.number in
-      let cap = capreg_of (process s p) from in
-      let t : State = record { store = with_cappage s.store place.number (with_cap page (slot_in place) cap); queues = s.queues; halted = s.halted } in
-      (tt, advance-in t (with_cappage-in s.store r place.number (with_cap page (slot_in place) cap) (All-set IsModelCap page (slot_in place) cap (capreg-in s.store r p from) (cappage-in s.store r place.number))) p)
-  cap_stored-kept at from (Err f) word is = fault-kept s r p f.code at word f.handler is
-
-  store_cap-kept : (at from : ℕ) → IsWord at → IsKept (store_cap s p at from)
-  unfolding store_cap
-  store_cap-kept at from word =
-      cond_both (nat_le from 31) _ _ IsKept
-      (λ e. cond_both (at % 16 == 0) _ _ IsKept (λ f. cap_stored-kept at from (cap_access s p at CapStore) word (cap_access-answer s r p at CapStore)) (λ f. misaligned-kept s r p at word))
-      (λ e. malformed-kept s r p)
-
-  copy_cap-kept : (from to : ℕ) → IsKept (copy_cap s p from to)
-  unfolding copy_cap
-  copy_cap-kept from to =
-      let cap = capreg_of (process s p) from in
-      cond_both (nat_le from 31 && nat_le to 31) _ _ IsKept (λ e. (tt, advance-in (set_capreg s p to cap) (set_capreg-in s r p to cap (capreg-in s.store r p from)) p)) (λ e. malformed-kept s r p)
-
-  cap_moved-kept : (call : Option SystemCall) → IsKept (moved s p call)
-  cap_moved-kept (Some LoadCap) = load_cap-kept (register_of s p 10) (register_of s p 11) (reg-in s.store r p 10)
-  cap_moved-kept (Some StoreCap) = store_cap-kept (register_of s p 10) (register_of s p 11) (reg-in s.store r p 10)
-  cap_moved-kept (Some CopyCap) = copy_cap-kept (register_of s p 10) (register_of s p 11)
-  cap_moved-kept call = malformed-kept s r p
-
-  move_cap-kept : IsKept (move_cap s p)
-  unfolding move_cap
-  move_cap-kept = cap_moved-kept (call_with (register_of s p 17))
-
-  called-kept : (call : Option SystemCall) → IsKept (called s p call)
-  called-kept None = malformed-kept s r p
-  called-kept (Some Invoke) = invoke-kept
-  called-kept (Some Yield) = (tt, readied_at-in (advance s p).store (advance-in s r p) (schedule_slot (advance s p) p) p (leave (advance s p) p).queues)
-  called-kept (Some LoadCap) = move_cap-kept
-  called-kept (Some StoreCap) = move_cap-kept
-  called-kept (Some CopyCap) = move_cap-kept
-
-  system_call-kept : IsKept (system_call s p)
-  unfolding system_call
-  system_call-kept = called-kept (call_with (register_of s p 17))
-
-  -- ---- instructions
-
-  performed-kept : (insn : Insn) → HasOperand insn → (effect : Effect) → IsWordEffect effect → IsKept (performed s p insn effect)
-  performed-kept insn has (Next pc) word =
-      let regs = registers_after (process s p).regs (pc_of s p) insn in
-      let t = set_registers s p regs in
-      let ranged = set_registers-in s r p regs (registers-small (process s p).regs (pc_of s p) (process-in s.store r p).regs insn has) in
-      (tt, with_process-in t.store ranged p (with_pc (process t p) pc) (with_pc-in (process t p) (process-in t.store ranged p) pc word))
-  performed-kept insn has (LoadOf at size signed rd) word = load-kept at size signed rd word.0 word.1
-  performed-kept insn has (StoreOf at size value) word = store-kept at size value word
-  performed-kept insn has Syscall word = system_call-kept
-  performed-kept insn has Break word = fault-kept s r p Breakpoint (pc_of s p) (pc-in s r p) None (tt, λ past. refl)
-  performed-kept insn has (Misaligned target) word = misaligned-kept s r p target word
-
-  perform-kept : (insn : Insn) → HasOperand insn → IsKept (perform s p insn)
-  unfolding perform
-  perform-kept insn has =
-      performed-kept insn has (effect_of (process s p).regs (pc_of s p) insn) (effect-small (process s p).regs (pc_of s p) (process-in s.store r p).regs insn has)
-
-  decoded-kept : (insn : Option Insn) → IfSome insn HasOperand → IsKept (decoded_to s p insn)
-  decoded-kept None has = fault-kept s r p BadOpcode (pc_of s p) (pc-in s r p) None (tt, λ past. refl)
-  decoded-kept (Some insn) has = perform-kept insn has
-
-  fetched-kept : (answer : Result Hit WalkFault) → IsHitAnswer s p answer → IsKept (fetched_from s p answer)
-  fetched-kept (Ok hit) is = decoded-kept (insn_at (number_at s hit 4)) (insn_at-operand (number_at s hit 4))
-  fetched-kept (Err f) is = fault-kept s r p f.code (pc_of s p) (pc-in s r p) f.handler is
-
-  instruction-kept : IsKept (instruction s p)
-  unfolding instruction
-  instruction-kept =
-      touched-kept s p (pc_of s p) Fetch (fetched_from s p (data_access s p (pc_of s p) Fetch)) (access-in s r p (pc_of s p) Fetch (pc-in s r p) refl)
-      (fetched-kept (data_access s p (pc_of s p) Fetch) (data_access-answer s r p (pc_of s p) Fetch))
-
--- ---- events and runs
-
-stepped-kept : (s : State) → AreInRanges s.store → (on : Option ℕ) → IsKept (stepped s on)
-stepped-kept s r None = (tt, r)
-stepped-kept s r (Some p) = instruction-kept s r p
-
-ticked-kept : (s : State) → AreInRanges s.store → (on : Option ℕ) → IsKept (tick_of s on)
-ticked-kept s r None = (tt, r)
-ticked-kept s r (Some p) = (tt, readied_at-in s.store r (schedule_slot s p) p (leave s p).queues)
-
-event_by-kept : (s : State) → AreInRanges s.store → (e : Event) → IsKept (event_by s e)
-unfolding event_by
-event_by-kept s r (Step hart) = stepped-kept (dispatch s hart) r (hart_of (dispatch s hart).queues hart)
-event_by-kept s r (Tick hart) = ticked-kept s r (hart_of s.queues hart)
-
--- of every event
-pub event-kept : (s : State) → AreInRanges s.store → (e : Event) → IsKept (event_of s e)
-event-kept s r e = cond_both s.halted _ _ IsKept (λ h. (tt, r)) (λ h. event_by-kept s r e)
+run-kept : (s : State) (events : List Event) → AreInRanges s.store → IsKept (run_of s events)
+run-kept s events r = of_runs ranged Kept origins parts cases (λ p. tt) (λ t hart h. (tt, h)) s r events
 
 -- of every run
 pub run-ranges : RunsKeepRanges
-unfolding run_state
-run-ranges s [] r = r
-run-ranges s (e ∷ events) r = run-ranges (event_of s e).state events (event-kept s r e).1
+run-ranges s events r = subst (λ (t : State). AreInRanges t.store) (run_of-state s events) (run-kept s events r).1
 
 pub run-accesses : RunsAreAccesses
-unfolding run_touches
-run-accesses s [] r = tt
-run-accesses s (e ∷ events) r =
-    accesses-append (event_of s e).touches (run_touches (event_of s e).state events) (event-kept s r e).0 (run-accesses (event_of s e).state events (event-kept s r e).1)
+run-accesses s events r = subst AreAccesses (run_of-touches s events) (run-kept s events r).0

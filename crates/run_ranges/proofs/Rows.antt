@@ -1,5 +1,5 @@
 -- Operations of the kernel, row by row: what changes and what is told is in its ranges.
-use Rattle.std.proofs.Common.{◌≡◌, ℕ, ◌+◌, ◌-◌, ◌*◌, ◌/◌, ◌%◌, ◌<◌, ◌≤◌, ◌^◌, ◌==◌, nat_lt, nat_le, not, ◌&&◌, ◌||◌, Bool, true, false, true≢false, if◌then◌else◌, List, [], ◌∷◌, All, slice_index, Option, Some, None, IfSome, refl, sym, ap, ◌∙◌, subst, arith}
+use Rattle.std.proofs.Common.{◌≡◌, ℕ, ◌+◌, ◌-◌, ◌*◌, ◌%◌, ◌<◌, ◌≤◌, ◌^◌, ◌==◌, nat_lt, nat_le, not, ◌&&◌, ◌||◌, Bool, true, false, true≢false, List, [], ◌∷◌, All, slice_index, Option, Some, None, IfSome, refl, sym, ap, ◌∙◌, subst, arith}
 use Rattle.std.proofs.lemmas.Bool.{cond_both, and_parts, or_parts, ltb-true, ltb-false, leb-true, eqb-true}
 use Rattle.std.proofs.lemmas.List.Elements.{All-cons, All-nil, All-set}
 use Rattle.cap_format.specs.declared.kind.CapKind.{CapKind}
@@ -10,7 +10,7 @@ use Rattle.cap_format.specs.declared.request.Request.{Request}
 use Rattle.cap_format.specs.Kind.{kind_with, is_memory, is_window, object_limit}
 use Rattle.cap_format.specs.Guard.{IsGuard, guard_of}
 use Rattle.cap_format.specs.Restr.{has}
-use Rattle.cap_format.specs.Capability.{Capability, entry, schedule, window, with_guard, to_object}
+use Rattle.cap_format.specs.Capability.{Capability, entry, schedule, with_guard, to_object}
 use Rattle.cap_format.specs.Weakening.{reduced, weakened, weakened_kind, is_harmless}
 use Rattle.cap_format.proofs.KindNumbers.{number_small}
 use Rattle.cap_format.proofs.Ranges.{IsCapability-reduced, IsGuard-none, limits, matches_small}
@@ -80,7 +80,7 @@ pub record IsRangedAnswer (w : System) (answer : Answer) : Type 0 where
   pub words : All IsWord answer.words
   pub cap : IfSome answer.cap IsModelCap
 
-three-in : (a b c : ℕ) → IsWord a → IsWord b → IsWord c → All IsWord (a ∷ b ∷ c ∷ [])
+pub three-in : (a b c : ℕ) → IsWord a → IsWord b → IsWord c → All IsWord (a ∷ b ∷ c ∷ [])
 three-in a b c x y z = All-cons IsWord a (b ∷ c ∷ []) x (All-cons IsWord b (c ∷ []) y (All-cons IsWord c [] z (All-nil IsWord)))
 
 pub zeros-in : All IsWord (0 ∷ 0 ∷ 0 ∷ [])
@@ -151,7 +151,7 @@ module _ (s : Store) (q : QueuesValue) (x : AreInRanges s) (c : Capability) (is 
   abbrev IsRangedRow : Settled → Type 0
   IsRangedRow settled = IsRangedAnswer w settled.answer
 
-  pub refusal-in : (code : Code) → IsRangedRow (refused code)
+  refusal-in : (code : Code) → IsRangedRow (refused code)
   refusal-in code = record { changes = tt; words = zeros-in; cap = tt }
 
   tells-in : (a b d : ℕ) → IsWord a → IsWord b → IsWord d → IsRangedAnswer w (tells a b d)
@@ -166,7 +166,7 @@ module _ (s : Store) (q : QueuesValue) (x : AreInRanges s) (c : Capability) (is 
   word : (i : ℕ) → IsWord (slice_index r.words i)
   word i = word_at r.words i words
 
-  pub kind-in : IsRangedRow (settled (kind_row c))
+  kind-in : IsRangedRow (settled (kind_row c))
   unfolding kind_row
   kind-in = row-in IsRangedRow refusal-in (kind_row c) (λ e f. tells-in _ 0 0 (let small = number_small c.kind in omega (arith, small)) (omega arith) (omega arith))
 

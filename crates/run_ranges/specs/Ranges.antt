@@ -1,8 +1,7 @@
 -- The ranges of what the abstract machine's objects hold (words and bytes are RV32I's, the rest are this project's limits).
-use Rattle.std.specs.Prelude.{◌≡◌, ℕ, ◌+◌, ◌<◌, ◌≤◌, ◌^◌, List, length}
+use Rattle.std.specs.Prelude.{◌≡◌, ℕ, ◌+◌, ◌<◌, ◌≤◌, ◌^◌, length}
 use Rattle.std.specs.List.{All}
 use Rattle.cap_format.specs.Capability.{Capability, IsCapability}
-use Rattle.gpt_objects.specs.Gpt.{GptValue}
 use Rattle.process_objects.specs.Process.{ProcessValue}
 use Rattle.process_objects.specs.declared.state.State.{State as RunState}
 use Rattle.process_objects.specs.declared.state.State.TheVariants.{Running, Receiving, Faulted}
