@@ -4,7 +4,7 @@ use Rattle.std.specs.List.{Contains, AllPairs}
 use Rattle.std.proofs.lemmas.Bool.{eq-eqb}
 use Rattle.std.proofs.lemmas.List.Elements.{Contains-append_left, Contains-append_right, Contains-append_cases}
 use Rattle.cap_format.specs.declared.kind.CapKind.{CapKind}
-use Rattle.cap_format.specs.declared.kind.CapKind.TheVariants.{CapPage, Gpt, Endpoint, Process, Range}
+use Rattle.cap_format.specs.declared.kind.CapKind.TheVariants.{Null, Page, CapPage, Gpt, Window, LocalWindow, Endpoint, Entry, Process, Schedule, Range, Discrim, KernLog, SysCtl}
 use Rattle.cap_format.specs.Kind.{is_counted}
 use Rattle.cap_format.specs.Capability.{Capability}
 use Rattle.object_store.specs.Store.{Store, size_of}
@@ -20,7 +20,6 @@ use Rattle.separation_check.specs.Each.{IsPlace, CapabilityStands, RangeStandsIn
 use Rattle.separation_check.proofs.Allowed.{tested, none-may, may-none}
 use Rattle.separation_check.proofs.Most.{sleeps-there, below-limit}
 use Rattle.separation_check.proofs.Listed.{Across, below-has, has-below, listed-is, is-listed, pairs-append, pairs-below, pairs-listed}
-
 
 module _ (policy : PolicyValue) (s : State) where
   -- what is told of a place, if anything

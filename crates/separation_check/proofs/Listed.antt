@@ -16,7 +16,7 @@ module _ {A : Type 0} where
 
   -- the element of a list of one
   pub element-one : (y x : A) → Contains (y ∷ []) x → y ≡ x
-  element-one y x (0, lt, is) = is
+  element-one y x (zero, lt, is) = is
   element-one y x (suc k, lt, is) = absurd (omega (arith, lt))
 
   pub one-element : (x : A) → Contains (x ∷ []) x
