@@ -2,6 +2,7 @@ pub use Rattle.machine_state.specs.Machine
 pub use Rattle.machine_state.specs.State
 pub use Rattle.machine_state.specs.Setters
 pub use Rattle.machine_state.specs.Outcome
+pub use Rattle.machine_state.specs.Noted
 pub use Rattle.machine_state.specs.Came
 pub use Rattle.machine_state.specs.Faulting
 pub use Rattle.machine_state.specs.Messaging

@@ -9,7 +9,7 @@ ghost use Rattle.machine_state.specs.Room.{HasRoom};
 ghost use Rattle.kernel_core.specs.CapTransfer.{load_cap, cap_loaded_from, store_cap, cap_stored_to};
 
 use cap_format::CapKind;
-use machine_state::{Machine, Record, Records};
+use machine_state::{Machine, Observer};
 use messages::{fault, malformed, misaligned};
 use std::sync::ledger::Ledger;
 use steps::Steps;
@@ -19,41 +19,41 @@ use walk_meaning::{Kind, Place};
 /// Loadcap: the capability at an address goes to a register. What is no register comes before the alignment, and that
 /// before the walk.
 #[tactic(auto, unfolding(crate::specs::CapTransfer::load_cap))]
-pub(crate) fn load_cap<T: Translator, L: Ledger>(
+pub(crate) fn load_cap<T: Translator, O: Observer, L: Ledger>(
     machine: &mut Machine<T>,
     p: u16,
-    records: &mut Records,
+    observer: &mut O,
     at: u32,
     to: u32,
     fetches: &mut Steps<L>,
 )
     requires there { p < size_of machine.old.objects.items Process }
     requires on_hart { IsOnHart machine.old.queues p }
-    requires room { HasRoom 1 records.old }
+    requires room { HasRoom 1 (O.told observer.old) }
     ensures came { let outcome = load_cap (state_of machine.old) p at to in
-        Came T.kept T.cost T.after T.without
-        outcome machine.old records.old fetches.old machine.new records.new fetches.new }
+        Came T.Translator O.Observer p outcome
+        machine.old observer.old fetches.old machine.new observer.new fetches.new }
     ensures leaves { let outcome = load_cap (state_of machine.old) p at to in
         Leaves (process_name p ∷ outcome.changed) machine.old machine.new }
 {
     if to > 31 {
-        return malformed(machine, p, records, fetches);
+        return malformed(machine, p, observer, fetches);
     }
     if at % 16 != 0 {
-        return misaligned(machine, p, records, at, fetches);
+        return misaligned(machine, p, observer, at, fetches);
     }
     match machine.cap_access(p, at, Kind::CapLoad, fetches) {
-        Ok(place) => cap_loaded_from(machine, p, records, at, to as u8, place),
-        Err(why) => fault(machine, p, records, why.code, at, why.handler, fetches),
+        Ok(place) => cap_loaded_from(machine, p, observer, at, to as u8, place),
+        Err(why) => fault(machine, p, observer, why.code, at, why.handler, fetches),
     }
 }
 
 /// The end of a loadcap whose walk reached a slot.
 #[tactic(auto, using(object_store::proofs::Stays::stays_then))]
-fn cap_loaded_from<T: Translator>(
+fn cap_loaded_from<T: Translator, O: Observer>(
     machine: &mut Machine<T>,
     p: u16,
-    records: &mut Records,
+    observer: &mut O,
     at: u32,
     to: u8,
     place: Place,
@@ -62,18 +62,13 @@ fn cap_loaded_from<T: Translator>(
     requires page { place.number < size_of machine.old.objects.items CapKind.CapPage }
     requires within { place.offset < 4096 }
     requires register { to ≤ 31 }
-    requires room { HasRoom 1 records.old }
+    requires room { HasRoom 1 (O.told observer.old) }
     ensures came { let outcome = cap_loaded_from (state_of machine.old) p at to (Ok place) in
-        CameUnasked outcome machine.old records.old machine.new records.new }
+        CameUnasked O.Observer outcome machine.old observer.old machine.new observer.new }
     ensures leaves { let outcome = cap_loaded_from (state_of machine.old) p at to (Ok place) in
         Leaves (process_name p ∷ outcome.changed) machine.old machine.new }
 {
-    records.push(Record::Access {
-        process: p,
-        kind: Kind::CapLoad,
-        address: at,
-        number: place.number,
-    });
+    observer.access(p, Kind::CapLoad, at, place.number);
     let cap = machine.cap_at(place);
     machine.give_capability(p, to, cap);
     machine.advance(p);
@@ -81,41 +76,41 @@ fn cap_loaded_from<T: Translator>(
 
 /// Storecap: the capability of a register goes to an address, with the same tests in the same order.
 #[tactic(auto, unfolding(crate::specs::CapTransfer::store_cap))]
-pub(crate) fn store_cap<T: Translator, L: Ledger>(
+pub(crate) fn store_cap<T: Translator, O: Observer, L: Ledger>(
     machine: &mut Machine<T>,
     p: u16,
-    records: &mut Records,
+    observer: &mut O,
     at: u32,
     from: u32,
     fetches: &mut Steps<L>,
 )
     requires there { p < size_of machine.old.objects.items Process }
     requires on_hart { IsOnHart machine.old.queues p }
-    requires room { HasRoom 1 records.old }
+    requires room { HasRoom 1 (O.told observer.old) }
     ensures came { let outcome = store_cap (state_of machine.old) p at from in
-        Came T.kept T.cost T.after T.without
-        outcome machine.old records.old fetches.old machine.new records.new fetches.new }
+        Came T.Translator O.Observer p outcome
+        machine.old observer.old fetches.old machine.new observer.new fetches.new }
     ensures leaves { let outcome = store_cap (state_of machine.old) p at from in
         Leaves (process_name p ∷ outcome.changed) machine.old machine.new }
 {
     if from > 31 {
-        return malformed(machine, p, records, fetches);
+        return malformed(machine, p, observer, fetches);
     }
     if at % 16 != 0 {
-        return misaligned(machine, p, records, at, fetches);
+        return misaligned(machine, p, observer, at, fetches);
     }
     match machine.cap_access(p, at, Kind::CapStore, fetches) {
-        Ok(place) => cap_stored_to(machine, p, records, at, from as u8, place),
-        Err(why) => fault(machine, p, records, why.code, at, why.handler, fetches),
+        Ok(place) => cap_stored_to(machine, p, observer, at, from as u8, place),
+        Err(why) => fault(machine, p, observer, why.code, at, why.handler, fetches),
     }
 }
 
 /// The end of a storecap whose walk reached a slot.
 #[tactic(auto, using(object_store::proofs::Stays::stays_then, object_store::proofs::Stays::stays_more, object_store::proofs::Stays::stays_after))]
-fn cap_stored_to<T: Translator>(
+fn cap_stored_to<T: Translator, O: Observer>(
     machine: &mut Machine<T>,
     p: u16,
-    records: &mut Records,
+    observer: &mut O,
     at: u32,
     from: u8,
     place: Place,
@@ -124,18 +119,13 @@ fn cap_stored_to<T: Translator>(
     requires page { place.number < size_of machine.old.objects.items CapKind.CapPage }
     requires within { place.offset < 4096 }
     requires register { from ≤ 31 }
-    requires room { HasRoom 1 records.old }
+    requires room { HasRoom 1 (O.told observer.old) }
     ensures came { let outcome = cap_stored_to (state_of machine.old) p at from (Ok place) in
-        CameUnasked outcome machine.old records.old machine.new records.new }
+        CameUnasked O.Observer outcome machine.old observer.old machine.new observer.new }
     ensures leaves { let outcome = cap_stored_to (state_of machine.old) p at from (Ok place) in
         Leaves (process_name p ∷ outcome.changed) machine.old machine.new }
 {
-    records.push(Record::Access {
-        process: p,
-        kind: Kind::CapStore,
-        address: at,
-        number: place.number,
-    });
+    observer.access(p, Kind::CapStore, at, place.number);
     let cap = machine.capability(p, from);
     machine.put_cap(place, cap);
     machine.advance(p);

@@ -1,5 +1,5 @@
 //! Operations on the kinds that are no memory kinds: a destruction is told, and the reply is written last.
-ghost use Rattle.std.specs.Prelude.{◌≡◌, ◌<◌, ◌++◌, [], ◌∷◌, true, IfSome};
+ghost use Rattle.std.specs.Prelude.{◌≡◌, ◌<◌, ◌++◌, [], ◌∷◌, true, None, IfSome};
 ghost use Rattle.cap_format.specs.declared.kind.CapKind.TheVariants.{Process};
 ghost use Rattle.cap_format.specs.Capability.{bare};
 ghost use Rattle.object_store.specs.Store.{size_of};
@@ -18,21 +18,22 @@ ghost use Rattle.machine_state.specs.Operation.{changed_by, changed_names, chang
 ghost use Rattle.machine_state.specs.Outcome.{process_name, kept_after};
 ghost use Rattle.machine_state.specs.Came.{Came, Leaves};
 ghost use Rattle.machine_state.specs.Room.{HasRoom};
+ghost use Rattle.machine_state.specs.Noted.{noted};
 ghost use Rattle.kernel_core.specs.KernelOperation.{control_op, header_name, destroy_records, replied_unless, is_end_of};
 
 use cap_format::{Cap, CapKind, Item, Reply, Request};
 use invocation::Invocation;
-use machine_state::{Machine, Record, Records};
+use machine_state::{Machine, Observer, Record};
 use process_objects::Accept;
 use std::sync::ledger::Ledger;
 use steps::Steps;
 use walk_engine::Translator;
 
 /// A request to a capability of one of the other kinds that answer requests.
-pub(crate) fn control_op<T: Translator, L: Ledger>(
+pub(crate) fn control_op<T: Translator, O: Observer, L: Ledger>(
     machine: &mut Machine<T>,
     p: u16,
-    records: &mut Records,
+    observer: &mut O,
     cap: Cap,
     inv: &Invocation,
     _fetches: &mut Steps<L>,
@@ -40,11 +41,11 @@ pub(crate) fn control_op<T: Translator, L: Ledger>(
     requires there { p < size_of machine.old.objects.items Process }
     requires live { is_live machine.old.objects.items cap ≡ true }
     requires kind { is_control cap.kind ≡ true }
-    requires room { HasRoom 1 records.old }
+    requires room { HasRoom 1 (O.told observer.old) }
     ensures came { let outcome =
         control_op (advance (state_of machine.old) p) p inv.now (bare cap) in
-        Came T.kept T.cost T.after T.without
-        outcome machine.old records.old _fetches.old machine.new records.new _fetches.new }
+        Came T.Translator O.Observer p outcome
+        machine.old observer.old _fetches.old machine.new observer.new _fetches.new }
     ensures leaves { let outcome =
         control_op (advance (state_of machine.old) p) p inv.now (bare cap) in
         Leaves (process_name p ∷ outcome.changed) machine.old machine.new }
@@ -52,7 +53,7 @@ pub(crate) fn control_op<T: Translator, L: Ledger>(
     machine.advance(p);
     let request = machine.request(p, inv);
     let changed = do_and_reply(machine, p, inv.accept(), cap, request);
-    tell_destruction(records, changed);
+    tell_destruction(observer, changed);
 }
 
 /// Does what is asked, and writes the reply last, over what this made of the process. Gives the item that changed.
@@ -78,6 +79,7 @@ fn do_and_reply<T: Translator>(
         let settled = control_operation Meant (state_of machine.old).store (bare cap) asked in
         let touches = change_touches (item_in settled.answer.changes) in
         T.kept machine.new.translator ≡ kept_after T.cost T.after T.without (T.kept machine.old.translator) touches }
+    ensures same { result ≡ None → machine.new.translator ≡ machine.old.translator }
     ensures leaves { let asked = request_map bare request in
         let settled = control_operation Meant (state_of machine.old).store (bare cap) asked in
         let names = changed_names (state_of machine.old) settled.answer.changes in
@@ -90,12 +92,13 @@ fn do_and_reply<T: Translator>(
 }
 
 /// Records a destruction, where the header of an object changed.
-fn tell_destruction(records: &mut Records, changed: Option<Item>)
-    requires { HasRoom 1 records.old }
-    ensures { records.new ≡ records.old ++ destroy_records (header_name changed) }
+fn tell_destruction<O: Observer>(observer: &mut O, changed: Option<Item>)
+    requires { HasRoom 1 (O.told observer.old) }
+    ensures told { O.told observer.new ≡
+        O.told observer.old ++ noted O.notes (destroy_records (header_name changed)) }
 {
     if let Some(Item::Header(kind, number)) = changed {
-        records.push(Record::Destroy { kind, number });
+        observer.tell(Record::Destroy { kind, number });
     }
 }
 

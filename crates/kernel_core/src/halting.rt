@@ -12,7 +12,7 @@ ghost use Rattle.kernel_core.specs.KernelOperation.{halting, sysctl_op};
 use crate::answering::{answer_call, kind_reply};
 use cap_format::Cap;
 use invocation::Invocation;
-use machine_state::{Machine, Record, Records};
+use machine_state::{Machine, Observer, Record};
 use operations::done;
 use std::sync::ledger::Ledger;
 use steps::Steps;
@@ -23,23 +23,23 @@ const HALT: u32 = 8;
 
 /// A request to SysCtl.
 #[tactic(auto, unfolding(crate::specs::KernelOperation::sysctl_op))]
-pub(crate) fn sysctl_op<T: Translator, L: Ledger>(
+pub(crate) fn sysctl_op<T: Translator, O: Observer, L: Ledger>(
     machine: &mut Machine<T>,
     p: u16,
-    records: &mut Records,
+    observer: &mut O,
     cap: Cap,
     inv: &Invocation,
     _fetches: &mut Steps<L>,
 )
     requires there { p < size_of machine.old.objects.items Process }
-    requires room { HasRoom 1 records.old }
+    requires room { HasRoom 1 (O.told observer.old) }
     ensures came { let outcome = sysctl_op (state_of machine.old) p inv.now (bare cap) in
-        Came T.kept T.cost T.after T.without
-        outcome machine.old records.old _fetches.old machine.new records.new _fetches.new }
+        Came T.Translator O.Observer p outcome
+        machine.old observer.old _fetches.old machine.new observer.new _fetches.new }
     ensures leaves { Leaves (process_name p ∷ []) machine.old machine.new }
 {
     if inv.words()[0] == HALT {
-        halt(machine, p, records, inv);
+        halt(machine, p, observer, inv);
     } else {
         answer_call(machine, p, inv, kind_reply(cap, inv.words()[0]));
     }
@@ -47,14 +47,19 @@ pub(crate) fn sysctl_op<T: Translator, L: Ledger>(
 
 /// The machine is halted for good.
 #[tactic(auto, using(object_store::proofs::Stays::stays_then, object_store::proofs::Stays::stays_same))]
-fn halt<T: Translator>(machine: &mut Machine<T>, p: u16, records: &mut Records, inv: &Invocation)
+fn halt<T: Translator, O: Observer>(
+    machine: &mut Machine<T>,
+    p: u16,
+    observer: &mut O,
+    inv: &Invocation,
+)
     requires there { p < size_of machine.old.objects.items Process }
-    requires room { HasRoom 1 records.old }
+    requires room { HasRoom 1 (O.told observer.old) }
     ensures came { let outcome = halting (state_of machine.old) p inv.now in
-        CameUnasked outcome machine.old records.old machine.new records.new }
+        CameUnasked O.Observer outcome machine.old observer.old machine.new observer.new }
     ensures leaves { Leaves (process_name p ∷ []) machine.old machine.new }
 {
     machine.halt();
-    records.push(Record::Halt { process: p });
+    observer.tell(Record::Halt { process: p });
     answer_call(machine, p, inv, done());
 }

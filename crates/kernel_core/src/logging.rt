@@ -15,7 +15,7 @@ ghost use Rattle.kernel_core.specs.KernelOperation.{kernlog_op, is_no_log, log_s
 use crate::answering::{answer_call, kind_reply};
 use cap_format::{Cap, Code};
 use invocation::Invocation;
-use machine_state::{Machine, Record, Records};
+use machine_state::{Machine, Observer, Record};
 use messages::{Found, StringFault, access_string, fault};
 use operations::{done, refuse};
 use std::sync::ledger::Ledger;
@@ -32,20 +32,20 @@ const LONGEST_LOG: u32 = 256;
 
 /// A request to KernLog. Its string's length is looked at before the string.
 #[tactic(auto, unfolding(crate::specs::KernelOperation::kernlog_op))]
-pub(crate) fn kernlog_op<T: Translator, L: Ledger>(
+pub(crate) fn kernlog_op<T: Translator, O: Observer, L: Ledger>(
     machine: &mut Machine<T>,
     p: u16,
-    records: &mut Records,
+    observer: &mut O,
     cap: Cap,
     inv: &Invocation,
     fetches: &mut Steps<L>,
 )
     requires there { p < size_of machine.old.objects.items Process }
     requires on_hart { IsOnHart machine.old.queues p }
-    requires room { HasRoom told_room records.old }
+    requires room { HasRoom told_room (O.told observer.old) }
     ensures came { let outcome = kernlog_op (state_of machine.old) p inv.now (bare cap) in
-        Came T.kept T.cost T.after T.without
-        outcome machine.old records.old fetches.old machine.new records.new fetches.new }
+        Came T.Translator O.Observer p outcome
+        machine.old observer.old fetches.old machine.new observer.new fetches.new }
     ensures leaves { let outcome = kernlog_op (state_of machine.old) p inv.now (bare cap) in
         Leaves (process_name p ∷ outcome.changed) machine.old machine.new }
 {
@@ -54,7 +54,7 @@ pub(crate) fn kernlog_op<T: Translator, L: Ledger>(
     } else if is_no_log(inv.length()) {
         answer_call(machine, p, inv, refuse(Code::RequestError));
     } else {
-        log_string(machine, p, records, inv, fetches);
+        log_string(machine, p, observer, inv, fetches);
     }
 }
 
@@ -68,34 +68,34 @@ fn is_no_log(length: u32) -> bool
 
 /// Accesses the string of a process and logs it. A fault on it is the process's.
 #[tactic(auto, unfolding(crate::specs::KernelOperation::log_string))]
-fn log_string<T: Translator, L: Ledger>(
+fn log_string<T: Translator, O: Observer, L: Ledger>(
     machine: &mut Machine<T>,
     p: u16,
-    records: &mut Records,
+    observer: &mut O,
     inv: &Invocation,
     fetches: &mut Steps<L>,
 )
     requires there { p < size_of machine.old.objects.items Process }
     requires on_hart { IsOnHart machine.old.queues p }
     requires length { inv.now.length ≤ 256 }
-    requires room { HasRoom told_room records.old }
+    requires room { HasRoom told_room (O.told observer.old) }
     ensures came { let outcome = log_string (state_of machine.old) p inv.now in
-        Came T.kept T.cost T.after T.without
-        outcome machine.old records.old fetches.old machine.new records.new fetches.new }
+        Came T.Translator O.Observer p outcome
+        machine.old observer.old fetches.old machine.new observer.new fetches.new }
     ensures leaves { let outcome = log_string (state_of machine.old) p inv.now in
         Leaves (process_name p ∷ outcome.changed) machine.old machine.new }
 {
     let at = inv.at();
     let size = inv.length();
-    let found = access_string(machine, p, p, Kind::Load, at, size, records, fetches);
-    log_found(machine, p, records, inv, &found, fetches);
+    let found = access_string(machine, p, p, Kind::Load, at, size, observer, fetches);
+    log_found(machine, p, observer, inv, &found, fetches);
 }
 
 /// Logs a string whose accesses found this, or does its fault.
-fn log_found<T: Translator, L: Ledger>(
+fn log_found<T: Translator, O: Observer, L: Ledger>(
     machine: &mut Machine<T>,
     p: u16,
-    records: &mut Records,
+    observer: &mut O,
     inv: &Invocation,
     found: &Found,
     fetches: &mut Steps<L>,
@@ -104,12 +104,12 @@ fn log_found<T: Translator, L: Ledger>(
     requires on_hart { IsOnHart machine.old.queues p }
     requires pieces { ArePieces machine.old.objects.items found.now.pieces }
     requires most { size_of_pieces found.now.pieces ≤ 256 }
-    requires room { HasRoom 1 records.old }
+    requires room { HasRoom 1 (O.told observer.old) }
     ensures came { let fault =
         string_fault_map (meaning machine.old.objects.items) found.now.fault in
         let outcome = logged (state_of machine.old) p inv.now found.now.pieces fault in
-        Came T.kept T.cost T.after T.without
-        outcome machine.old records.old fetches.old machine.new records.new fetches.new }
+        Came T.Translator O.Observer p outcome
+        machine.old observer.old fetches.old machine.new observer.new fetches.new }
     ensures leaves { let fault =
         string_fault_map (meaning machine.old.objects.items) found.now.fault in
         let outcome = logged (state_of machine.old) p inv.now found.now.pieces fault in
@@ -117,30 +117,38 @@ fn log_found<T: Translator, L: Ledger>(
 {
     match found.fault {
         Some(StringFault { address, why }) => {
-            fault(machine, p, records, why.code, address, why.handler, fetches);
+            fault(
+                machine,
+                p,
+                observer,
+                why.code,
+                address,
+                why.handler,
+                fetches,
+            );
         }
-        None => log_pieces(machine, p, records, inv, &found.pieces),
+        None => log_pieces(machine, p, observer, inv, &found.pieces),
     }
 }
 
 /// Tells the bytes of these pieces.
-fn log_pieces<T: Translator>(
+fn log_pieces<T: Translator, O: Observer>(
     machine: &mut Machine<T>,
     p: u16,
-    records: &mut Records,
+    observer: &mut O,
     inv: &Invocation,
     pieces: &Pieces,
 )
     requires there { p < size_of machine.old.objects.items Process }
     requires pieces { ArePieces machine.old.objects.items pieces.now }
     requires most { size_of_pieces pieces.now ≤ 256 }
-    requires room { HasRoom 1 records.old }
+    requires room { HasRoom 1 (O.told observer.old) }
     ensures came { let outcome = logged (state_of machine.old) p inv.now pieces.now None in
-        CameUnasked outcome machine.old records.old machine.new records.new }
+        CameUnasked O.Observer outcome machine.old observer.old machine.new observer.new }
     ensures leaves { let outcome = logged (state_of machine.old) p inv.now pieces.now None in
         Leaves (process_name p ∷ outcome.changed) machine.old machine.new }
 {
     let bytes = machine.log_bytes(pieces);
-    records.push(Record::Log { process: p, bytes });
+    observer.tell(Record::Log { process: p, bytes });
     answer_call(machine, p, inv, done());
 }

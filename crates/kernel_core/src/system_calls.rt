@@ -10,7 +10,7 @@ ghost use Rattle.kernel_core.specs.SystemCall.{call_with, copy_cap, move_cap, sy
 
 use crate::cap_accesses::{load_cap, store_cap};
 use crate::invoking::invoke;
-use machine_state::{Machine, Records};
+use machine_state::{Machine, Observer};
 use messages::malformed;
 use std::sync::ledger::Ledger;
 use steps::Steps;
@@ -50,74 +50,74 @@ impl SystemCall {
 /// The system call whose number is in x17.
 #[tactic(auto, unfolding(crate::specs::SystemCall::system_call))]
 #[inline(never)]
-pub(crate) fn system_call<T: Translator, L: Ledger>(
+pub(crate) fn system_call<T: Translator, O: Observer, L: Ledger>(
     machine: &mut Machine<T>,
     p: u16,
-    records: &mut Records,
+    observer: &mut O,
     fetches: &mut Steps<L>,
 )
     requires there { p < size_of machine.old.objects.items Process }
     requires on_hart { IsOnHart machine.old.queues p }
-    requires room { HasRoom call_room records.old }
+    requires room { HasRoom call_room (O.told observer.old) }
     ensures came { let outcome = system_call (state_of machine.old) p in
-        Came T.kept T.cost T.after T.without
-        outcome machine.old records.old fetches.old machine.new records.new fetches.new }
+        Came T.Translator O.Observer p outcome
+        machine.old observer.old fetches.old machine.new observer.new fetches.new }
     ensures leaves { let outcome = system_call (state_of machine.old) p in
         Leaves (process_name p ∷ outcome.changed) machine.old machine.new }
 {
     let registers = machine.registers(p);
     let (x10, x11) = (registers[10], registers[11]);
     match SystemCall::from_number(registers[17]) {
-        None => malformed(machine, p, records, fetches),
-        Some(SystemCall::Invoke) => invoke(machine, p, records, fetches),
-        Some(SystemCall::LoadCap) => load_cap(machine, p, records, x10, x11, fetches),
-        Some(SystemCall::StoreCap) => store_cap(machine, p, records, x10, x11, fetches),
-        Some(SystemCall::CopyCap) => copy_cap(machine, p, records, x10, x11, fetches),
+        None => malformed(machine, p, observer, fetches),
+        Some(SystemCall::Invoke) => invoke(machine, p, observer, fetches),
+        Some(SystemCall::LoadCap) => load_cap(machine, p, observer, x10, x11, fetches),
+        Some(SystemCall::StoreCap) => store_cap(machine, p, observer, x10, x11, fetches),
+        Some(SystemCall::CopyCap) => copy_cap(machine, p, observer, x10, x11, fetches),
         Some(SystemCall::Yield) => machine.give_way(p),
     }
 }
 
 /// The system calls 1 to 3, which move a capability: any other number is no call.
 #[tactic(auto, unfolding(crate::specs::SystemCall::system_call, crate::specs::SystemCall::move_cap))]
-pub fn move_cap<T: Translator, L: Ledger>(
+pub fn move_cap<T: Translator, O: Observer, L: Ledger>(
     machine: &mut Machine<T>,
     p: u16,
-    records: &mut Records,
+    observer: &mut O,
     fetches: &mut Steps<L>,
 )
     requires there { p < size_of machine.old.objects.items Process }
     requires on_hart { IsOnHart machine.old.queues p }
-    requires room { HasRoom call_room records.old }
+    requires room { HasRoom call_room (O.told observer.old) }
     ensures came { let outcome = move_cap (state_of machine.old) p in
-        Came T.kept T.cost T.after T.without
-        outcome machine.old records.old fetches.old machine.new records.new fetches.new }
+        Came T.Translator O.Observer p outcome
+        machine.old observer.old fetches.old machine.new observer.new fetches.new }
     ensures leaves { let outcome = move_cap (state_of machine.old) p in
         Leaves (process_name p ∷ outcome.changed) machine.old machine.new }
 {
     match SystemCall::from_number(machine.registers(p)[17]) {
-        None => malformed(machine, p, records, fetches),
-        Some(SystemCall::Invoke) => malformed(machine, p, records, fetches),
-        Some(SystemCall::Yield) => malformed(machine, p, records, fetches),
-        Some(_) => system_call(machine, p, records, fetches),
+        None => malformed(machine, p, observer, fetches),
+        Some(SystemCall::Invoke) => malformed(machine, p, observer, fetches),
+        Some(SystemCall::Yield) => malformed(machine, p, observer, fetches),
+        Some(_) => system_call(machine, p, observer, fetches),
     }
 }
 
 /// The capability of one register goes to another, where both are registers.
 #[tactic(auto, unfolding(crate::specs::SystemCall::copy_cap), using(object_store::proofs::Stays::stays_then))]
-fn copy_cap<T: Translator, L: Ledger>(
+fn copy_cap<T: Translator, O: Observer, L: Ledger>(
     machine: &mut Machine<T>,
     p: u16,
-    records: &mut Records,
+    observer: &mut O,
     from: u32,
     to: u32,
     fetches: &mut Steps<L>,
 )
     requires there { p < size_of machine.old.objects.items Process }
     requires on_hart { IsOnHart machine.old.queues p }
-    requires room { HasRoom 1 records.old }
+    requires room { HasRoom 1 (O.told observer.old) }
     ensures came { let outcome = copy_cap (state_of machine.old) p from to in
-        Came T.kept T.cost T.after T.without
-        outcome machine.old records.old fetches.old machine.new records.new fetches.new }
+        Came T.Translator O.Observer p outcome
+        machine.old observer.old fetches.old machine.new observer.new fetches.new }
     ensures leaves { let outcome = copy_cap (state_of machine.old) p from to in
         Leaves (process_name p ∷ outcome.changed) machine.old machine.new }
 {
@@ -126,6 +126,6 @@ fn copy_cap<T: Translator, L: Ledger>(
         machine.give_capability(p, to as u8, cap);
         machine.advance(p);
     } else {
-        malformed(machine, p, records, fetches);
+        malformed(machine, p, observer, fetches);
     }
 }

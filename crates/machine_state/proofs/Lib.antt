@@ -7,3 +7,5 @@ pub mod Names
 pub mod Controlled
 pub mod Moved
 pub mod Saved
+pub mod Noted
+pub mod OnHart

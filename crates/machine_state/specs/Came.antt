@@ -1,38 +1,36 @@
 -- What a part of an event does to a machine: what came of it, and what it leaves alone.
-use Rattle.std.specs.Prelude.{◌≡◌, ℕ, ◌+◌, ◌++◌, List}
-use Rattle.cap_format.specs.Capability.{Capability}
-use Rattle.cap_format.specs.declared.item.Item.{Item}
+use Rattle.std.specs.Prelude.{◌≡◌, ◌≢◌, ℕ, ◌+◌, ◌++◌, List, Some}
 use Rattle.cap_format.specs.declared.kind.CapKind.TheVariants.{Page, CapPage, Gpt, Process, Endpoint}
-use Rattle.object_store.specs.Store.{Items, size_of}
+use Rattle.object_store.specs.Store.{size_of}
 use Rattle.object_store.specs.Object.{ObjectName, Stays}
-use Rattle.walk_meaning.specs.declared.kind.Kind.{Kind}
-use Rattle.machine_state.specs.declared.record.Record.{Record}
+use Rattle.schedules.specs.Queues.{hart_of}
+use Rattle.walk_engine.specs.declared.translator.Translator.{Ghosts as Translator}
+use Rattle.machine_state.specs.declared.observer.Observer.{Ghosts as Observer}
 use Rattle.machine_state.specs.Machine.{MachineValue}
 use Rattle.machine_state.specs.State.{state_of}
-use Rattle.machine_state.specs.Outcome.{Outcome, spent, kept_after}
+use Rattle.machine_state.specs.Noted.{noted}
+use Rattle.machine_state.specs.Outcome.{Outcome, spent, kept_after, spared_by, ChangesNone}
 
--- The outcome `o` came of a part that found the machine `m`, these records and this many slots fetched, and left `n`,
--- `told` and `fetches`: its state, its records behind those that were there, as many slots more as its touches fetch by
--- what the translator kept, and what it keeps after them.
-pub record Came {T K : Type 0}
-    (kept : T → K)
-    (cost : K → Items → Capability → ℕ → Kind → ℕ)
-    (after : K → Items → Capability → ℕ → Kind → K)
-    (without : K → Item → K)
-    (o : Outcome)
-    (m : MachineValue T) (told0 : List Record) (fetches0 : ℕ)
-    (n : MachineValue T) (told : List Record) (fetches : ℕ) : Type 0 where
+-- The outcome `o` came of a part of an event that process `p` performs, which found the machine `m`, an observer and this
+-- many slots fetched, and left `n`, `told` and `fetches`: its state, what the observer keeps of its records behind what it
+-- kept before, as many slots more as its touches fetch by what the translator kept, and what it keeps after them. Where no
+-- item changes, the caches of the harts on which the process is not are as accesses elsewhere leave them.
+pub record Came {T S : Type 0} (t : Translator T) (w : Observer S) (p : ℕ) (o : Outcome)
+    (m : MachineValue T) (told0 : S) (fetches0 : ℕ)
+    (n : MachineValue T) (told : S) (fetches : ℕ) : Type 0 where
   pub state : state_of n ≡ o.state
-  pub records : told ≡ told0 ++ o.records
-  pub counted : fetches ≡ fetches0 + spent cost after without (kept m.translator) o.touches
-  pub keeps : kept n.translator ≡ kept_after cost after without (kept m.translator) o.touches
+  pub records : w.told told ≡ w.told told0 ++ noted w.notes o.records
+  pub counted : fetches ≡ fetches0 + spent t.cost t.after t.without (t.kept m.translator) o.touches
+  pub keeps : t.kept n.translator ≡ kept_after t.cost t.after t.without (t.kept m.translator) o.touches
+  pub others : (k : ℕ) → hart_of m.queues k ≢ Some p → ChangesNone o.touches
+      → t.cache n.translator k ≡ spared_by t.after t.spared (t.kept m.translator) o.touches (t.cache m.translator k)
 
 -- The outcome `o` came of a part that asks the translator nothing.
-pub record CameUnasked {T : Type 0} (o : Outcome)
-    (m : MachineValue T) (told0 : List Record)
-    (n : MachineValue T) (told : List Record) : Type 0 where
+pub record CameUnasked {T S : Type 0} (w : Observer S) (o : Outcome)
+    (m : MachineValue T) (told0 : S)
+    (n : MachineValue T) (told : S) : Type 0 where
   pub state : state_of n ≡ o.state
-  pub records : told ≡ told0 ++ o.records
+  pub records : w.told told ≡ w.told told0 ++ noted w.notes o.records
   pub translator : n.translator ≡ m.translator
 
 -- What every part leaves alone, where these objects may change: how many objects and harts there are, and each other

@@ -3,6 +3,7 @@ pub mod State
 pub mod Setters
 pub mod Outcome
 pub mod Room
+pub mod Noted
 pub mod Came
 pub mod Faulting
 pub mod Messaging

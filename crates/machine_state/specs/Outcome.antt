@@ -1,6 +1,7 @@
 -- What comes of a part of an event: the state afterwards, what is told, what a translator was asked, and which objects
 -- change.
-use Rattle.std.specs.Prelude.{ℕ, ◌+◌, Bool, if◌then◌else◌, List, [], ◌∷◌, Option, Some, None}
+use Rattle.std.specs.Prelude.{◌≡◌, ℕ, ◌+◌, Bool, true, false, if◌then◌else◌, List, [], ◌∷◌, Option, Some, None}
+use Rattle.std.specs.List.{list_any}
 use Rattle.cap_format.specs.Capability.{Capability}
 use Rattle.cap_format.specs.declared.item.Item.{Item}
 use Rattle.cap_format.specs.declared.kind.CapKind.TheVariants.{Page, CapPage, Process}
@@ -86,3 +87,22 @@ module _ {K : Type 0} (cost : K → Items → Capability → ℕ → Kind → �
   abbrev pub kept_after : K → List Touch → K
   kept_after k [] = k
   kept_after k (t ∷ ts) = kept_after (kept_at k t) ts
+
+-- an item changed
+abbrev pub is_change : Touch → Bool
+is_change (DataAccess o space address kind) = false
+is_change (CapAccess o space address kind) = false
+is_change (GptCall reads) = false
+is_change (Changed item) = true
+
+-- none of these touches is a change of an item
+abbrev pub ChangesNone : List Touch → Type 0
+ChangesNone ts = list_any is_change ts ≡ false
+
+-- what touches that change no item make of the cache of a hart that makes none of them, one after the other, by what a
+-- translator says of one access
+module _ {K C : Type 0} (after : K → Items → Capability → ℕ → Kind → K) (spared : K → Items → Capability → ℕ → Kind → C → C) where
+  abbrev pub spared_by : K → List Touch → C → C
+  spared_by k [] cache = cache
+  spared_by k (DataAccess o space address kind ∷ ts) cache = spared_by (after k o space address kind) ts (spared k o space address kind cache)
+  spared_by k (touch ∷ ts) cache = spared_by k ts cache

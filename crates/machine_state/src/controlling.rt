@@ -1,5 +1,5 @@
 //! Operations of the kernel on endpoints, processes, schedules, ranges and discrims.
-ghost use Rattle.std.specs.Prelude.{◌≡◌, true, IfSome};
+ghost use Rattle.std.specs.Prelude.{◌≡◌, true, None, IfSome};
 ghost use Rattle.cap_format.specs.Capability.{bare};
 ghost use Rattle.object_store.specs.Meaning.{is_live, meaning};
 ghost use Rattle.object_store.specs.Ahead.{IsBehind};
@@ -39,6 +39,9 @@ impl<T: Translator> Machine<T> {
             let touches = change_touches (item_in settled.answer.changes) in
             T.kept self.new.translator
             ≡ kept_after T.cost T.after T.without (T.kept self.old.translator) touches }
+        ensures same { let asked = request_map bare request in
+            let settled = control_operation Meant (state_of self.old).store (bare cap) asked in
+            item_in settled.answer.changes ≡ None → self.new.translator ≡ self.old.translator }
         ensures leaves { let asked = request_map bare request in
             let settled = control_operation Meant (state_of self.old).store (bare cap) asked in
             Leaves (changed_names (state_of self.old) settled.answer.changes) self.old self.new }

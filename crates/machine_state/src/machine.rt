@@ -1,5 +1,5 @@
 //! The machine, and what can be read of it.
-ghost use Rattle.std.specs.Prelude.{◌≡◌, ◌<◌, ◌≤◌, [], ◌∷◌, false, IfOk, length};
+ghost use Rattle.std.specs.Prelude.{◌≡◌, ◌≢◌, ℕ, ◌<◌, ◌≤◌, [], ◌∷◌, false, Some, IfOk, length};
 ghost use Rattle.cap_format.specs.declared.kind.CapKind.TheVariants.{Process};
 ghost use Rattle.object_store.specs.Store.{size_of, sizes_of, process_at};
 ghost use Rattle.object_store.specs.Meaning.{map_of};
@@ -9,6 +9,7 @@ ghost use Rattle.machine_state.specs.State.{state_of};
 ghost use Rattle.machine_state.specs.Setters.{leave, ready, halted};
 ghost use Rattle.machine_state.specs.Outcome.{process_name};
 ghost use Rattle.machine_state.specs.Came.{Leaves};
+ghost use Rattle.schedules.specs.Queues.{hart_of};
 ghost use Rattle.schedules.specs.Standing.{empty_queues};
 ghost use Rattle.schedules.specs.Ready.{Agrees, runs_of, places_due};
 
@@ -95,6 +96,16 @@ impl<T: Translator> Machine<T> {
         ensures coherent { T.coherent self.now.translator (map_of self.now.objects.items) }
     {
         let _halted = self.halted;
+    }
+
+    /// Does nothing: its contract tells that a process that stands on a hart stands on no other.
+    pub fn tell_alone(&self, hart: u8, p: u16)
+        requires there { p < size_of self.now.objects.items Process }
+        requires on_hart { hart_of self.now.queues hart ≡ Some p }
+        ensures { (k : ℕ) → k ≢ hart → hart_of self.now.queues k ≢ Some p }
+    {
+        let _halted = self.halted;
+        let _place = (hart, p);
     }
 
     /// Whether a process halted the machine.

@@ -65,7 +65,7 @@ impl<T: Translator> Machine<T> {
         ensures kept { T.kept self.new.translator ≡ T.kept self.old.translator }
         ensures caches { (k : ℕ) → k ≢ hart → T.cache self.new.translator k ≡ T.cache self.old.translator k }
 
-        // What `access` would say of its count, of what is kept and of the other harts.
+        // What `access_on` would say of its count, of what is kept and of the other harts.
         ensures free { let s = state_of self.old in
             let cost = T.cost (T.kept self.old.translator) s.store.items (space_of s p) address kind in
             IfSome result (λ hit. cost ≡ 0) }
@@ -79,44 +79,6 @@ impl<T: Translator> Machine<T> {
         let space = self.space(p);
         self.translator
             .find_kept(&self.objects, hart, space, address, kind)
-    }
-
-    /// A fetch, load or store of a process, which stands on a hart.
-    #[inline(always)]
-    pub fn access<L: Ledger>(
-        &mut self,
-        p: u16,
-        address: u32,
-        kind: Kind,
-        fetches: &mut Steps<L>,
-    ) -> Result<Hit, WalkFault>
-        requires there { p < size_of self.old.objects.items Process }
-        requires on_hart { IsOnHart self.old.queues p }
-        requires data { is_data kind ≡ true }
-        ensures answer { hit_meaning result ≡ data_access (state_of self.old) p address kind }
-        ensures means { let f = meaning self.new.objects.items in
-            hit_map f result ≡ data_access (state_of self.old) p address kind }
-        ensures page { IfOk result (λ hit. hit.page < size_of self.new.objects.items CapKind.Page) }
-        ensures offset { IfOk result (λ hit. hit.offset ≡ address % 4096) }
-        ensures handler { IfErr result
-            (λ fault. HandlerLives self.new.objects.items fault.handler) }
-        ensures state { state_of self.new ≡ state_of self.old }
-        ensures objects { self.new.objects ≡ self.old.objects }
-        ensures queues { self.new.queues ≡ self.old.queues }
-        ensures counted { let s = state_of self.old in
-            let cost = T.cost (T.kept self.old.translator) s.store.items (space_of s p) address kind in
-            fetches.new ≡ fetches.old + cost }
-        ensures kept { let s = state_of self.old in
-            let kept = T.kept self.old.translator in
-            T.kept self.new.translator ≡ T.after kept s.store.items (space_of s p) address kind }
-
-        // The caches of the harts on which the process is not are as an access elsewhere leaves them.
-        ensures others { let s = state_of self.old in
-            let spared = T.spared (T.kept self.old.translator) s.store.items (space_of s p) address kind in
-            (k : ℕ) → hart_of self.old.queues k ≢ Some p →
-            T.cache self.new.translator k ≡ spared (T.cache self.old.translator k) }
-    {
-        self.access_for(p, p, address, kind, fetches)
     }
 
     /// A fetch, load or store by the space of process `q`, on the hart on which process `p` stands.

@@ -1,5 +1,5 @@
 //! Operations of the kernel on objects of the memory kinds.
-ghost use Rattle.std.specs.Prelude.{◌≡◌, ◌<◌, ◌+◌, [], ◌∷◌, true, IfSome};
+ghost use Rattle.std.specs.Prelude.{◌≡◌, ◌<◌, ◌+◌, [], ◌∷◌, true, None, IfSome};
 ghost use Rattle.cap_format.specs.declared.kind.CapKind.TheVariants.{Process};
 ghost use Rattle.cap_format.specs.Kind.{is_memory};
 ghost use Rattle.cap_format.specs.Capability.{bare};
@@ -68,6 +68,9 @@ impl<T: Translator> Machine<T> {
             let touches = memory_touches (bare cap) asked settled.code (item_in settled.answer.changes) in
             T.kept self.new.translator
             ≡ kept_after T.cost T.after T.without (T.kept self.old.translator) touches }
+        ensures same { let asked = request_map bare request in
+            let settled = memory_operation (state_of self.old).store (bare cap) asked in
+            item_in settled.answer.changes ≡ None → self.new.translator ≡ self.old.translator }
         ensures leaves { Leaves (object_name cap.kind cap.object ∷ []) self.old self.new }
         ensures queues { self.new.queues ≡ self.old.queues }
     {
@@ -86,6 +89,7 @@ pub(crate) fn tell_changed<T: Translator>(translator: &mut T, changed: Option<It
     ensures harts { T.harts translator.new ≡ T.harts translator.old }
     ensures kept { let kept = T.kept translator.old in
         T.kept translator.new ≡ kept_after T.cost T.after T.without kept (change_touches changed) }
+    ensures same { changed ≡ None → translator.new ≡ translator.old }
 {
     match changed {
         Some(item) => translator.invalidate(item),

@@ -42,7 +42,7 @@ impl Records {
     ghost use Rattle.std.specs.List.{All};
     ghost use Rattle.machine_state.specs.Machine.{IsRecord};
     ghost use Rattle.machine_state.specs.Room.{most_records};
-    ghost use Rattle.std.specs.Prelude.{◌≡◌, ◌≤◌, ◌<◌, ◌++◌, ◌∷◌, [], length};
+    ghost use Rattle.std.specs.Prelude.{◌≡◌, ◌↔◌, ◌≤◌, ◌<◌, ◌++◌, ◌∷◌, [], length};
 
     pub fn new() -> Records
         ensures { result ≡ [] }
@@ -103,6 +103,12 @@ impl Records {
         ensures { self.new ≡ [] }
     {
         self.count = 0;
+    }
+
+    pub fn is_empty(&self) -> bool
+        ensures { IsTrue result ↔ (self.now ≡ []) }
+    {
+        self.count == 0
     }
 
     pub fn as_slice(&self) -> &[Record]

@@ -2,12 +2,10 @@
 use Rattle.std.proofs.Common.{◌≡◌, ℕ, ◌+◌, ◌≤◌, List, [], ◌∷◌, ◌++◌, refl, sym, ap, ◌∙◌, append_assoc, append-nil, arith, Some, None, Result, Ok, Err}
 use Rattle.std.specs.List.{sum_by}
 use Rattle.std.proofs.lemmas.List.Sums.{sum_by-cons}
-use Rattle.cap_format.specs.Capability.{Capability}
-use Rattle.cap_format.specs.declared.item.Item.{Item}
-use Rattle.object_store.specs.Store.{Items}
 use Rattle.walk_meaning.specs.declared.kind.Kind.{Kind}
 use Rattle.walk_meaning.specs.declared.place.WalkFault.{WalkFault}
 use Rattle.walk_engine.specs.declared.hit.Hit.{Hit}
+use Rattle.walk_engine.specs.declared.translator.Translator.{Ghosts as Translator}
 use Rattle.string_move.specs.declared.piece.Piece.{Piece}
 use Rattle.string_move.specs.declared.span.Span.{Span}
 use Rattle.string_move.specs.Move.{size_of_pieces}
@@ -15,7 +13,8 @@ use Rattle.string_move.specs.Spans.{Cover, spans}
 use Rattle.string_move.proofs.Cuts.{spans_cover}
 use Rattle.machine_state.specs.declared.record.Record.{Record}
 use Rattle.machine_state.specs.State.{State}
-use Rattle.machine_state.specs.Outcome.{spent_at, kept_at, spent, kept_after}
+use Rattle.machine_state.specs.Noted.{noted}
+use Rattle.machine_state.specs.Outcome.{spent_at, kept_at, spent, kept_after, spared_by}
 use Rattle.machine_state.specs.DataAccess.{data_access, data_touch, reached}
 use Rattle.messages.specs.Strings.{Side, side, span_side, piece_of}
 
@@ -32,72 +31,83 @@ side-cons s q kind span rest r e = ap (span_side s q kind span (side s q kind re
 
 -- ---- what was done so far, and what comes of the rest, is what comes of all
 
-module _ {K : Type 0} (cost : K → Items → Capability → ℕ → Kind → ℕ) (after : K → Items → Capability → ℕ → Kind → K) (without : K → Item → K) where
-  -- with what was kept, told and fetched at the start, and with the pieces, and what is kept, told and fetched now
-  pub record IsOnWay (all : Side) (k0 : K) (told0 : List Record) (fetches0 : ℕ) (rest : Side) (pieces : List Piece) (k : K) (told : List Record) (fetches : ℕ) : Type 0 where
+module _ {T : Type 0} (t : Translator T) (notes : Record → List Record) (Elsewhere : ℕ → Type 0) where
+  -- with the translator, what was told and fetched at the start, and with the pieces, the translator, and what is told and
+  -- fetched now
+  pub record IsOnWay (all : Side) (m : T) (told0 : List Record) (fetches0 : ℕ) (rest : Side) (pieces : List Piece) (n : T) (told : List Record) (fetches : ℕ) : Type 0 where
     pub pieces_are : pieces ++ rest.pieces ≡ all.pieces
     pub fault_is : rest.fault ≡ all.fault
-    pub records_are : told ++ rest.records ≡ told0 ++ all.records
-    pub counted : fetches + spent cost after without k rest.touches ≡ fetches0 + spent cost after without k0 all.touches
-    pub kept : kept_after cost after without k rest.touches ≡ kept_after cost after without k0 all.touches
+    pub records_are : told ++ noted notes rest.records ≡ told0 ++ noted notes all.records
+    pub counted : fetches + spent t.cost t.after t.without (t.kept n) rest.touches ≡ fetches0 + spent t.cost t.after t.without (t.kept m) all.touches
+    pub kept : kept_after t.cost t.after t.without (t.kept n) rest.touches ≡ kept_after t.cost t.after t.without (t.kept m) all.touches
+    pub others : (h : ℕ) → Elsewhere h → spared_by t.after t.spared (t.kept n) rest.touches (t.cache n h) ≡ spared_by t.after t.spared (t.kept m) all.touches (t.cache m h)
 
   -- at the start
-  pub on_way_start : (all : Side) (k : K) (told : List Record) (fetches : ℕ) → IsOnWay all k told fetches all [] k told fetches
-  on_way_start all k told fetches = record { pieces_are = refl; fault_is = refl; records_are = refl; counted = refl; kept = refl }
+  pub on_way_start : (all : Side) (m : T) (told : List Record) (fetches : ℕ) → IsOnWay all m told fetches all [] m told fetches
+  on_way_start all m told fetches = record { pieces_are = refl; fault_is = refl; records_are = refl; counted = refl; kept = refl; others = λ h elsewhere. refl }
 
   -- after an access more, which reached
-  pub on_way_more : (all : Side) (k0 : K) (told0 : List Record) (fetches0 : ℕ) (s : State) (q : ℕ) (kind : Kind) (span : Span) (rest : List Span) (hit : Hit) (pieces : List Piece) (k : K) (told : List Record) (fetches : ℕ) (k1 : K) (fetches1 : ℕ)
-      → IsOnWay all k0 told0 fetches0 (side s q kind (span ∷ rest)) pieces k told fetches
+  pub on_way_more : (all : Side) (m : T) (told0 : List Record) (fetches0 : ℕ) (s : State) (q : ℕ) (kind : Kind) (span : Span) (rest : List Span) (hit : Hit) (pieces : List Piece) (n : T) (told : List Record) (fetches : ℕ) (n1 : T) (fetches1 : ℕ)
+      → IsOnWay all m told0 fetches0 (side s q kind (span ∷ rest)) pieces n told fetches
       → data_access s q span.address kind ≡ Ok hit
-      → fetches1 ≡ fetches + spent_at cost after without k (data_touch s q span.address kind)
-      → k1 ≡ kept_at cost after without k (data_touch s q span.address kind)
-      → IsOnWay all k0 told0 fetches0 (side s q kind rest) (pieces ++ piece_of hit span.size ∷ []) k1 (told ++ reached q kind span.address hit ∷ []) fetches1
-  on_way_more all k0 told0 fetches0 s q kind span rest hit pieces k told fetches k1 fetches1 way e counted kept =
+      → fetches1 ≡ fetches + spent_at t.cost t.after t.without (t.kept n) (data_touch s q span.address kind)
+      → t.kept n1 ≡ kept_at t.cost t.after t.without (t.kept n) (data_touch s q span.address kind)
+      → ((h : ℕ) → Elsewhere h → t.cache n1 h ≡ spared_by t.after t.spared (t.kept n) (data_touch s q span.address kind ∷ []) (t.cache n h))
+      → IsOnWay all m told0 fetches0 (side s q kind rest) (pieces ++ piece_of hit span.size ∷ []) n1 (told ++ notes (reached q kind span.address hit)) fetches1
+  on_way_more all m told0 fetches0 s q kind span rest hit pieces n told fetches n1 fetches1 way e counted kept spared =
       let is = side-cons s q kind span rest (Ok hit) e in
       let left = side s q kind rest in
       record {
         pieces_are = append_assoc pieces (piece_of hit span.size ∷ []) left.pieces ∙ (ap (λ (x : Side). pieces ++ x.pieces) (sym is) ∙ way.pieces_are);
         fault_is = ap (λ (x : Side). x.fault) (sym is) ∙ way.fault_is;
-        records_are = append_assoc told (reached q kind span.address hit ∷ []) left.records ∙ (ap (λ (x : Side). told ++ x.records) (sym is) ∙ way.records_are);
-        counted = rw (kept, counted) (let sum = ap (λ (x : Side). spent cost after without k x.touches) is in let before = way.counted in omega (arith, sum, before));
-        kept = rw kept (ap (λ (x : Side). kept_after cost after without k x.touches) (sym is) ∙ way.kept);
+        records_are = append_assoc told (notes (reached q kind span.address hit)) (noted notes left.records) ∙ (ap (λ (x : Side). told ++ noted notes x.records) (sym is) ∙ way.records_are);
+        counted = rw (kept, counted) (let sum = ap (λ (x : Side). spent t.cost t.after t.without (t.kept n) x.touches) is in let before = way.counted in omega (arith, sum, before));
+        kept = rw kept (ap (λ (x : Side). kept_after t.cost t.after t.without (t.kept n) x.touches) (sym is) ∙ way.kept);
+        others = λ h elsewhere.
+            ap (λ j. spared_by t.after t.spared j left.touches (t.cache n1 h)) kept
+            ∙ (ap (λ c. spared_by t.after t.spared (kept_at t.cost t.after t.without (t.kept n) (data_touch s q span.address kind)) left.touches c) (spared h elsewhere)
+            ∙ (ap (λ (x : Side). spared_by t.after t.spared (t.kept n) x.touches (t.cache n h)) (sym is) ∙ way.others h elsewhere));
       }
 
   -- all of it was done: these pieces, and all else that comes of it
-  pub record HasCome (all : Side) (k0 : K) (told0 : List Record) (fetches0 : ℕ) (pieces : List Piece) (k : K) (told : List Record) (fetches : ℕ) : Type 0 where
+  pub record HasCome (all : Side) (m : T) (told0 : List Record) (fetches0 : ℕ) (pieces : List Piece) (n : T) (told : List Record) (fetches : ℕ) : Type 0 where
     pub pieces_are : pieces ≡ all.pieces
-    pub records_are : told ≡ told0 ++ all.records
-    pub counted : fetches ≡ fetches0 + spent cost after without k0 all.touches
-    pub kept : k ≡ kept_after cost after without k0 all.touches
+    pub records_are : told ≡ told0 ++ noted notes all.records
+    pub counted : fetches ≡ fetches0 + spent t.cost t.after t.without (t.kept m) all.touches
+    pub kept : t.kept n ≡ kept_after t.cost t.after t.without (t.kept m) all.touches
+    pub others : (h : ℕ) → Elsewhere h → t.cache n h ≡ spared_by t.after t.spared (t.kept m) all.touches (t.cache m h)
 
   -- no span is left
-  pub on_way_end : (all : Side) (k0 : K) (told0 : List Record) (fetches0 : ℕ) (s : State) (q : ℕ) (kind : Kind) (pieces : List Piece) (k : K) (told : List Record) (fetches : ℕ)
-      → IsOnWay all k0 told0 fetches0 (side s q kind []) pieces k told fetches → HasCome all k0 told0 fetches0 pieces k told fetches × (None ≡ all.fault)
-  on_way_end all k0 told0 fetches0 s q kind pieces k told fetches way =
+  pub on_way_end : (all : Side) (m : T) (told0 : List Record) (fetches0 : ℕ) (s : State) (q : ℕ) (kind : Kind) (pieces : List Piece) (n : T) (told : List Record) (fetches : ℕ)
+      → IsOnWay all m told0 fetches0 (side s q kind []) pieces n told fetches → HasCome all m told0 fetches0 pieces n told fetches × (None ≡ all.fault)
+  on_way_end all m told0 fetches0 s q kind pieces n told fetches way =
       let is = side-nil s q kind in (
         record {
           pieces_are = sym (append-nil pieces) ∙ (ap (λ (x : Side). pieces ++ x.pieces) (sym is) ∙ way.pieces_are);
-          records_are = sym (append-nil told) ∙ (ap (λ (x : Side). told ++ x.records) (sym is) ∙ way.records_are);
-          counted = let none = ap (λ (x : Side). spent cost after without k x.touches) is in let sum = way.counted in omega (arith, none, sum);
-          kept = ap (λ (x : Side). kept_after cost after without k x.touches) (sym is) ∙ way.kept;
+          records_are = sym (append-nil told) ∙ (ap (λ (x : Side). told ++ noted notes x.records) (sym is) ∙ way.records_are);
+          counted = let none = ap (λ (x : Side). spent t.cost t.after t.without (t.kept n) x.touches) is in let sum = way.counted in omega (arith, none, sum);
+          kept = ap (λ (x : Side). kept_after t.cost t.after t.without (t.kept n) x.touches) (sym is) ∙ way.kept;
+          others = λ h elsewhere. ap (λ (x : Side). spared_by t.after t.spared (t.kept n) x.touches (t.cache n h)) (sym is) ∙ way.others h elsewhere;
         },
         ap (λ (x : Side). x.fault) (sym is) ∙ way.fault_is,
       )
 
   -- an access faulted
-  pub on_way_fault : (all : Side) (k0 : K) (told0 : List Record) (fetches0 : ℕ) (s : State) (q : ℕ) (kind : Kind) (span : Span) (rest : List Span) (why : WalkFault) (pieces : List Piece) (k : K) (told : List Record) (fetches : ℕ) (k1 : K) (fetches1 : ℕ)
-      → IsOnWay all k0 told0 fetches0 (side s q kind (span ∷ rest)) pieces k told fetches
+  pub on_way_fault : (all : Side) (m : T) (told0 : List Record) (fetches0 : ℕ) (s : State) (q : ℕ) (kind : Kind) (span : Span) (rest : List Span) (why : WalkFault) (pieces : List Piece) (n : T) (told : List Record) (fetches : ℕ) (n1 : T) (fetches1 : ℕ)
+      → IsOnWay all m told0 fetches0 (side s q kind (span ∷ rest)) pieces n told fetches
       → data_access s q span.address kind ≡ Err why
-      → fetches1 ≡ fetches + spent_at cost after without k (data_touch s q span.address kind)
-      → k1 ≡ kept_at cost after without k (data_touch s q span.address kind)
-      → HasCome all k0 told0 fetches0 pieces k1 told fetches1 × (Some (record { address = span.address; why = why }) ≡ all.fault)
-  on_way_fault all k0 told0 fetches0 s q kind span rest why pieces k told fetches k1 fetches1 way e counted kept =
+      → fetches1 ≡ fetches + spent_at t.cost t.after t.without (t.kept n) (data_touch s q span.address kind)
+      → t.kept n1 ≡ kept_at t.cost t.after t.without (t.kept n) (data_touch s q span.address kind)
+      → ((h : ℕ) → Elsewhere h → t.cache n1 h ≡ spared_by t.after t.spared (t.kept n) (data_touch s q span.address kind ∷ []) (t.cache n h))
+      → HasCome all m told0 fetches0 pieces n1 told fetches1 × (Some (record { address = span.address; why = why }) ≡ all.fault)
+  on_way_fault all m told0 fetches0 s q kind span rest why pieces n told fetches n1 fetches1 way e counted kept spared =
       let is = side-cons s q kind span rest (Err why) e in (
         record {
           pieces_are = sym (append-nil pieces) ∙ (ap (λ (x : Side). pieces ++ x.pieces) (sym is) ∙ way.pieces_are);
-          records_are = sym (append-nil told) ∙ (ap (λ (x : Side). told ++ x.records) (sym is) ∙ way.records_are);
-          counted = rw counted (let sum = ap (λ (x : Side). spent cost after without k x.touches) is in let before = way.counted in omega (arith, sum, before));
-          kept = rw kept (ap (λ (x : Side). kept_after cost after without k x.touches) (sym is) ∙ way.kept);
+          records_are = sym (append-nil told) ∙ (ap (λ (x : Side). told ++ noted notes x.records) (sym is) ∙ way.records_are);
+          counted = rw counted (let sum = ap (λ (x : Side). spent t.cost t.after t.without (t.kept n) x.touches) is in let before = way.counted in omega (arith, sum, before));
+          kept = rw kept (ap (λ (x : Side). kept_after t.cost t.after t.without (t.kept n) x.touches) (sym is) ∙ way.kept);
+          others = λ h elsewhere. spared h elsewhere ∙ (ap (λ (x : Side). spared_by t.after t.spared (t.kept n) x.touches (t.cache n h)) (sym is) ∙ way.others h elsewhere);
         },
         ap (λ (x : Side). x.fault) (sym is) ∙ way.fault_is,
       )

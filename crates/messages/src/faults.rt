@@ -8,11 +8,12 @@ ghost use Rattle.machine_state.specs.State.{state_of, IsOnHart};
 ghost use Rattle.machine_state.specs.Outcome.{process_name};
 ghost use Rattle.machine_state.specs.Came.{Came, Leaves};
 ghost use Rattle.machine_state.specs.Room.{HasRoom};
+ghost use Rattle.machine_state.specs.Noted.{noted};
 ghost use Rattle.messages.specs.Fault.{fault, fault_records, misaligned, malformed};
 
 use cap_format::{Cap, FaultCode};
 use fault_path::Outcome;
-use machine_state::{Machine, Record, Records};
+use machine_state::{Machine, Observer, Record};
 use std::sync::ledger::Ledger;
 use steps::Steps;
 use walk_engine::Translator;
@@ -21,10 +22,10 @@ use walk_engine::Translator;
 /// one is busy, the process waits for it, and nothing is recorded.
 #[tactic(auto, unfolding(crate::specs::Fault::fault), using(object_store::proofs::Stays::stays_more))]
 #[inline(never)]
-pub fn fault<T: Translator, L: Ledger>(
+pub fn fault<T: Translator, O: Observer, L: Ledger>(
     machine: &mut Machine<T>,
     p: u16,
-    records: &mut Records,
+    observer: &mut O,
     code: FaultCode,
     address: u32,
     handler: Option<Cap>,
@@ -32,32 +33,40 @@ pub fn fault<T: Translator, L: Ledger>(
 )
     requires there { p < size_of machine.old.objects.items Process }
     requires on_hart { IsOnHart machine.old.queues p }
-    requires room { HasRoom 1 records.old }
+    requires room { HasRoom 1 (O.told observer.old) }
     ensures came { let meant = cap_map (meaning machine.old.objects.items) handler in
-        Came T.kept T.cost T.after T.without (fault (state_of machine.old) p code address meant)
-        machine.old records.old _fetches.old machine.new records.new _fetches.new }
+        let outcome = fault (state_of machine.old) p code address meant in
+        Came T.Translator O.Observer p outcome
+        machine.old observer.old _fetches.old machine.new observer.new _fetches.new }
     ensures translator { machine.new.translator ≡ machine.old.translator }
     ensures leaves { let meant = cap_map (meaning machine.old.objects.items) handler in
         let outcome = fault (state_of machine.old) p code address meant in
         Leaves (process_name p ∷ outcome.changed) machine.old machine.new }
-    ensures most { length records.new ≤ length records.old + 1 }
+    ensures most { length (O.told observer.new) ≤ length (O.told observer.old) + 1 }
 {
     let outcome = machine.settle_fault(p, code, address, handler);
-    tell_fault(records, p, code, address, outcome);
+    tell_fault(observer, p, code, address, outcome);
 }
 
 /// Records a fault, by what became of it.
-fn tell_fault(records: &mut Records, p: u16, code: FaultCode, address: u32, outcome: Outcome)
-    requires { HasRoom 1 records.old }
-    ensures records { records.new ≡ records.old ++ fault_records p code address outcome }
-    ensures most { length records.new ≤ length records.old + 1 }
+fn tell_fault<O: Observer>(
+    observer: &mut O,
+    p: u16,
+    code: FaultCode,
+    address: u32,
+    outcome: Outcome,
+)
+    requires { HasRoom 1 (O.told observer.old) }
+    ensures records { O.told observer.new ≡
+        O.told observer.old ++ noted O.notes (fault_records p code address outcome) }
+    ensures most { length (O.told observer.new) ≤ length (O.told observer.old) + 1 }
 {
     let to = match outcome {
         Outcome::Delivered(recipient) => Some(recipient),
         Outcome::Unheard => None,
         Outcome::MustWait(_) => return,
     };
-    records.push(Record::Fault {
+    observer.tell(Record::Fault {
         process: p,
         code,
         address,
@@ -67,19 +76,19 @@ fn tell_fault(records: &mut Records, p: u16, code: FaultCode, address: u32, outc
 
 /// An address of an instruction or of an access is no multiple of what it has to be.
 #[inline(never)]
-pub fn misaligned<T: Translator, L: Ledger>(
+pub fn misaligned<T: Translator, O: Observer, L: Ledger>(
     machine: &mut Machine<T>,
     p: u16,
-    records: &mut Records,
+    observer: &mut O,
     address: u32,
     fetches: &mut Steps<L>,
 )
     requires there { p < size_of machine.old.objects.items Process }
     requires on_hart { IsOnHart machine.old.queues p }
-    requires room { HasRoom 1 records.old }
+    requires room { HasRoom 1 (O.told observer.old) }
     ensures came { let outcome = misaligned (state_of machine.old) p address in
-        Came T.kept T.cost T.after T.without
-        outcome machine.old records.old fetches.old machine.new records.new fetches.new }
+        Came T.Translator O.Observer p outcome
+        machine.old observer.old fetches.old machine.new observer.new fetches.new }
     ensures translator { machine.new.translator ≡ machine.old.translator }
     ensures leaves { let outcome = misaligned (state_of machine.old) p address in
         Leaves (process_name p ∷ outcome.changed) machine.old machine.new }
@@ -87,7 +96,7 @@ pub fn misaligned<T: Translator, L: Ledger>(
     fault(
         machine,
         p,
-        records,
+        observer,
         FaultCode::BadAlign,
         address,
         None,
@@ -96,18 +105,18 @@ pub fn misaligned<T: Translator, L: Ledger>(
 }
 
 /// The process calls the system as no call is made.
-pub fn malformed<T: Translator, L: Ledger>(
+pub fn malformed<T: Translator, O: Observer, L: Ledger>(
     machine: &mut Machine<T>,
     p: u16,
-    records: &mut Records,
+    observer: &mut O,
     fetches: &mut Steps<L>,
 )
     requires there { p < size_of machine.old.objects.items Process }
     requires on_hart { IsOnHart machine.old.queues p }
-    requires room { HasRoom 1 records.old }
+    requires room { HasRoom 1 (O.told observer.old) }
     ensures came { let outcome = malformed (state_of machine.old) p in
-        Came T.kept T.cost T.after T.without
-        outcome machine.old records.old fetches.old machine.new records.new fetches.new }
+        Came T.Translator O.Observer p outcome
+        machine.old observer.old fetches.old machine.new observer.new fetches.new }
     ensures translator { machine.new.translator ≡ machine.old.translator }
     ensures leaves { let outcome = malformed (state_of machine.old) p in
         Leaves (process_name p ∷ outcome.changed) machine.old machine.new }
@@ -116,7 +125,7 @@ pub fn malformed<T: Translator, L: Ledger>(
     fault(
         machine,
         p,
-        records,
+        observer,
         FaultCode::MalformedSyscall,
         pc,
         None,

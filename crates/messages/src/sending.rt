@@ -18,7 +18,7 @@ use crate::string_fault::StringFault;
 use crate::strings::{Found, access_string};
 use crate::telling::deliver;
 use invocation::Invocation;
-use machine_state::{Machine, Records};
+use machine_state::{Machine, Observer};
 use std::sync::ledger::Ledger;
 use steps::Steps;
 use string_move::Pieces;
@@ -29,10 +29,10 @@ use walk_meaning::Kind;
 /// string faults: then the sender has this fault, at the address of the first byte of the span that was accessed. The
 /// receiver never faults: the string ends before what it can't take.
 #[tactic(auto, unfolding(crate::specs::Message::send_open, crate::specs::Message::is_delivered))]
-pub fn send_open<T: Translator, L: Ledger>(
+pub fn send_open<T: Translator, O: Observer, L: Ledger>(
     machine: &mut Machine<T>,
     p: u16,
-    records: &mut Records,
+    observer: &mut O,
     inv: &Invocation,
     endpoint: u16,
     to: u16,
@@ -43,53 +43,54 @@ pub fn send_open<T: Translator, L: Ledger>(
     requires endpoint { endpoint < size_of machine.old.objects.items Endpoint }
     requires to { to < size_of machine.old.objects.items Process }
     requires receives { is_receiving (process_at machine.old.objects to).state ≡ true }
-    requires room { HasRoom call_room records.old }
+    requires room { HasRoom call_room (O.told observer.old) }
     ensures delivered { result ≡ is_delivered (state_of machine.old) p inv.now }
     ensures came { let outcome = send_open (state_of machine.old) p endpoint to inv.now in
-        Came T.kept T.cost T.after T.without
-        outcome machine.old records.old fetches.old machine.new records.new fetches.new }
+        Came T.Translator O.Observer p outcome
+        machine.old observer.old fetches.old machine.new observer.new fetches.new }
     ensures leaves { let outcome = send_open (state_of machine.old) p endpoint to inv.now in
         Leaves (process_name p ∷ outcome.changed) machine.old machine.new }
     ensures on_hart { result ≡ true → IsOnHart machine.new.queues p }
-    ensures most { length records.new ≤ length records.old + message_records }
+    ensures most { length (O.told observer.new) ≤ length (O.told observer.old) + message_records }
 {
-    let found = access_sent(machine, p, records, inv, fetches);
-    send_found(machine, p, records, inv, endpoint, to, &found, fetches)
+    let found = access_sent(machine, p, observer, inv, fetches);
+    send_found(machine, p, observer, inv, endpoint, to, &found, fetches)
 }
 
 /// Accesses the string that a process sends.
-fn access_sent<T: Translator, L: Ledger>(
+fn access_sent<T: Translator, O: Observer, L: Ledger>(
     machine: &mut Machine<T>,
     p: u16,
-    records: &mut Records,
+    observer: &mut O,
     inv: &Invocation,
     fetches: &mut Steps<L>,
 ) -> Found
     requires there { p < size_of machine.old.objects.items Process }
     requires on_hart { IsOnHart machine.old.queues p }
-    requires room { HasRoom string_room records.old }
+    requires room { HasRoom string_room (O.told observer.old) }
     ensures pieces { result.pieces ≡ (sent_side (state_of machine.old) p inv.now).pieces }
     ensures fault { let f = meaning machine.new.objects.items in
         string_fault_map f result.fault ≡ (sent_side (state_of machine.old) p inv.now).fault }
     ensures there { ArePieces machine.new.objects.items result.pieces }
     ensures whole { result.fault ≡ None → size_of_pieces result.pieces ≡ inv.now.length }
     ensures came { let s = state_of machine.old in
-        Came T.kept T.cost T.after T.without (side_outcome s (sent_side s p inv.now))
-        machine.old records.old fetches.old machine.new records.new fetches.new }
+        let outcome = side_outcome s (sent_side s p inv.now) in
+        Came T.Translator O.Observer p outcome
+        machine.old observer.old fetches.old machine.new observer.new fetches.new }
     ensures objects { machine.new.objects ≡ machine.old.objects }
     ensures queues { machine.new.queues ≡ machine.old.queues }
-    ensures most { length records.new ≤ length records.old + string_room }
+    ensures most { length (O.told observer.new) ≤ length (O.told observer.old) + string_room }
 {
     let at = inv.at();
     let size = inv.length();
-    access_string(machine, p, p, Kind::Load, at, size, records, fetches)
+    access_string(machine, p, p, Kind::Load, at, size, observer, fetches)
 }
 
 /// A message whose sender's string was accessed.
-fn send_found<T: Translator, L: Ledger>(
+fn send_found<T: Translator, O: Observer, L: Ledger>(
     machine: &mut Machine<T>,
     p: u16,
-    records: &mut Records,
+    observer: &mut O,
     inv: &Invocation,
     endpoint: u16,
     to: u16,
@@ -103,33 +104,41 @@ fn send_found<T: Translator, L: Ledger>(
     requires receives { is_receiving (process_at machine.old.objects to).state ≡ true }
     requires pieces { ArePieces machine.old.objects.items found.now.pieces }
     requires whole { found.now.fault ≡ None → size_of_pieces found.now.pieces ≡ inv.now.length }
-    requires room { HasRoom told_room records.old }
+    requires room { HasRoom told_room (O.told observer.old) }
     ensures delivered { let f = meaning machine.old.objects.items in
         result ≡ is_whole (string_fault_map f found.now.fault) }
     ensures came { let fault =
         string_fault_map (meaning machine.old.objects.items) found.now.fault in
         let outcome =
         sent_by_fault (state_of machine.old) p endpoint to inv.now found.now.pieces fault in
-        Came T.kept T.cost T.after T.without
-        outcome machine.old records.old fetches.old machine.new records.new fetches.new }
+        Came T.Translator O.Observer p outcome
+        machine.old observer.old fetches.old machine.new observer.new fetches.new }
     ensures leaves { let fault =
         string_fault_map (meaning machine.old.objects.items) found.now.fault in
         let outcome =
         sent_by_fault (state_of machine.old) p endpoint to inv.now found.now.pieces fault in
         Leaves (process_name p ∷ outcome.changed) machine.old machine.new }
     ensures on_hart { result ≡ true → IsOnHart machine.new.queues p }
-    ensures most { length records.new ≤ length records.old + told_room }
+    ensures most { length (O.told observer.new) ≤ length (O.told observer.old) + told_room }
 {
     match found.fault {
         Some(StringFault { address, why }) => {
-            fault(machine, p, records, why.code, address, why.handler, fetches);
+            fault(
+                machine,
+                p,
+                observer,
+                why.code,
+                address,
+                why.handler,
+                fetches,
+            );
             false
         }
         None => {
             send_on(
                 machine,
                 p,
-                records,
+                observer,
                 inv,
                 endpoint,
                 to,
@@ -142,10 +151,10 @@ fn send_found<T: Translator, L: Ledger>(
 }
 
 /// The receiver's side of a message whose string is in these pieces.
-fn send_on<T: Translator, L: Ledger>(
+fn send_on<T: Translator, O: Observer, L: Ledger>(
     machine: &mut Machine<T>,
     p: u16,
-    records: &mut Records,
+    observer: &mut O,
     inv: &Invocation,
     endpoint: u16,
     to: u16,
@@ -159,18 +168,18 @@ fn send_on<T: Translator, L: Ledger>(
     requires receives { is_receiving (process_at machine.old.objects to).state ≡ true }
     requires from { ArePieces machine.old.objects.items from.now }
     requires whole { size_of_pieces from.now ≡ inv.now.length }
-    requires room { HasRoom told_room records.old }
+    requires room { HasRoom told_room (O.told observer.old) }
     ensures came { let outcome = sent_on (state_of machine.old) p endpoint to inv.now from.now in
-        Came T.kept T.cost T.after T.without
-        outcome machine.old records.old fetches.old machine.new records.new fetches.new }
+        Came T.Translator O.Observer p outcome
+        machine.old observer.old fetches.old machine.new observer.new fetches.new }
     ensures leaves { let outcome = sent_on (state_of machine.old) p endpoint to inv.now from.now in
         Leaves (process_name p ∷ outcome.changed) machine.old machine.new }
     ensures on_hart { IsOnHart machine.new.queues p }
-    ensures most { length records.new ≤ length records.old + told_room }
+    ensures most { length (O.told observer.new) ≤ length (O.told observer.old) + told_room }
 {
     let accept = machine.acceptance(to);
     let at = accept.at();
     let size = inv.length().min(accept.bound());
-    let found = access_string(machine, p, to, Kind::Store, at, size, records, fetches);
-    deliver(machine, p, records, inv, endpoint, to, from, &found.pieces);
+    let found = access_string(machine, p, to, Kind::Store, at, size, observer, fetches);
+    deliver(machine, p, observer, inv, endpoint, to, from, &found.pieces);
 }

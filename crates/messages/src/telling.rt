@@ -15,15 +15,15 @@ ghost use Rattle.machine_state.specs.Room.{HasRoom};
 ghost use Rattle.messages.specs.Message.{payload_in, message_of, message_record, sent_off, message_told, delivered};
 
 use invocation::{Invocation, Message};
-use machine_state::{Machine, Record, Records};
+use machine_state::{Machine, Observer, Record};
 use string_move::Pieces;
 use walk_engine::Translator;
 
 /// Moves the bytes from the sender's pieces to the receiver's, and tells the receiver.
-pub(crate) fn deliver<T: Translator>(
+pub(crate) fn deliver<T: Translator, O: Observer>(
     machine: &mut Machine<T>,
     p: u16,
-    records: &mut Records,
+    observer: &mut O,
     inv: &Invocation,
     endpoint: u16,
     to: u16,
@@ -39,45 +39,46 @@ pub(crate) fn deliver<T: Translator>(
     requires into { ArePieces machine.old.objects.items into.now }
     requires enough { size_of_pieces into.now ≤ size_of_pieces from.now }
     requires longest { size_of_pieces into.now ≤ 65536 }
-    requires room { HasRoom 1 records.old }
+    requires room { HasRoom 1 (O.told observer.old) }
     ensures came { let outcome =
         delivered (state_of machine.old) p endpoint to inv.now from.now into.now in
-        CameUnasked outcome machine.old records.old machine.new records.new }
+        CameUnasked O.Observer outcome machine.old observer.old machine.new observer.new }
     ensures leaves { let outcome =
         delivered (state_of machine.old) p endpoint to inv.now from.now into.now in
         Leaves (process_name p ∷ outcome.changed) machine.old machine.new }
     ensures on_hart { IsOnHart machine.new.queues p }
-    ensures one { length records.new ≡ length records.old + 1 }
+    ensures most { length (O.told observer.new) ≤ length (O.told observer.old) + 1 }
 {
     machine.move_string(from, into);
-    tell(machine, p, records, inv, endpoint, to, into.size());
+    tell(machine, p, observer, inv, endpoint, to, into.size());
 }
 
 /// Tells the receiver a message of which so many bytes are there, and records it. The sender goes on behind it.
-fn tell<T: Translator>(
+fn tell<T: Translator, O: Observer>(
     machine: &mut Machine<T>,
     p: u16,
-    records: &mut Records,
+    observer: &mut O,
     inv: &Invocation,
     endpoint: u16,
     to: u16,
-    length: u32,
+    size: u32,
 )
     requires there { p < size_of machine.old.objects.items Process }
     requires on_hart { IsOnHart machine.old.queues p }
     requires endpoint { endpoint < size_of machine.old.objects.items Endpoint }
     requires to { to < size_of machine.old.objects.items Process }
     requires receives { is_receiving (process_at machine.old.objects to).state ≡ true }
-    requires room { HasRoom 1 records.old }
-    ensures came { let outcome = message_told (state_of machine.old) p endpoint to inv.now length in
-        CameUnasked outcome machine.old records.old machine.new records.new }
+    requires room { HasRoom 1 (O.told observer.old) }
+    ensures came { let outcome = message_told (state_of machine.old) p endpoint to inv.now size in
+        CameUnasked O.Observer outcome machine.old observer.old machine.new observer.new }
     ensures leaves { let outcome =
-        message_told (state_of machine.old) p endpoint to inv.now length in
+        message_told (state_of machine.old) p endpoint to inv.now size in
         Leaves (process_name p ∷ outcome.changed) machine.old machine.new }
     ensures on_hart { IsOnHart machine.new.queues p }
+    ensures most { length (O.told observer.new) ≤ length (O.told observer.old) + 1 }
 {
-    let message = message_of(machine, p, inv, length);
-    records.push(record_of(machine, p, endpoint, to, &message));
+    let message = message_of(machine, p, inv, size);
+    observer.tell(record_of(machine, p, endpoint, to, &message));
     machine.tell(endpoint, to, message);
     send_off(machine, p, inv.receive());
 }

@@ -8,17 +8,17 @@ ghost use Rattle.machine_state.specs.Came.{Came, Leaves};
 ghost use Rattle.messages.specs.Waiting.{wait_on, listening_from, listen};
 
 use invocation::Invocation;
-use machine_state::{Machine, Records};
+use machine_state::{Machine, Observer};
 use std::sync::ledger::Ledger;
 use steps::Steps;
 use walk_engine::Translator;
 
 /// A process waits for another, which is busy. It performs its call again once it is woken.
 #[tactic(auto, unfolding(crate::specs::Waiting::wait_on))]
-pub fn wait_on<T: Translator, L: Ledger>(
+pub fn wait_on<T: Translator, O: Observer, L: Ledger>(
     machine: &mut Machine<T>,
     p: u16,
-    _records: &mut Records,
+    _observer: &mut O,
     q: u16,
     _fetches: &mut Steps<L>,
 )
@@ -26,8 +26,9 @@ pub fn wait_on<T: Translator, L: Ledger>(
     requires on_hart { IsOnHart machine.old.queues p }
     requires on { q < size_of machine.old.objects.items Process }
     ensures came { let outcome = wait_on (state_of machine.old) p q in
-        Came T.kept T.cost T.after T.without
-        outcome machine.old _records.old _fetches.old machine.new _records.new _fetches.new }
+        Came T.Translator O.Observer p outcome
+        machine.old _observer.old _fetches.old machine.new _observer.new _fetches.new }
+    ensures translator { machine.new.translator ≡ machine.old.translator }
     ensures leaves { let outcome = wait_on (state_of machine.old) p q in
         Leaves (process_name p ∷ outcome.changed) machine.old machine.new }
 {
@@ -36,17 +37,18 @@ pub fn wait_on<T: Translator, L: Ledger>(
 
 /// The receive phase of an invocation: behind a send phase, or at once where there is none.
 #[tactic(auto, unfolding(crate::specs::Waiting::listen), using(crate::proofs::Joined::stays_first))]
-pub fn listen<T: Translator, L: Ledger>(
+pub fn listen<T: Translator, O: Observer, L: Ledger>(
     machine: &mut Machine<T>,
     p: u16,
-    _records: &mut Records,
+    _observer: &mut O,
     inv: &Invocation,
     _fetches: &mut Steps<L>,
 )
     requires there { p < size_of machine.old.objects.items Process }
     ensures came { let outcome = listen (state_of machine.old) p inv.now in
-        Came T.kept T.cost T.after T.without
-        outcome machine.old _records.old _fetches.old machine.new _records.new _fetches.new }
+        Came T.Translator O.Observer p outcome
+        machine.old _observer.old _fetches.old machine.new _observer.new _fetches.new }
+    ensures translator { machine.new.translator ≡ machine.old.translator }
     ensures leaves { let outcome = listen (state_of machine.old) p inv.now in
         Leaves (process_name p ∷ outcome.changed) machine.old machine.new }
 {

@@ -20,7 +20,7 @@ use Rattle.schedule_replay.specs.declared.counts.Counts.{Counts}
 use Rattle.schedule_replay.specs.declared.mode.Mode.{Mode}
 use Rattle.schedule_replay.specs.declared.mode.Mode.TheVariants.{Trace}
 use Rattle.schedule_replay.proofs.Tallies.{and_more-untraced, at_most-trans}
-use Rattle.schedule_replay.proofs.Told.{lines_of-nil, records-one, same_lines, told-nil}
+use Rattle.schedule_replay.proofs.Told.{lines_of-nil, records-one, told-nil, untraced_lines}
 
 module _ {T K : Type 0} (kept : T → K) (cost : K → Items → Capability → ℕ → Kind → ℕ) (after : K → Items → Capability → ℕ → Kind → K) (without : K → Item → K) where
   -- one event
@@ -64,9 +64,9 @@ module _ {T K : Type 0} (kept : T → K) (cost : K → Items → Capability → 
       record {
         split = sym (take-append-drop done all) ∙ ap (λ es. take done all ++ es) (sym behind);
         ran = record { state = ran.state; counted = ran.counted; keeps = ran.keeps; harts = ran.harts };
-        lines = same_lines mode other entries (run_records s (take done all)) ran.records;
+        lines = ap (lines_of mode) ran.records ∙ untraced_lines mode other (run_records s (take done all));
         counted =
-            counted ∙ and_more-untraced counts done entries (run_records s (take done all)) ran.records
+            counted ∙ (ap (and_more counts done) ran.records ∙ and_more-untraced counts done (run_records s (take done all)))
             ∙ ap (λ k. and_more counts k (run_records s (take done all))) (sym size);
         most = λ limit under. at_most-trans (limit + done + 64) (limit + 65 * length (take done all)) counts' (omega (arith, some, size)) (most limit under);
       } in
@@ -76,7 +76,7 @@ module _ {T K : Type 0} (kept : T → K) (cost : K → Items → Capability → 
         last = last;
         split = said.split;
         ran = said.ran;
-        quiet = same_lines mode other (run_records s (take (done - 1) all)) [] before ∙ lines_of-nil mode;
+        quiet = sym (untraced_lines mode other (run_records s (take (done - 1) all))) ∙ (ap (lines_of mode) before ∙ lines_of-nil mode);
         lines = said.lines;
         counted = said.counted;
         most = said.most;

@@ -4,7 +4,7 @@ use Rattle.machine_state.specs.declared.event.Event.{Event}
 use Rattle.machine_state.specs.declared.record.Record.{Record}
 use Rattle.machine_state.specs.declared.record.Record.TheVariants.{Access, Insn, Message, Fault, Log, Destroy, Halt}
 use Rattle.std.proofs.lemmas.Bool.{false≢true}
-use Rattle.untraced_steps.specs.Untraced.{is_detail, untraced}
+use Rattle.kernel_core.specs.Noted.{is_detail, untraced}
 use Rattle.kernel_core.proofs.Ran.{run_records-nil, run_records-append}
 use Rattle.kernel_core.specs.Run.{run_state, run_records}
 use Rattle.kernel_core.specs.State.{State}
@@ -59,14 +59,14 @@ how_many-untraced test passes (entry ∷ entries) = by (how_many-untraced test p
         omega (arith, rest, all)
     by rest false is = how_many-cons test entry (untraced entries) ∙ (ap (λ n. (if test entry then 1 else 0) + n) rest ∙ sym (how_many-cons test entry entries))
 
--- so records that differ in accesses and instructions alone count alike
-pub and_more-untraced : (counts : Counts) (events : ℕ) (first second : List Record) → untraced first ≡ untraced second → and_more counts events first ≡ and_more counts events second
-and_more-untraced counts events first second same =
-    let alike : (test : Record → Bool) → ((entry : Record) → is_detail entry ≡ true → test entry ≡ false) → how_many test first ≡ how_many test second =
-    λ test passes. sym (how_many-untraced test passes first) ∙ (ap (how_many test) same ∙ how_many-untraced test passes second) in
+-- so the other records count as all do
+pub and_more-untraced : (counts : Counts) (events : ℕ) (entries : List Record) → and_more counts events (untraced entries) ≡ and_more counts events entries
+and_more-untraced counts events entries =
+    let alike : (test : Record → Bool) → ((entry : Record) → is_detail entry ≡ true → test entry ≡ false) → how_many test (untraced entries) ≡ how_many test entries =
+    λ test passes. how_many-untraced test passes entries in
     let m = alike is_message (λ e d. (no_kind e d).0) in let f = alike is_fault (λ e d. (no_kind e d).1.0) in
     let l = alike is_log (λ e d. (no_kind e d).1.1.0) in let d = alike is_destroy (λ e d. (no_kind e d).1.1.1) in
-    counts-same _ (and_more counts events second) refl (omega (arith, m)) (omega (arith, f)) (omega (arith, l)) (omega (arith, d))
+    counts-same _ (and_more counts events entries) refl (omega (arith, m)) (omega (arith, f)) (omega (arith, l)) (omega (arith, d))
 
 -- some, and then more
 pub and_more-append : (counts : Counts) (n k : ℕ) (first second : List Record) → and_more (and_more counts n first) k second ≡ and_more counts (n + k) (first ++ second)

@@ -12,7 +12,7 @@ use Rattle.kernel_core.specs.State.{State}
 use Rattle.schedule_replay.specs.declared.mode.Mode.{Mode}
 use Rattle.schedule_replay.specs.declared.mode.Mode.TheVariants.{Silent, Records, Trace}
 use Rattle.run_text.specs.Record.{record_text}
-use Rattle.untraced_steps.specs.Untraced.{is_detail, untraced}
+use Rattle.kernel_core.specs.Noted.{is_detail, untraced}
 use Rattle.schedule_replay.specs.Told.{are_untold, line_of, lines_of, told}
 
 pub lines_of-nil : (mode : Mode) → lines_of mode [] ≡ []
@@ -64,7 +64,7 @@ untold Records entries all = details_untold entries all
 untold Trace entries all = absurd (false≢true all)
 
 -- where no trace is written the lines are those of the other records
-untraced_lines : (mode : Mode) → mode ≢ Trace → (entries : List Record) → lines_of mode (untraced entries) ≡ lines_of mode entries
+pub untraced_lines : (mode : Mode) → mode ≢ Trace → (entries : List Record) → lines_of mode (untraced entries) ≡ lines_of mode entries
 untraced_lines Trace other entries = absurd (other refl)
 untraced_lines Silent other entries = silent_untold (untraced entries) ∙ sym (silent_untold entries)
 untraced_lines Records other [] = refl
@@ -74,10 +74,6 @@ untraced_lines Records other (entry ∷ entries) = by (untraced_lines Records ot
         → lines_of Records (cond (not b) (entry ∷ untraced entries) (untraced entries)) ≡ lines_of Records (entry ∷ entries)
     by rest true is = rest ∙ sym (lines_of-cons Records entry entries ∙ ap (λ b. (if not b then record_text entry else []) ++ lines_of Records entries) is)
     by rest false is = lines_of-cons Records entry (untraced entries) ∙ (ap (λ more. line_of Records entry ++ more) rest ∙ sym (lines_of-cons Records entry entries))
-
--- so records that differ in accesses and instructions alone have the same lines there
-pub same_lines : (mode : Mode) → mode ≢ Trace → (first second : List Record) → untraced first ≡ untraced second → lines_of mode first ≡ lines_of mode second
-same_lines mode other first second same = sym (untraced_lines mode other first) ∙ ap (lines_of mode) same ∙ untraced_lines mode other second
 
 -- ---- the lines of events
 

@@ -6,7 +6,7 @@ use Rattle.machine_state.specs.declared.record.Record.{Record}
 use Rattle.kernel_core.specs.State.{State}
 use Rattle.kernel_core.specs.Run.{run_records}
 use Rattle.run_text.specs.Record.{record_text}
-use Rattle.untraced_steps.specs.Untraced.{is_detail}
+use Rattle.kernel_core.specs.Noted.{is_detail}
 use Rattle.schedule_replay.specs.declared.mode.Mode.{Mode}
 use Rattle.schedule_replay.specs.declared.mode.Mode.TheVariants.{Silent, Records, Trace}
 

@@ -10,7 +10,7 @@ ghost use Rattle.schedule_replay.specs.First.{RunsFirst};
 use crate::counts::{Counts, count_events};
 use crate::events::Events;
 use crate::mode::Mode;
-use kernel_core::{Event, Machine, Records, event_into};
+use kernel_core::{Event, Machine, Notable, Records, event_into};
 use std::sync::ledger::Ledger;
 use steps::Steps;
 use untraced_steps::{HartSteps, run_untraced};
@@ -24,7 +24,7 @@ pub(crate) fn perform<T: Translator, L: Ledger>(
     events: &mut Events,
     mode: Mode,
     machine: &mut Machine<T>,
-    records: &mut Records,
+    records: &mut Notable,
     counts: &mut Counts,
     fetches: &mut Steps<L>,
 )
@@ -32,15 +32,15 @@ pub(crate) fn perform<T: Translator, L: Ledger>(
     requires few { length (left events.old) ≤ 255000000 }
     requires room { AreAtMost (2 ^ 62) counts.old }
     ensures { RunsFirst T.kept T.cost T.after T.without mode (event ∷ left events.old) (left events.new)
-        machine.old fetches.old machine.new fetches.new records.new counts.old counts.new }
+        machine.old fetches.old machine.new fetches.new records.new.records counts.old counts.new }
 {
     match mode {
-        Mode::Trace => perform_one(event, machine, records, counts, fetches),
+        Mode::Trace => perform_one(event, machine, &mut records.records, counts, fetches),
         Mode::Silent | Mode::Records => match (event, events) {
             (Event::Step(hart), Events::StepsLeft(steps)) => {
                 perform_steps(hart, steps, machine, records, counts, fetches)
             }
-            _ => perform_one(event, machine, records, counts, fetches),
+            _ => perform_one(event, machine, &mut records.records, counts, fetches),
         },
     }
 }
@@ -67,7 +67,7 @@ fn perform_steps<T: Translator, L: Ledger>(
     hart: u8,
     steps: &mut HartSteps,
     machine: &mut Machine<T>,
-    records: &mut Records,
+    records: &mut Notable,
     counts: &mut Counts,
     fetches: &mut Steps<L>,
 )
@@ -75,8 +75,8 @@ fn perform_steps<T: Translator, L: Ledger>(
     requires few { length (steps_left steps.old) ≤ 255000000 }
     requires room { AreAtMost (2 ^ 62) counts.old }
     ensures { (mode : Mode) → mode ≢ Mode.Trace → RunsFirst T.kept T.cost T.after T.without mode (Step hart ∷ steps_left steps.old) (steps_left steps.new)
-        machine.old fetches.old machine.new fetches.new records.new counts.old counts.new }
+        machine.old fetches.old machine.new fetches.new records.new.records counts.old counts.new }
 {
     let done = run_untraced(machine, hart, steps, records, fetches);
-    *counts = count_events(*counts, done, records.as_slice());
+    *counts = count_events(*counts, done, records.records.as_slice());
 }

@@ -12,7 +12,7 @@ use crate::replayed::Replayed;
 use crate::telling::put_told;
 use coy_io::{LineReader, Sink, Source};
 use coy_text::LineBuf;
-use kernel_core::{Machine, Records};
+use kernel_core::{Machine, Notable, Records};
 use std::sync::ledger::Ledger;
 use steps::Steps;
 use walk_engine::Translator;
@@ -43,7 +43,9 @@ pub fn replay<T: Translator, S: Source, K: Sink, L: Ledger>(
     ensures end { (counts : Counts) → result ≡ Replayed.Ended counts → lines.new.ended ≡ true }
 {
     let harts = machine.objects().sizes().harts;
-    let mut records = Records::new();
+    let mut records = Notable {
+        records: Records::new(),
+    };
     let mut buffer = LineBuf::new();
     let mut counts = Counts::of_events(0);
     let mut left = Events::NoneLeft;
@@ -59,7 +61,7 @@ pub fn replay<T: Translator, S: Source, K: Sink, L: Ledger>(
                     &mut counts,
                     fetches,
                 );
-                match put_told(mode, &records, &mut buffer, output) {
+                match put_told(mode, &records.records, &mut buffer, output) {
                     Ok(()) => {}
                     Err(_) => return Replayed::WriteFault,
                 }

@@ -7,12 +7,13 @@ ghost use Rattle.kernel_core.specs.Machine.{IsRecord};
 ghost use Rattle.coy_io.specs.Written.{Writes};
 ghost use Rattle.schedule_replay.specs.Leaves.{Leaves};
 ghost use Rattle.schedule_replay.specs.Told.{are_untold, is_told, line_of, lines_of};
-ghost use Rattle.untraced_steps.specs.Untraced.{is_detail};
+ghost use Rattle.kernel_core.specs.Noted.{is_detail};
 
 use crate::mode::Mode;
 use coy_io::{Sink, WriteFault, put_all};
 use coy_text::LineBuf;
 use kernel_core::{Record, Records};
+use machine_state::is_detail;
 use run_text::push_record;
 
 /// How many bytes may stand in the buffer before the line of a record.
@@ -122,11 +123,4 @@ fn are_details(records: &[Record]) -> bool
     ensures { result ≡ list_all is_detail records.now }
 {
     records.iter().all(|entry| is_detail(entry))
-}
-
-/// Whether this is an access or an instruction.
-fn is_detail(entry: &Record) -> bool
-    ensures { result ≡ is_detail entry.now }
-{
-    matches!(entry, Record::Access { .. } | Record::Insn { .. })
 }

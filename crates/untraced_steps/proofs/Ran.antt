@@ -14,7 +14,8 @@ use Rattle.machine_state.specs.State.{State, state_of}
 use Rattle.kernel_core.specs.Event.{event_of}
 use Rattle.kernel_core.specs.Run.{run_state, run_records, run_touches}
 use Rattle.kernel_core.proofs.Ran.{run_state-nil, run_state-cons, run_state-append, run_records-nil, run_records-cons, run_records-append, run_touches-nil, run_touches-cons, run_touches-append, spent-append, kept_after-append}
-use Rattle.untraced_steps.specs.Untraced.{CameUntraced, RanUntraced, untraced}
+use Rattle.machine_state.specs.Noted.{untraced}
+use Rattle.untraced_steps.specs.Untraced.{CameUntraced, RanUntraced}
 
 -- ---- the next of some events
 

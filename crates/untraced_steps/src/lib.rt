@@ -4,8 +4,6 @@
 #![tactic(auto)]
 
 mod hart_steps;
-mod instructions;
-mod memory;
 mod running;
 
 pub use hart_steps::HartSteps;

@@ -1,11 +1,15 @@
-use Rattle.std.proofs.Common.{rules}
+use Rattle.std.proofs.Common.{◌≡◌, rules, ap, ◌∙◌, Option}
 use Rattle.cap_format.specs.Capability.{bare}
+use Rattle.cap_format.specs.declared.item.Item.{Item}
+use Rattle.cap_format.specs.declared.request.Request.{Request}
 use Rattle.operations.specs.System.{Meant}
 use Rattle.operations.specs.Change.{item_in}
 use Rattle.operations.specs.Request.{request_map}
 use Rattle.operations.specs.Control.{control_operation}
-use Rattle.machine_state.specs.State.{State, state_of}
-use Rattle.machine_state.proofs.Operated.{spent_changed}
+use Rattle.machine_state.specs.State.{State, state_of, process}
+use Rattle.machine_state.specs.Setters.{advance}
+use Rattle.machine_state.specs.Operation.{request_of}
+use Rattle.machine_state.proofs.Operated.{spent_changed, spared_changed}
 use Rattle.kernel_core.proofs.Destroyed.{header_tells}
 use Rattle.kernel_core.proofs.controlling.control_op.Goals as goal
 
@@ -13,6 +17,10 @@ pub returns-clause-came : goal.returns-clause-came
 returns-clause-came g c =
     let s : State = state_of c.advance.new.self in
     let asked = request_map bare c.request-request.result in
+    let item : State → Request → Option Item = λ x request. item_in (control_operation Meant x.store (bare c.args.cap) request).answer.changes in
+    let after : State = advance (state_of c.args.machine.now) c.args.p in
+    let same : item s asked ≡ item after (request_of (process after c.args.p) c.args.inv.now) =
+    ap (item s) c.request-request.ensures.means ∙ ap (λ (x : State). item x (request_of (process x c.args.p) c.args.inv.now)) c.advance.ensures.state in
     let named = header_tells s.store (bare c.args.cap) asked c.do_and_reply-changed.result c.do_and_reply-changed.ensures.changed in
     let nothing_fetched = spent_changed g.T.Translator.cost g.T.Translator.after g.T.Translator.without (g.T.Translator.kept c.args.machine.now.translator) (item_in (control_operation Meant s.store (bare c.args.cap) asked).answer.changes) in
     record {
@@ -20,4 +28,5 @@ returns-clause-came g c =
       records = search rules;
       counted = search rules;
       keeps = search rules;
+      others = λ k elsewhere none. spared_changed g.T.Translator.after g.T.Translator.spared (g.T.Translator.kept c.args.machine.now.translator) (item after (request_of (process after c.args.p) c.args.inv.now)) _ _ (λ no. ap (λ x. g.T.Translator.cache x k) (c.do_and_reply-changed.ensures.same (c.do_and_reply-changed.ensures.changed ∙ (same ∙ no)) ∙ c.advance.ensures.translator)) none;
     }

@@ -9,7 +9,7 @@ use Rattle.string_move.specs.Spans.{spans}
 use Rattle.walk_meaning.specs.declared.kind.Kind.TheVariants.{Load}
 use Rattle.messages.specs.Followed.{followed}
 use Rattle.messages.specs.Strings.{Side, side, side_outcome, string_fault_map}
-use Rattle.messages.proofs.Joined.{came_followed}
+use Rattle.messages.proofs.Joined.{came_followed_there}
 use Rattle.kernel_core.specs.KernelOperation.{logged_side, logged, log_string}
 use Rattle.kernel_core.proofs.logging.log_string.Goals as goal
 
@@ -29,8 +29,8 @@ returns-clause-came g c =
     let same : next (state_of n) pieces fault ≡ next s string.pieces string.fault =
     ap (λ (x : State). next x pieces fault) found.came.state
     ∙ (ap (λ (ps : List Piece). next s ps fault) found.pieces ∙ ap (next s string.pieces) found.fault) in
-    let Comes : Outcome → Type 0 = λ o. Came t.kept t.cost t.after t.without o n c.access_string-found.new.records c.access_string-found.new.fetches c.log_found.new.machine c.log_found.new.records c.log_found.new.fetches in
-    let All : Side → Type 0 = λ x. Came t.kept t.cost t.after t.without (followed (side_outcome s x) (next s x.pieces x.fault)) m c.args.records.now c.args.fetches.now c.log_found.new.machine c.log_found.new.records c.log_found.new.fetches in
+    let Comes : Outcome → Type 0 = λ o. Came t g.O.Observer c.args.p o n c.access_string-found.new.observer c.access_string-found.new.fetches c.log_found.new.machine c.log_found.new.observer c.log_found.new.fetches in
+    let All : Side → Type 0 = λ x. Came t g.O.Observer c.args.p (followed (side_outcome s x) (next s x.pieces x.fault)) m c.args.observer.now c.args.fetches.now c.log_found.new.machine c.log_found.new.observer c.log_found.new.fetches in
     subst All sent
-    (came_followed t.cost t.after t.without t.kept (side_outcome s string) (next s string.pieces string.fault) m n c.log_found.new.machine c.args.records.now c.access_string-found.new.records c.log_found.new.records c.args.fetches.now c.access_string-found.new.fetches c.log_found.new.fetches
-    found.came (subst Comes same c.log_found.ensures.came))
+    (came_followed_there t g.O.Observer c.args.p (side_outcome s string) (next s string.pieces string.fault) m n c.log_found.new.machine c.args.observer.now c.access_string-found.new.observer c.log_found.new.observer c.args.fetches.now c.access_string-found.new.fetches c.log_found.new.fetches
+    found.queues found.came (subst Comes same c.log_found.ensures.came))

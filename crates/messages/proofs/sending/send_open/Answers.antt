@@ -7,7 +7,7 @@ use Rattle.machine_state.specs.Came.{Came}
 use Rattle.messages.specs.declared.string_fault.StringFault.{StringFault}
 use Rattle.messages.specs.Strings.{side_outcome, string_fault_map}
 use Rattle.messages.specs.Message.{sent_side, sent_by_fault, send_open}
-use Rattle.messages.proofs.Joined.{came_followed}
+use Rattle.messages.proofs.Joined.{came_followed_there}
 use Rattle.messages.proofs.sending.send_open.Goals as goal
 
 pub returns-clause-came : goal.returns-clause-came
@@ -25,6 +25,6 @@ returns-clause-came g c =
     let same : next (state_of n) pieces fault ≡ next s from.pieces from.fault =
     ap (λ (x : State). next x pieces fault) found.came.state
     ∙ (ap (λ (ps : List Piece). next s ps fault) found.pieces ∙ ap (next s from.pieces) found.fault) in
-    let Comes : Outcome → Type 0 = λ o. Came t.kept t.cost t.after t.without o n c.access_sent-found.new.records c.access_sent-found.new.fetches c.send_found.new.machine c.send_found.new.records c.send_found.new.fetches in
-    came_followed t.cost t.after t.without t.kept (side_outcome s from) (next s from.pieces from.fault) m n c.send_found.new.machine c.args.records.now c.access_sent-found.new.records c.send_found.new.records c.args.fetches.now c.access_sent-found.new.fetches c.send_found.new.fetches
-    found.came (subst Comes same c.send_found.ensures.came)
+    let Comes : Outcome → Type 0 = λ o. Came t g.O.Observer c.args.p o n c.access_sent-found.new.observer c.access_sent-found.new.fetches c.send_found.new.machine c.send_found.new.observer c.send_found.new.fetches in
+    came_followed_there t g.O.Observer c.args.p (side_outcome s from) (next s from.pieces from.fault) m n c.send_found.new.machine c.args.observer.now c.access_sent-found.new.observer c.send_found.new.observer c.args.fetches.now c.access_sent-found.new.fetches c.send_found.new.fetches
+    found.queues found.came (subst Comes same c.send_found.ensures.came)

@@ -11,4 +11,4 @@ returns-clause-on_hart g c =
     let m = c.args.machine.now in
     let Stands : QueuesValue → Type 0 = λ q. IsOnHart q c.args.p in
     subst Stands (sym c.send_off.ensures.queues)
-    (told_on_hart (state_of m) (state_of c.tell.new.self) c.args.endpoint c.args.to (message_map (meaning m.objects.items) c.message_of-message.result) c.args.p c.tell.ensures.state c.requires.on_hart)
+    (told_on_hart (state_of m) (state_of c.tell-2.new.self) c.args.endpoint c.args.to (message_map (meaning m.objects.items) c.message_of-message.result) c.args.p c.tell-2.ensures.state c.requires.on_hart)

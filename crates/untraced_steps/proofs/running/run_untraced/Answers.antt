@@ -23,7 +23,7 @@ returns-then-not-plain-clause-ran g c =
     let t = g.T.Translator in
     let i = c.steps.invariant in
     let size = i.size in
-    ran-next t.kept t.cost t.after t.without (Step c.args.hart ∷ steps_left c.args.left.now) c.steps.done (Step c.steps.next) _ _ _ _ _ _ _ _ (omega (arith, size)) i.rest i.ran c.step_untraced-plain.ensures.came
+    ran-next t.kept t.cost t.after t.without (Step c.args.hart ∷ steps_left c.args.left.now) c.steps.done (Step c.steps.next) _ _ _ _ _ _ _ _ (omega (arith, size)) i.rest i.ran c.step_untraced.ensures
 
 pub returns-then-not-plain-clause-behind : goal.returns-then-not-plain-clause-behind
 returns-then-not-plain-clause-behind g c =
@@ -36,7 +36,7 @@ returns-in-None-clause-ran g c =
     let t = g.T.Translator in
     let i = c.steps.invariant in
     let size = i.size in
-    ran-next t.kept t.cost t.after t.without (Step c.args.hart ∷ steps_left c.args.left.now) c.steps.done (Step c.steps.next) _ _ _ _ _ _ _ _ (omega (arith, size)) i.rest i.ran c.step_untraced-plain.ensures.came
+    ran-next t.kept t.cost t.after t.without (Step c.args.hart ∷ steps_left c.args.left.now) c.steps.done (Step c.steps.next) _ _ _ _ _ _ _ _ (omega (arith, size)) i.rest i.ran c.step_untraced.ensures
 
 pub returns-in-None-clause-behind : goal.returns-in-None-clause-behind
 returns-in-None-clause-behind g c =
@@ -51,15 +51,15 @@ steps-preserved g c =
     let size = i.size in
     let all = Step c.args.hart ∷ steps_left c.args.left.now in
     let within : c.steps.done < length all = omega (arith, size) in
-    let none : c.step_untraced-plain.new.records ≡ [] = c.step_untraced-plain.ensures.plain c.if-not-plain.false in
+    let none : c.step_untraced.new.observer.records ≡ [] = c.is_empty-plain.ensures.0 c.if-not-plain.false in
     let split = c.in-Some.ensures in
     let more = ap length split in
     let there = subst (OfHarts c.args.machine.now.objects.harts) split i.there in
-    let next = ran-next t.kept t.cost t.after t.without all c.steps.done (Step c.steps.next) _ _ _ _ _ _ _ _ within i.rest i.ran c.step_untraced-plain.ensures.came in
+    let next = ran-next t.kept t.cost t.after t.without all c.steps.done (Step c.steps.next) _ _ _ _ _ _ _ _ within i.rest i.ran c.step_untraced.ensures in
     let hart = there.0 in
     let harts = next.harts in
     record {
-      ran = subst (λ (told : List Record). RanUntraced t.kept t.cost t.after t.without (take (c.steps.done + 1) all) c.args.machine.now c.args.fetches.now c.step_untraced-plain.new.machine told c.step_untraced-plain.new.fetches) none next;
+      ran = subst (λ (told : List Record). RanUntraced t.kept t.cost t.after t.without (take (c.steps.done + 1) all) c.args.machine.now c.args.fetches.now c.step_untraced.new.machine told c.step_untraced.new.fetches) none next;
       none = none;
       rest = drop-next all c.steps.done (Step c.steps.next) _ within i.rest ∙ split;
       size = omega (arith, size, more);

@@ -8,7 +8,7 @@ use Rattle.untraced_steps.proofs.running.run_untraced.Given as goal
 abbrev pub invariant-steps : goal.invariant-steps
 invariant-steps g l = record {
   ran : RanUntraced g.T.Translator.kept g.T.Translator.cost g.T.Translator.after g.T.Translator.without (take l.done (Step l.hart ∷ steps_left l.fn.left)) l.fn.machine l.fn.fetches l.machine [] l.fetches;
-  none : l.records ≡ [];
+  none : l.observer.records ≡ [];
   rest : drop l.done (Step l.hart ∷ steps_left l.fn.left) ≡ Step l.next ∷ steps_left l.left;
   size : l.done + length (steps_left l.left) ≡ length (steps_left l.fn.left);
   hart : l.next < l.machine.objects.harts;

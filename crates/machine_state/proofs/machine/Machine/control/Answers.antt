@@ -1,6 +1,12 @@
-use Rattle.std.proofs.Common.{sym, subst, arith}
-use Rattle.std.proofs.Common.{◌≡◌, true}
-use Rattle.object_store.specs.Meaning.{is_live}
+use Rattle.std.proofs.Common.{◌≡◌, true, sym, ap, ◌∙◌, subst, arith}
+use Rattle.cap_format.specs.declared.request.Reply.{Reply}
+use Rattle.cap_format.specs.Capability.{bare}
+use Rattle.object_store.specs.Meaning.{is_live, state_map}
+use Rattle.operations.specs.System.{Meant}
+use Rattle.operations.specs.Change.{item_in}
+use Rattle.operations.specs.Row.{Settled}
+use Rattle.operations.specs.Request.{request_map}
+use Rattle.operations.specs.Control.{control_operation}
 use Rattle.machine_state.specs.Machine.{MachineValue}
 use Rattle.machine_state.proofs.Changed.{leaves_sizes}
 use Rattle.machine_state.proofs.Controlled.{kept_control, control_stays}
@@ -26,3 +32,9 @@ returns-clause-leaves g c =
     let Sent : MachineValue g.row.T.Denot → Type 0 = λ m. is_live m.objects.items c.args.request.sent ≡ true in
     let stays = control_stays i.objects c.invoke-reply.new.objects i.queues c.args.cap c.args.request (subst Live (sym c.self.view_is) c.requires.live) (subst Sent (sym c.self.view_is) c.requires.sent) done.stays in
     rw (← c.self.view_is) (leaves_sizes _ _ _ done.kept.sizes done.kept.object_harts stays)
+
+pub returns-clause-same : goal.returns-clause-same
+returns-clause-same g c =
+    let settled : Settled = control_operation Meant (state_map c.self.inside.objects) (bare c.args.cap) (request_map bare c.args.request) in
+    let item : c.invoke-reply.result.changed ≡ item_in settled.answer.changes = ap (λ (r : Reply). r.changed) c.invoke-reply.ensures.reply_means in
+    rw (← c.self.view_is) (λ no. c.tell_changed.ensures.same (item ∙ no))

@@ -61,3 +61,9 @@ returns-clause-leaves g c =
     let new : MachineValue g.row.T.Denot = record { objects = c.invoke-reply.new.objects; queues = i.queues; halted = i.halted; translator = c.tell_changed.new.translator } in
     let Left : MachineValue g.row.T.Denot → Type 0 = λ m. Leaves names m new in
     subst Left c.self.view_is (leaves_counts names old new done.counts harts done.stays)
+
+pub returns-clause-same : goal.returns-clause-same
+returns-clause-same g c =
+    let settled : Settled = memory_operation (state_map c.self.inside.objects) (bare c.args.cap) (request_map bare c.args.request) in
+    let item : c.invoke-reply.result.changed ≡ item_in settled.answer.changes = ap (λ (r : Reply). r.changed) c.invoke-reply.ensures.reply_means in
+    rw (← c.self.view_is) (λ no. c.tell_changed.ensures.same (item ∙ no))
