@@ -1,0 +1,10 @@
+mod Fronts
+mod Order
+mod Tracing
+mod Keys
+mod Steps
+mod Endings
+mod Counts
+mod Numbers
+mod Evers
+mod Telling

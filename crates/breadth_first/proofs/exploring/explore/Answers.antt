@@ -1,0 +1,77 @@
+use Rattle.std.proofs.Common.{◌≡◌, ◌*◌, ◌<◌, length, map, All, ◌∷◌, [], true, not, sym, ap, ◌∙◌, subst, IfOk}
+use Rattle.std.proofs.lemmas.List.{length-map}
+use Rattle.breadth_first.specs.Answer.{IsFound, IsAnswer}
+use Rattle.breadth_first.specs.Progress.{Begins, Ends, AreEdges}
+use Rattle.breadth_first.proofs.Keys.{keeps-trans}
+use Rattle.breadth_first.proofs.Steps.{searched-same, safe-same}
+use Rattle.breadth_first.proofs.Telling.{found-start, on-ok, not-empty}
+use Rattle.breadth_first.proofs.exploring.explore.Goals as goal
+
+pub begin-requires-clause-seen : goal.begin-requires-clause-seen
+begin-requires-clause-seen g c = c.new.ensures.empty
+
+pub begin-requires-clause-origins : goal.begin-requires-clause-origins
+begin-requires-clause-origins g c = c.new-2.ensures.items
+
+pub begin-requires-clause-room : goal.begin-requires-clause-room
+begin-requires-clause-room g c = c.requires.room
+
+pub returns-in-Some-clause-answer : goal.returns-in-Some-clause-answer
+returns-in-Some-clause-answer g c =
+    let bad = subst (Begins (g.S.Space.system c.args.space.now) (g.S.Space.held c.begin.new.space) (g.S.Space.means c.begin.new.space) c.args.limits.now.states c.begin.new.self.seen.keys c.begin.new.self.origins.items) c.in-Some.is c.in_ok-property.ensures.begins in
+    subst (IsFound (g.S.Space.system c.args.space.now) c.args.limits.now c.in-Some.property) (sym c.new-in-Some.ensures.items) (found-start (g.S.Space.system c.args.space.now) (g.met.S.Space.decides c.args.space.now) c.args.limits.now c.in-Some.property bad)
+
+pub returns-in-Some-clause-keeps : goal.returns-in-Some-clause-keeps
+returns-in-Some-clause-keeps g c = c.in_ok-property.ensures.keeps
+
+pub walk-requires-clause-searched : goal.walk-requires-clause-searched
+walk-requires-clause-searched g c =
+    let none = subst (Begins (g.S.Space.system c.args.space.now) (g.S.Space.held c.begin.new.space) (g.S.Space.means c.begin.new.space) c.args.limits.now.states c.begin.new.self.seen.keys c.begin.new.self.origins.items) c.in_default.is c.in_ok-property.ensures.begins in
+    searched-same c.in_ok-property.ensures.keeps.system none.0
+
+pub walk-requires-clause-start : goal.walk-requires-clause-start
+walk-requires-clause-start g c =
+    let none = subst (Begins (g.S.Space.system c.args.space.now) (g.S.Space.held c.begin.new.space) (g.S.Space.means c.begin.new.space) c.args.limits.now.states c.begin.new.self.seen.keys c.begin.new.self.origins.items) c.in_default.is c.in_ok-property.ensures.begins in
+    none.1 ∙ ap (λ t. t.start ∷ []) (sym c.in_ok-property.ensures.keeps.system)
+
+pub walk-requires-clause-safe : goal.walk-requires-clause-safe
+walk-requires-clause-safe g c =
+    let none = subst (Begins (g.S.Space.system c.args.space.now) (g.S.Space.held c.begin.new.space) (g.S.Space.means c.begin.new.space) c.args.limits.now.states c.begin.new.self.seen.keys c.begin.new.self.origins.items) c.in_default.is c.in_ok-property.ensures.begins in
+    safe-same (map (g.S.Space.means c.begin.new.space) c.begin.new.self.seen.keys) c.in_ok-property.ensures.keeps.system none.2
+
+pub walk-requires-clause-edges : goal.walk-requires-clause-edges
+walk-requires-clause-edges g c = ap (λ e. e.ends.items) c.begin.ensures.edges ∙ c.new-3.ensures.none
+
+pub answer-requires-clause-searched : goal.answer-requires-clause-searched
+answer-requires-clause-searched g c = searched-same c.in_ok-end.ensures.keeps.system c.in_ok-end.ensures.searched
+
+pub answer-requires-clause-ends : goal.answer-requires-clause-ends
+answer-requires-clause-ends g c = subst (λ t. Ends t c.args.limits.now (map (g.S.Space.means c.walk.new.space) c.walk.new.self.seen.keys) c.in_ok-end.end) (sym c.in_ok-end.ensures.keeps.system) c.in_ok-end.ensures.ends
+
+pub answer-requires-clause-evers : goal.answer-requires-clause-evers
+answer-requires-clause-evers g c =
+    let both = keeps-trans c.in_ok-property.ensures.keeps c.in_ok-end.ensures.keeps in
+    subst (λ s. All (λ t. t < s.tests) c.args.evers.now) (sym both.system) c.requires.evers
+
+pub answer-requires-clause-counts : goal.answer-requires-clause-counts
+answer-requires-clause-counts g c =
+    let both = keeps-trans c.in_ok-property.ensures.keeps c.in_ok-end.ensures.keeps in
+    subst (λ s. All (λ t. t < s.tests) c.args.counts.now) (sym both.system) c.requires.counts
+
+pub answer-requires-clause-edges : goal.answer-requires-clause-edges
+answer-requires-clause-edges g c d e l =
+    let kept : c.walk.new.self.edges.keeps ≡ true =
+    c.in_ok-end.ensures.keeping ∙ ap (λ e. e.keeps) c.begin.ensures.edges ∙ c.new-3.ensures.keeps ∙ ap not c.is_empty.ensures ∙ not-empty (length c.args.evers.now) l in
+    let are = c.in_ok-end.ensures.edges d e kept in
+    let here = subst (λ s. AreEdges s (map (g.S.Space.means c.walk.new.space) c.walk.new.self.seen.keys) (length c.walk.new.self.seen.keys * s.choices) c.walk.new.self.edges.ends.items) (sym c.in_ok-end.ensures.keeps.system) are in
+    subst (λ n. AreEdges (g.S.Space.system c.walk.new.space) (map (g.S.Space.means c.walk.new.space) c.walk.new.self.seen.keys) (n * (g.S.Space.system c.walk.new.space).choices) c.walk.new.self.edges.ends.items) (sym (length-map c.walk.new.self.seen.keys (g.S.Space.means c.walk.new.space))) here
+
+pub returns-clause-answer : goal.returns-clause-answer
+returns-clause-answer g c =
+    let both = keeps-trans c.in_ok-property.ensures.keeps c.in_ok-end.ensures.keeps in
+    subst (λ t. IfOk c.answer.result (IsAnswer t c.args.limits.now c.args.evers.now c.args.counts.now)) both.system c.answer.ensures.answer
+
+pub returns-clause-keeps : goal.returns-clause-keeps
+returns-clause-keeps g c =
+    let both = keeps-trans c.in_ok-property.ensures.keeps c.in_ok-end.ensures.keeps in
+    on-ok c.answer.result c.answer.ensures.keeps (λ k. keeps-trans both k)

@@ -1,0 +1,87 @@
+use Rattle.std.proofs.Common.{◌≡◌, map, Some, true, false, not, Bool, refl, sym, ap, ◌∙◌, rules, is_some}
+use Rattle.std.proofs.lemmas.List.{length-map}
+use Rattle.std.specs.List.{list_any}
+use Rattle.breadth_first.proofs.Keys.{keeps-all, any-map, seen-position, seen-stored, stored-means, held-news, held-at, added-then, kept-there, kept-new}
+use Rattle.breadth_first.proofs.search.Search.add.Goals as goal
+
+not-false : (b : Bool) → false ≡ not b → b ≡ true
+not-false true e = refl
+not-false false e = cc
+
+not-true : (b : Bool) → true ≡ not b → b ≡ false
+not-true true e = cc
+not-true false e = refl
+
+pub returns-in_default-clause-adds : goal.returns-in_default-clause-adds
+returns-in_default-clause-adds g c =
+    let s = c.args.space.now in
+    let keys = c.args.self.now.seen.keys in
+    let many : c.args.limit ≡ Some c.len-len.result = search rules in (
+      refl,
+      sym (any-map (g.S.Space.system s) (g.met.S.Space.decides s) (g.S.Space.held s) (g.S.Space.means s) g.S.Key.PartialEq.eq (g.met.S.Space.alike s) c.args.key c.requires.held keys c.requires.all)
+          ∙ sym c.get_index_of.ensures.found ∙ ap is_some c.in_default.is,
+      many ∙ ap Some (c.len-len.ensures.len ∙ sym (length-map keys (g.S.Space.means s))),
+      refl,
+    )
+
+pub returns-then-is_met-clause-adds : goal.returns-then-is_met-clause-adds
+returns-then-is_met-clause-adds g c =
+    let s = c.args.space.now in
+    let keys = c.args.self.now.seen.keys in
+    kept-there (g.S.Space.system s) (g.met.S.Space.decides s) (g.S.Space.held s) (g.S.Space.means s) g.S.Key.PartialEq.eq (g.met.S.Space.alike s) c.args.key c.requires.held keys c.requires.all
+    (sym c.get_index_of.ensures.found ∙ ap is_some c.in-Some.is) (map (g.S.Space.means s) keys) refl c.args.self.now.origins.items c.args.origin c.in-Some.index
+    (seen-position (g.S.Space.system s) (g.met.S.Space.decides s) (g.S.Space.held s) (g.S.Space.means s) g.S.Key.PartialEq.eq (g.met.S.Space.alike s) c.args.key c.requires.held keys c.requires.all
+    c.in-Some.index (sym c.get_index_of.ensures.index ∙ c.in-Some.is))
+
+pub returns-then-not-new-clause-adds : goal.returns-then-not-new-clause-adds
+returns-then-not-new-clause-adds g c =
+    let s = c.args.space.now in
+    let keys = c.args.self.now.seen.keys in
+    let some = not-false (list_any (g.S.Key.PartialEq.eq c.args.key) keys) (sym c.if-not-new.true ∙ c.in_ok-index.ensures.added) in
+    let is = seen-stored (g.S.Space.system s) (g.met.S.Space.decides s) (g.S.Space.held s) (g.S.Space.means s) g.S.Key.PartialEq.eq (g.met.S.Space.alike s) c.args.key c.requires.held keys c.insert_full.new.self.keys c.requires.all
+    c.in_ok-index.ensures.keys some c.in_ok-index.index c.in_ok-index.ensures.stored in
+    kept-there (g.S.Space.system s) (g.met.S.Space.decides s) (g.S.Space.held s) (g.S.Space.means s) g.S.Key.PartialEq.eq (g.met.S.Space.alike s) c.args.key c.requires.held keys c.requires.all
+    some (map (g.S.Space.means s) c.insert_full.new.self.keys) is.0 c.args.self.now.origins.items c.args.origin c.in_ok-index.index is.1
+
+pub violated-requires : goal.violated-requires
+violated-requires g c =
+    let s = c.args.space.now in
+    let news = held-news (g.S.Space.system s) (g.met.S.Space.decides s) (g.S.Space.held s) (g.S.Space.means s) g.S.Key.PartialEq.eq (g.met.S.Space.alike s) c.args.key c.requires.held c.args.self.now.seen.keys c.insert_full.new.self.keys c.requires.all c.in_ok-index.ensures.keys in
+    record { held = held-at (g.S.Space.held s) c.insert_full.new.self.keys news c.in_ok-index.index c.index.result.now c.index.ensures }
+
+pub returns-in-Some-2-clause-all : goal.returns-in-Some-2-clause-all
+returns-in-Some-2-clause-all g c =
+    let s = c.args.space.now in
+    let news = held-news (g.S.Space.system s) (g.met.S.Space.decides s) (g.S.Space.held s) (g.S.Space.means s) g.S.Key.PartialEq.eq (g.met.S.Space.alike s) c.args.key c.requires.held c.args.self.now.seen.keys c.insert_full.new.self.keys c.requires.all c.in_ok-index.ensures.keys in
+    keeps-all c.in_ok-property.ensures.keeps c.insert_full.new.self.keys news
+
+pub returns-in-None-clause-all : goal.returns-in-None-clause-all
+returns-in-None-clause-all g c =
+    let s = c.args.space.now in
+    let news = held-news (g.S.Space.system s) (g.met.S.Space.decides s) (g.S.Space.held s) (g.S.Space.means s) g.S.Key.PartialEq.eq (g.met.S.Space.alike s) c.args.key c.requires.held c.args.self.now.seen.keys c.insert_full.new.self.keys c.requires.all c.in_ok-index.ensures.keys in
+    keeps-all c.in_ok-property.ensures.keeps c.insert_full.new.self.keys news
+
+pub returns-in-Some-2-clause-adds : goal.returns-in-Some-2-clause-adds
+returns-in-Some-2-clause-adds g c =
+    let s = c.args.space.now in
+    let keys = c.args.self.now.seen.keys in
+    let more = c.insert_full.new.self.keys in
+    let none = not-true (list_any (g.S.Key.PartialEq.eq c.args.key) keys) (sym c.if-not-new.false ∙ c.in_ok-index.ensures.added) in
+    let news = held-news (g.S.Space.system s) (g.met.S.Space.decides s) (g.S.Space.held s) (g.S.Space.means s) g.S.Key.PartialEq.eq (g.met.S.Space.alike s) c.args.key c.requires.held keys more c.requires.all c.in_ok-index.ensures.keys in
+    let is = stored-means (g.S.Space.system s) (g.met.S.Space.decides s) (g.S.Space.held s) (g.S.Space.means s) g.S.Key.PartialEq.eq (g.met.S.Space.alike s) c.args.key c.requires.held more news c.in_ok-index.index c.index.result.now c.index.ensures c.in_ok-index.ensures.stored in (
+      added-then (g.S.Space.system s) (g.met.S.Space.decides s) (g.S.Space.held s) (g.S.Space.means s) g.S.Key.PartialEq.eq (g.met.S.Space.alike s) c.args.key c.requires.held keys more c.requires.all c.in_ok-index.ensures.keys none c.in_ok-property.ensures.keeps,
+      ap (g.S.Space.system s).violated (sym is) ∙ sym c.in_ok-property.ensures.value ∙ c.in-Some-2.is,
+      c.in_ok-push.ensures.items,
+    )
+
+pub returns-in-None-clause-adds : goal.returns-in-None-clause-adds
+returns-in-None-clause-adds g c =
+    let s = c.args.space.now in
+    let keys = c.args.self.now.seen.keys in
+    let more = c.insert_full.new.self.keys in
+    let none = not-true (list_any (g.S.Key.PartialEq.eq c.args.key) keys) (sym c.if-not-new.false ∙ c.in_ok-index.ensures.added) in
+    let news = held-news (g.S.Space.system s) (g.met.S.Space.decides s) (g.S.Space.held s) (g.S.Space.means s) g.S.Key.PartialEq.eq (g.met.S.Space.alike s) c.args.key c.requires.held keys more c.requires.all c.in_ok-index.ensures.keys in
+    let is = stored-means (g.S.Space.system s) (g.met.S.Space.decides s) (g.S.Space.held s) (g.S.Space.means s) g.S.Key.PartialEq.eq (g.met.S.Space.alike s) c.args.key c.requires.held more news c.in_ok-index.index c.index.result.now c.index.ensures c.in_ok-index.ensures.stored in
+    let kept = kept-new (g.S.Space.system s) (g.met.S.Space.decides s) (g.S.Space.held s) (g.S.Space.means s) g.S.Key.PartialEq.eq (g.met.S.Space.alike s) c.args.key c.requires.held keys more c.requires.all c.in_ok-index.ensures.keys none
+    c.args.self.now.origins.items c.args.origin c.in_ok-index.index c.in_ok-index.ensures.stored (ap (g.S.Space.system s).violated (sym is) ∙ sym c.in_ok-property.ensures.value ∙ c.in-None.is) c.in_ok-property.ensures.keeps in
+    record { states = kept.states; at = kept.at; safe = kept.safe; came = c.in_ok-push.ensures.items ∙ kept.came }

@@ -1,0 +1,112 @@
+use Rattle.std.proofs.Common.{◌≡◌, ◌*◌, length, map, sym, ap, ◌∙◌, subst, arith}
+use Rattle.std.proofs.lemmas.List.{length-map}
+use Rattle.breadth_first.specs.Answer.{before}
+use Rattle.breadth_first.specs.Progress.{Ends, AreEdges}
+use Rattle.breadth_first.proofs.Endings.{open-depth}
+use Rattle.breadth_first.proofs.Telling.{within-opened, closed-seen, room-of, ok-then}
+use Rattle.breadth_first.proofs.search.Search.answer.Goals as goal
+
+pub told_stop-requires-clause-stopped : goal.told_stop-requires-clause-stopped
+told_stop-requires-clause-stopped g c =
+    let keys = c.args.self.now.seen.keys in
+    let states = map (g.S.Space.means c.args.space.now) keys in
+    let many : c.len-states.result ≡ length states = c.len-states.ensures.len ∙ sym (length-map keys (g.S.Space.means c.args.space.now)) in
+    let ends = subst (Ends (g.S.Space.system c.args.space.now) c.args.limits states) c.in-Stopped.is c.requires.ends in
+    ends.0
+
+pub told_stop-requires-clause-below : goal.told_stop-requires-clause-below
+told_stop-requires-clause-below g c =
+    let keys = c.args.self.now.seen.keys in
+    let states = map (g.S.Space.means c.args.space.now) keys in
+    let many : c.len-states.result ≡ length states = c.len-states.ensures.len ∙ sym (length-map keys (g.S.Space.means c.args.space.now)) in
+    let ends = subst (Ends (g.S.Space.system c.args.space.now) c.args.limits states) c.in-Stopped.is c.requires.ends in
+    ends.1
+
+pub tried_of-tried-requires : goal.tried_of-tried-requires
+tried_of-tried-requires g c =
+    let keys = c.args.self.now.seen.keys in
+    let states = map (g.S.Space.means c.args.space.now) keys in
+    let many : c.len-states.result ≡ length states = c.len-states.ensures.len ∙ sym (length-map keys (g.S.Space.means c.args.space.now)) in
+    let ends = subst (Ends (g.S.Space.system c.args.space.now) c.args.limits states) c.in-TooFar.is c.requires.ends in
+    omega (arith, ends.2, ends.0.last, many, c.len-states.ensures.len, c.requires.searched.few)
+
+pub tried_of-tried-requires-in-AllReached : goal.tried_of-tried-requires-in-AllReached
+tried_of-tried-requires-in-AllReached g c = omega (arith, c.len-states.ensures.len, c.requires.searched.few)
+
+pub told_open-requires-clause-opened : goal.told_open-requires-clause-opened
+told_open-requires-clause-opened g c =
+    let keys = c.args.self.now.seen.keys in
+    let states = map (g.S.Space.means c.args.space.now) keys in
+    let many : c.len-states.result ≡ length states = c.len-states.ensures.len ∙ sym (length-map keys (g.S.Space.means c.args.space.now)) in
+    let ends = subst (Ends (g.S.Space.system c.args.space.now) c.args.limits states) c.in-TooFar.is c.requires.ends in
+    within-opened (g.S.Space.system c.args.space.now) (g.met.S.Space.decides c.args.space.now) c.in-TooFar.depth states ends.0
+
+pub told_open-requires-clause-ended : goal.told_open-requires-clause-ended
+told_open-requires-clause-ended g c =
+    let keys = c.args.self.now.seen.keys in
+    let states = map (g.S.Space.means c.args.space.now) keys in
+    let many : c.len-states.result ≡ length states = c.len-states.ensures.len ∙ sym (length-map keys (g.S.Space.means c.args.space.now)) in
+    let ends = subst (Ends (g.S.Space.system c.args.space.now) c.args.limits states) c.in-TooFar.is c.requires.ends in
+    let tried : c.tried_of-tried.result ≡ before (g.S.Space.system c.args.space.now) c.in-TooFar.depth * (g.S.Space.system c.args.space.now).choices =
+    c.tried_of-tried.ensures.value ∙ ap (λ n. c.in-TooFar.tried * n) c.choices.ensures ∙ ap (λ n. n * (g.S.Space.system c.args.space.now).choices) ends.2 in
+    let told = open-depth (g.S.Space.system c.args.space.now) (g.met.S.Space.decides c.args.space.now) c.args.limits (record { states = c.len-states.result; tried = c.tried_of-tried.result; depth = c.in-TooFar.depth }) states many c.args.self.now.origins.items c.requires.searched.came ends.0 ends.1 tried
+    (room-of c.args.limits.states keys c.len-states.result c.len-states.ensures.len c.requires.searched.room) in
+    told.0
+
+pub told_open-requires-clause-seen : goal.told_open-requires-clause-seen
+told_open-requires-clause-seen g c =
+    let keys = c.args.self.now.seen.keys in
+    let states = map (g.S.Space.means c.args.space.now) keys in
+    let many : c.len-states.result ≡ length states = c.len-states.ensures.len ∙ sym (length-map keys (g.S.Space.means c.args.space.now)) in
+    let ends = subst (Ends (g.S.Space.system c.args.space.now) c.args.limits states) c.in-TooFar.is c.requires.ends in
+    let tried : c.tried_of-tried.result ≡ before (g.S.Space.system c.args.space.now) c.in-TooFar.depth * (g.S.Space.system c.args.space.now).choices =
+    c.tried_of-tried.ensures.value ∙ ap (λ n. c.in-TooFar.tried * n) c.choices.ensures ∙ ap (λ n. n * (g.S.Space.system c.args.space.now).choices) ends.2 in
+    let told = open-depth (g.S.Space.system c.args.space.now) (g.met.S.Space.decides c.args.space.now) c.args.limits (record { states = c.len-states.result; tried = c.tried_of-tried.result; depth = c.in-TooFar.depth }) states many c.args.self.now.origins.items c.requires.searched.came ends.0 ends.1 tried
+    (room-of c.args.limits.states keys c.len-states.result c.len-states.ensures.len c.requires.searched.room) in
+    told.1
+
+pub told_closed-requires-clause-opened : goal.told_closed-requires-clause-opened
+told_closed-requires-clause-opened g c =
+    let keys = c.args.self.now.seen.keys in
+    let states = map (g.S.Space.means c.args.space.now) keys in
+    let many : c.len-states.result ≡ length states = c.len-states.ensures.len ∙ sym (length-map keys (g.S.Space.means c.args.space.now)) in
+    let ends = subst (Ends (g.S.Space.system c.args.space.now) c.args.limits states) c.in-AllReached.is c.requires.ends in
+    within-opened (g.S.Space.system c.args.space.now) (g.met.S.Space.decides c.args.space.now) c.in-AllReached.depth states ends.0
+
+pub told_closed-requires-clause-ended : goal.told_closed-requires-clause-ended
+told_closed-requires-clause-ended g c =
+    let keys = c.args.self.now.seen.keys in
+    let states = map (g.S.Space.means c.args.space.now) keys in
+    let many : c.len-states.result ≡ length states = c.len-states.ensures.len ∙ sym (length-map keys (g.S.Space.means c.args.space.now)) in
+    let ends = subst (Ends (g.S.Space.system c.args.space.now) c.args.limits states) c.in-AllReached.is c.requires.ends in
+    let tried : c.tried_of-tried-in-AllReached.result ≡ c.len-states.result * (g.S.Space.system c.args.space.now).choices = c.tried_of-tried-in-AllReached.ensures.value ∙ ap (λ n. c.len-states.result * n) c.choices-in-AllReached.ensures in
+    let told = closed-seen (g.S.Space.system c.args.space.now) (g.met.S.Space.decides c.args.space.now) c.args.limits (record { states = c.len-states.result; tried = c.tried_of-tried-in-AllReached.result; depth = c.in-AllReached.depth }) states many c.args.self.now.origins.items c.requires.searched.came ends.0 ends.1 tried ends.2
+    (room-of c.args.limits.states keys c.len-states.result c.len-states.ensures.len c.requires.searched.room) in
+    told.0
+
+pub told_closed-requires-clause-seen : goal.told_closed-requires-clause-seen
+told_closed-requires-clause-seen g c =
+    let keys = c.args.self.now.seen.keys in
+    let states = map (g.S.Space.means c.args.space.now) keys in
+    let many : c.len-states.result ≡ length states = c.len-states.ensures.len ∙ sym (length-map keys (g.S.Space.means c.args.space.now)) in
+    let ends = subst (Ends (g.S.Space.system c.args.space.now) c.args.limits states) c.in-AllReached.is c.requires.ends in
+    let tried : c.tried_of-tried-in-AllReached.result ≡ c.len-states.result * (g.S.Space.system c.args.space.now).choices = c.tried_of-tried-in-AllReached.ensures.value ∙ ap (λ n. c.len-states.result * n) c.choices-in-AllReached.ensures in
+    let told = closed-seen (g.S.Space.system c.args.space.now) (g.met.S.Space.decides c.args.space.now) c.args.limits (record { states = c.len-states.result; tried = c.tried_of-tried-in-AllReached.result; depth = c.in-AllReached.depth }) states many c.args.self.now.origins.items c.requires.searched.came ends.0 ends.1 tried ends.2
+    (room-of c.args.limits.states keys c.len-states.result c.len-states.ensures.len c.requires.searched.room) in
+    told.1
+
+pub told_closed-requires-clause-edges : goal.told_closed-requires-clause-edges
+told_closed-requires-clause-edges g c l =
+    let keys = c.args.self.now.seen.keys in
+    let states = map (g.S.Space.means c.args.space.now) keys in
+    let many : c.len-states.result ≡ length states = c.len-states.ensures.len ∙ sym (length-map keys (g.S.Space.means c.args.space.now)) in
+    subst (λ n. AreEdges (g.S.Space.system c.args.space.now) states (n * (g.S.Space.system c.args.space.now).choices) c.args.self.now.edges.ends.items) (length-map keys (g.S.Space.means c.args.space.now)) (c.requires.edges c.in-AllReached.depth c.in-AllReached.is l)
+
+pub returns-in-Stopped-clause-answer : goal.returns-in-Stopped-clause-answer
+returns-in-Stopped-clause-answer g c = ok-then c.told_stop.result c.told_stop.ensures.answer (λ a is. is c.args.evers.now)
+
+pub returns-in-TooFar-clause-answer : goal.returns-in-TooFar-clause-answer
+returns-in-TooFar-clause-answer g c = ok-then c.told_open.result c.told_open.ensures.answer (λ a is. is c.args.evers.now)
+
+pub returns-in-AllReached-clause-answer : goal.returns-in-AllReached-clause-answer
+returns-in-AllReached-clause-answer g c = c.told_closed.ensures.answer

@@ -1,0 +1,111 @@
+use Rattle.std.proofs.Common.{◌≡◌, suc, ◌+◌, ◌*◌, ◌<◌, ◌≤◌, length, map, Some, None, refl, sym, ap, ◌∙◌, subst, arith}
+use Rattle.std.proofs.lemmas.List.{length-map}
+use Rattle.breadth_first.specs.Answer.{before}
+use Rattle.breadth_first.specs.Order.{opened, reached}
+use Rattle.breadth_first.specs.Progress.{Expands, KeepsEdges}
+use Rattle.breadth_first.proofs.Keys.{keeps-refl, keeps-trans}
+use Rattle.breadth_first.proofs.Steps.{reached-before, before-within, level-turn, goes_on-stop, goes_on-none, searched-same, opened-same, safe-same, expands-same}
+use Rattle.breadth_first.proofs.search.Search.level.Goals as goal
+
+some-none : {X : Type 0} {x : X} → Some x ≡ None → ⊥
+some-none e = cc
+
+pub loop-at-init : goal.loop-at-init
+loop-at-init g c =
+    let s = c.args.space.now in
+    record {
+      keeps = keeps-refl (g.S.Space.system s) (g.S.Space.held s) (g.S.Space.means s);
+      searched = c.requires.searched;
+      kept = c.requires.reached ∙ reached-before (g.S.Space.system s) (g.met.S.Space.decides s) c.args.depth ∙ ap (opened (g.S.Space.system s)) (sym c.requires.from);
+      safe = c.requires.safe;
+      keeping = refl;
+      edges = c.requires.edges;
+    }
+
+pub expand-requires-clause-searched : goal.expand-requires-clause-searched
+expand-requires-clause-searched g c = searched-same c.loop-at.invariant.keeps.system c.loop-at.invariant.searched
+
+pub expand-requires-clause-at : goal.expand-requires-clause-at
+expand-requires-clause-at g c =
+    let inv = c.loop-at.invariant in
+    let keys = c.args.self.now.seen.keys in
+    let to : c.loop-at.at < length (reached (g.S.Space.system c.args.space.now) c.args.depth) = omega (arith, c.loop-at-test.true, c.len-at-end.ensures.len, ap length c.requires.reached, length-map keys (g.S.Space.means c.args.space.now)) in
+    let from : before (g.S.Space.system c.args.space.now) c.args.depth ≤ c.loop-at.at = omega (arith, c.loop-at.auto.at, c.requires.from) in
+    let there = level-turn (g.S.Space.system c.args.space.now) (g.met.S.Space.decides c.args.space.now) c.args.depth c.loop-at.at from to in
+    omega (arith, there, ap length inv.kept, length-map c.loop-at.self.seen.keys (g.S.Space.means c.loop-at.space))
+
+pub expand-requires-clause-opened : goal.expand-requires-clause-opened
+expand-requires-clause-opened g c = opened-same (map (g.S.Space.means c.loop-at.space) c.loop-at.self.seen.keys) c.loop-at.at c.loop-at.invariant.keeps.system c.loop-at.invariant.kept
+
+pub expand-requires-clause-safe : goal.expand-requires-clause-safe
+expand-requires-clause-safe g c = safe-same (map (g.S.Space.means c.loop-at.space) c.loop-at.self.seen.keys) c.loop-at.invariant.keeps.system c.loop-at.invariant.safe
+
+pub returns-in-Some-clause-keeps : goal.returns-in-Some-clause-keeps
+returns-in-Some-clause-keeps g c = keeps-trans c.loop-at.invariant.keeps c.in_ok-stop.ensures.keeps
+
+pub returns-in-Some-clause-searched : goal.returns-in-Some-clause-searched
+returns-in-Some-clause-searched g c = searched-same (sym c.loop-at.invariant.keeps.system) c.in_ok-stop.ensures.searched
+
+pub returns-in-Some-clause-goes_on : goal.returns-in-Some-clause-goes_on
+returns-in-Some-clause-goes_on g c =
+    let inv = c.loop-at.invariant in
+    let keys = c.args.self.now.seen.keys in
+    let to : c.loop-at.at < length (reached (g.S.Space.system c.args.space.now) c.args.depth) = omega (arith, c.loop-at-test.true, c.len-at-end.ensures.len, ap length c.requires.reached, length-map keys (g.S.Space.means c.args.space.now)) in
+    let from : before (g.S.Space.system c.args.space.now) c.args.depth ≤ c.loop-at.at = omega (arith, c.loop-at.auto.at, c.requires.from) in
+    let x = expands-same c.args.limit c.loop-at.at (map (g.S.Space.means c.expand.new.space) c.expand.new.self.seen.keys) c.in_ok-stop.field-0 inv.keeps.system c.in_ok-stop.ensures.expands in
+    goes_on-stop (g.S.Space.system c.args.space.now) (g.met.S.Space.decides c.args.space.now) c.args.limit c.args.depth c.loop-at.at (map (g.S.Space.means c.expand.new.space) c.expand.new.self.seen.keys) c.in-Some.stop from to
+    (subst (Expands (g.S.Space.system c.args.space.now) c.args.limit c.loop-at.at (map (g.S.Space.means c.expand.new.space) c.expand.new.self.seen.keys)) c.in-Some.is x)
+
+pub loop-at-preserved : goal.loop-at-preserved
+loop-at-preserved g c =
+    let inv = c.loop-at.invariant in
+    let x = expands-same c.args.limit c.loop-at.at (map (g.S.Space.means c.expand.new.space) c.expand.new.self.seen.keys) c.in_ok-stop.field-0 inv.keeps.system c.in_ok-stop.ensures.expands in
+    let none = subst (Expands (g.S.Space.system c.args.space.now) c.args.limit c.loop-at.at (map (g.S.Space.means c.expand.new.space) c.expand.new.self.seen.keys)) c.in_default.is x in
+    let more : suc c.loop-at.at ≡ c.loop-at.at + 1 = omega arith in
+    record {
+      keeps = keeps-trans inv.keeps c.in_ok-stop.ensures.keeps;
+      searched = searched-same (sym inv.keeps.system) c.in_ok-stop.ensures.searched;
+      kept = none.0 ∙ ap (opened (g.S.Space.system c.args.space.now)) more;
+      safe = none.1;
+      keeping = c.in_ok-stop.ensures.keeping ∙ inv.keeping;
+      edges = (let sum : c.loop-at.at * (g.S.Space.system c.args.space.now).choices + (g.S.Space.system c.args.space.now).choices ≡ (c.loop-at.at + 1) * (g.S.Space.system c.args.space.now).choices = omega arith in
+          subst (λ n. KeepsEdges (g.S.Space.system c.args.space.now) (map (g.S.Space.means c.expand.new.space) c.expand.new.self.seen.keys) n c.expand.new.self.edges.keeps c.expand.new.self.edges.ends.items) sum
+          (subst (λ t. KeepsEdges t (map (g.S.Space.means c.expand.new.space) c.expand.new.self.seen.keys) (c.loop-at.at * t.choices + t.choices) c.expand.new.self.edges.keeps c.expand.new.self.edges.ends.items) inv.keeps.system (c.in_ok-stop.ensures.edges c.in_default.is)));
+    }
+
+pub returns-clause-keeps : goal.returns-clause-keeps
+returns-clause-keeps g c = c.loop-at.invariant.keeps
+
+pub returns-clause-searched : goal.returns-clause-searched
+returns-clause-searched g c = c.loop-at.invariant.searched
+
+pub returns-clause-goes_on : goal.returns-clause-goes_on
+returns-clause-goes_on g c =
+    let inv = c.loop-at.invariant in
+    let keys = c.args.self.now.seen.keys in
+    let few = before-within (g.S.Space.system c.args.space.now) (g.met.S.Space.decides c.args.space.now) c.args.depth in
+    let last : c.loop-at.at ≡ length (reached (g.S.Space.system c.args.space.now) c.args.depth) =
+    omega (arith, few, c.loop-at-test.false, c.loop-at.auto.at-end, c.requires.from, c.len-at-end.ensures.len, ap length c.requires.reached, length-map keys (g.S.Space.means c.args.space.now)) in
+    goes_on-none (g.S.Space.system c.args.space.now) (g.met.S.Space.decides c.args.space.now) c.args.limit c.args.depth c.loop-at.at (map (g.S.Space.means c.loop-at.space) c.loop-at.self.seen.keys) last inv.kept inv.safe
+
+pub expand-requires-clause-edges : goal.expand-requires-clause-edges
+expand-requires-clause-edges g c =
+    subst (λ t. KeepsEdges t (map (g.S.Space.means c.loop-at.space) c.loop-at.self.seen.keys) (c.loop-at.at * t.choices) c.loop-at.self.edges.keeps c.loop-at.self.edges.ends.items) (sym c.loop-at.invariant.keeps.system) c.loop-at.invariant.edges
+
+pub returns-in-Some-clause-keeping : goal.returns-in-Some-clause-keeping
+returns-in-Some-clause-keeping g c = c.in_ok-stop.ensures.keeping ∙ c.loop-at.invariant.keeping
+
+pub returns-in-Some-clause-edges : goal.returns-in-Some-clause-edges
+returns-in-Some-clause-edges g c e = absurd (some-none e)
+
+pub returns-clause-keeping : goal.returns-clause-keeping
+returns-clause-keeping g c = c.loop-at.invariant.keeping
+
+pub returns-clause-edges : goal.returns-clause-edges
+returns-clause-edges g c _ =
+    let inv = c.loop-at.invariant in
+    let keys = c.args.self.now.seen.keys in
+    let few = before-within (g.S.Space.system c.args.space.now) (g.met.S.Space.decides c.args.space.now) c.args.depth in
+    let last : c.loop-at.at ≡ length keys =
+    omega (arith, few, c.loop-at-test.false, c.loop-at.auto.at-end, c.requires.from, c.len-at-end.ensures.len, ap length c.requires.reached, length-map keys (g.S.Space.means c.args.space.now)) in
+    subst (λ n. KeepsEdges (g.S.Space.system c.args.space.now) (map (g.S.Space.means c.loop-at.space) c.loop-at.self.seen.keys) (n * (g.S.Space.system c.args.space.now).choices) c.loop-at.self.edges.keeps c.loop-at.self.edges.ends.items) last inv.edges

@@ -1,0 +1,15 @@
+use Rattle.std.proofs.Common.{◌≡◌, ◌*◌, map}
+use Rattle.breadth_first.specs.Kept.{Keeps}
+use Rattle.breadth_first.specs.Order.{opened}
+use Rattle.breadth_first.specs.Progress.{Searched, AreSafe, KeepsEdges}
+use Rattle.breadth_first.proofs.search.Search.level.Given as goal
+
+abbrev pub invariant-loop-at : goal.invariant-loop-at
+invariant-loop-at g l = record {
+  keeps : Keeps (g.S.Space.system l.fn.space) (g.S.Space.held l.fn.space) (g.S.Space.means l.fn.space) (g.S.Space.system l.space) (g.S.Space.held l.space) (g.S.Space.means l.space);
+  searched : Searched (g.S.Space.system l.fn.space) (g.S.Space.held l.space) (g.S.Space.means l.space) l.limit l.self.seen.keys l.self.origins.items;
+  kept : map (g.S.Space.means l.space) l.self.seen.keys ≡ opened (g.S.Space.system l.fn.space) l.at;
+  safe : AreSafe (g.S.Space.system l.fn.space) (map (g.S.Space.means l.space) l.self.seen.keys);
+  keeping : l.self.edges.keeps ≡ l.fn.self.edges.keeps;
+  edges : KeepsEdges (g.S.Space.system l.fn.space) (map (g.S.Space.means l.space) l.self.seen.keys) (l.at * (g.S.Space.system l.fn.space).choices) l.self.edges.keeps l.self.edges.ends.items;
+}

@@ -1,0 +1,155 @@
+use Rattle.std.proofs.Common.{◌≡◌, ℕ, suc, ◌+◌, ◌*◌, ◌<◌, ◌≤◌, length, map, Option, IfSome, Some, None, refl, sym, ap, ◌∙◌, subst, arith, rules, true≢false}
+use Rattle.std.proofs.lemmas.List.{length-map}
+use Rattle.breadth_first.specs.Answer.{before}
+use Rattle.breadth_first.specs.Order.{reached}
+use Rattle.breadth_first.specs.Progress.{GoesOn, AreWithin, KeepsEdges}
+use Rattle.breadth_first.specs.declared.search.Stop.{Stop}
+use Rattle.breadth_first.specs.declared.levels.End.TheVariants.{AllReached, TooFar, Stopped}
+use Rattle.breadth_first.proofs.Keys.{keeps-refl, keeps-trans}
+use Rattle.breadth_first.proofs.Steps.{edges-none, within-start, within-more, all-reached, below-limit, searched-same, safe-same, goes_on-same}
+use Rattle.breadth_first.proofs.search.Search.walk.Goals as goal
+
+far-all : {d e : ℕ} {tried : ℕ} → TooFar d tried ≡ AllReached e → ⊥
+far-all e = cc
+
+stopped-all : {d e : ℕ} {stop : Stop} → Stopped d stop ≡ AllReached e → ⊥
+stopped-all e = cc
+
+any-limit : (limit : Option ℕ) → IfSome limit (λ n. 0 ≤ n)
+any-limit None = tt
+any-limit (Some n) = omega arith
+
+below-suc : (limit : Option ℕ) (d : ℕ) → IfSome limit (λ n. d < n) → IfSome limit (λ n. d + 1 ≤ n)
+below-suc None d l = tt
+below-suc (Some n) d l = omega arith
+
+pub levels-init : goal.levels-init
+levels-init g c =
+    let s = c.args.space.now in
+    record {
+      keeps = keeps-refl (g.S.Space.system s) (g.S.Space.held s) (g.S.Space.means s);
+      searched = c.requires.searched;
+      within = within-start (g.S.Space.system s) (g.met.S.Space.decides s) (map (g.S.Space.means s) c.args.self.now.seen.keys) c.requires.start c.requires.safe;
+      from = refl;
+      few = omega arith;
+      below = any-limit c.args.limits.depth;
+      keeping = refl;
+      edges = (let none : 0 ≡ 0 * (g.S.Space.system s).choices = omega arith in
+          subst (λ n. KeepsEdges (g.S.Space.system s) (map (g.S.Space.means s) c.args.self.now.seen.keys) n c.args.self.now.edges.keeps c.args.self.now.edges.ends.items) none
+          (edges-none (g.S.Space.system s) (map (g.S.Space.means s) c.args.self.now.seen.keys) c.args.self.now.edges.keeps c.args.self.now.edges.ends.items c.requires.edges));
+    }
+
+pub level-requires-clause-searched : goal.level-requires-clause-searched
+level-requires-clause-searched g c = searched-same c.levels.invariant.keeps.system c.levels.invariant.searched
+
+pub level-requires-clause-from : goal.level-requires-clause-from
+level-requires-clause-from g c = c.levels.invariant.from ∙ ap (λ t. before t c.levels.depth) (sym c.levels.invariant.keeps.system)
+
+pub level-requires-clause-reached : goal.level-requires-clause-reached
+level-requires-clause-reached g c = c.levels.invariant.within.are ∙ ap (λ t. reached t c.levels.depth) (sym c.levels.invariant.keeps.system)
+
+pub level-requires-clause-safe : goal.level-requires-clause-safe
+level-requires-clause-safe g c = safe-same (map (g.S.Space.means c.levels.space) c.levels.self.seen.keys) c.levels.invariant.keeps.system c.levels.invariant.within.safe
+
+pub returns-then-is_met-clause-keeps : goal.returns-then-is_met-clause-keeps
+returns-then-is_met-clause-keeps g c = c.levels.invariant.keeps
+
+pub returns-then-is_met-clause-searched : goal.returns-then-is_met-clause-searched
+returns-then-is_met-clause-searched g c = c.levels.invariant.searched
+
+pub returns-then-is_met-clause-ends : goal.returns-then-is_met-clause-ends
+returns-then-is_met-clause-ends g c =
+    let met : c.args.limits.depth ≡ Some c.levels.depth = search rules in
+    (c.levels.invariant.within, met, c.levels.invariant.from)
+
+pub returns-in-Some-clause-keeps : goal.returns-in-Some-clause-keeps
+returns-in-Some-clause-keeps g c = keeps-trans c.levels.invariant.keeps c.in_ok-stop.ensures.keeps
+
+pub returns-in-Some-clause-searched : goal.returns-in-Some-clause-searched
+returns-in-Some-clause-searched g c = searched-same (sym c.levels.invariant.keeps.system) c.in_ok-stop.ensures.searched
+
+pub returns-in-Some-clause-ends : goal.returns-in-Some-clause-ends
+returns-in-Some-clause-ends g c =
+    let not : c.args.limits.depth ≡ Some c.levels.depth → ⊥ = λ e. true≢false (sym (c.is_met.ensures.1 e) ∙ c.if-is_met.false) in
+    let below = below-limit c.args.limits.depth c.levels.depth c.levels.invariant.below not in
+    let went = goes_on-same c.args.limits.states c.levels.depth (map (g.S.Space.means c.level.new.space) c.level.new.self.seen.keys) c.in_ok-stop.field-0 c.levels.invariant.keeps.system c.in_ok-stop.ensures.goes_on in
+    (subst (GoesOn (g.S.Space.system c.args.space.now) c.args.limits.states c.levels.depth (map (g.S.Space.means c.level.new.space) c.level.new.self.seen.keys)) c.in-Some.is went, below)
+
+pub levels-preserved : goal.levels-preserved
+levels-preserved g c =
+    let not : c.args.limits.depth ≡ Some c.levels.depth → ⊥ = λ e. true≢false (sym (c.is_met.ensures.1 e) ∙ c.if-is_met.false) in
+    let below = below-limit c.args.limits.depth c.levels.depth c.levels.invariant.below not in
+    let went = goes_on-same c.args.limits.states c.levels.depth (map (g.S.Space.means c.level.new.space) c.level.new.self.seen.keys) c.in_ok-stop.field-0 c.levels.invariant.keeps.system c.in_ok-stop.ensures.goes_on in
+    let none = subst (GoesOn (g.S.Space.system c.args.space.now) c.args.limits.states c.levels.depth (map (g.S.Space.means c.level.new.space) c.level.new.self.seen.keys)) c.in_default.is went in
+    let was : c.len-to.result ≡ length (map (g.S.Space.means c.levels.space) c.levels.self.seen.keys) = c.len-to.ensures.len ∙ sym (length-map c.levels.self.seen.keys (g.S.Space.means c.levels.space)) in
+    let now : c.len.result ≡ length (map (g.S.Space.means c.level.new.space) c.level.new.self.seen.keys) = c.len.ensures.len ∙ sym (length-map c.level.new.self.seen.keys (g.S.Space.means c.level.new.space)) in
+    let apart : length (map (g.S.Space.means c.level.new.space) c.level.new.self.seen.keys) ≡ length (map (g.S.Space.means c.levels.space) c.levels.self.seen.keys) → ⊥ = λ e. c.if-len-to.false (now ∙ e ∙ sym was) in
+    let within = within-more (g.S.Space.system c.args.space.now) (g.met.S.Space.decides c.args.space.now) c.args.limits.states c.levels.depth (map (g.S.Space.means c.levels.space) c.levels.self.seen.keys) (map (g.S.Space.means c.level.new.space) c.level.new.self.seen.keys) c.levels.invariant.within none apart in
+    let suc-one : suc c.levels.depth ≡ c.levels.depth + 1 = omega arith in
+    record {
+      keeps = keeps-trans c.levels.invariant.keeps c.in_ok-stop.ensures.keeps;
+      searched = searched-same (sym c.levels.invariant.keeps.system) c.in_ok-stop.ensures.searched;
+      within = subst (λ n. AreWithin (g.S.Space.system c.args.space.now) n (map (g.S.Space.means c.level.new.space) c.level.new.self.seen.keys)) suc-one within;
+      from = was ∙ ap length c.levels.invariant.within.are ∙ ap (before (g.S.Space.system c.args.space.now)) suc-one;
+      few = omega (arith, was, c.levels.invariant.few, c.levels.invariant.from, c.levels.invariant.within.last);
+      below = below-suc c.args.limits.depth c.levels.depth below;
+      keeping = c.in_ok-stop.ensures.keeping ∙ c.levels.invariant.keeping;
+      edges = subst (λ n. KeepsEdges (g.S.Space.system c.args.space.now) (map (g.S.Space.means c.level.new.space) c.level.new.self.seen.keys) (n * (g.S.Space.system c.args.space.now).choices) c.level.new.self.edges.keeps c.level.new.self.edges.ends.items) (sym c.len-to.ensures.len)
+          (subst (λ t. KeepsEdges t (map (g.S.Space.means c.level.new.space) c.level.new.self.seen.keys) (length c.levels.self.seen.keys * t.choices) c.level.new.self.edges.keeps c.level.new.self.edges.ends.items) c.levels.invariant.keeps.system (c.in_ok-stop.ensures.edges c.in_default.is));
+    }
+
+pub levels-smaller : goal.levels-smaller
+levels-smaller g c =
+    let went = goes_on-same c.args.limits.states c.levels.depth (map (g.S.Space.means c.level.new.space) c.level.new.self.seen.keys) c.in_ok-stop.field-0 c.levels.invariant.keeps.system c.in_ok-stop.ensures.goes_on in
+    let none = subst (GoesOn (g.S.Space.system c.args.space.now) c.args.limits.states c.levels.depth (map (g.S.Space.means c.level.new.space) c.level.new.self.seen.keys)) c.in_default.is went in
+    let was : c.len-to.result ≡ length (map (g.S.Space.means c.levels.space) c.levels.self.seen.keys) = c.len-to.ensures.len ∙ sym (length-map c.levels.self.seen.keys (g.S.Space.means c.levels.space)) in
+    let now : c.len.result ≡ length (map (g.S.Space.means c.level.new.space) c.level.new.self.seen.keys) = c.len.ensures.len ∙ sym (length-map c.level.new.self.seen.keys (g.S.Space.means c.level.new.space)) in
+    let apart : length (map (g.S.Space.means c.level.new.space) c.level.new.self.seen.keys) ≡ length (map (g.S.Space.means c.levels.space) c.levels.self.seen.keys) → ⊥ = λ e. c.if-len-to.false (now ∙ e ∙ sym was) in
+    let within = within-more (g.S.Space.system c.args.space.now) (g.met.S.Space.decides c.args.space.now) c.args.limits.states c.levels.depth (map (g.S.Space.means c.levels.space) c.levels.self.seen.keys) (map (g.S.Space.means c.level.new.space) c.level.new.self.seen.keys) c.levels.invariant.within none apart in
+    let suc-one : suc c.levels.depth ≡ c.levels.depth + 1 = omega arith in
+    let few = c.in_ok-stop.ensures.searched.few in
+    omega (arith, within.last, few, was, ap length c.levels.invariant.within.are, length-map c.levels.self.seen.keys (g.S.Space.means c.levels.space), length-map c.level.new.self.seen.keys (g.S.Space.means c.level.new.space))
+
+pub overflow_add-depth : goal.overflow_add-depth
+overflow_add-depth g c =
+    omega (arith, c.levels.invariant.few, c.levels.invariant.from, c.levels.invariant.within.last, c.levels.invariant.searched.few, length-map c.levels.self.seen.keys (g.S.Space.means c.levels.space))
+
+pub returns-then-len-to-clause-ends : goal.returns-then-len-to-clause-ends
+returns-then-len-to-clause-ends g c =
+    let not : c.args.limits.depth ≡ Some c.levels.depth → ⊥ = λ e. true≢false (sym (c.is_met.ensures.1 e) ∙ c.if-is_met.false) in
+    let below = below-limit c.args.limits.depth c.levels.depth c.levels.invariant.below not in
+    let went = goes_on-same c.args.limits.states c.levels.depth (map (g.S.Space.means c.level.new.space) c.level.new.self.seen.keys) c.in_ok-stop.field-0 c.levels.invariant.keeps.system c.in_ok-stop.ensures.goes_on in
+    let none = subst (GoesOn (g.S.Space.system c.args.space.now) c.args.limits.states c.levels.depth (map (g.S.Space.means c.level.new.space) c.level.new.self.seen.keys)) c.in_default.is went in
+    let was : c.len-to.result ≡ length (map (g.S.Space.means c.levels.space) c.levels.self.seen.keys) = c.len-to.ensures.len ∙ sym (length-map c.levels.self.seen.keys (g.S.Space.means c.levels.space)) in
+    let now : c.len.result ≡ length (map (g.S.Space.means c.level.new.space) c.level.new.self.seen.keys) = c.len.ensures.len ∙ sym (length-map c.level.new.self.seen.keys (g.S.Space.means c.level.new.space)) in
+    all-reached (g.S.Space.system c.args.space.now) (g.met.S.Space.decides c.args.space.now) c.args.limits c.levels.depth (map (g.S.Space.means c.levels.space) c.levels.self.seen.keys) (map (g.S.Space.means c.level.new.space) c.level.new.self.seen.keys) c.levels.invariant.within none (sym now ∙ c.if-len-to.true ∙ was) below
+
+pub level-requires-clause-edges : goal.level-requires-clause-edges
+level-requires-clause-edges g c =
+    subst (λ t. KeepsEdges t (map (g.S.Space.means c.levels.space) c.levels.self.seen.keys) (c.levels.from * t.choices) c.levels.self.edges.keeps c.levels.self.edges.ends.items) (sym c.levels.invariant.keeps.system) c.levels.invariant.edges
+
+pub returns-then-is_met-clause-keeping : goal.returns-then-is_met-clause-keeping
+returns-then-is_met-clause-keeping g c = c.levels.invariant.keeping
+
+pub returns-then-is_met-clause-edges : goal.returns-then-is_met-clause-edges
+returns-then-is_met-clause-edges g c d e = absurd (far-all e)
+
+pub returns-in-Some-clause-keeping : goal.returns-in-Some-clause-keeping
+returns-in-Some-clause-keeping g c = c.in_ok-stop.ensures.keeping ∙ c.levels.invariant.keeping
+
+pub returns-in-Some-clause-edges : goal.returns-in-Some-clause-edges
+returns-in-Some-clause-edges g c d e = absurd (stopped-all e)
+
+pub returns-then-len-to-clause-keeps : goal.returns-then-len-to-clause-keeps
+returns-then-len-to-clause-keeps g c = keeps-trans c.levels.invariant.keeps c.in_ok-stop.ensures.keeps
+
+pub returns-then-len-to-clause-searched : goal.returns-then-len-to-clause-searched
+returns-then-len-to-clause-searched g c = searched-same (sym c.levels.invariant.keeps.system) c.in_ok-stop.ensures.searched
+
+pub returns-then-len-to-clause-keeping : goal.returns-then-len-to-clause-keeping
+returns-then-len-to-clause-keeping g c = c.in_ok-stop.ensures.keeping ∙ c.levels.invariant.keeping
+
+pub returns-then-len-to-clause-edges : goal.returns-then-len-to-clause-edges
+returns-then-len-to-clause-edges g c d _ =
+    subst (λ n. KeepsEdges (g.S.Space.system c.args.space.now) (map (g.S.Space.means c.level.new.space) c.level.new.self.seen.keys) (n * (g.S.Space.system c.args.space.now).choices) c.level.new.self.edges.keeps c.level.new.self.edges.ends.items) (sym c.len-to.ensures.len ∙ sym c.if-len-to.true ∙ c.len.ensures.len)
+    (subst (λ t. KeepsEdges t (map (g.S.Space.means c.level.new.space) c.level.new.self.seen.keys) (length c.levels.self.seen.keys * t.choices) c.level.new.self.edges.keeps c.level.new.self.edges.ends.items) c.levels.invariant.keeps.system (c.in_ok-stop.ensures.edges c.in_default.is))

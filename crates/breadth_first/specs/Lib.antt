@@ -1,0 +1,9 @@
+pub mod System
+pub mod Paths
+pub mod Order
+pub mod Kept
+pub mod Answer
+pub mod Front
+pub mod Origins
+pub mod Trace
+pub mod Progress

@@ -1,0 +1,17 @@
+-- Lists of choices, and where they lead.
+use Rattle.std.specs.Prelude.{◌≡◌, ℕ, ◌<◌, true, List, [], ◌∷◌, All}
+use Rattle.breadth_first.specs.System.{System}
+
+module _ {S : Type 0} (g : System S) where
+  -- the state after a list of choices, the first first
+  abbrev pub after : S → List ℕ → S
+  after s [] = s
+  after s (c ∷ path) = after (g.next s c) path
+
+  -- the list has choices of the system alone
+  abbrev pub AreChoices : List ℕ → Type 0
+  AreChoices path = All (λ c. c < g.choices) path
+
+  -- some choices lead from a state to one that passes the test
+  abbrev pub CanCome : ℕ → S → Type 0
+  CanCome t s = (path : List ℕ) × AreChoices path × (g.test t (after s path) ≡ true)

@@ -1,0 +1,161 @@
+-- How a search goes on: what it keeps, what becomes of a state that is found, and how it ends.
+use Rattle.std.specs.Prelude.{◌≡◌, ℕ, suc, ◌+◌, ◌*◌, ◌^◌, ◌<◌, ◌≤◌, if◌then◌else◌, Bool, true, false, not, List, [], ◌∷◌, ◌++◌, length, map, All, Contains, Option, None, Some, IfSome, MatchOption, slice_get, slice_index_or}
+use Rattle.std.specs.List.{list_any}
+use Rattle.indexmap.specs.IndexSet.{insert_key}
+use Rattle.reaches_back.specs.Edges.{CanReach}
+use Rattle.breadth_first.specs.System.{System}
+use Rattle.breadth_first.specs.Front.{Front}
+use Rattle.breadth_first.specs.Paths.{after, AreChoices, CanCome}
+use Rattle.breadth_first.specs.Order.{trying, opened, reached}
+use Rattle.breadth_first.specs.Answer.{before}
+use Rattle.breadth_first.specs.Origins.{AreOrigins}
+use Rattle.breadth_first.specs.declared.origins.Origin.{Origin}
+use Rattle.breadth_first.specs.declared.search.Added.{Added}
+use Rattle.breadth_first.specs.declared.search.Added.TheVariants.{At, Violates, Full}
+use Rattle.breadth_first.specs.declared.search.Stop.{Stop}
+use Rattle.breadth_first.specs.declared.search.Stop.TheVariants.{Bad, NoRoom}
+use Rattle.breadth_first.specs.declared.levels.End.{End}
+use Rattle.breadth_first.specs.declared.levels.End.TheVariants.{AllReached, TooFar, Stopped}
+use Rattle.breadth_first.specs.declared.answer.Limits.{Limits}
+
+-- what a search keeps: keys that stand for states, each with its origin, and no more than the limit
+pub record Searched {K S : Type 0} (g : System S) (held : K → Type 0) (means : K → S) (limit : Option ℕ) (keys : List K) (origins : List Origin) : Type 0 where
+  pub all : All held keys
+  pub came : AreOrigins g (map means keys) origins
+  pub few : length keys ≤ 2 ^ 32
+  pub room : IfSome limit (λ n. length keys ≤ n)
+
+module _ {S : Type 0} (g : System S) where
+  -- none of the states violates a property
+  abbrev pub AreSafe : List S → Type 0
+  AreSafe states = All (λ s. g.violated s ≡ None) states
+
+  -- the state wasn't there, and now it is the last one
+  abbrev pub IsAdded : List S → S → List S → Type 0
+  IsAdded old s new = (list_any (g.same s) old ≡ false) × (new ≡ old ++ s ∷ [])
+
+  -- a state was found: it has an index, and if it is new it violates no property
+  pub record IsKept (old : List S) (s : S) (new : List S) (origins : List Origin) (origin : Origin) (told : List Origin) (i : ℕ) : Type 0 where
+    pub states : new ≡ insert_key g.same old s
+    pub at : slice_get new i ≡ Some s
+    pub safe : AreSafe old → AreSafe new
+    pub came : told ≡ (if list_any (g.same s) old then origins else origins ++ origin ∷ [])
+
+  -- what became of a state that was found, and of the origins: it has an index, it is new and violates a property, or it is
+  -- new and there is no room for it
+  abbrev pub Adds : Option ℕ → List S → S → List S → List Origin → Origin → List Origin → Added → Type 0
+  Adds limit old s new origins origin told (At i) = IsKept old s new origins origin told i
+  Adds limit old s new origins origin told (Violates property) = IsAdded old s new × (g.violated s ≡ Some property) × (told ≡ origins ++ origin ∷ [])
+  Adds limit old s new origins origin told Full = (new ≡ old) × (list_any (g.same s) old ≡ false) × (limit ≡ Some (length old)) × (told ≡ origins)
+
+  -- the last of the states alone violates properties, this one first
+  pub record EndsBadly (property : ℕ) (states : List S) : Type 0 where
+    pub others : List S
+    pub last : S
+    pub are : states ≡ others ++ last ∷ []
+    pub safe : AreSafe others
+    pub violates : g.violated last ≡ Some property
+
+  -- `choice` of the state with the index `at` leads to a state for which there is no room
+  pub record IsFull (limit : Option ℕ) (at choice : ℕ) (states : List S) : Type 0 where
+    pub met : limit ≡ Some (length states)
+    pub parent : S
+    pub state : slice_get (opened g at) at ≡ Some parent
+    pub within : choice < g.choices
+    pub kept : states ≡ trying g (opened g at) parent choice
+    pub new : list_any (g.same (g.next parent choice)) states ≡ false
+    pub safe : AreSafe states
+
+  -- the first `choice` choices of the state with the index `at` were tried
+  pub record Tries {K : Type 0} (held : K → Type 0) (means : K → S) (limit : Option ℕ) (at choice : ℕ) (keys : List K) (origins : List Origin) : Type 0 where
+    pub searched : Searched g held means limit keys origins
+    pub parent : S
+    pub state : slice_get (opened g at) at ≡ Some parent
+    pub kept : map means keys ≡ trying g (opened g at) parent choice
+    pub safe : AreSafe (map means keys)
+
+  -- what came of one choice more
+  abbrev pub Steps : {K : Type 0} → (K → Type 0) → (K → S) → Option ℕ → ℕ → ℕ → List K → List Origin → Added → Type 0
+  Steps held means limit at choice keys origins (At i) = Tries held means limit at (suc choice) keys origins
+  Steps held means limit at choice keys origins (Violates property) = Searched g held means limit keys origins × Front (map means keys) (opened g (suc at)) × EndsBadly property (map means keys)
+  Steps held means limit at choice keys origins Full = Searched g held means limit keys origins × IsFull limit at choice (map means keys)
+
+  -- what came of trying all choices of the state with the index `at`
+  abbrev pub Expands : Option ℕ → ℕ → List S → Option Stop → Type 0
+  Expands limit at states None = (states ≡ opened g (suc at)) × AreSafe states
+  Expands limit at states (Some (Bad property)) = Front states (opened g (suc at)) × EndsBadly property states
+  Expands limit at states (Some (NoRoom i choice)) = (i ≡ at) × IsFull limit at choice states
+
+  -- what came of trying all choices of each state that no fewer than `d` choices lead to
+  abbrev pub GoesOn : Option ℕ → ℕ → List S → Option Stop → Type 0
+  GoesOn limit d states None = (states ≡ reached g (suc d)) × AreSafe states
+  GoesOn limit d states (Some (Bad property)) = Front states (reached g (suc d)) × EndsBadly property states
+  GoesOn limit d states (Some (NoRoom i choice)) = (before g d ≤ i) × (i < length (reached g d)) × IsFull limit i choice states
+
+  -- the states are those within `d` choices, and there are some that no fewer lead to
+  pub record AreWithin (d : ℕ) (states : List S) : Type 0 where
+    pub are : states ≡ reached g d
+    pub safe : AreSafe states
+    pub last : before g d < length states
+
+  -- how the search ended
+  abbrev pub Ends : Limits → List S → End → Type 0
+  Ends limits states (AllReached d) = AreWithin d states × (length (reached g (suc d)) ≤ length states) × IfSome limits.depth (λ n. d < n)
+  Ends limits states (TooFar d tried) = AreWithin d states × (limits.depth ≡ Some d) × (tried ≡ before g d)
+  Ends limits states (Stopped d stop) = GoesOn limits.states d states (Some stop) × IfSome limits.depth (λ n. d < n)
+
+-- what came of keeping the start: it is kept, or it violates a property
+abbrev pub Begins : {K S : Type 0} → System S → (K → Type 0) → (K → S) → Option ℕ → List K → List Origin → Option ℕ → Type 0
+Begins g held means limit keys origins None = Searched g held means limit keys origins × (map means keys ≡ g.start ∷ []) × AreSafe g (map means keys)
+Begins g held means limit keys origins (Some property) = g.violated g.start ≡ Some property
+
+-- the same for each thing that may become of it
+abbrev pub Begun : {K S : Type 0} → System S → (K → Type 0) → (K → S) → Option ℕ → List K → List Origin → Added → Type 0
+Begun g held means limit keys origins (At i) = Begins g held means limit keys origins None
+Begun g held means limit keys origins (Violates property) = Begins g held means limit keys origins (Some property)
+Begun g held means limit keys origins Full = limit ≡ Some 0
+
+-- the states are the first of those that the opening brings
+pub record IsOpened {S : Type 0} (g : System S) (states : List S) : Type 0 where
+  pub upto : ℕ
+  pub front : Front states (opened g upto)
+
+-- the first place with the mark that is wanted, if there is one
+abbrev pub IsFirstMark : List Bool → Bool → Option ℕ → Type 0
+IsFirstMark marks wanted first = MatchOption first ((k : ℕ) → k < length marks → slice_index_or marks k false ≡ not wanted)
+    (λ i. (i < length marks) × (slice_index_or marks i false ≡ wanted) × ((k : ℕ) → k < i → slice_index_or marks k false ≡ not wanted))
+
+-- an edge of the state with the index `at`: the index of the state to which one of its choices leads
+pub record IsEdge {S : Type 0} (g : System S) (states : List S) (ends : List ℕ) (at choice : ℕ) : Type 0 where
+  pub state : S
+  pub end : ℕ
+  pub from : slice_get states at ≡ Some state
+  pub told : slice_get ends (at * g.choices + choice) ≡ Some end
+  pub to : slice_get states end ≡ Some (g.next state choice)
+
+-- the edges of the first `tried` choices, state by state
+pub record AreEdges {S : Type 0} (g : System S) (states : List S) (tried : ℕ) (ends : List ℕ) : Type 0 where
+  pub many : length ends ≡ tried
+  pub each : (at choice : ℕ) → choice < g.choices → at * g.choices + choice < tried → IsEdge g states ends at choice
+
+-- where edges are kept, they are those of the first `tried` choices
+abbrev pub KeepsEdges : {S : Type 0} → System S → List S → ℕ → Bool → List ℕ → Type 0
+KeepsEdges g states tried keeps ends = keeps ≡ true → AreEdges g states tried ends
+
+-- the first state from which no choices lead to one that passes the test, if there is one
+abbrev pub IsFirstStuck : {S : Type 0} → System S → List S → ℕ → Option ℕ → Type 0
+IsFirstStuck {S} g states t first = MatchOption first (All (CanCome g t) states)
+    (λ i. (s : S) × (slice_get states i ≡ Some s) × (CanCome g t s → ⊥) × ((j : ℕ) (r : S) → j < i → slice_get states j ≡ Some r → CanCome g t r))
+
+-- whatever the choices, the state after them is one of these
+abbrev pub AreAll : {S : Type 0} → System S → List S → Type 0
+AreAll {S} g states = (path : List ℕ) → AreChoices g path → Contains states (after g g.start path)
+
+-- where a search came to all states and tests have to be come to, the edges are kept
+abbrev pub EdgesAreKept : {S : Type 0} → System S → List S → List ℕ → List ℕ → End → Type 0
+EdgesAreKept g states evers ends end = (d : ℕ) → end ≡ AllReached d → 0 < length evers → AreEdges g states (length states * g.choices) ends
+
+-- the first node from which no edges lead to one that is marked, if there is one
+abbrev pub IsFirstUnreached : ℕ → List ℕ → List Bool → Option ℕ → Type 0
+IsFirstUnreached width ends marks first = MatchOption first ((at : ℕ) → at < length marks → CanReach width ends marks at)
+    (λ i. (i < length marks) × (CanReach width ends marks i → ⊥) × ((k : ℕ) → k < i → CanReach width ends marks k))

@@ -1,0 +1,191 @@
+//! The search, from its start to its answer.
+
+ghost use Rattle.std.specs.Prelude.{◌≡◌, ◌<◌, ◌*◌, List, ℕ, map, length, IfOk, OnOk, IfSome, All, Some};
+ghost use Rattle.breadth_first.specs.Answer.{IsAnswer, IsOpen, IsClosed, seen};
+ghost use Rattle.breadth_first.specs.Kept.{Keeps};
+ghost use Rattle.breadth_first.specs.Progress.{Searched, IsOpened, GoesOn, Ends, AreEdges, EdgesAreKept};
+
+use crate::answering::tried_of;
+use crate::edges::Edges;
+use crate::levels::End;
+use crate::search::{Search, Stop};
+use crate::{Explored, Limits, Size, Space, Watcher};
+use indexmap::IndexSet;
+use std::alloc::{AllocError, Global};
+
+impl<S: Space> Search<S> {
+    /// The answer where a limit ended the search.
+    fn told_open(
+        &self,
+        alloc: Global,
+        space: &mut S,
+        limits: Limits,
+        counts: &[usize],
+        size: Size,
+    ) -> Result<Explored, AllocError>
+        requires searched { Searched (S.system space.old) (S.held space.old) (S.means space.old)
+            limits.states self.now.seen.keys self.now.origins.items }
+        requires opened { IsOpened (S.system space.old) (map (S.means space.old) self.now.seen.keys) }
+        requires counts { All (λ t. t < (S.system space.old).tests) counts.now }
+        requires ended { IsOpen (S.system space.old) limits size }
+        requires seen { seen (S.system space.old) size ≡ map (S.means space.old) self.now.seen.keys }
+        ensures keeps { OnOk result
+            (Keeps (S.system space.old) (S.held space.old) (S.means space.old)
+            (S.system space.new) (S.held space.new) (S.means space.new)) }
+        ensures answer { IfOk result (λ answer. (evers : List ℕ)
+            → IsAnswer (S.system space.old) limits evers counts.now answer) }
+    {
+        let counts = self.counts(alloc, space, limits.states, counts)?;
+        Ok(Explored::Open { size, counts })
+    }
+
+    /// The answer where the search came to all states.
+    fn told_closed(
+        &self,
+        alloc: Global,
+        space: &mut S,
+        limits: Limits,
+        evers: &[usize],
+        counts: &[usize],
+        size: Size,
+    ) -> Result<Explored, AllocError>
+        requires searched { Searched (S.system space.old) (S.held space.old) (S.means space.old)
+            limits.states self.now.seen.keys self.now.origins.items }
+        requires opened { IsOpened (S.system space.old) (map (S.means space.old) self.now.seen.keys) }
+        requires evers { All (λ t. t < (S.system space.old).tests) evers.now }
+        requires counts { All (λ t. t < (S.system space.old).tests) counts.now }
+        requires ended { IsClosed (S.system space.old) limits size }
+        requires seen { seen (S.system space.old) size ≡ map (S.means space.old) self.now.seen.keys }
+        requires edges { 0 < length evers.now → AreEdges (S.system space.old) (map (S.means space.old) self.now.seen.keys)
+            (length self.now.seen.keys * (S.system space.old).choices) self.now.edges.ends.items }
+        ensures keeps { OnOk result
+            (Keeps (S.system space.old) (S.held space.old) (S.means space.old)
+            (S.system space.new) (S.held space.new) (S.means space.new)) }
+        ensures answer { IfOk result (IsAnswer (S.system space.old) limits evers.now counts.now) }
+    {
+        let counts = self.counts(alloc, space, limits.states, counts)?;
+        let lost = self.lost(alloc, space, limits.states, evers)?;
+        Ok(Explored::Closed { size, counts, lost })
+    }
+
+    /// The answer where the search stopped while it tried the choices of states that `depth` choices lead to.
+    fn told_stop(
+        &self,
+        alloc: Global,
+        space: &mut S,
+        limits: Limits,
+        counts: &[usize],
+        depth: usize,
+        stop: Stop,
+    ) -> Result<Explored, AllocError>
+        requires searched { Searched (S.system space.old) (S.held space.old) (S.means space.old)
+            limits.states self.now.seen.keys self.now.origins.items }
+        requires stopped { GoesOn (S.system space.old) limits.states depth
+            (map (S.means space.old) self.now.seen.keys) (Some stop) }
+        requires below { IfSome limits.depth (λ n. depth < n) }
+        requires counts { All (λ t. t < (S.system space.old).tests) counts.now }
+        ensures keeps { OnOk result
+            (Keeps (S.system space.old) (S.held space.old) (S.means space.old)
+            (S.system space.new) (S.held space.new) (S.means space.new)) }
+        ensures answer { IfOk result (λ answer. (evers : List ℕ)
+            → IsAnswer (S.system space.old) limits evers counts.now answer) }
+    {
+        let states = self.seen.len();
+        match stop {
+            Stop::Bad(property) => {
+                let path = self.path(alloc, space, limits.states, states - 1)?;
+                Ok(Explored::Found { property, path })
+            }
+            Stop::NoRoom { at, choice } => {
+                let tried = tried_of(at, space.choices()) + u64::from(choice) + 1;
+                let size = Size {
+                    states,
+                    tried,
+                    depth,
+                };
+                self.told_open(alloc, space, limits, counts, size)
+            }
+        }
+    }
+
+    /// The answer to how the search ended.
+    fn answer(
+        &self,
+        alloc: Global,
+        space: &mut S,
+        limits: Limits,
+        evers: &[usize],
+        counts: &[usize],
+        end: End,
+    ) -> Result<Explored, AllocError>
+        requires searched { Searched (S.system space.old) (S.held space.old) (S.means space.old)
+            limits.states self.now.seen.keys self.now.origins.items }
+        requires ends { Ends (S.system space.old) limits (map (S.means space.old) self.now.seen.keys) end }
+        requires evers { All (λ t. t < (S.system space.old).tests) evers.now }
+        requires counts { All (λ t. t < (S.system space.old).tests) counts.now }
+        requires edges { EdgesAreKept (S.system space.old) (map (S.means space.old) self.now.seen.keys)
+            evers.now self.now.edges.ends.items end }
+        ensures keeps { OnOk result
+            (Keeps (S.system space.old) (S.held space.old) (S.means space.old)
+            (S.system space.new) (S.held space.new) (S.means space.new)) }
+        ensures answer { IfOk result (IsAnswer (S.system space.old) limits evers.now counts.now) }
+    {
+        let states = self.seen.len();
+        match end {
+            End::Stopped(depth, stop) => self.told_stop(alloc, space, limits, counts, depth, stop),
+            End::TooFar { depth, tried } => {
+                let tried = tried_of(tried, space.choices());
+                let size = Size {
+                    states,
+                    tried,
+                    depth,
+                };
+                self.told_open(alloc, space, limits, counts, size)
+            }
+            End::AllReached(depth) => {
+                let tried = tried_of(states, space.choices());
+                let size = Size {
+                    states,
+                    tried,
+                    depth,
+                };
+                self.told_closed(alloc, space, limits, evers, counts, size)
+            }
+        }
+    }
+}
+
+/// Searches the space from its start, and tells which states are reached.
+///
+/// `evers` are the tests that each state has to be able to come to, judged where the search closes; `counts` those of which
+/// is told how many states pass. An error is want of memory, or there were more than 2^32 states.
+pub fn explore<S: Space, W: Watcher>(
+    alloc: Global,
+    space: &mut S,
+    limits: &Limits,
+    evers: &[usize],
+    counts: &[usize],
+    watcher: &mut W,
+) -> Result<Explored, AllocError>
+    requires room { IfSome limits.now.states (λ n. 0 < n) }
+    requires evers { All (λ t. t < (S.system space.old).tests) evers.now }
+    requires counts { All (λ t. t < (S.system space.old).tests) counts.now }
+    ensures answer { IfOk result (IsAnswer (S.system space.old) limits.now evers.now counts.now) }
+    ensures keeps { OnOk result
+        (Keeps (S.system space.old) (S.held space.old) (S.means space.old)
+        (S.system space.new) (S.held space.new) (S.means space.new)) }
+{
+    let mut search = Search {
+        seen: IndexSet::new(alloc),
+        origins: Vec::new(alloc),
+        edges: Edges::new(alloc, !evers.is_empty()),
+    };
+    if let Some(property) = search.begin(space, limits.states)? {
+        return Ok(Explored::Found {
+            property,
+            path: Vec::new(alloc),
+        });
+    }
+    let end = search.walk(space, *limits, watcher)?;
+    search.answer(alloc, space, *limits, evers, counts, end)
+}

@@ -1,0 +1,110 @@
+//! The levels of a search: the states that as many choices lead to.
+
+ghost use Rattle.std.specs.Prelude.{◌≡◌, ◌*◌, ◌∷◌, [], ℕ, map, length, IfOk, OnOk};
+ghost use Rattle.breadth_first.specs.declared.levels.End.TheVariants.{AllReached};
+ghost use Rattle.breadth_first.specs.Answer.{before};
+ghost use Rattle.breadth_first.specs.Kept.{Keeps};
+ghost use Rattle.breadth_first.specs.Order.{reached};
+ghost use Rattle.breadth_first.specs.Progress.{Searched, AreSafe, GoesOn, Ends, KeepsEdges};
+
+use crate::search::{Search, Stop, is_met};
+use crate::{Limits, Space, Watcher};
+use std::alloc::AllocError;
+
+/// How a search ended.
+pub(crate) enum End {
+    /// No choice of a state within so many choices leads to a new one.
+    AllReached(usize),
+    /// The limit of choices was met by the states that so many lead to; the choices of so many others were tried.
+    TooFar { depth: usize, tried: usize },
+    /// It stopped while it tried the choices of the states that so many lead to.
+    Stopped(usize, Stop),
+}
+
+impl<S: Space> Search<S> {
+    /// Tries all choices of each state from the index `from` on.
+    pub(crate) fn level<W: Watcher>(
+        &mut self,
+        space: &mut S,
+        limit: Option<usize>,
+        from: usize,
+        depth: usize,
+        watcher: &mut W,
+    ) -> Result<Option<Stop>, AllocError>
+        requires searched { Searched (S.system space.old) (S.held space.old) (S.means space.old)
+            limit self.old.seen.keys self.old.origins.items }
+        requires from { from ≡ before (S.system space.old) depth }
+        requires reached { map (S.means space.old) self.old.seen.keys ≡ reached (S.system space.old) depth }
+        requires safe { AreSafe (S.system space.old) (map (S.means space.old) self.old.seen.keys) }
+        requires edges { KeepsEdges (S.system space.old) (map (S.means space.old) self.old.seen.keys)
+            (from * (S.system space.old).choices) self.old.edges.keeps self.old.edges.ends.items }
+        ensures keeps { OnOk result
+            (Keeps (S.system space.old) (S.held space.old) (S.means space.old)
+            (S.system space.new) (S.held space.new) (S.means space.new)) }
+        ensures searched { OnOk result
+            (Searched (S.system space.old) (S.held space.new) (S.means space.new)
+            limit self.new.seen.keys self.new.origins.items) }
+        ensures goes_on { IfOk result (GoesOn (S.system space.old) limit depth
+            (map (S.means space.new) self.new.seen.keys)) }
+        ensures keeping { OnOk result (self.new.edges.keeps ≡ self.old.edges.keeps) }
+        ensures edges { IfOk result (λ stop. stop ≡ None → KeepsEdges (S.system space.old)
+            (map (S.means space.new) self.new.seen.keys)
+            (length self.old.seen.keys * (S.system space.old).choices)
+            self.new.edges.keeps self.new.edges.ends.items) }
+    {
+        for at in from..self.seen.len() {
+            if let Some(stop) = self.expand(space, limit, at)? {
+                return Ok(Some(stop));
+            }
+            let tried = (at as u64)
+                .saturating_add(1)
+                .saturating_mul(u64::from(space.choices()));
+            watcher.watch(self.seen.len(), depth, tried);
+        }
+        Ok(None)
+    }
+
+    /// Goes on from the start, level by level.
+    pub(crate) fn walk<W: Watcher>(
+        &mut self,
+        space: &mut S,
+        limits: Limits,
+        watcher: &mut W,
+    ) -> Result<End, AllocError>
+        requires searched { Searched (S.system space.old) (S.held space.old) (S.means space.old)
+            limits.states self.old.seen.keys self.old.origins.items }
+        requires start { map (S.means space.old) self.old.seen.keys ≡ (S.system space.old).start ∷ [] }
+        requires safe { AreSafe (S.system space.old) (map (S.means space.old) self.old.seen.keys) }
+        requires edges { self.old.edges.ends.items ≡ [] }
+        ensures keeps { OnOk result
+            (Keeps (S.system space.old) (S.held space.old) (S.means space.old)
+            (S.system space.new) (S.held space.new) (S.means space.new)) }
+        ensures searched { OnOk result
+            (Searched (S.system space.old) (S.held space.new) (S.means space.new)
+            limits.states self.new.seen.keys self.new.origins.items) }
+        ensures ends { IfOk result (Ends (S.system space.old) limits
+            (map (S.means space.new) self.new.seen.keys)) }
+        ensures keeping { OnOk result (self.new.edges.keeps ≡ self.old.edges.keeps) }
+        ensures edges { IfOk result (λ end. (d : ℕ) → end ≡ AllReached d → KeepsEdges (S.system space.old)
+            (map (S.means space.new) self.new.seen.keys)
+            (length self.new.seen.keys * (S.system space.old).choices)
+            self.new.edges.keeps self.new.edges.ends.items) }
+    {
+        let mut depth = 0;
+        let mut from = 0;
+        'levels: loop {
+            if is_met(limits.depth, depth) {
+                return Ok(End::TooFar { depth, tried: from });
+            }
+            let to = self.seen.len();
+            if let Some(stop) = self.level(space, limits.states, from, depth, watcher)? {
+                return Ok(End::Stopped(depth, stop));
+            }
+            if self.seen.len() == to {
+                return Ok(End::AllReached(depth));
+            }
+            from = to;
+            depth += 1;
+        }
+    }
+}

@@ -1,0 +1,20 @@
+//! Breadth-first search over a space of states: whether a state is reached that violates a property, by a shortest
+//! path, or none is, whatever the path.
+//!
+//! It knows a space by the trait `Space` alone: nothing of what its states are, nor how they are kept.
+#![tactic(auto)]
+
+mod answer;
+mod answering;
+mod counting;
+mod edges;
+mod ever;
+mod exploring;
+mod levels;
+mod origins;
+mod search;
+mod space;
+
+pub use answer::{Count, Explored, Limits, Lost, Size};
+pub use exploring::explore;
+pub use space::{Space, Watcher};
