@@ -36,12 +36,7 @@ pub(crate) fn atoms(alloc: Global, sizes: Sizes, text: &[u8]) -> Result<Vec<Atom
 }
 
 /// Puts down the atom that the first `count` words of a text are.
-fn push_atom(
-    sizes: Sizes,
-    text: &[u8],
-    count: usize,
-    atoms: &mut Vec<Atom>,
-) -> Result<(), Untaken>
+fn push_atom(sizes: Sizes, text: &[u8], count: usize, atoms: &mut Vec<Atom>) -> Result<(), Untaken>
     requires count { count ≤ length (words_of text.now) }
     requires range { All (IsAtomOf sizes) atoms.old.items }
     ensures value { let words = take count (words_of text.now) in

@@ -127,11 +127,7 @@ fn faulted(sizes: Sizes, words: &AtomWords<'_>) -> Result<Condition, QuestionFau
 
 /// A process at any fault, or at one of a name.
 #[tactic(auto, unfolding(crate::specs::AtomLine::faulted_as))]
-fn faulted_as(
-    sizes: Sizes,
-    process: u16,
-    words: &AtomWords<'_>,
-) -> Result<Condition, QuestionFault>
+fn faulted_as(sizes: Sizes, process: u16, words: &AtomWords<'_>) -> Result<Condition, QuestionFault>
     requires { process < sizes.processes }
     ensures value { result ≡ faulted_as process words.now }
     ensures range { IfOk result (IsConditionOf sizes) }

@@ -9,7 +9,7 @@ ghost use Rattle.separation_lines.specs.PolicyLine.{policy_line, after_line as p
 
 use crate::atoms::atoms;
 use crate::fault::{QuestionFault, Untaken};
-use crate::fields::{has_words, hart, limit, number, times};
+use crate::fields::{hart, has_words, limit, number, times};
 use crate::said::{Next, Said};
 use coy_io::LINE_LIMIT;
 use coy_text::{is_skipped, is_visible, word, word_count, words_from};
@@ -141,13 +141,7 @@ fn by_first_word(alloc: Global, sizes: Sizes, n: u32, line: &[u8]) -> Result<Sai
 
 /// A line that asks something.
 #[tactic(auto, unfolding(crate::specs::QuestionLine::asks_line))]
-fn asks(
-    alloc: Global,
-    sizes: Sizes,
-    n: u32,
-    asks: Asks,
-    line: &[u8],
-) -> Result<Said, Untaken>
+fn asks(alloc: Global, sizes: Sizes, n: u32, asks: Asks, line: &[u8]) -> Result<Said, Untaken>
     ensures value { IfOk result (λ said. asks_line sizes n asks (words_of line.now) ≡ Ok said) }
     ensures range { IfOk result (IsSaid sizes) }
     ensures untaken { IfErr result (IsUntaken (asks_line sizes n asks (words_of line.now))) }
