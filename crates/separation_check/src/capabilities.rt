@@ -26,7 +26,7 @@ fn may_name(policy: &Policy, closure: &Closure, domain: u8, cap: Cap) -> bool
 }
 
 /// What a capability crosses that stands in a place of an object.
-fn crossing_by(
+pub fn crossing_by(
     policy: &Policy,
     closure: &Closure,
     kind: CapKind,
@@ -60,7 +60,7 @@ fn crossing_by(
 }
 
 /// What a place of an object holds: Null where the capability is dead.
-fn stored_cap<L: Ledger>(
+pub fn stored_cap<L: Ledger>(
     objects: &Objects,
     kind: CapKind,
     n: u16,

@@ -2,7 +2,8 @@
 //! each Range, and each process that sleeps on one of another domain. By the same passage, which domains hold what is
 //! shared by all.
 //!
-//! Nothing here reads lines, runs a machine or prints.
+//! The passage over all places and sleepers is public by its parts, for other questions about a machine. Nothing here reads
+//! lines, runs a machine or prints.
 #![tactic(auto)]
 
 mod capabilities;
@@ -13,8 +14,10 @@ mod laws;
 mod marks;
 mod sleeping;
 
+pub use capabilities::{crossing_by, stored_cap};
 pub use checking::crossings;
 pub use crossing::Crossing;
 pub use found::Found;
 pub use laws::all_law;
 pub use marks::Marks;
+pub use sleeping::{sleeper_limit, sleeper_on, sleeps_on};

@@ -10,7 +10,7 @@ use schedules::Queues;
 use separation_policy::Policy;
 
 /// Whether process `p` sleeps on process `on`.
-fn sleeps_on(queues: &Queues, p: u16, on: u16) -> bool
+pub fn sleeps_on(queues: &Queues, p: u16, on: u16) -> bool
     requires { on < length queues.now.sleepers }
     ensures { result ≡ stands_in (sleepers_of queues.now on) p }
 {
@@ -43,8 +43,8 @@ fn sleeper_by(policy: &Policy, p: u16, on: u16) -> Option<Crossing>
     })
 }
 
-/// The same, if it sleeps there.
-fn sleeper_on(queues: &Queues, policy: &Policy, p: u16, on: u16) -> Option<Crossing>
+/// Process `p`, where it sleeps on process `on` of another domain.
+pub fn sleeper_on(queues: &Queues, policy: &Policy, p: u16, on: u16) -> Option<Crossing>
     requires { on < length queues.now.sleepers }
     ensures { result ≡ sleeper_on policy.now queues.now p on }
 {
@@ -96,7 +96,7 @@ fn greater(one: u32, other: u32) -> u32
 }
 
 /// One more than the greatest process that sleeps on any of so many, 0 where none does.
-fn sleeper_limit(queues: &Queues, count: u16) -> u32
+pub fn sleeper_limit(queues: &Queues, count: u16) -> u32
     requires { count ≡ length queues.now.sleepers }
     ensures value { result ≡ sleeper_limit queues.now }
     ensures most { result ≤ 65536 }

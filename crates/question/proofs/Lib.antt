@@ -1,0 +1,6 @@
+pub mod Reading
+pub mod Choices
+pub mod Some
+pub mod Any
+pub mod First
+pub mod About

@@ -1,0 +1,3 @@
+pub mod Choice
+pub mod Atom
+pub mod Question

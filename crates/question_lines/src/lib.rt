@@ -1,0 +1,18 @@
+//! The lines of a question: what may come next, what is asked of the states that are reached, how far they are gone
+//! through, and the policy that a question may be about.
+//!
+//! A question is read a line at a time, and a line `end` ends it. Nothing here knows of machines, or how states are gone
+//! through.
+#![tactic(auto)]
+
+mod atom_words;
+mod atoms;
+mod conditions;
+mod fault;
+mod fields;
+mod line;
+mod said;
+
+pub use fault::{QuestionFault, Untaken};
+pub use line::read_question;
+pub use said::Next;

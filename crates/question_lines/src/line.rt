@@ -1,0 +1,265 @@
+//! Lines of a question.
+ghost use Rattle.std.specs.Prelude.{◌≡◌, ◌≢◌, ◌<◌, ◌≤◌, ◌==◌, ◌||◌, length, IfOk, IfErr, OnOk, OnErr};
+ghost use Rattle.coy_text.specs.Words.{words_of};
+ghost use Rattle.object_store.specs.declared.sizes.Sizes.{Sizes};
+ghost use Rattle.question.specs.Choice.{IsChoiceOf};
+ghost use Rattle.question_lines.specs.declared.fault.QuestionFault.TheVariants.{WrongWords};
+ghost use Rattle.question_lines.specs.QuestionLine.{after_said, as_untaken, asks_line, choice_line, depth_line, end_line, is_of_policy, line_answer, line_policy, line_question, may_line, next_of, plain_line, policy_answered, question_line, said_by, states_line, step_line, tick_line, times_of, IsSaid, IsUntaken};
+ghost use Rattle.separation_lines.specs.PolicyLine.{policy_line, after_line as policy_after_line};
+
+use crate::atoms::atoms;
+use crate::fault::{QuestionFault, Untaken};
+use crate::fields::{hart, has_words, limit, number, times};
+use crate::said::{Next, Said};
+use coy_io::LINE_LIMIT;
+use coy_text::{is_skipped, is_visible, word, word_count, words_from};
+use object_store::Sizes;
+use question::{Asks, Choice, Property, Question};
+use separation_lines::{Untaken as UntakenPolicy, read_policy};
+use separation_policy::Policy;
+use std::alloc::Global;
+
+/// Takes line `n` in, and answers what the next line belongs to. After a fault, and where memory is wanting, the question
+/// and its policy are as before; so they are after a line that is skipped.
+pub fn read_question(
+    alloc: Global,
+    line: &[u8],
+    n: u32,
+    question: &mut Question,
+    policy: &mut Policy,
+) -> Result<Next, Untaken>
+    ensures answer { result ≢ Err Untaken.OutOfMemory →
+        result ≡ as_untaken (line_answer policy.old question.old n line.now) }
+    ensures policy { result ≢ Err Untaken.OutOfMemory → policy.new ≡ line_policy policy.old line.now }
+    ensures question { result ≢ Err Untaken.OutOfMemory →
+        question.new ≡ line_question question.old n line.now }
+    ensures before { result ≡ Err Untaken.OutOfMemory →
+        (policy.new ≡ policy.old) × (question.new ≡ question.old) }
+{
+    if is_of_policy(line) {
+        return state_policy(line, policy);
+    }
+    match said(alloc, question.sizes(), n, line) {
+        Ok(said) => take_in(said, question),
+        Err(untaken) => Err(untaken),
+    }
+}
+
+/// Whether a line is one of the policy.
+fn is_of_policy(line: &[u8]) -> bool
+    ensures { result ≡ is_of_policy (words_of line.now) }
+{
+    let first = word(line, 0);
+    first == b"domain".as_slice() || first == b"reads".as_slice()
+}
+
+/// Takes a line of the policy in.
+fn state_policy(line: &[u8], policy: &mut Policy) -> Result<Next, Untaken>
+    ensures answer { result ≢ Err Untaken.OutOfMemory →
+        result ≡ as_untaken (policy_answered (policy_line policy.old line.now)) }
+    ensures after { result ≢ Err Untaken.OutOfMemory →
+        policy.new ≡ policy_after_line policy.old (policy_line policy.old line.now) }
+    ensures before { result ≡ Err Untaken.OutOfMemory → policy.new ≡ policy.old }
+{
+    match read_policy(line, policy) {
+        Ok(_) => Ok(Next::Question),
+        Err(UntakenPolicy::Refused(fault)) => Err(Untaken::Refused(QuestionFault::OfPolicy(fault))),
+        Err(UntakenPolicy::OutOfMemory) => Err(Untaken::OutOfMemory),
+    }
+}
+
+/// Does with a question what a line says.
+fn take_in(said: Said, question: &mut Question) -> Result<Next, Untaken>
+    requires { IsSaid question.old.sizes said }
+    ensures ok { IfOk result (λ next. next ≡ next_of said) }
+    ensures after { OnOk result (question.new ≡ after_said question.old said) }
+    ensures err { IfErr result (λ untaken. untaken ≡ Untaken.OutOfMemory) }
+    ensures before { OnErr result (question.new ≡ question.old) }
+{
+    match said {
+        Said::Nothing => Ok(Next::Question),
+        Said::May(choice) => match question.may(choice) {
+            Ok(()) => Ok(Next::Question),
+            Err(_) => Err(Untaken::OutOfMemory),
+        },
+        Said::Asked(property) => match question.ask(property) {
+            Ok(()) => Ok(Next::Question),
+            Err(_) => Err(Untaken::OutOfMemory),
+        },
+        Said::Depth(depth) => {
+            question.limit_depth(depth);
+            Ok(Next::Question)
+        }
+        Said::States(states) => {
+            question.limit_states(states);
+            Ok(Next::Question)
+        }
+        Said::Ends => Ok(Next::Schedule),
+    }
+}
+
+/// What line `n` says.
+#[tactic(auto, unfolding(crate::specs::QuestionLine::question_line))]
+fn said(alloc: Global, sizes: Sizes, n: u32, line: &[u8]) -> Result<Said, Untaken>
+    ensures value { IfOk result (λ said. question_line sizes n line.now ≡ Ok said) }
+    ensures range { IfOk result (IsSaid sizes) }
+    ensures untaken { IfErr result (IsUntaken (question_line sizes n line.now)) }
+{
+    if line.len() > LINE_LIMIT {
+        return Err(Untaken::Refused(QuestionFault::LineTooLong));
+    }
+    if !is_visible(line) {
+        return Err(Untaken::Refused(QuestionFault::BadByte));
+    }
+    if is_skipped(line) {
+        return Ok(Said::Nothing);
+    }
+    by_first_word(alloc, sizes, n, line)
+}
+
+#[tactic(auto, unfolding(crate::specs::QuestionLine::said_by))]
+fn by_first_word(alloc: Global, sizes: Sizes, n: u32, line: &[u8]) -> Result<Said, Untaken>
+    ensures value { IfOk result (λ said. said_by sizes n (words_of line.now) ≡ Ok said) }
+    ensures range { IfOk result (IsSaid sizes) }
+    ensures untaken { IfErr result (IsUntaken (said_by sizes n (words_of line.now))) }
+{
+    let first = word(line, 0);
+    if first == b"never".as_slice() {
+        return asks(alloc, sizes, n, Asks::Never, line);
+    }
+    if first == b"ever".as_slice() {
+        return asks(alloc, sizes, n, Asks::Ever, line);
+    }
+    if first == b"count".as_slice() {
+        return asks(alloc, sizes, n, Asks::Count, line);
+    }
+    match plain(sizes, line) {
+        Ok(said) => Ok(said),
+        Err(fault) => Err(Untaken::Refused(fault)),
+    }
+}
+
+/// A line that asks something.
+#[tactic(auto, unfolding(crate::specs::QuestionLine::asks_line))]
+fn asks(alloc: Global, sizes: Sizes, n: u32, asks: Asks, line: &[u8]) -> Result<Said, Untaken>
+    ensures value { IfOk result (λ said. asks_line sizes n asks (words_of line.now) ≡ Ok said) }
+    ensures range { IfOk result (IsSaid sizes) }
+    ensures untaken { IfErr result (IsUntaken (asks_line sizes n asks (words_of line.now))) }
+{
+    match atoms(alloc, sizes, words_from(line, 1)) {
+        Ok(atoms) => Ok(Said::Asked(Property::new(n, asks, atoms))),
+        Err(untaken) => Err(untaken),
+    }
+}
+
+/// Any other line.
+#[tactic(auto, unfolding(crate::specs::QuestionLine::plain_line))]
+fn plain(sizes: Sizes, line: &[u8]) -> Result<Said, QuestionFault>
+    ensures value { result ≡ plain_line sizes (words_of line.now) }
+    ensures range { IfOk result (IsSaid sizes) }
+{
+    let first = word(line, 0);
+    if first == b"may".as_slice() {
+        return may(sizes, line);
+    }
+    if first == b"depth".as_slice() {
+        return depth(line);
+    }
+    if first == b"states".as_slice() {
+        return states(line);
+    }
+    if first == b"end".as_slice() {
+        return end(line);
+    }
+    Err(QuestionFault::UnknownQuestion)
+}
+
+#[tactic(auto, unfolding(crate::specs::QuestionLine::may_line))]
+fn may(sizes: Sizes, line: &[u8]) -> Result<Said, QuestionFault>
+    ensures value { result ≡ may_line sizes (words_of line.now) }
+    ensures range { IfOk result (IsSaid sizes) }
+{
+    let choice = choice(sizes, line)?;
+    Ok(Said::May(choice))
+}
+
+#[tactic(auto, unfolding(crate::specs::QuestionLine::choice_line))]
+fn choice(sizes: Sizes, line: &[u8]) -> Result<Choice, QuestionFault>
+    ensures value { result ≡ choice_line sizes (words_of line.now) }
+    ensures range { IfOk result (IsChoiceOf sizes.harts) }
+{
+    let second = word(line, 1);
+    if second == b"step".as_slice() {
+        return step(sizes, line);
+    }
+    if second == b"tick".as_slice() {
+        return tick(sizes, line);
+    }
+    Err(QuestionFault::UnknownEvent)
+}
+
+#[tactic(auto, unfolding(crate::specs::QuestionLine::step_line))]
+fn step(sizes: Sizes, line: &[u8]) -> Result<Choice, QuestionFault>
+    ensures value { result ≡ step_line sizes (words_of line.now) }
+    ensures range { IfOk result (IsChoiceOf sizes.harts) }
+{
+    let count = word_count(line);
+    if count != 3 && count != 4 {
+        return Err(QuestionFault::WrongWords);
+    }
+    let hart = hart(sizes.harts, word(line, 2))?;
+    let times = times_of(line)?;
+    Ok(Choice::Steps { hart, times })
+}
+
+/// How many steps, 1 where it isn't said.
+#[tactic(auto, unfolding(crate::specs::QuestionLine::times_of))]
+fn times_of(line: &[u8]) -> Result<u32, QuestionFault>
+    ensures value { result ≡ times_of (words_of line.now) }
+    ensures least { IfOk result (λ n. 1 ≤ n) }
+    ensures most { IfOk result (λ n. n ≤ 1000000) }
+{
+    if word_count(line) == 3 {
+        return Ok(1);
+    }
+    times(word(line, 3))
+}
+
+#[tactic(auto, unfolding(crate::specs::QuestionLine::tick_line))]
+fn tick(sizes: Sizes, line: &[u8]) -> Result<Choice, QuestionFault>
+    ensures value { result ≡ tick_line sizes (words_of line.now) }
+    ensures range { IfOk result (IsChoiceOf sizes.harts) }
+{
+    has_words(word_count(line), 3)?;
+    let hart = hart(sizes.harts, word(line, 2))?;
+    Ok(Choice::Tick { hart })
+}
+
+#[tactic(auto, unfolding(crate::specs::QuestionLine::depth_line))]
+fn depth(line: &[u8]) -> Result<Said, QuestionFault>
+    ensures value { result ≡ depth_line (words_of line.now) }
+    ensures range { (sizes : Sizes) → IfOk result (IsSaid sizes) }
+{
+    has_words(word_count(line), 2)?;
+    let depth = number(word(line, 1))?;
+    Ok(Said::Depth(depth))
+}
+
+#[tactic(auto, unfolding(crate::specs::QuestionLine::states_line))]
+fn states(line: &[u8]) -> Result<Said, QuestionFault>
+    ensures value { result ≡ states_line (words_of line.now) }
+    ensures range { (sizes : Sizes) → IfOk result (IsSaid sizes) }
+{
+    has_words(word_count(line), 2)?;
+    let states = limit(word(line, 1))?;
+    Ok(Said::States(states))
+}
+
+#[tactic(auto, unfolding(crate::specs::QuestionLine::end_line))]
+fn end(line: &[u8]) -> Result<Said, QuestionFault>
+    ensures value { result ≡ end_line (words_of line.now) }
+    ensures range { (sizes : Sizes) → IfOk result (IsSaid sizes) }
+{
+    has_words(word_count(line), 1)?;
+    Ok(Said::Ends)
+}

@@ -1,0 +1,28 @@
+//! What a line of a question says.
+use question::{Choice, Property};
+
+/// What the next line belongs to.
+#[derive(Clone, Copy)]
+pub enum Next {
+    /// The question.
+    Question,
+    /// The schedule: the question is over.
+    Schedule,
+}
+
+/// What a line of a question says.
+#[derive(Drop)]
+pub enum Said {
+    /// It is skipped.
+    Nothing,
+    /// This may come next.
+    May(Choice),
+    /// This is asked.
+    Asked(Property),
+    /// States are gone through to this depth.
+    Depth(u32),
+    /// So many states are kept.
+    States(u32),
+    /// The question is over.
+    Ends,
+}
