@@ -66,6 +66,7 @@ class Rows {
       behind.className = 'remark';
       behind.textContent = remark;
       row.dataset.at = at;
+      row.title = remark ? `${told}\n${remark}` : told;
       row.append(told, '  ', behind);
       row.classList.toggle('marked', at === this.marked);
       rows.push(row);

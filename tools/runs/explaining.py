@@ -151,7 +151,7 @@ class Explainer:
                 start, line = found.start(), found[1]
                 number, at = number + block.count(b"\n", at, start), start
                 known = self.known.get(line)
-                if known is not None:
+                if known is not None and not self.open:
                     self.lines.append(f"{number + 1:>9}  {known}")
                     continue
                 if line[:2] == b"in" and follows and b" jal" in line:

@@ -79,8 +79,9 @@ class Harts:
         self.lost = False  # no longer known
         self.place = {}  # the hart of each process that has one
         self.ended = {}  # of a process whose last step may have taken it off its hart: its pc and its call, or no call
-        self.calls = {int(process): int(value, 16) for process, value
-                      in re.findall(r"^reg +(\d+) +17 +([0-9a-fA-F]+)", listing, re.M)}  # x17, None where not known
+        # x17 of processes, and of all of which nothing else is known
+        self.calls, self.other_calls = {int(process): int(value, 16) for process, value in re.findall(
+            r"^reg +(\d+) +17 +([0-9a-fA-F]+)", listing, re.M)}, 0
         self.silent, self.seen = 0, {}  # calls that may have stopped or resumed somebody, and how many at one's last step
 
     # -- which event a step was
@@ -218,12 +219,13 @@ class Harts:
 
     def call(self, process, pc, kinds):
         """A system call, which is the one that x17 says, as far as that is known."""
-        call = self.calls.get(process, 0)
+        call = self.calls.get(process, self.other_calls)
         if call == 4:
             self.leave(process)
         elif b"log" not in kinds and b"capload" not in kinds and b"capstore" not in kinds:
             if b"msg" not in kinds and call in (0, UNKNOWN) and self.powers.has(process):
-                self.silent += 1
+                self.silent += 1  # it may have written registers of others, too
+                self.calls, self.other_calls = {process: call}, UNKNOWN
             if process in self.place:
                 self.ended[process] = pc, call
 
@@ -232,5 +234,6 @@ class Harts:
         for is_step, hart in self.events if not self.lost and not is_halted else ():
             if not is_step or self.on[hart] is not None:
                 self.leave(self.on[hart])
-        return not self.lost and all(self.on[hart] == process or process is None and self.on[hart] in self.ended
-                                     for hart, process in enumerate(harts))
+        return not self.lost and all(
+            self.on[hart] == process or process is None and self.ended.get(self.on[hart], (0, None))[1] is not None
+            for hart, process in enumerate(harts))

@@ -9,6 +9,7 @@ from run_page.remarks import names_of
 from run_page.symbols import read_symbols
 
 READERS = ("riscv64-unknown-elf-addr2line", "llvm-addr2line", "llvm-addr2line-14")
+DEMANGLERS = ("riscv64-unknown-elf-c++filt", "c++filt", "llvm-cxxfilt")
 KINDS = {"page": "page", "cappage": "capability page", "gpt": "GPT", "endpoint": "endpoint", "process": "process"}
 
 
@@ -18,12 +19,13 @@ class Programs:
     def __init__(self, listing, directory=None):
         self.names = names_of(listing)
         self.files, self.symbols, self.starts, self.known, self.given = {}, {}, {}, {}, {}
-        self.reader = next(filter(None, map(shutil.which, READERS)), None)
+        self.reader = first_there(READERS)
         self.entries = {int(number): int(pc, 16) for number, pc
                         in re.findall(r"^process +(\d+) +([0-9a-fA-F]+)", listing, re.M)}
         if directory:
             folder = pathlib.Path(directory)
-            self.symbols = read_symbols(folder, self.names["file"])
+            self.symbols = {process: demangled(found) for process, found
+                            in read_symbols(folder, self.names["file"]).items()}
             self.files = {process: folder / self.names["file"][process] for process in self.symbols}
             self.starts = {process: [one[0] for one in found] for process, found in self.symbols.items()}
 
@@ -77,7 +79,7 @@ class Programs:
             self.known[process, each] = []
         if not wanted or process not in self.files or not self.reader:
             return
-        done = subprocess.run([self.reader, "-a", "-i", "-f", "-e", str(self.files[process])], text=True,
+        done = subprocess.run([self.reader, "-a", "-i", "-f", "-C", "-e", str(self.files[process])], text=True,
                               input="".join(f"{each:#x}\n" for each in wanted), capture_output=True)
         found = None
         lines = iter(done.stdout.splitlines())
@@ -99,6 +101,23 @@ class Programs:
             told += ", " + ", in ".join((f"{function} " if len(found) > 1 else "") + short(place)
                                         for function, place in found)
         return told
+
+
+def first_there(names):
+    """The first of these commands that is there, or None."""
+    return next(filter(None, map(shutil.which, names)), None)
+
+
+def demangled(symbols):
+    """Symbols of a program in C++ as they are written there."""
+    names = sorted({name for _, _, name in symbols if name.startswith("_Z")})
+    tool = first_there(DEMANGLERS)
+    if not names or not tool:
+        return symbols
+    lines = subprocess.run([tool], input="".join(f"{name}\n" for name in names), capture_output=True,
+                           text=True).stdout.splitlines()
+    written = dict(zip(names, lines))
+    return [(value, size, written.get(name, name)) for value, size, name in symbols]
 
 
 def short(place):
