@@ -14,8 +14,14 @@ class Line:
 
     def __init__(self, come, go):
         self.come, self.go, self.data, self.acknowledges = come, go, b"", True
+        self.while_idle = lambda: False  # something to do until a packet comes; whether there was something
+
+    def is_there(self):
+        return bool(select.select([self.come], [], [], 0)[0])
 
     def more(self):
+        while not self.is_there() and self.while_idle():
+            pass
         data = os.read(self.come, 1 << 16)
         if not data:
             raise Closed
@@ -47,7 +53,7 @@ class Line:
 
     def is_interrupted(self):
         """Whether an interrupt came meanwhile, which is taken."""
-        while select.select([self.come], [], [], 0)[0]:
+        while self.is_there():
             self.more()
         if INTERRUPT in self.data:
             self.data = self.data.replace(INTERRUPT, b"", 1)

@@ -19,6 +19,7 @@ from debugger.state import State
 HERE = pathlib.Path(__file__).resolve().parent
 APART, MOST_KEPT = 100_000, 128  # events between two that are kept at first, and how many
 MOST_NEAR, STATES = 48, 64
+MOST_AHEAD = 20_000_000  # how many events are gone through while gdb asks nothing
 STEPS_BACK = (4096, 256)  # where a way of more events leaves a process too
 COMPILERS = ("cc", "gcc", "clang")
 WAIT = 60  # seconds for a process to answer
@@ -130,10 +131,14 @@ class Stretch:
         self.first, self.behind, self.base, self.text, self.state = first, behind, base, text, state
         self.before = None
 
+    def fetches(self):
+        """How many instructions were fetched; an event fetches one at most."""
+        return self.text.count(b"\nfetch ")
+
     def upto(self, place):
         """The same with the text before a place alone."""
         part = Stretch(self.first, self.behind, self.base, self.text[:place], self.state)
-        part.before = self.before
+        part.before, part.fetches = self.before, self.fetches
         return part
 
 
@@ -169,6 +174,14 @@ class Run:
         self.room.cleanup()
 
     # -- processes that are kept
+
+    def look_ahead(self):
+        """Keeps one process more, if there is one to keep; whether it did."""
+        behind = self.kept[-1].at + self.apart
+        if behind > min(self.schedule.count, MOST_AHEAD):
+            return False
+        self.keep_up_to(behind)
+        return True
 
     def keep_up_to(self, at):
         """Keeps a process at every so many events up to this one."""
@@ -238,7 +251,13 @@ class Run:
         return Stretch(first, behind, base, b"\n" + data[base - process.written:place], state)
 
     def event_of(self, stretch, offset):
-        """The event that wrote the record behind the line feed at this offset of a stretch."""
+        """The event that wrote the record behind the line feed at this offset of a stretch.
+
+        Where there are as many fetches as events, each event has one, which is its first record. Else it is found by how
+        much was written before each event.
+        """
+        if stretch.fetches() == stretch.behind - stretch.first:
+            return stretch.first + stretch.text.count(b"\nfetch ", 0, offset + len(b"\nfetch ")) - 1
         first, behind, low, high = stretch.first, stretch.behind, stretch.base, stretch.base + len(stretch.text) - 1
         wanted, process, owned, by_half = stretch.base + offset, self.at(stretch.first), False, False
         while behind - first > 1:

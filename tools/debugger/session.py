@@ -70,6 +70,7 @@ class Session:
         self.breakpoints, self.watches, self.passed = set(), {}, set()
         self.set_before, self.bound = set(), {}  # breakpoints and watches when gdb last went on
         self.monitor, self.ended = Monitor(self), False
+        line.while_idle = run.look_ahead
         self.why = f"T05thread:{self.selected + 1:x};"
 
     @property
