@@ -1,6 +1,6 @@
 -- A line of a question: what it says, or its first fault, and the question after it. (Own.)
 use Rattle.std.specs.Prelude.{ℕ, ◌≤◌, ◌==◌, ◌||◌, nat_le, Bool, if◌then◌else◌, List, length, drop, bytes_eq, codes, Result, Ok, Err, ⊤, ◌≡◌}
-use Rattle.coy_io.specs.declared.TheConstants.{LINE_LIMIT}
+use Rattle.coy_io.specs.Limits.{line_limit}
 use Rattle.coy_text.specs.Line.{is_visible_line, is_skipped}
 use Rattle.coy_text.specs.Words.{words_of, field}
 use Rattle.object_store.specs.declared.sizes.Sizes.{Sizes}
@@ -112,7 +112,7 @@ question_words sizes n words = if is_skipped words then Ok Nothing else said_by 
 -- what line `n` says
 unfoldable pub question_line : Sizes → ℕ → List ℕ → Result Said QuestionFault
 question_line sizes n line = do
-  _ ← ensured (nat_le (length line) LINE_LIMIT) LineTooLong
+  _ ← ensured (nat_le (length line) line_limit) LineTooLong
   _ ← ensured (is_visible_line line) BadByte
   question_words sizes n (words_of line)
 
