@@ -5,6 +5,7 @@ set pagination off
 set confirm off
 set width 0
 set style enabled off
+set remotetimeout 60
 set trace-commands on
 file MADE/second
 target remote | tools/gdb --program PROGRAM --symbols MADE --process second examples/lock/lock.coy
