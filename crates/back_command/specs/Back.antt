@@ -7,9 +7,9 @@ use Rattle.image_builder.specs.Boot.{booted}
 use Rattle.run_text.specs.State.{state_text}
 use Rattle.schedule_replay.specs.Scheduled.{Scheduled, Ending, AtEnd, AtFault, AtLimit, scheduled}
 use Rattle.courses.specs.Course.{Course, ends_in}
-use Rattle.courses.specs.Ending.{Output, refused_schedule, too_long}
+use Rattle.courses.specs.Ending.{Output, told_end}
 use Rattle.courses.specs.Listed.{Behind}
-use Rattle.courses.specs.declared.exit.Exit.TheVariants.{Done}
+use Rattle.courses.specs.declared.exit.Exit.TheVariants.{Done, ScheduleRefused, TooLong}
 
 -- how many events of a run are remembered, unless it has fewer: its last
 abbrev pub most_remembered : ℕ
@@ -35,8 +35,8 @@ back_text count s = count_text count ++ state_text s
 -- is that of the run of all events but those that are undone
 abbrev pub output_at : ℕ → State → List Event → Ending → Output
 output_at number s events AtEnd = record { text = back_text (undone number events) (run_state s (events_left number events)); exit = Done }
-output_at number s events (AtFault line fault) = refused_schedule line fault
-output_at number s events AtLimit = too_long
+output_at number s events (AtFault line fault) = told_end (ScheduleRefused line fault)
+output_at number s events AtLimit = told_end TooLong
 
 -- what the command comes to with what the lines ask for: nothing is written as they are read, and which slots are fetched is
 -- no part of it

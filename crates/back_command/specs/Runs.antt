@@ -10,10 +10,6 @@ use Rattle.schedule_replay.specs.Counts.{events_alone}
 use Rattle.schedule_replay.specs.Replay.{Follows, count_answer, stop_answer}
 use Rattle.listing_read.specs.declared.fault.ScheduleFault.{ScheduleFault}
 use Rattle.judged_lines.specs.declared.stop.Stop.{Stop}
-use Rattle.judged_lines.specs.declared.stop.Stop.TheVariants as stops
-use Rattle.courses.specs.Ending.{EndsIn, refused_schedule, too_long}
-use Rattle.courses.specs.declared.exit.Exit.{Exit}
-use Rattle.courses.specs.declared.exit.Exit.TheVariants.{Done, ReadFault}
 use Rattle.back_command.specs.Back.{back_text, most_remembered}
 
 -- the states before each event of a run, the latest first
@@ -42,10 +38,3 @@ pub record RunsLines (harts : ℕ) (s : State) (h : History) (old new : Reader) 
 -- what is written of a history where all lines were read: of its events as many are undone as asked for and remembered
 abbrev pub text_of : ℕ → History → List ℕ
 text_of number h = let n = min number (remembered h) in back_text n (undos n h).present
-
--- how the program ends behind the lines: by what is written last, or where reading failed with nothing
-abbrev pub Concludes : {K : Type 0} → (K → Option (List ℕ)) → (K → ℕ) → ℕ → History → Stop ScheduleFault → K → K → Exit → Type 0
-Concludes taken faults number h stops.End old new exit = EndsIn taken faults old new exit (record { text = text_of number h; exit = Done })
-Concludes taken faults number h (stops.Refused line fault) old new exit = EndsIn taken faults old new exit (refused_schedule line fault)
-Concludes taken faults number h stops.TooLong old new exit = EndsIn taken faults old new exit too_long
-Concludes taken faults number h stops.ReadFault old new exit = (exit ≡ ReadFault) × (new ≡ old)

@@ -17,14 +17,15 @@ use Rattle.confine_check.specs.Breach.{broken_by, found_by, sleeper_of}
 use Rattle.confine_check.specs.Found.{meant_of, verdict_in}
 use Rattle.confine_check.specs.Sides.{all_right, cut_of}
 use Rattle.confine_check.proofs.Broken.{meant-first}
-use Rattle.schedule_replay.specs.Scheduled.{OnParts}
-use Rattle.courses.specs.Course.{course_output}
+use Rattle.schedule_replay.proofs.Reading.{on_each}
+use Rattle.courses.specs.Course.{ComesTo, cached, course_output}
 use Rattle.courses.specs.Listed.{lines_course, listed_course}
+use Rattle.courses.specs.declared.exit.Exit.TheVariants.{Done}
 use Rattle.courses.proofs.Bytes.{on_listed}
 use Rattle.confine_command.specs.Confine.{FindsExactly, NobodySleeps, breach_text, checked, confine_course, confined_text, cut_text}
 use Rattle.confine_command.specs.Decided.{Decides, DecidesListed, DecidesStated, IsDecided}
-use Rattle.confine_command.specs.Stated.{stated}
-use Rattle.confine_command.proofs.Awake.{awake-none}
+use Rattle.confine_command.specs.Stated.{PastEnd, RefusedAt, Stated, StatesSides, stated}
+use Rattle.confine_command.proofs.Awake.{awake-none, booted-awake}
 
 -- no line is of both kinds: one begins with `c`, the other with `b`
 lines-differ : (sides : Sides) (kind : CapKind) (n place : ℕ) (c : Capability) → confined_text sides ≢ breach_text kind n place c
@@ -53,23 +54,30 @@ decides s sides awake exactly = by (meant_of (cut_of sides) s.store) refl
       breach = λ kind n place c same holds. let yes : broken_by found ≡ Yes = sym (finds (Some found) is) ∙ exactly.1 holds in cc (yes);
     }
 
--- so it is behind a listing
-module _ (listing : ListingValue) (last : ℕ) (s : State) (sides : Sides) (state : s ≡ booted listing) (start : sides ≡ all_right listing.sizes) where
-  abbrev DecidesHere : State → Sides → List Part → Type 0
-  DecidesHere s sides parts = DecidesStated s (stated sides last parts) (course_output (checked s (stated sides last parts))).text
+-- so it is of what lines state, where it tells that all of them were read
+pub decides-stated : (s : State) → NobodySleeps s.queues → ((sides : Sides) → FindsExactly s sides) → (all : Stated) → (checked s all).last.exit ≡ Done
+    → DecidesStated s all (course_output (checked s all)).text
+decides-stated s awake exactly (StatesSides sides) done = decides s sides awake (exactly sides)
+decides-stated s awake exactly (RefusedAt line fault) done = cc
+decides-stated s awake exactly PastEnd done = cc
 
-  decides-there : (left : Option (List Part)) → OnParts left (λ parts. DecidesHere s sides parts) → OnParts left (λ parts. DecidesHere (booted listing) (all_right listing.sizes) parts)
-  decides-there None all = tt
-  decides-there (Some parts) all =
-      subst (λ x. DecidesHere x (all_right listing.sizes) parts) state (subst (λ x. DecidesHere s x parts) start all)
+-- and so of the known bytes, where a call that was done wrote what they come to
+pub bytes-decided : (listing : ListingValue) → ((sides : Sides) → FindsExactly (booted listing) sides) → (held mid : Option (List ℕ)) (first middle : Reader) → first ≡ new_reader
+    → IsListed Header (first.number + 1) (ahead first held) listing middle.number (ahead middle mid) → (taken taken' : Option (List ℕ)) (fetches fetches' : ℕ)
+    → IfSome held (λ bytes. ComesTo taken taken' fetches fetches' Done cached (lines_course confine_course (parts_of bytes)))
+    → IfSome held (λ bytes. IsDecided bytes (course_output (lines_course confine_course (parts_of bytes))).text)
+bytes-decided listing exactly None mid first middle starts listed taken taken' fetches fetches' comes = tt
+bytes-decided listing exactly (Some bytes) mid first middle starts listed taken taken' fetches fetches' comes =
+    let whole = comes.output.whole (record { read = λ bad. cc; write = λ bad. cc; memory = λ bad. cc }) in
+    on_listed (Some bytes) (ahead middle mid) listing middle.number
+    (λ (l : Listed). (listed_course confine_course l).last.exit ≡ Done → DecidesListed l (course_output (listed_course confine_course l)).text)
+    (subst (λ reader. IsListed Header (reader.number + 1) (ahead reader (Some bytes)) listing middle.number (ahead middle mid)) starts listed)
+    (on_each (ahead middle mid) _ (λ parts known. decides-stated (booted listing) (booted-awake listing) exactly (stated (all_right listing.sizes) middle.number parts)))
+    (sym whole.0)
 
-  -- and so of the known bytes
-  pub bytes-decided : (held mid : Option (List ℕ)) (first middle : Reader) → middle.number ≡ last → first ≡ new_reader
-      → IsListed Header (first.number + 1) (ahead first held) listing middle.number (ahead middle mid)
-      → OnParts (ahead middle mid) (λ parts. DecidesHere s sides parts)
-      → IfSome held (λ bytes. IsDecided bytes (course_output (lines_course confine_course (parts_of bytes))).text)
-  bytes-decided held mid first middle number starts listed all =
-      on_listed held (ahead middle mid) listing last (λ (l : Listed). DecidesListed l (course_output (listed_course confine_course l)).text)
-      (subst (λ n. IsListed Header 1 (ahead new_reader held) listing n (ahead middle mid)) number
-      (subst (λ reader. IsListed Header (reader.number + 1) (ahead reader held) listing middle.number (ahead middle mid)) starts listed))
-      (decides-there (ahead middle mid) all)
+-- ---- behind a listing
+
+-- what lines come to on the machine of the listing is what is done with it and them
+pub of-listing : (listing : ListingValue) (last : ℕ) (s : State) (sides : Sides) → s ≡ booted listing → sides ≡ all_right listing.sizes
+    → (parts : List Part) → checked s (stated sides last parts) ≡ confine_course listing last parts
+of-listing listing last s sides state start parts = rw (state, start) refl

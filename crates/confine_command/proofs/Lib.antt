@@ -2,5 +2,4 @@ pub mod Verdicts
 pub mod Awake
 pub mod Stating
 pub mod Deciding
-pub mod Concluding
 pub mod Sound

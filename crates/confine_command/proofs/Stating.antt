@@ -1,7 +1,7 @@
 -- Line by line, what the lines of a cut state.
 use Rattle.std.proofs.Common.{◌≡◌, ◌+◌, ◌∙◌, ◌∷◌, [], ℕ, List, Option, Result, Ok, Err, refl, sym, ap}
 use Rattle.coy_io.specs.Lines.{Part, Line, LongLine, PastLimit}
-use Rattle.coy_io.specs.Reader.{Reader, ahead}
+use Rattle.coy_io.specs.Reader.{Reader}
 use Rattle.confinement.specs.Cut.{Sides}
 use Rattle.confine_check.specs.CutLine.{after_line, cut_line, refusal}
 use Rattle.confine_check.specs.declared.block.Block.{Block}
@@ -9,10 +9,11 @@ use Rattle.listing_read.specs.declared.object_fault.CutFault.{CutFault}
 use Rattle.listing_read.specs.declared.object_fault.CutFault.TheVariants.{LineTooLong}
 use Rattle.judged_lines.specs.Judged.{JudgesAll}
 use Rattle.judged_lines.specs.declared.stop.Stop.{Stop}
-use Rattle.judged_lines.specs.declared.stop.Stop.TheVariants as stops
-use Rattle.judged_lines.proofs.Made.{Follows, makes-given, makes-stop}
-use Rattle.schedule_replay.proofs.ReadOn.{fails_on-judged}
-use Rattle.schedule_replay.proofs.Reading.{on_each}
+use Rattle.judged_lines.proofs.Made.{Follows}
+use Rattle.kernel_core.specs.State.{State}
+use Rattle.courses.specs.declared.exit.Exit.TheVariants.{CutRefused}
+use Rattle.courses.proofs.Rests.{TellsAlone, makes-rest}
+use Rattle.confine_command.specs.Confine.{checked}
 use Rattle.confine_command.specs.Stated.{JudgesCut, PastEnd, RefusedAt, StatesRest, StatesSides, stated, stated_with}
 
 module _ (sides : Sides) (n : ℕ) where
@@ -65,12 +66,17 @@ follows = record {
 -- lines were judged, and then they end
 pub states-rest : (first last : Sides) (old new : Reader) (held held' : Option (List ℕ)) (stop : Stop CutFault) → JudgesAll JudgesCut LineTooLong first last old new held held' stop
     → StatesRest first last old new held held' stop
-states-rest first last old new held held' stops.End a =
-    on_each (ahead old held) _ (makes-stop JudgesCut LineTooLong stated _ RefusedAt PastEnd follows first last old new held held' stops.End (λ same. cc) a)
-states-rest first last old new held held' (stops.Refused line fault) a =
-    on_each (ahead old held) _ (makes-stop JudgesCut LineTooLong stated _ RefusedAt PastEnd follows first last old new held held' (stops.Refused line fault) (λ same. cc) a)
-states-rest first last old new held held' stops.TooLong a =
-    on_each (ahead old held) _ (makes-stop JudgesCut LineTooLong stated _ RefusedAt PastEnd follows first last old new held held' stops.TooLong (λ same. cc) a)
-states-rest first last old new held held' stops.ReadFault a =
-    fails_on-judged JudgesCut LineTooLong _ _ first last old new held held' a
-    (makes-given JudgesCut LineTooLong stated (λ sides n. StatesSides sides) RefusedAt PastEnd follows first last old new held held' a)
+states-rest first last old new held held' stop a = makes-rest JudgesCut LineTooLong stated (λ sides n. StatesSides sides) RefusedAt PastEnd follows first last old new held held' stop a
+
+-- where they are not all read, no more is told than why
+pub tells : (s : State) (sides : Sides) → TellsAlone (checked s) (StatesSides sides) RefusedAt PastEnd CutRefused
+tells s sides = record {
+  refusal = λ line fault. refl;
+  limit = refl;
+  given = λ line fault. record { read = λ bad. cc; write = λ bad. cc; memory = λ bad. cc };
+  form = λ line fault bad. cc;
+  unfinished = λ line fault. refl;
+  going = refl;
+  records = refl;
+  touches = refl;
+}

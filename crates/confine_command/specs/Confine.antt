@@ -1,5 +1,5 @@
 -- What `confine` comes to (this project's own).
-use Rattle.std.specs.Prelude.{◌≡◌, ◌↔◌, ◌+◌, ℕ, List, [], ◌++◌, codes, decimal, Option, Some, None}
+use Rattle.std.specs.Prelude.{◌≡◌, ◌↔◌, ℕ, List, [], ◌++◌, codes, decimal, Option, Some, None}
 use Rattle.cap_format.specs.declared.kind.CapKind.{CapKind}
 use Rattle.cap_format.specs.declared.kind.CapKind.TheVariants.{Gpt}
 use Rattle.cap_format.specs.Capability.{Capability}
@@ -15,14 +15,10 @@ use Rattle.confine_check.specs.declared.verdict.Breach.{Breach}
 use Rattle.confine_check.specs.declared.verdict.Verdict.TheVariants as verdicts
 use Rattle.confine_check.specs.Found.{meant_of, reads_to, verdict_in}
 use Rattle.confine_check.specs.Sides.{all_right, cut_of, left_count, right_count}
-use Rattle.listing_read.specs.declared.object_fault.CutFault.{CutFault}
-use Rattle.judged_lines.specs.declared.stop.Stop.{Stop}
-use Rattle.judged_lines.specs.declared.stop.Stop.TheVariants as stops
 use Rattle.courses.specs.Course.{Course, ends_in}
-use Rattle.courses.specs.Ending.{Output, EndsIn, refused_cut, too_long}
+use Rattle.courses.specs.Ending.{Output, told_end}
 use Rattle.courses.specs.Listed.{Behind}
-use Rattle.courses.specs.declared.exit.Exit.{Exit}
-use Rattle.courses.specs.declared.exit.Exit.TheVariants.{Done, ReadFault}
+use Rattle.courses.specs.declared.exit.Exit.TheVariants.{Done, CutRefused, TooLong}
 use Rattle.confine_command.specs.Stated.{Stated, StatesSides, RefusedAt, PastEnd, stated}
 
 -- how many objects are on each side of a cut that holds
@@ -59,19 +55,9 @@ reads s sides = reads_to (verdict_in (cut_of sides) s) (size_of s.store.items Gp
 -- its slots are read
 abbrev pub checked : State → Stated → Course
 checked s (StatesSides sides) = record (ends_in (told s sides)) { last_fetches = reads s sides; printed = size_of s.store.items Gpt }
-checked s (RefusedAt line fault) = ends_in (refused_cut line fault)
-checked s PastEnd = ends_in too_long
+checked s (RefusedAt line fault) = ends_in (told_end (CutRefused line fault))
+checked s PastEnd = ends_in (told_end TooLong)
 
 -- what it comes to with a listing, the number of its line `end` and the lines behind that: nothing runs
 abbrev pub confine_course : Behind
 confine_course listing last rest = checked (booted listing) (stated (all_right listing.sizes) last rest)
-
--- how the program ends by the reason why there is no further line, where the lines gave these sides
-abbrev pub Concludes : {K : Type 0} → (K → Option (List ℕ)) → (K → ℕ) → State → Sides → Stop CutFault → K → K → ℕ → ℕ → Exit → Type 0
-Concludes taken faults s sides stops.End old new fetches fetches' exit =
-    EndsIn taken faults old new exit (told s sides) × (fetches' ≡ fetches + reads s sides) × FindsExactly s sides
-Concludes taken faults s sides (stops.Refused line fault) old new fetches fetches' exit =
-    EndsIn taken faults old new exit (refused_cut line fault) × (fetches' ≡ fetches)
-Concludes taken faults s sides stops.TooLong old new fetches fetches' exit =
-    EndsIn taken faults old new exit too_long × (fetches' ≡ fetches)
-Concludes taken faults s sides stops.ReadFault old new fetches fetches' exit = (exit ≡ ReadFault) × (new ≡ old) × (fetches' ≡ fetches)

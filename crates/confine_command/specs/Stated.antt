@@ -2,16 +2,14 @@
 -- own).
 use Rattle.std.specs.Prelude.{◌≡◌, ℕ, ◌+◌, List, [], ◌∷◌, Option, Result, Ok, Err}
 use Rattle.coy_io.specs.Lines.{Part, Line, LongLine, PastLimit}
-use Rattle.coy_io.specs.Reader.{Reader, ahead}
+use Rattle.coy_io.specs.Reader.{Reader}
 use Rattle.confinement.specs.Cut.{Sides}
 use Rattle.confine_check.specs.CutLine.{after_line, cut_line, refusal}
 use Rattle.confine_check.specs.declared.block.Block.{Block}
 use Rattle.listing_read.specs.declared.object_fault.CutFault.{CutFault}
 use Rattle.listing_read.specs.declared.object_fault.CutFault.TheVariants.{LineTooLong}
 use Rattle.judged_lines.specs.declared.stop.Stop.{Stop}
-use Rattle.judged_lines.specs.declared.stop.Stop.TheVariants as stops
-use Rattle.schedule_replay.specs.Lines.{FailsOn}
-use Rattle.schedule_replay.specs.Scheduled.{OnParts}
+use Rattle.courses.specs.Stopped.{MakesRest}
 
 -- what lines state: these sides, or nothing, since a line is refused or the input goes on behind the last byte that is read
 pub data Stated : Type 0 where
@@ -38,13 +36,7 @@ JudgesCut sides line answer sides' = (answer ≡ refusal (cut_line sides line)) 
 
 -- ---- lines as they are read
 
--- the lines to come state this
-abbrev pub StateAll : Sides → Reader → Option (List ℕ) → Stated → Type 0
-StateAll sides old held all = OnParts (ahead old held) (λ parts. stated sides old.number parts ≡ all)
-
 -- what reading all lines came to, up to where they end
 abbrev pub StatesRest : Sides → Sides → Reader → Reader → Option (List ℕ) → Option (List ℕ) → Stop CutFault → Type 0
-StatesRest sides sides' old new held held' stops.End = StateAll sides old held (StatesSides sides')
-StatesRest sides sides' old new held held' (stops.Refused line fault) = StateAll sides old held (RefusedAt line fault)
-StatesRest sides sides' old new held held' stops.TooLong = StateAll sides old held PastEnd
-StatesRest sides sides' old new held held' stops.ReadFault = FailsOn (stated sides old.number) (StatesSides sides') old new held held'
+StatesRest sides sides' old new held held' stop =
+    MakesRest (stated sides old.number) (StatesSides sides') RefusedAt PastEnd old new held held' stop

@@ -3,7 +3,7 @@ ghost use Rattle.std.specs.Prelude.{ℕ, ◌≡◌, ◌≢◌, ◌+◌, []};
 ghost use Rattle.kernel_core.specs.State.{state_of};
 ghost use Rattle.confine_check.specs.Breach.{breach_in};
 ghost use Rattle.confine_check.specs.declared.verdict.Verdict.TheVariants.{Sleeper};
-ghost use Rattle.confine_command.specs.Confine.{told, reads, cut_text, confined_text, breach_text, FindsExactly, NobodySleeps};
+ghost use Rattle.confine_command.specs.Confine.{told, reads, cut_text, confined_text, breach_text, NobodySleeps};
 ghost use Rattle.courses.specs.Ending.{EndsIn};
 
 use cap_format::{Cap, CapKind};
@@ -28,7 +28,6 @@ pub(crate) fn tell<T: Translator, K: Sink, L: Ledger>(
     ensures ends { EndsIn K.taken K.faults output.old output.new result
         (told (state_of machine.now) cut.now) }
     ensures counted { fetches.new ≡ fetches.old + reads (state_of machine.now) cut.now }
-    ensures exactly { FindsExactly (state_of machine.now) cut.now }
 {
     let verdict = confined(machine, cut, fetches);
     let mut line = LineBuf::new();

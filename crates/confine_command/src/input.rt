@@ -1,20 +1,21 @@
 //! A listing and the lines of a cut, from the first line to the last.
 ghost use Rattle.std.specs.Prelude.{◌≡◌, false, IfSome};
 ghost use Rattle.coy_io.specs.Lines.{parts_of};
-ghost use Rattle.coy_io.specs.Reader.{TellsEnd, ahead};
+ghost use Rattle.coy_io.specs.Reader.{TellsEnd};
 ghost use Rattle.kernel_core.specs.State.{state_of};
-ghost use Rattle.schedule_replay.specs.Scheduled.{OnParts};
 ghost use Rattle.courses.specs.Course.{cached, course_output};
 ghost use Rattle.courses.specs.Listed.{lines_course};
 ghost use Rattle.courses.specs.Taken.{TakesLines, TakesListing};
-ghost use Rattle.confine_command.specs.Confine.{checked, confine_course, Concludes, NobodySleeps};
-ghost use Rattle.confine_command.specs.Decided.{DecidesStated, IsDecided};
+ghost use Rattle.courses.specs.Stopped.{stop_exit};
+ghost use Rattle.courses.specs.declared.exit.Exit.TheVariants.{CutRefused};
+ghost use Rattle.confine_command.specs.Confine.{checked, confine_course, NobodySleeps};
+ghost use Rattle.confine_command.specs.Decided.{IsDecided};
 ghost use Rattle.confine_command.specs.Stated.{stated};
 
 use crate::checking::tell;
 use crate::lines::read_sides;
-use confine_check::{Cut, CutFault};
-use courses::{Exit, end_past_limit, read_head, refuse_cut};
+use confine_check::{Cut, CutFault, verdict_in_law};
+use courses::{Exit, conclude, read_head};
 use coy_io::{LineReader, Sink, Source};
 use image_builder::boot;
 use judged_lines::Stop;
@@ -49,10 +50,11 @@ pub fn confine<S: Source, K: Sink, L: Ledger>(
     let Ok(mut cut) = Cut::new(alloc, listing.sizes()) else {
         return Exit::OutOfMemory;
     };
+    verdict_in_law(&machine);
     check_lines(&machine, &mut cut, &mut lines, input, output, fetches)
 }
 
-/// Reads the lines of a cut, and tells whether it holds of a machine.
+/// Reads the lines of a cut, and tells whether it holds of a machine, or why they ended before.
 fn check_lines<T: Translator, S: Source, K: Sink, L: Ledger>(
     machine: &Machine<T>,
     cut: &mut Cut,
@@ -64,34 +66,25 @@ fn check_lines<T: Translator, S: Source, K: Sink, L: Ledger>(
     requires reader { lines.old.failed ≡ false }
     requires told { TellsEnd lines.old (S.held input.old) }
     requires awake { NobodySleeps machine.now.queues }
-    ensures course { TakesLines S.held S.faults K.taken K.faults lines.old lines.new
+    ensures { TakesLines S.held S.faults K.taken K.faults lines.old lines.new
         input.old input.new output.old output.new fetches.old fetches.new result cached
         (λ parts. checked (state_of machine.now) (stated cut.old lines.old.number parts)) }
-    ensures decided { result ≡ Exit.Done → OnParts (ahead lines.old (S.held input.old)) (λ parts.
-        DecidesStated (state_of machine.now) (stated cut.old lines.old.number parts)
-        (course_output (checked (state_of machine.now)
-        (stated cut.old lines.old.number parts))).text) }
 {
     let stop = read_sides(lines, input, cut);
-    conclude(stop, machine, cut, output, fetches)
+    match cut_exit(stop) {
+        None => tell(machine, cut, output, fetches),
+        Some(exit) => conclude(exit, output),
+    }
 }
 
-/// Tells what is found, or why the lines of the cut ended before.
-fn conclude<T: Translator, K: Sink, L: Ledger>(
-    stop: Stop<CutFault>,
-    machine: &Machine<T>,
-    cut: &Cut,
-    output: &mut K,
-    fetches: &mut Steps<L>,
-) -> Exit
-    requires { NobodySleeps machine.now.queues }
-    ensures { Concludes K.taken K.faults (state_of machine.now) cut.now stop
-        output.old output.new fetches.old fetches.new result }
+/// The exit of the lines of a cut, or `None` where all of them were read.
+fn cut_exit(stop: Stop<CutFault>) -> Option<Exit>
+    ensures { result ≡ stop_exit CutRefused stop }
 {
     match stop {
-        Stop::End => tell(machine, cut, output, fetches),
-        Stop::Refused { line, fault } => refuse_cut(line, fault, output),
-        Stop::TooLong => end_past_limit(output),
-        Stop::ReadFault => Exit::ReadFault,
+        Stop::End => None,
+        Stop::Refused { line, fault } => Some(Exit::CutRefused { line, fault }),
+        Stop::TooLong => Some(Exit::TooLong),
+        Stop::ReadFault => Some(Exit::ReadFault),
     }
 }

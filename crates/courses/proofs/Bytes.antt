@@ -1,5 +1,5 @@
 -- From the lines of the input to its bytes.
-use Rattle.std.proofs.Common.{◌≡◌, ◌+◌, ◌++◌, [], ℕ, List, Option, None, Some, IfSome, false, length, sym, ap, subst, arith}
+use Rattle.std.proofs.Common.{◌≡◌, ◌+◌, ◌++◌, [], ℕ, List, Option, None, Some, IfSome, true, false, length, sym, ap, subst, arith}
 use Rattle.std.specs.Io.KnownBytes.{Appends}
 use Rattle.coy_io.specs.Lines.{Part, IsFront, parts_of, whole_lines}
 use Rattle.coy_io.specs.Reader.{Reader, new_reader, ahead, bytes_ahead, GivesLines}
@@ -15,7 +15,14 @@ use Rattle.courses.specs.Ending.{EndsNothing, Outputs}
 use Rattle.courses.specs.Listed.{Behind, listed_course, lines_course}
 use Rattle.courses.specs.Sure.{StandsOn, StandsSure}
 use Rattle.courses.specs.declared.exit.Exit.{Exit}
-use Rattle.courses.specs.declared.exit.Exit.TheVariants.{Done}
+use Rattle.courses.specs.declared.exit.Exit.TheVariants.{ImageRefused, ListingRefused}
+use Rattle.courses.specs.Exit.{is_finished}
+
+-- lines of which all was done end nothing
+ends-nothing : (lines : ℕ) (exit : Exit) → is_finished exit ≡ true → EndsNothing lines exit
+ends-nothing lines (ListingRefused line fault) done = cc
+ends-nothing lines (ImageRefused offset fault) done = cc
+ends-nothing lines _ done = done
 
 module _ (behind : Behind) (held held' taken taken' : Option (List ℕ)) (fetches fetches' : ℕ) (count : List Touch → ℕ) where
   -- what bytes come to by their whole lines
@@ -74,7 +81,7 @@ module _ (behind : Behind) (held held' taken taken' : Option (List ℕ)) (fetche
       → StandsSure held held' taken taken' fetches fetches' count whole
   sure-behind mid first middle reader listing new listed s =
       sure-going mid first middle reader listing s.given new (listed s.before) s.going s.unfinished s.gives
-      (λ lines. subst (EndsNothing lines) (sym s.goes_on) tt) s.written s.fetched
+      (λ lines. ends-nothing lines (behind listing middle.number s.given).last.exit s.goes_on) s.written s.fetched
 
 -- what follows of bytes whose lines make a listing, from what is so of the lines behind it, is so of the known bytes
 pub on_made : (held : Option (List ℕ)) (left : Option (List Part)) (listing : ListingValue) (last : ℕ) (Q : List Part → Type 0) (P : List ℕ → Type 0)
@@ -110,7 +117,7 @@ stands_on-same old new held held' taken taken' fetches fetches' count course oth
   unfinished = s.unfinished;
   given = s.given;
   gives = s.gives;
-  goes_on = subst (λ (c : Course). c.last.exit ≡ Done) (same s.given) s.goes_on;
+  goes_on = subst (λ (c : Course). is_finished c.last.exit ≡ true) (same s.given) s.goes_on;
   written = subst (λ (c : Course). Appends taken taken' c.records) (same s.given) s.written;
   fetched = subst (λ (c : Course). fetches' ≡ fetches + count c.touches) (same s.given) s.fetched;
 }

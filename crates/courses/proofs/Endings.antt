@@ -37,12 +37,6 @@ pub ends_text : (old new : Option (List ℕ)) (faults faults' : ℕ) (exit end :
     → Ends old new faults faults' exit (record { text = x; exit = end }) → Ends old new faults faults' exit (record { text = y; exit = end })
 ends_text old new faults faults' exit end x y same e = subst (λ text. Ends old new faults faults' exit (record { text = text; exit = end })) same e
 
--- an exit that can only be that of the last text or a fault of writing is no want of memory
-pub ends-memory : (old new : Option (List ℕ)) (faults faults' : ℕ) (exit : Exit) (o : Output) → Ends old new faults faults' exit o → (status_of o.exit ≡ 6 → ⊥) → exit ≢ OutOfMemory
-ends-memory old new faults faults' exit o e other none =
-    let written : exit ≢ WriteFault = λ cut. let six : 6 ≡ 5 = ap status_of (sym none ∙ cut) in absurd (omega (arith, six)) in
-    other (ap status_of (sym (e.given written) ∙ none))
-
 -- an exit that no fault gave is that of the whole output, or memory was wanting
 pub completes : (old new : Option (List ℕ)) (exit : Exit) (o : Output) → (exit ≡ ReadFault → ⊥) → (exit ≡ WriteFault → ⊥) → Outputs old new exit o → Completes old new exit o
 completes old new exit o read write outputs = by_exit exit refl

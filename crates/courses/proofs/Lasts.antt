@@ -1,20 +1,18 @@
 -- What is written last: its exit, and why a call ends with it.
-use Rattle.std.proofs.Common.{◌≡◌, ◌≢◌, ◌∙◌, [], ℕ, List, Option, sym, ap, subst, arith}
+use Rattle.std.proofs.Common.{◌≡◌, ◌≢◌, ◌∙◌, [], ℕ, List, Option, sym, ap, subst, true, false, arith}
 use Rattle.std.proofs.lemmas.Option.{none-some}
 use Rattle.coy_io.specs.Causes.{Rose}
 use Rattle.coy_io.specs.Lines.{Part}
 use Rattle.kernel_core.specs.Outcome.{Touch}
 use Rattle.listing_read.specs.Listing.{Listed, Good, Refused, Past, listing_of}
 use Rattle.listing_read.specs.Statement.{ListingValue}
-use Rattle.listing_read.specs.declared.fault.ScheduleFault.{ScheduleFault}
 use Rattle.listing_read.specs.declared.place.Place.TheVariants.{Header}
 use Rattle.courses.specs.Listed.{Behind, lines_course, listed_course}
 use Rattle.courses.specs.Course.{ComesTo, HasEntries, ends_in}
-use Rattle.courses.specs.Ending.{Output, Ends, HasCauses, refused_listing, refused_schedule, too_long}
-use Rattle.courses.specs.Exit.{status_of}
+use Rattle.courses.specs.Ending.{Output, Ends, HasCauses, told_end}
+use Rattle.courses.specs.Exit.{is_finished, status_of}
 use Rattle.courses.specs.declared.exit.Exit.{Exit}
-use Rattle.courses.specs.declared.exit.Exit.TheVariants.{Done, Crossings, Usage, ReadFault, WriteFault, OutOfMemory}
-use Rattle.courses.proofs.Endings.{ends-memory}
+use Rattle.courses.specs.declared.exit.Exit.TheVariants.{ListingRefused, ReadFault, TooLong, WriteFault}
 
 -- exits with other numbers are others
 pub exits-differ : (a b : Exit) → (status_of a ≡ status_of b → ⊥) → a ≡ b → ⊥
@@ -38,57 +36,21 @@ write-causes unread unread' unwritten unwritten' exit is rose still = record {
   write_quiet = λ other. absurd (other is);
 }
 
--- a last text has an exit of its own: neither that of words of no form, nor a fault of reading or a want of memory
-pub record IsLast (o : Output) : Type 0 where
-  pub usage : status_of o.exit ≡ 1 → ⊥
-  pub read : status_of o.exit ≡ 4 → ⊥
-  pub memory : status_of o.exit ≡ 6 → ⊥
+module _ (old new : Option (List ℕ)) (faults faults' : ℕ) (exit : Exit) (o : Output) (e : Ends old new faults faults' exit o) where
+  -- an exit that no fault of writing gave is that of the last text
+  pub ends-own : (x : Exit) → x ≢ WriteFault → exit ≡ x → o.exit ≡ x
+  ends-own x other same = sym (e.given (λ cut. other (sym same ∙ cut))) ∙ same
 
--- so has a text behind lines that were all read,
-pub done-last : (text : List ℕ) → IsLast (record { text = text; exit = Done })
-done-last text = record { usage = λ e. omega (arith, e); read = λ e. omega (arith, e); memory = λ e. omega (arith, e) }
+  -- where the last text tells that not all was done, it was not
+  pub ends-open : is_finished o.exit ≡ false → is_finished exit ≡ true → ⊥
+  ends-open never done =
+      let uncut : exit ≢ WriteFault = λ cut. let bad : false ≡ true = sym (ap is_finished cut) ∙ done in cc in
+      let bad : false ≡ true = sym never ∙ ap is_finished (sym (e.given uncut)) ∙ done in cc
 
--- what refuses a line of a schedule,
-pub refused-last : (line : ℕ) (fault : ScheduleFault) → IsLast (refused_schedule line fault)
-refused-last line fault = record { usage = λ e. omega (arith, e); read = λ e. omega (arith, e); memory = λ e. omega (arith, e) }
-
--- and what tells that the input goes on behind the last byte that is read
-pub past-last : IsLast too_long
-past-last = record { usage = λ e. omega (arith, e); read = λ e. omega (arith, e); memory = λ e. omega (arith, e) }
-
-module _ (old new : Option (List ℕ)) (faults faults' : ℕ) (exit : Exit) (o : Output) (last : IsLast o) (e : Ends old new faults faults' exit o) where
-  -- the call does not tell its usage
-  pub last-usage : exit ≢ Usage
-  last-usage same =
-      let given : exit ≢ WriteFault = λ cut. exits-differ Usage WriteFault (λ n. let bad : 1 ≡ 5 = n in omega (arith, bad)) (sym same ∙ cut) in
-      last.usage (ap status_of (sym (e.given given) ∙ same))
-
-  -- no reading failed
-  pub last-read : exit ≢ ReadFault
-  last-read same =
-      let given : exit ≢ WriteFault = λ cut. exits-differ ReadFault WriteFault (λ n. let bad : 4 ≡ 5 = n in omega (arith, bad)) (sym same ∙ cut) in
-      last.read (ap status_of (sym (e.given given) ∙ same))
-
-  -- no memory was wanting
-  pub last-memory : exit ≢ OutOfMemory
-  last-memory = ends-memory old new faults faults' exit o e last.memory
-
-  -- where all was done, the text's own exit is that
-  pub last-done : exit ≡ Done → o.exit ≡ Done
-  last-done same =
-      let given : exit ≢ WriteFault = λ cut. exits-differ Done WriteFault (λ n. let bad : 0 ≡ 5 = n in omega (arith, bad)) (sym same ∙ cut) in
-      sym (e.given given) ∙ same
-
-  -- and so where crossings were told
-  pub last-crossed : exit ≡ Crossings → o.exit ≡ Crossings
-  last-crossed same =
-      let given : exit ≢ WriteFault = λ cut. exits-differ Crossings WriteFault (λ n. let bad : 10 ≡ 5 = n in omega (arith, bad)) (sym same ∙ cut) in
-      sym (e.given given) ∙ same
-
-  -- a fault is the sink's
-  pub last-causes : (unread unread' unwritten : ℕ) → unread' ≡ unread → faults ≡ unwritten → HasCauses unread unread' unwritten faults' exit
-  last-causes unread unread' unwritten quiet still = record {
-    read = λ same. absurd (last-read same);
+  -- a fault is the sink's, where reading had not failed before
+  pub ends-causes : (unread unread' unwritten : ℕ) → o.exit ≢ ReadFault → unread' ≡ unread → faults ≡ unwritten → HasCauses unread unread' unwritten faults' exit
+  ends-causes unread unread' unwritten other quiet still = record {
+    read = λ same. absurd (other (ends-own ReadFault (λ cut. cc) same));
     read_quiet = λ other. quiet;
     write = λ same. subst (λ n. Rose n faults') still (e.write same);
     write_quiet = λ other. e.write_quiet other ∙ still;
@@ -117,5 +79,5 @@ lines-entries behind all parts = by (listing_of Header 1 parts)
   where
     by : (listed : Listed) → HasEntries (listed_course behind listed)
     by (Good listing last rest) = all listing last rest
-    by (Refused line fault) = none-entries (refused_listing line fault)
-    by Past = none-entries too_long
+    by (Refused line fault) = none-entries (told_end (ListingRefused line fault))
+    by Past = none-entries (told_end TooLong)

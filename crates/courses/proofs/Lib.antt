@@ -1,8 +1,10 @@
 pub mod Endings
 pub mod Lasts
+pub mod Concluding
 pub mod Sound
 pub mod Bytes
 pub mod Unlisted
 pub mod Taken
+pub mod Rests
 pub mod Running
 pub mod Flushed

@@ -1,5 +1,5 @@
 -- From what was done with the lines behind a listing to what a call did with its input.
-use Rattle.std.proofs.Common.{◌≡◌, ◌+◌, [], ℕ, List, Option, false, refl, subst}
+use Rattle.std.proofs.Common.{◌≡◌, ◌+◌, ℕ, List, Option, false, subst}
 use Rattle.coy_io.specs.Lines.{Part}
 use Rattle.coy_io.specs.Reader.{Reader, new_reader, ahead}
 use Rattle.kernel_core.specs.Outcome.{Touch}
@@ -9,27 +9,12 @@ use Rattle.listing_read.specs.Statement.{ListingValue}
 use Rattle.listing_read.specs.declared.place.Place.TheVariants.{Header}
 use Rattle.courses.specs.Course.{Course, ComesTo}
 use Rattle.courses.specs.Ending.{HasCauses}
-use Rattle.courses.specs.Head.{EndsUnlisted}
 use Rattle.courses.specs.Listed.{Behind}
 use Rattle.courses.specs.Taken.{TakesLines, TakesListing}
 use Rattle.courses.specs.declared.exit.Exit.{Exit}
 use Rattle.courses.proofs.Bytes.{on_bytes, on_parts-same, stands_on-same, sure-behind}
 
 module _ {S K : Type 0} (held : S → Option (List ℕ)) (source_faults : S → ℕ) (taken : K → Option (List ℕ)) (sink_faults : K → ℕ) where
-  -- a call that has no listing
-  pub takes-unlisted : (old new : S) (out out' : K) (fetches : ℕ) (exit : Exit) (count : List Touch → ℕ) (behind : Behind) → count [] ≡ 0
-      → EndsUnlisted (held old) (held new) (taken out) (taken out') (source_faults old) (source_faults new) (sink_faults out) (sink_faults out') exit
-      → TakesListing held source_faults taken sink_faults old new out out' fetches fetches exit count behind
-  takes-unlisted old new out out' fetches exit count behind none e = record {
-    comes = e.comes behind count none fetches;
-    end = λ done. absurd (e.done done);
-    sure = λ failed. e.sure failed behind count none fetches;
-    usage = e.usage;
-    causes = e.causes;
-    unwritten = e.nothing;
-    unspent = λ memory. refl;
-  }
-
   -- what a call did with the lines behind a listing, it did with its input
   pub takes-listing : (first middle last : Reader) (listing : ListingValue) (old mid new : S) (out halfway out' : K) (fetches fetches' : ℕ) (exit : Exit) (count : List Touch → ℕ) (behind : Behind)
       → first ≡ new_reader → IsListed Header (first.number + 1) (ahead first (held old)) listing middle.number (ahead middle (held mid))
@@ -47,8 +32,8 @@ module _ {S K : Type 0} (held : S → Option (List ℕ)) (source_faults : S → 
             (t.sure failed);
         usage = t.usage;
         causes = subst (λ n. HasCauses n (source_faults new) (sink_faults out) (sink_faults out') exit) quiet t.causes;
-        unwritten = λ memory. absurd (t.memory memory);
-        unspent = λ memory. absurd (t.memory memory);
+        unwritten = t.unwritten;
+        unspent = t.unspent;
       }
 
   -- by another name of what the lines come to
@@ -61,6 +46,7 @@ module _ {S K : Type 0} (held : S → Option (List ℕ)) (source_faults : S → 
     end = t.end;
     sure = λ failed. stands_on-same reader reader' (held old) (held new) (taken out) (taken out') fetches fetches' count course other same (t.sure failed);
     usage = t.usage;
-    memory = t.memory;
     causes = t.causes;
+    unwritten = t.unwritten;
+    unspent = t.unspent;
   }

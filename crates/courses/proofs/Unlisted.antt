@@ -1,7 +1,7 @@
 -- How a call ends that has no listing.
-use Rattle.std.proofs.Common.{◌≡◌, ◌≢◌, ◌+◌, ◌∙◌, [], ℕ, List, Option, None, Some, IfSome, refl, sym, ap, subst, arith}
-use Rattle.std.specs.Io.KnownBytes.{Appends, Keeps}
-use Rattle.std.proofs.KnownBytes.{Appends-nil, Keeps-refl}
+use Rattle.std.proofs.Common.{◌≡◌, ◌≢◌, ◌+◌, ◌∙◌, [], ℕ, List, true, false, Option, None, Some, IfSome, Bool, refl, sym, ap, subst, arith}
+use Rattle.std.specs.Io.KnownBytes.{Appends}
+use Rattle.std.proofs.KnownBytes.{Appends-nil}
 use Rattle.coy_io.specs.Causes.{Rose}
 use Rattle.coy_io.specs.Lines.{parts_of}
 use Rattle.coy_io.specs.Reader.{Reader, new_reader, ahead}
@@ -12,22 +12,17 @@ use Rattle.listing_read.specs.declared.fault.ListingFault.TheVariants as no_list
 use Rattle.listing_read.specs.declared.place.Place.TheVariants.{Header}
 use Rattle.kernel_core.specs.Outcome.{Touch}
 use Rattle.courses.specs.Course.{ComesTo, course_output, ends_in}
-use Rattle.courses.specs.Ending.{Output, Outputs, IsGiven, Ends, refused_listing, too_long}
-use Rattle.courses.specs.Head.{EndsUnlisted, TellsFault}
+use Rattle.courses.specs.Ending.{Concludes, EndsIn, IsGiven, Output, Outputs, told_end}
+use Rattle.courses.specs.Exit.{is_finished}
+use Rattle.courses.specs.Head.{EndsUnlisted}
 use Rattle.courses.specs.Listed.{Behind, listed_course, lines_course}
+use Rattle.courses.specs.Stopped.{listing_exit}
 use Rattle.courses.specs.declared.exit.Exit.{Exit}
-use Rattle.courses.specs.declared.exit.Exit.TheVariants.{Done, Crossings, Usage, ReadFault, WriteFault, OutOfMemory}
+use Rattle.courses.specs.declared.exit.Exit.TheVariants.{ListingRefused, Usage, ReadFault, WriteFault, OutOfMemory, TooLong}
 use Rattle.courses.proofs.Bytes.{sure-listing}
+use Rattle.courses.proofs.Concluding.{outputs_memory}
 use Rattle.courses.proofs.Endings.{outputs_none}
-use Rattle.courses.proofs.Lasts.{IsLast, comes-last, last-causes, last-crossed, last-done, last-memory, last-read, last-usage, past-last, read-causes}
-
--- memory was wanting, and nothing was written
-pub outputs_memory : (now new : Option (List ℕ)) (o : Output) → new ≡ now → Outputs now new OutOfMemory o
-outputs_memory now new o same = record {
-  whole = λ given. absurd (given.memory refl);
-  part = λ cut. cc;
-  nothing = λ none. subst (Keeps now) (sym same) (Keeps-refl now);
-}
+use Rattle.courses.proofs.Lasts.{comes-last, ends-causes, ends-open, ends-own, read-causes}
 
 -- where reading failed or memory was wanting, with nothing fetched, that is what any lines come to
 comes-nothing : (held taken taken' : Option (List ℕ)) (exit : Exit) → (IsGiven exit → ⊥) → ((o : Output) → Outputs taken taken' exit o)
@@ -39,77 +34,86 @@ comes-nothing (Some bytes) taken taken' exit never outputs behind count none fet
   fetched = record { whole = λ given. absurd (never given); most = omega arith };
 }
 
-module _ {K : Type 0} (taken : K → Option (List ℕ)) (faults : K → ℕ) (old new : K) (first reader : Reader) (held held' : Option (List ℕ)) (unread unread' : ℕ) (exit : Exit)
-    (starts : first ≡ new_reader) where
+module _ {S K : Type 0} (held : S → Option (List ℕ)) (source_faults : S → ℕ) (taken : K → Option (List ℕ)) (sink_faults : K → ℕ) (old new : S) (out out' : K)
+    (first reader : Reader) (exit : Exit) (starts : first ≡ new_reader) where
   abbrev Ends_here : Type 0
-  Ends_here = EndsUnlisted held held' (taken old) (taken new) unread unread' (faults old) (faults new) exit
+  Ends_here = EndsUnlisted held source_faults taken sink_faults old new out out' exit
 
   -- what is so of the one listing that the known lines make is so of what they come to
   by_listing : (listed : Listed) (o : Output) → ((behind : Behind) → listed_course behind listed ≡ ends_in o)
       → (known : Option (List ℕ)) → IfSome known (λ bytes. listing_of Header 1 (parts_of bytes) ≡ listed)
-      → Ends (taken old) (taken new) (faults old) (faults new) exit o
-      → (behind : Behind) (count : List Touch → ℕ) → count [] ≡ 0 → (fetches : ℕ)
-      → IfSome known (λ bytes. ComesTo (taken old) (taken new) fetches fetches exit count (lines_course behind (parts_of bytes)))
+      → EndsIn taken sink_faults out out' exit o → (behind : Behind) (count : List Touch → ℕ) → count [] ≡ 0 → (fetches : ℕ)
+      → IfSome known (λ bytes. ComesTo (taken out) (taken out') fetches fetches exit count (lines_course behind (parts_of bytes)))
   by_listing listed o is None cause e behind count none fetches = tt
   by_listing listed o is (Some bytes) cause e behind count none fetches =
-      subst (ComesTo (taken old) (taken new) fetches fetches exit count) (sym (ap (listed_course behind) cause ∙ is behind))
-      (comes-last (taken old) (taken new) (faults old) (faults new) fetches fetches exit count o e refl none)
+      subst (ComesTo (taken out) (taken out') fetches fetches exit count) (sym (ap (listed_course behind) cause ∙ is behind))
+      (comes-last (taken out) (taken out') (sink_faults out) (sink_faults out') fetches fetches exit count o e refl none)
 
   -- a refusal was told
-  told : (listed : Listed) (o : Output) → ((behind : Behind) → listed_course behind listed ≡ ends_in o) → IsLast o → (o.exit ≡ Done → ⊥) → (o.exit ≡ Crossings → ⊥)
-      → IfSome held (λ bytes. listing_of Header 1 (parts_of bytes) ≡ listed) → Ends (taken old) (taken new) (faults old) (faults new) exit o
-      → unread' ≡ unread → Ends_here
-  told listed o is last never uncrossed cause e quiet = record {
-    comes = by_listing listed o is held cause e;
-    sure = λ read behind count none fetches. absurd (last-read _ _ _ _ _ _ last e read);
-    done = λ done. never (last-done _ _ _ _ _ _ last e done);
-    crossings = λ crossed. uncrossed (last-crossed _ _ _ _ _ _ last e crossed);
-    usage = last-usage _ _ _ _ _ _ last e;
-    causes = last-causes _ _ _ _ _ _ last e unread unread' (faults old) quiet refl;
-    nothing = λ memory. absurd (last-memory _ _ _ _ _ _ last e memory);
-  }
+  told : (listed : Listed) (o : Output) → ((behind : Behind) → listed_course behind listed ≡ ends_in o) → IsGiven o.exit → o.exit ≢ Usage → is_finished o.exit ≡ false
+      → IfSome (held old) (λ bytes. listing_of Header 1 (parts_of bytes) ≡ listed) → EndsIn taken sink_faults out out' exit o → source_faults new ≡ source_faults old → Ends_here
+  told listed o is given form never cause e quiet =
+      let own : (x : Exit) → x ≢ WriteFault → exit ≡ x → o.exit ≡ x = ends-own _ _ _ _ exit o e in
+      record {
+        takes = λ behind count none fetches. record {
+          comes = by_listing listed o is (held old) cause e behind count none fetches;
+          end = λ done. absurd (ends-open _ _ _ _ exit o e never done);
+          sure = λ same. absurd (given.read (own ReadFault (λ cut. cc) same));
+          usage = λ same. form (own Usage (λ cut. cc) same);
+          causes = ends-causes _ _ _ _ exit o e _ _ _ given.read quiet refl;
+          unwritten = λ same. absurd (given.memory (own OutOfMemory (λ cut. cc) same));
+          unspent = λ same. refl;
+        };
+        unfinished = by (is_finished exit) refl (ends-open _ _ _ _ exit o e never);
+      }
+    where
+      by : (b : Bool) → is_finished exit ≡ b → (is_finished exit ≡ true → ⊥) → is_finished exit ≡ false
+      by true is never = absurd (never is)
+      by false is never = is
 
-  -- the call has no listing for this reason, told as it is told
-  pub ends-unlisted : (fault : ListingFault) → IsCause fault Header (first.number + 1) (ahead first held) → TellsFault taken faults fault old new exit
-      → (fault ≡ no_listing.ReadFault → GivesFront first reader held held')
-      → (fault ≡ no_listing.ReadFault → Rose unread unread') → (fault ≢ no_listing.ReadFault → unread' ≡ unread) → Ends_here
+  -- the call has no listing for this reason, and was concluded by the exit that it gives
+  pub ends-unlisted : (fault : ListingFault) → IsCause fault Header (first.number + 1) (ahead first (held old)) → Concludes taken sink_faults (listing_exit fault) out out' exit
+      → (fault ≡ no_listing.ReadFault → GivesFront first reader (held old) (held new))
+      → (fault ≡ no_listing.ReadFault → Rose (source_faults old) (source_faults new)) → (fault ≢ no_listing.ReadFault → source_faults new ≡ source_faults old) → Ends_here
   ends-unlisted (no_listing.Refused line fault) cause e front rose quiet =
-      told (Refused line fault) (refused_listing line fault) (λ behind. refl) (record { usage = λ e. omega (arith, e); read = λ e. omega (arith, e); memory = λ e. omega (arith, e) })
-      (λ done. cc) (λ crossed. cc) (refused held (subst (λ reader. IsCause (no_listing.Refused line fault) Header (reader.number + 1) (ahead reader held)) starts cause)) e (quiet (λ same. cc))
+      told (Refused line fault) (told_end (ListingRefused line fault)) (λ behind. refl) (record { read = λ bad. cc; write = λ bad. cc; memory = λ bad. cc }) (λ bad. cc) refl
+      (refused (held old) (subst (λ reader. IsCause (no_listing.Refused line fault) Header (reader.number + 1) (ahead reader (held old))) starts cause)) e (quiet (λ same. cc))
     where
       refused : (known : Option (List ℕ)) → IsCause (no_listing.Refused line fault) Header 1 (ahead new_reader known) → IfSome known (λ bytes. listing_of Header 1 (parts_of bytes) ≡ Refused line fault)
       refused None cause = tt
       refused (Some bytes) cause = cause
   ends-unlisted no_listing.TooLong cause e front rose quiet =
-      told Past too_long (λ behind. refl) past-last
-      (λ done. cc) (λ crossed. cc) (past held (subst (λ reader. IsCause no_listing.TooLong Header (reader.number + 1) (ahead reader held)) starts cause)) e (quiet (λ same. cc))
+      told Past (told_end TooLong) (λ behind. refl) (record { read = λ bad. cc; write = λ bad. cc; memory = λ bad. cc }) (λ bad. cc) refl
+      (past (held old) (subst (λ reader. IsCause no_listing.TooLong Header (reader.number + 1) (ahead reader (held old))) starts cause)) e (quiet (λ same. cc))
     where
       past : (known : Option (List ℕ)) → IsCause no_listing.TooLong Header 1 (ahead new_reader known) → IfSome known (λ bytes. listing_of Header 1 (parts_of bytes) ≡ Past)
       past None cause = tt
       past (Some bytes) cause = cause
-  ends-unlisted no_listing.ReadFault cause e front rose quiet = record {
-    comes = comes-nothing held (taken old) (taken new) exit (λ given. given.read e.0) (λ o. subst (λ x. Outputs (taken old) (taken new) x o) (sym e.0) (outputs_none (taken old) (taken new) o));
-    sure = λ read behind count none fetches.
-        sure-listing behind held held' (taken old) (taken new) fetches fetches count first reader starts (front refl)
-        (subst (λ k. Appends (taken old) (taken k) []) (sym e.1) (Appends-nil (taken old))) refl none;
-    done = λ done. let same : ReadFault ≡ Done = sym e.0 ∙ done in cc;
-    crossings = λ crossed. let same : ReadFault ≡ Crossings = sym e.0 ∙ crossed in cc;
-    usage = λ usage. let same : ReadFault ≡ Usage = sym e.0 ∙ usage in cc;
-    causes = read-causes unread unread' (faults old) (faults new) exit e.0 (rose refl) (ap faults e.1);
-    nothing = λ memory. let bad : ReadFault ≡ OutOfMemory = sym e.0 ∙ memory in cc;
-  }
-  ends-unlisted no_listing.OutOfMemory cause e front rose quiet = record {
-    comes = comes-nothing held (taken old) (taken new) exit (λ given. given.memory e.0)
-        (λ o. subst (λ x. Outputs (taken old) (taken new) x o) (sym e.0) (outputs_memory (taken old) (taken new) o (ap taken e.1)));
-    sure = λ read behind count none fetches. let bad : OutOfMemory ≡ ReadFault = sym e.0 ∙ read in cc;
-    done = λ done. let same : OutOfMemory ≡ Done = sym e.0 ∙ done in cc;
-    crossings = λ crossed. let same : OutOfMemory ≡ Crossings = sym e.0 ∙ crossed in cc;
-    usage = λ usage. let same : OutOfMemory ≡ Usage = sym e.0 ∙ usage in cc;
-    causes = record {
-      read = λ same. let bad : OutOfMemory ≡ ReadFault = sym e.0 ∙ same in cc;
-      read_quiet = λ other. quiet (λ same. cc);
-      write = λ same. let bad : OutOfMemory ≡ WriteFault = sym e.0 ∙ same in cc;
-      write_quiet = λ other. ap faults e.1;
-    };
-    nothing = λ memory. ap taken e.1;
-  }
+  ends-unlisted no_listing.ReadFault cause e front rose quiet =
+      subst (λ x. EndsUnlisted held source_faults taken sink_faults old new out out' x) (sym e.0) (record {
+        takes = λ behind count none fetches. record {
+          comes = comes-nothing (held old) (taken out) (taken out') ReadFault (λ given. given.read refl) (λ o. outputs_none (taken out) (taken out') o) behind count none fetches;
+          end = λ done. cc;
+          sure = λ read.
+              sure-listing behind (held old) (held new) (taken out) (taken out') fetches fetches count first reader starts (front refl)
+              (subst (λ k. Appends (taken out) (taken k) []) (sym e.1) (Appends-nil (taken out))) refl none;
+          usage = λ usage. cc;
+          causes = read-causes _ _ _ _ ReadFault refl (rose refl) (ap sink_faults e.1);
+          unwritten = λ memory. cc;
+          unspent = λ memory. refl;
+        };
+        unfinished = refl;
+      })
+  ends-unlisted no_listing.OutOfMemory cause e front rose quiet =
+      subst (λ x. EndsUnlisted held source_faults taken sink_faults old new out out' x) (sym e.0) (record {
+        takes = λ behind count none fetches. record {
+          comes = comes-nothing (held old) (taken out) (taken out') OutOfMemory (λ given. given.memory refl) (λ o. outputs_memory (taken out) (taken out') o (ap taken e.1)) behind count none fetches;
+          end = λ done. cc;
+          sure = λ read. cc;
+          usage = λ usage. cc;
+          causes = record { read = λ same. cc; read_quiet = λ other. quiet (λ same. cc); write = λ same. cc; write_quiet = λ other. ap sink_faults e.1 };
+          unwritten = λ memory. ap taken e.1;
+          unspent = λ memory. refl;
+        };
+        unfinished = refl;
+      })

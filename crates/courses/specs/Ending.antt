@@ -1,17 +1,13 @@
 -- A text and an exit, and the last lines of the program.
-use Rattle.std.specs.Prelude.{◌≡◌, ◌≢◌, ◌≤◌, ◌+◌, ◌⊎◌, ℕ, List, ◌++◌, codes, decimal, Option, ⊤}
+use Rattle.std.specs.Prelude.{◌≡◌, ◌≢◌, ◌≤◌, ◌+◌, ◌⊎◌, ℕ, true, List, [], ◌++◌, codes, decimal, Option}
 use Rattle.std.specs.Io.KnownBytes.{Keeps, Appends}
 use Rattle.coy_io.specs.Causes.{Rose}
 use Rattle.coy_io.specs.Pieces.{AppendsSome}
-use Rattle.listing_read.specs.declared.object_fault.CutFault.{CutFault}
-use Rattle.image_binary.specs.declared.fault.ImageWord.{ImageWord}
 use Rattle.image_binary.specs.declared.fault.ImageWord.TheVariants.{Cut}
-use Rattle.listing_read.specs.declared.object_fault.PolicyFault.{PolicyFault}
-use Rattle.listing_read.specs.declared.fault.Fault.{Fault}
-use Rattle.listing_read.specs.declared.fault.ScheduleFault.{ScheduleFault}
 use Rattle.courses.specs.Names.{fault_name, schedule_fault_name, image_word_name, cut_fault_name, policy_fault_name}
+use Rattle.courses.specs.Exit.{is_finished}
 use Rattle.courses.specs.declared.exit.Exit.{Exit}
-use Rattle.courses.specs.declared.exit.Exit.TheVariants.{Done, ListingRefused, ScheduleRefused, ReadFault, WriteFault, OutOfMemory, TooLong, ImageRefused, CutRefused, PolicyRefused, Crossings}
+use Rattle.courses.specs.declared.exit.Exit.TheVariants.{ListingRefused, ScheduleRefused, ReadFault, WriteFault, OutOfMemory, TooLong, ImageRefused, CutRefused, PolicyRefused}
 
 -- a text and an exit
 pub record Output : Type 0 where
@@ -26,43 +22,31 @@ before text o = record { text = text ++ o.text; exit = o.exit }
 abbrev pub refusal_text : ℕ → List ℕ → List ℕ
 refusal_text line name = codes "refused " ++ decimal line ++ codes " " ++ name ++ codes "\n"
 
--- a listing is refused at this line
-abbrev pub refused_listing : ℕ → Fault → Output
-refused_listing line fault = record { text = refusal_text line (fault_name fault); exit = ListingRefused line fault }
-
--- a line of the schedule is refused
-abbrev pub refused_schedule : ℕ → ScheduleFault → Output
-refused_schedule line fault =
-    record { text = refusal_text line (schedule_fault_name fault); exit = ScheduleRefused line fault }
-
 -- the offset of the field of an image that is refused, and why
 unfoldable pub offset_text : ℕ → List ℕ → List ℕ
 offset_text offset name = codes "refused at " ++ decimal offset ++ codes " " ++ name ++ codes "\n"
 
--- an image is refused at this offset
-abbrev pub refused_image : ℕ → ImageWord → Output
-refused_image offset fault = record { text = offset_text offset (image_word_name fault); exit = ImageRefused offset fault }
+-- the line that tells an exit: which line or field was refused, and why, or that the input goes on behind the last byte that is
+-- read; no other has one
+abbrev pub end_line : Exit → List ℕ
+end_line (ListingRefused line fault) = refusal_text line (fault_name fault)
+end_line (ScheduleRefused line fault) = refusal_text line (schedule_fault_name fault)
+end_line (CutRefused line fault) = refusal_text line (cut_fault_name fault)
+end_line (PolicyRefused line fault) = refusal_text line (policy_fault_name fault)
+end_line (ImageRefused offset fault) = offset_text offset (image_word_name fault)
+end_line TooLong = codes "too long" ++ codes "\n"
+end_line _ = []
 
--- a line of a cut is refused
-abbrev pub refused_cut : ℕ → CutFault → Output
-refused_cut line fault = record { text = refusal_text line (cut_fault_name fault); exit = CutRefused line fault }
-
--- a line of a policy is refused
-abbrev pub refused_policy : ℕ → PolicyFault → Output
-refused_policy line fault = record { text = refusal_text line (policy_fault_name fault); exit = PolicyRefused line fault }
-
--- the input goes on behind the last byte that is read
-abbrev pub too_long : Output
-too_long = record { text = codes "too long" ++ codes "\n"; exit = TooLong }
+-- a call ends so, and tells it
+abbrev pub told_end : Exit → Output
+told_end exit = record { text = end_line exit; exit = exit }
 
 -- so many lines end nothing: all of them were read, or their listing is not over and lacks the line behind them all; or they
 -- are no lines but bytes of an image, which lacks those behind them all
 abbrev pub EndsNothing : ℕ → Exit → Type 0
-EndsNothing n Done = ⊤
-EndsNothing n Crossings = ⊤
 EndsNothing n (ListingRefused line fault) = line ≡ n + 1
 EndsNothing n (ImageRefused offset fault) = fault ≡ Cut
-EndsNothing n _ = ⊥
+EndsNothing n exit = is_finished exit ≡ true
 
 -- an exit that no fault of reading or writing and no want of memory gave
 pub record IsGiven (exit : Exit) : Type 0 where
@@ -105,3 +89,11 @@ pub record Ends (old new : Option (List ℕ)) (faults faults' : ℕ) (exit : Exi
 -- the same of a sink, by what it tells of itself
 abbrev pub EndsIn : {K : Type 0} → (K → Option (List ℕ)) → (K → ℕ) → K → K → Exit → Output → Type 0
 EndsIn taken faults old new exit o = Ends (taken old) (taken new) (faults old) (faults new) exit o
+
+-- how a call ends whose lines gave this exit: with nothing more where reading or writing had failed or memory was wanting, and
+-- otherwise by the line that tells it, as far as writing came
+abbrev pub Concludes : {K : Type 0} → (K → Option (List ℕ)) → (K → ℕ) → Exit → K → K → Exit → Type 0
+Concludes taken faults ReadFault old new exit = (exit ≡ ReadFault) × (new ≡ old)
+Concludes taken faults WriteFault old new exit = (exit ≡ WriteFault) × (new ≡ old)
+Concludes taken faults OutOfMemory old new exit = (exit ≡ OutOfMemory) × (new ≡ old)
+Concludes taken faults given old new exit = EndsIn taken faults old new exit (told_end given)

@@ -1,5 +1,5 @@
--- The program's exits as numbers.
-use Rattle.std.specs.Prelude.{ℕ}
+-- The programs' exits: their numbers, and those of a call that came to its end.
+use Rattle.std.specs.Prelude.{ℕ, Bool, true, false}
 use Rattle.courses.specs.declared.exit.Exit.{Exit}
 use Rattle.courses.specs.declared.exit.Exit.TheVariants.{Done, Usage, ListingRefused, ScheduleRefused, ReadFault, WriteFault, OutOfMemory, TooLong, ImageRefused, CutRefused, PolicyRefused, Crossings}
 
@@ -17,3 +17,9 @@ status_of (ImageRefused offset fault) = 8
 status_of (CutRefused line fault) = 9
 status_of (PolicyRefused line fault) = 9
 status_of Crossings = 10
+
+-- whether all was done that was asked for, whatever is told of it: then the input was read to its end
+abbrev pub is_finished : Exit → Bool
+is_finished Done = true
+is_finished Crossings = true
+is_finished _ = false

@@ -1,6 +1,7 @@
 pub mod Exit
 pub mod Names
 pub mod Ending
+pub mod Stopped
 pub mod Entries
 pub mod Course
 pub mod Bounds
@@ -11,3 +12,4 @@ pub mod Taken
 pub mod Head
 pub mod Flush
 pub mod Migrated
+pub mod Program

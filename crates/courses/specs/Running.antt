@@ -1,6 +1,6 @@
 -- What a command comes to that runs the lines behind a listing, over whatever translator: the records of their events, and
 -- what stands behind those (this project's own).
-use Rattle.std.specs.Prelude.{◌≡◌, ℕ, List, [], Option}
+use Rattle.std.specs.Prelude.{ℕ, List}
 use Rattle.cap_format.specs.Capability.{Capability}
 use Rattle.cap_format.specs.declared.item.Item.{Item}
 use Rattle.object_store.specs.Store.{Items}
@@ -18,9 +18,8 @@ use Rattle.schedule_replay.specs.declared.mode.Mode.{Mode}
 use Rattle.schedule_replay.specs.declared.replayed.Replayed.{Replayed}
 use Rattle.schedule_replay.specs.declared.replayed.Replayed.TheVariants as answers
 use Rattle.courses.specs.Course.{Course}
-use Rattle.courses.specs.Ending.{Output, Fetches, EndsIn, refused_schedule, too_long}
-use Rattle.courses.specs.declared.exit.Exit.{Exit}
-use Rattle.courses.specs.declared.exit.Exit.TheVariants.{Done, ReadFault, WriteFault}
+use Rattle.courses.specs.Ending.{Output, told_end}
+use Rattle.courses.specs.declared.exit.Exit.TheVariants.{Done, ScheduleRefused, ReadFault, WriteFault, TooLong}
 
 -- A command that runs the lines, over a translator that keeps values of this type: which records it writes; behind them, where
 -- all lines were read, its text, by the last state, what is kept then and the counts of the run; the slots that are fetched for
@@ -41,17 +40,10 @@ if_ended n _ = 0
 -- what is written last, and how the program ends, by the answer of a run that came to this state and left this kept
 abbrev pub finished_by : {K : Type 0} → Runner K → State → K → Replayed → Output
 finished_by runner s kept (answers.Ended counts) = record { text = runner.text s kept counts; exit = Done }
-finished_by runner s kept (answers.Refused line fault) = refused_schedule line fault
-finished_by runner s kept answers.TooLong = too_long
-finished_by runner s kept answers.ReadFault = record { text = []; exit = ReadFault }
-finished_by runner s kept answers.WriteFault = record { text = []; exit = WriteFault }
-
--- a fault of reading or of writing ends the program by itself, and for any other answer the last text is written
-abbrev pub ConcludesBy : {S K : Type 0} → (S → Option (List ℕ)) → (S → ℕ) → Runner K → State → K → Replayed → S → S → ℕ → ℕ → Exit → Type 0
-ConcludesBy taken faults runner s kept answers.ReadFault old new fetches fetches' exit = (exit ≡ ReadFault) × (new ≡ old) × (fetches' ≡ fetches)
-ConcludesBy taken faults runner s kept answers.WriteFault old new fetches fetches' exit = (exit ≡ WriteFault) × (new ≡ old) × (fetches' ≡ fetches)
-ConcludesBy taken faults runner s kept answer old new fetches fetches' exit =
-    EndsIn taken faults old new exit (finished_by runner s kept answer) × Fetches fetches fetches' exit (if_ended (runner.fetches s) answer)
+finished_by runner s kept (answers.Refused line fault) = told_end (ScheduleRefused line fault)
+finished_by runner s kept answers.TooLong = told_end TooLong
+finished_by runner s kept answers.ReadFault = told_end ReadFault
+finished_by runner s kept answers.WriteFault = told_end WriteFault
 
 -- by what a translator says of one access and of one change, and what it keeps at first
 module _ {K : Type 0} (cost : K → Items → Capability → ℕ → Kind → ℕ) (after : K → Items → Capability → ℕ → Kind → K) (without : K → Item → K) (start : K) where

@@ -1,5 +1,5 @@
 -- What a call promises that takes an input, by what this comes to (this project's own).
-use Rattle.std.specs.Prelude.{◌≡◌, ◌≢◌, ℕ, List, [], Option, IfSome}
+use Rattle.std.specs.Prelude.{◌≡◌, ◌≢◌, ℕ, true, List, [], Option, IfSome}
 use Rattle.std.specs.Io.KnownBytes.{IsAtEnd}
 use Rattle.coy_io.specs.Lines.{Part, parts_of, whole_lines}
 use Rattle.coy_io.specs.Reader.{Reader, ahead}
@@ -7,10 +7,11 @@ use Rattle.kernel_core.specs.Outcome.{Touch}
 use Rattle.schedule_replay.specs.Scheduled.{OnParts}
 use Rattle.courses.specs.Course.{Course, ComesTo}
 use Rattle.courses.specs.Ending.{HasCauses}
+use Rattle.courses.specs.Exit.{is_finished}
 use Rattle.courses.specs.Listed.{Behind, lines_course}
 use Rattle.courses.specs.Sure.{StandsOn, StandsSure}
 use Rattle.courses.specs.declared.exit.Exit.{Exit}
-use Rattle.courses.specs.declared.exit.Exit.TheVariants.{Done, Usage, ReadFault, OutOfMemory}
+use Rattle.courses.specs.declared.exit.Exit.TheVariants.{Usage, ReadFault, OutOfMemory}
 
 -- by the bytes that a source holds and how often it failed, and the bytes that a sink took and how often it failed
 module _ {S K : Type 0} (held : S → Option (List ℕ)) (source_faults : S → ℕ)
@@ -22,7 +23,7 @@ module _ {S K : Type 0} (held : S → Option (List ℕ)) (source_faults : S → 
     -- what it wrote, how many slots it fetched and how it ended is what the known bytes come to
     pub comes : IfSome (held old) (λ bytes. ComesTo (taken out) (taken out') fetches fetches' exit count (whole bytes))
     -- where all was done, the source was read to its end
-    pub end : exit ≡ Done → IsAtEnd (held new)
+    pub end : is_finished exit ≡ true → IsAtEnd (held new)
     -- where reading failed, the records were written and the slots fetched that the bytes make sure which were read
     pub sure : exit ≡ ReadFault → StandsSure (held old) (held new) (taken out) (taken out') fetches fetches' count front
     -- it does not tell how the program is used
@@ -48,13 +49,15 @@ module _ {S K : Type 0} (held : S → Option (List ℕ)) (source_faults : S → 
     pub comes : OnParts (ahead reader (held old)) (λ parts.
         ComesTo (taken out) (taken out') fetches fetches' exit count (course parts))
     -- where all was done, the source was read to its end
-    pub end : exit ≡ Done → IsAtEnd (held new)
+    pub end : is_finished exit ≡ true → IsAtEnd (held new)
     -- where reading failed, the records were written and the slots fetched that the whole lines come to which were read
     pub sure : exit ≡ ReadFault →
         StandsOn reader reader' (held old) (held new) (taken out) (taken out') fetches fetches' count course
     -- it does not tell how the program is used
     pub usage : exit ≢ Usage
-    -- no memory was wanting
-    pub memory : exit ≢ OutOfMemory
     -- a fault of reading or of writing is that object's
     pub causes : HasCauses (source_faults old) (source_faults new) (sink_faults out) (sink_faults out') exit
+    -- where memory was wanting, nothing was written
+    pub unwritten : exit ≡ OutOfMemory → taken out' ≡ taken out
+    -- and no slot fetched
+    pub unspent : exit ≡ OutOfMemory → fetches' ≡ fetches

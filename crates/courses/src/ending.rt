@@ -1,7 +1,7 @@
 //! The last lines of the program.
 ghost use Rattle.std.specs.Prelude.{◌≡◌, ◌≤◌, [], length};
 ghost use Rattle.courses.specs.Names.{fault_name, schedule_fault_name, image_word_name, cut_fault_name, policy_fault_name};
-ghost use Rattle.courses.specs.Ending.{IsGiven, EndsIn, refusal_text, offset_text, refused_listing, refused_schedule, refused_image, refused_cut, refused_policy, too_long};
+ghost use Rattle.courses.specs.Ending.{Concludes, EndsIn, IsGiven, offset_text, refusal_text};
 
 use crate::exit::Exit;
 use coy_io::{Sink, put_all};
@@ -21,57 +21,24 @@ pub fn end_with<K: Sink>(bytes: &[u8], exit: Exit, output: &mut K) -> Exit
     }
 }
 
-/// Tells the fault of a listing and its line.
-pub fn refuse_listing<K: Sink>(line: u32, fault: Fault, output: &mut K) -> Exit
-    ensures { EndsIn K.taken K.faults output.old output.new result
-        (refused_listing line fault) }
+/// Ends a call whose lines gave this exit: tells it by its line, where it has one and nothing failed before.
+pub fn conclude<K: Sink>(exit: Exit, output: &mut K) -> Exit
+    ensures { Concludes K.taken K.faults exit output.old output.new result }
 {
-    let exit = Exit::ListingRefused { line, fault };
-    refuse(line, fault_name(fault), exit, output)
-}
-
-/// Tells the fault of a line of the schedule.
-pub fn refuse_schedule<K: Sink>(line: u32, fault: ScheduleFault, output: &mut K) -> Exit
-    ensures { EndsIn K.taken K.faults output.old output.new result
-        (refused_schedule line fault) }
-{
-    let exit = Exit::ScheduleRefused { line, fault };
-    refuse(line, schedule_fault_name(fault), exit, output)
-}
-
-/// Tells the fault of a line of a cut.
-pub fn refuse_cut<K: Sink>(line: u32, fault: CutFault, output: &mut K) -> Exit
-    ensures { EndsIn K.taken K.faults output.old output.new result
-        (refused_cut line fault) }
-{
-    let exit = Exit::CutRefused { line, fault };
-    refuse(line, cut_fault_name(fault), exit, output)
-}
-
-/// Tells the fault of a line of a policy.
-pub fn refuse_policy<K: Sink>(line: u32, fault: PolicyFault, output: &mut K) -> Exit
-    ensures { EndsIn K.taken K.faults output.old output.new result
-        (refused_policy line fault) }
-{
-    let exit = Exit::PolicyRefused { line, fault };
-    refuse(line, policy_fault_name(fault), exit, output)
-}
-
-/// Tells the fault of an image and the offset of the field that has it.
-pub fn refuse_image<K: Sink>(offset: u32, fault: ImageWord, output: &mut K) -> Exit
-    ensures { EndsIn K.taken K.faults output.old output.new result
-        (refused_image offset fault) }
-{
-    let exit = Exit::ImageRefused { offset, fault };
-    refuse_at(offset, image_word_name(fault), exit, output)
-}
-
-/// Tells that the input goes on behind the last byte that is read.
-pub fn end_past_limit<K: Sink>(output: &mut K) -> Exit
-    ensures { EndsIn K.taken K.faults output.old output.new result
-        too_long }
-{
-    end_with(b"too long\n".as_slice(), Exit::TooLong, output)
+    match exit {
+        Exit::ListingRefused { line, fault } => refuse(line, fault_name(fault), exit, output),
+        Exit::ScheduleRefused { line, fault } => {
+            refuse(line, schedule_fault_name(fault), exit, output)
+        }
+        Exit::CutRefused { line, fault } => refuse(line, cut_fault_name(fault), exit, output),
+        Exit::PolicyRefused { line, fault } => refuse(line, policy_fault_name(fault), exit, output),
+        Exit::ImageRefused { offset, fault } => {
+            refuse_at(offset, image_word_name(fault), exit, output)
+        }
+        Exit::TooLong => end_with(b"too long\n".as_slice(), exit, output),
+        Exit::Done | Exit::Usage | Exit::Crossings => end_with(b"".as_slice(), exit, output),
+        Exit::ReadFault | Exit::WriteFault | Exit::OutOfMemory => exit,
+    }
 }
 
 #[tactic(auto, using(coy_text::proofs::NumeralLaws::length_decimal))]

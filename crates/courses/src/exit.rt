@@ -1,9 +1,11 @@
 //! How the program ends.
 ghost use Rattle.std.specs.Prelude.{◌≡◌};
+ghost use Rattle.std.specs.Process.{exit_status};
 ghost use Rattle.courses.specs.Exit.{status_of};
 
 use image_binary::ImageWord;
 use listing_read::{CutFault, Fault, PolicyFault, ScheduleFault};
+use std::process::ExitCode;
 
 /// How the program ends.
 #[derive(Clone, Copy)]
@@ -53,5 +55,12 @@ impl Exit {
             Exit::PolicyRefused { .. } => 9,
             Exit::Crossings => 10,
         }
+    }
+
+    /// What `main` returns, so that the process ends with the status.
+    pub fn code(&self) -> ExitCode
+        ensures { exit_status result ≡ status_of self.now }
+    {
+        ExitCode::from(self.status())
     }
 }

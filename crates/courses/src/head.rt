@@ -4,12 +4,13 @@ ghost use Rattle.coy_io.specs.Reader.{TellsEnd, ahead, new_reader};
 ghost use Rattle.listing_read.specs.declared.place.Place.TheVariants.{Header};
 ghost use Rattle.listing_read.specs.Listing.{IsListed};
 ghost use Rattle.listing_read.specs.Reads.{GivesListing};
-ghost use Rattle.courses.specs.Head.{EndsUnlisted, TellsFault};
+ghost use Rattle.courses.specs.Head.{EndsUnlisted};
 
-use crate::ending::{end_past_limit, refuse_listing};
+use crate::ending::conclude;
 use crate::exit::Exit;
+use crate::stopped::listing_exit;
 use coy_io::{LineReader, Sink, Source};
-use listing_read::{Listing, ListingFault, read_listing};
+use listing_read::{Listing, read_listing};
 use std::alloc::Global;
 
 /// Reads the listing of an input. Where there is none, its refusal is told, and the call ends with the exit that is
@@ -34,24 +35,11 @@ pub fn read_head<S: Source, K: Sink>(
     ensures quiet { OnOk result (S.faults input.new ≡ S.faults input.old) }
 
     // How a call ends that has no listing.
-    ensures ended { IfErr result (λ exit.
-        EndsUnlisted (S.held input.old) (S.held input.new) (K.taken output.old) (K.taken output.new)
-        (S.faults input.old) (S.faults input.new) (K.faults output.old) (K.faults output.new) exit) }
+    ensures ended { IfErr result (λ exit. EndsUnlisted S.held S.faults K.taken K.faults
+        input.old input.new output.old output.new exit) }
 {
     match read_listing(alloc, lines, input) {
         Ok(listing) => Ok(listing),
-        Err(fault) => Err(tell_fault(fault, output)),
-    }
-}
-
-/// Tells why there is no listing, where that is told.
-fn tell_fault<K: Sink>(fault: ListingFault, output: &mut K) -> Exit
-    ensures { TellsFault K.taken K.faults fault output.old output.new result }
-{
-    match fault {
-        ListingFault::Refused { line, fault } => refuse_listing(line, fault, output),
-        ListingFault::TooLong => end_past_limit(output),
-        ListingFault::ReadFault => Exit::ReadFault,
-        ListingFault::OutOfMemory => Exit::OutOfMemory,
+        Err(fault) => Err(conclude(listing_exit(fault), output)),
     }
 }

@@ -7,11 +7,10 @@ mod ending;
 mod exit;
 mod flushing;
 mod head;
+mod stopped;
 
-pub use ending::{
-    end_past_limit, end_with, refuse_cut, refuse_image, refuse_listing, refuse_policy,
-    refuse_schedule,
-};
+pub use ending::{conclude, end_with};
 pub use exit::Exit;
 pub use flushing::flush_after;
 pub use head::read_head;
+pub use stopped::{counts_or_exit, schedule_exit};

@@ -10,7 +10,8 @@ use Rattle.coy_text.proofs.NumeralLaws.{dec_of-decimal, hex_of-hex_text}
 use Rattle.coy_text.proofs.WordLaws.{lacks-decimal, lacks-hex_text}
 use Rattle.coyotos_words.specs.Command.{command_of, is_dashed, kind_named, process_named}
 use Rattle.coyotos_words.specs.Usage.{EachIsAskedFor, EachIsNamed, access_word, words_for}
-use Rattle.coyotos_words.specs.declared.command.Command.TheVariants.{Help, Check, Run, Trace, Tables, Walk, Make, Pack, Unpack, Migrate, Confine, Share, Back}
+use Rattle.coyotos_words.specs.declared.command.RunCommand.TheVariants.{Run, Trace, Tables, Walk}
+use Rattle.coyotos_words.specs.declared.command.Command.TheVariants.{Help, Check, Schedule, Make, Pack, Unpack, Migrate, Confine, Share, Back}
 
 -- a word without a dash doesn't begin with one
 lacks-plain : (word : List ℕ) → lacks 45 word ≡ true → is_dashed word ≡ false
@@ -36,7 +37,7 @@ kind_named-word CapLoad = (refl, refl)
 kind_named-word CapStore = (refl, refl)
 
 walk-asked : (process : ℕ) (kind : Kind) (address : ℕ) → process < 2 ^ 8 → address < 2 ^ 32
-    → command_of (words_for (Walk process kind address)) ≡ Some (Walk process kind address)
+    → command_of (words_for (Schedule (Walk process kind address))) ≡ Some (Schedule (Walk process kind address))
 walk-asked process kind address few fits =
     let word = kind_named-word kind in
     rw (
@@ -52,10 +53,10 @@ walk-asked process kind address few fits =
 pub each-asked : EachIsAskedFor
 each-asked Help within = refl
 each-asked Check within = refl
-each-asked Run within = refl
-each-asked Trace within = refl
-each-asked Tables within = refl
-each-asked (Walk process kind address) within = walk-asked process kind address within.0 within.1
+each-asked (Schedule Run) within = refl
+each-asked (Schedule Trace) within = refl
+each-asked (Schedule Tables) within = refl
+each-asked (Schedule (Walk process kind address)) within = walk-asked process kind address within.0 within.1
 each-asked (Make number false) fits = rw (decimal-plain number fits, dec_of-decimal number fits) refl
 each-asked (Make number true) fits = rw (decimal-plain number fits, dec_of-decimal number fits) refl
 each-asked Pack within = refl
@@ -69,10 +70,10 @@ pub each-named : EachIsNamed
 unfolding words_on
 each-named Help other = absurd (other refl)
 each-named Check other = refl
-each-named Run other = refl
-each-named Trace other = refl
-each-named Tables other = refl
-each-named (Walk process kind address) other = refl
+each-named (Schedule Run) other = refl
+each-named (Schedule Trace) other = refl
+each-named (Schedule Tables) other = refl
+each-named (Schedule (Walk process kind address)) other = refl
 each-named (Make number false) other = refl
 each-named (Make number true) other = refl
 each-named Pack other = refl

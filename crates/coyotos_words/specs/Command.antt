@@ -6,7 +6,8 @@ use Rattle.coy_text.specs.Numeral.{dec_of, hex_of}
 use Rattle.walk_meaning.specs.declared.kind.Kind.{Kind}
 use Rattle.walk_meaning.specs.declared.kind.Kind.TheVariants.{Fetch, Load, Store, CapLoad, CapStore}
 use Rattle.coyotos_words.specs.declared.command.Command.{Command}
-use Rattle.coyotos_words.specs.declared.command.Command.TheVariants.{Help, Check, Run, Trace, Tables, Walk, Make, Pack, Unpack, Migrate, Confine, Share, Back}
+use Rattle.coyotos_words.specs.declared.command.RunCommand.TheVariants.{Run, Trace, Tables, Walk}
+use Rattle.coyotos_words.specs.declared.command.Command.TheVariants.{Help, Check, Schedule, Make, Pack, Unpack, Migrate, Confine, Share, Back}
 
 -- a word that begins with `-`
 abbrev pub is_dashed : List ℕ → Bool
@@ -22,7 +23,7 @@ is_help (word ∷ other ∷ words) = false
 -- the forms of one word, each with what it asks for
 abbrev pub bare_commands : List (List ℕ × Command)
 bare_commands =
-    (codes "check", Check) ∷ (codes "run", Run) ∷ (codes "trace", Trace) ∷ (codes "tables", Tables) ∷ (codes "pack", Pack) ∷ (codes "unpack", Unpack) ∷
+    (codes "check", Check) ∷ (codes "run", Schedule Run) ∷ (codes "trace", Schedule Trace) ∷ (codes "tables", Schedule Tables) ∷ (codes "pack", Pack) ∷ (codes "unpack", Unpack) ∷
     (codes "migrate", Migrate) ∷ (codes "confine", Confine) ∷ (codes "share", Share) ∷ []
 
 -- what a form of one word asks for
@@ -55,7 +56,7 @@ kind_named word =
 
 -- the access of a process, of a kind, at an address
 abbrev pub access_of : Option ℕ → Option Kind → Option ℕ → Option Command
-access_of (Some process) (Some kind) (Some address) = Some (Walk process kind address)
+access_of (Some process) (Some kind) (Some address) = Some (Schedule (Walk process kind address))
 access_of _ _ _ = None
 
 -- the access that three words name: the process in decimal, the kind, and the address in hexadecimal

@@ -8,7 +8,8 @@ use Rattle.walk_meaning.specs.declared.kind.Kind.{Kind}
 use Rattle.walk_meaning.specs.declared.kind.Kind.TheVariants.{Fetch, Load, Store, CapLoad, CapStore}
 use Rattle.coyotos_words.specs.Command.{command_of}
 use Rattle.coyotos_words.specs.declared.command.Command.{Command}
-use Rattle.coyotos_words.specs.declared.command.Command.TheVariants.{Help, Check, Run, Trace, Tables, Walk, Make, Pack, Unpack, Migrate, Confine, Share, Back}
+use Rattle.coyotos_words.specs.declared.command.RunCommand.TheVariants.{Run, Trace, Tables, Walk}
+use Rattle.coyotos_words.specs.declared.command.Command.TheVariants.{Help, Check, Schedule, Make, Pack, Unpack, Migrate, Confine, Share, Back}
 
 -- the word of a kind of accesses
 abbrev pub access_word : Kind → List ℕ
@@ -22,10 +23,10 @@ access_word CapStore = codes "capstore"
 abbrev pub words_for : Command → List (List ℕ)
 words_for Help = codes "--help" ∷ []
 words_for Check = codes "check" ∷ []
-words_for Run = codes "run" ∷ []
-words_for Trace = codes "trace" ∷ []
-words_for Tables = codes "tables" ∷ []
-words_for (Walk process kind address) = codes "walk" ∷ decimal process ∷ access_word kind ∷ hex_text 8 address ∷ []
+words_for (Schedule Run) = codes "run" ∷ []
+words_for (Schedule Trace) = codes "trace" ∷ []
+words_for (Schedule Tables) = codes "tables" ∷ []
+words_for (Schedule (Walk process kind address)) = codes "walk" ∷ decimal process ∷ access_word kind ∷ hex_text 8 address ∷ []
 words_for (Make number false) = codes "make" ∷ decimal number ∷ []
 words_for (Make number true) = codes "make" ∷ decimal number ∷ codes "summary" ∷ []
 words_for Pack = codes "pack" ∷ []
@@ -37,7 +38,7 @@ words_for (Back number) = codes "back" ∷ decimal number ∷ []
 
 -- the numbers of a command are in the ranges of their types
 abbrev pub IsCommand : Command → Type 0
-IsCommand (Walk process kind address) = (process < 2 ^ 8) × (address < 2 ^ 32)
+IsCommand (Schedule (Walk process kind address)) = (process < 2 ^ 8) × (address < 2 ^ 32)
 IsCommand (Make number summary) = number < 2 ^ 32
 IsCommand (Back number) = number < 2 ^ 32
 IsCommand _ = Unit {0}

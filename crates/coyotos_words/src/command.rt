@@ -1,6 +1,23 @@
 //! What the program is asked to do.
 use walk_meaning::Kind;
 
+/// What is written of a run over the mapping cache.
+#[derive(Clone, Copy, Debug)]
+pub enum RunCommand {
+    /// Its records, but for accesses and instructions, and the last state.
+    Run,
+    /// The same with all records.
+    Trace,
+    /// What `Run` writes, and then the mappings.
+    Tables,
+    /// What an access of a process comes to at the end.
+    Walk {
+        process: u8,
+        kind: Kind,
+        address: u32,
+    },
+}
+
 /// What the program is asked to do.
 #[derive(Clone, Copy, Debug)]
 pub enum Command {
@@ -8,23 +25,10 @@ pub enum Command {
     Help,
     /// Read the input, and count its events.
     Check,
-    /// Run the input, and write its records, but for accesses and instructions, and the last state.
-    Run,
-    /// The same with all records.
-    Trace,
-    /// What `Run` writes, and then the mappings.
-    Tables,
-    /// Run the input, and write what an access of a process comes to at the end.
-    Walk {
-        process: u8,
-        kind: Kind,
-        address: u32,
-    },
+    /// Run the input over the mapping cache, and write what this says of the run.
+    Schedule(RunCommand),
     /// Write the generated text of a number, or with `summary` run it and write one line.
-    Make {
-        number: u32,
-        summary: bool,
-    },
+    Make { number: u32, summary: bool },
     /// Read a listing, and write its image.
     Pack,
     /// Read an image, and write its listing as text of version 2 without names.
@@ -37,17 +41,15 @@ pub enum Command {
     /// frames are in use.
     Share,
     /// Run the input without a record, undo so many of its last events, and write the state before them.
-    Back {
-        number: u32,
-    },
+    Back { number: u32 },
 }
 
 /// The forms of one word, each with what it asks for.
 pub(crate) static BARE_COMMANDS: [(&str, Command); 9] = [
     ("check", Command::Check),
-    ("run", Command::Run),
-    ("trace", Command::Trace),
-    ("tables", Command::Tables),
+    ("run", Command::Schedule(RunCommand::Run)),
+    ("trace", Command::Schedule(RunCommand::Trace)),
+    ("tables", Command::Schedule(RunCommand::Tables)),
     ("pack", Command::Pack),
     ("unpack", Command::Unpack),
     ("migrate", Command::Migrate),

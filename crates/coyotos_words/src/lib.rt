@@ -13,6 +13,6 @@ mod matches;
 mod places;
 mod reading;
 
-pub use command::Command;
+pub use command::{Command, RunCommand};
 pub use laws::words_law;
 pub use reading::read_command;

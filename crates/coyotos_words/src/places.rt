@@ -3,7 +3,7 @@ ghost use Rattle.std.specs.Prelude.{◌≡◌, map};
 ghost use Rattle.coyotos_words.specs.Command.{bare_named, process_named, kind_named, access_named, made_of, undone_of};
 ghost use Rattle.coyotos_words.specs.Matches.{text_in, access_asked, number_asked, undone_asked};
 
-use crate::command::Command;
+use crate::command::{Command, RunCommand};
 use coy_text::{read_dec, read_hex};
 use walk_meaning::Kind;
 
@@ -37,11 +37,11 @@ fn access(process: &str, kind: &str, address: &str) -> Option<Command>
     let process = read_process(process)?;
     let kind = read_kind(kind)?;
     let address = read_hex(address.as_bytes()).ok()?;
-    Some(Command::Walk {
+    Some(Command::Schedule(RunCommand::Walk {
         process,
         kind,
         address,
-    })
+    }))
 }
 
 fn read_process(word: &str) -> Option<u8>

@@ -1,5 +1,5 @@
 -- What is written for the image of an input is its migrated text.
-use Rattle.std.proofs.Common.{◌≡◌, ◌+◌, ◌∙◌, ◌∷◌, ◌++◌, [], ℕ, List, Bool, true, false, if◌then◌else◌, Option, None, IfSome, Result, Ok, Err, refl, sym, ap, subst, length, ◌≤◌, append-nil}
+use Rattle.std.proofs.Common.{◌≡◌, ◌+◌, ◌∙◌, ◌∷◌, ◌++◌, [], ℕ, List, Bool, true, false, if◌then◌else◌, Option, None, Some, IfSome, Result, Ok, Err, refl, sym, ap, subst, length, ◌≤◌, append-nil}
 use Rattle.std.specs.Prelude.{nat_le}
 use Rattle.coy_io.specs.Lines.{Part, Line, LongLine, PastLimit, parts_of}
 use Rattle.coy_io.specs.Reader.{Reader, new_reader, ahead}
@@ -17,11 +17,12 @@ use Rattle.listing_read.specs.declared.fault.ScheduleFault.TheVariants.{LineTooL
 use Rattle.listing_read.specs.declared.place.Place.TheVariants.{Header}
 use Rattle.listing_read.specs.declared.schedule.Timed.{Timed}
 use Rattle.schedule_replay.specs.Asked.{asked, asks_first, asks_none, asks_with}
-use Rattle.schedule_replay.specs.Scheduled.{AtEnd, AtFault, AtLimit, OnParts}
+use Rattle.schedule_replay.specs.Scheduled.{AtEnd, AtFault, AtLimit, Ending}
+use Rattle.schedule_replay.proofs.Reading.{on_each}
 use Rattle.schedule_replay.proofs.Asked.{asked-end, asked-line}
 use Rattle.statement_text.specs.Text.{listing_text}
 use Rattle.courses.proofs.Bytes.{on_made}
-use Rattle.courses.specs.Course.{course_output}
+use Rattle.courses.specs.Course.{ComesTo, cached, course_output}
 use Rattle.courses.specs.Ending.{Output}
 use Rattle.courses.specs.Listed.{listed_course, lines_course}
 use Rattle.courses.specs.declared.exit.Exit.TheVariants.{Done}
@@ -74,12 +75,24 @@ is_image bytes listing last rest law packed listed passes =
     let read : unpacked (image_of listing) ≡ Ok listing = law listing packed (subst (λ i. length i ≤ input_limit) image fits) in
     ap (λ i. course_output (image_course i)) image ∙ ap (λ r. course_output (unpack_course r)) read ∙ sym migrates
 
--- the same of the known bytes
+-- an image was written only where all lines were passed over
+output-done : (listing : ListingValue) (ending : Ending) → (pack_output listing ending).exit ≡ Done → ending ≡ AtEnd
+output-done listing AtEnd done = refl
+output-done listing (AtFault line fault) done = cc
+output-done listing AtLimit done = cc
+
+-- the same of the known bytes, where a call that was done wrote what they come to
 pub bytes-image : (held mid : Option (List ℕ)) (first middle : Reader) (listing : ListingValue) → ImagesAreRead → IsPacked listing → first ≡ new_reader
-    → IsListed Header (first.number + 1) (ahead first held) listing middle.number (ahead middle mid)
-    → OnParts (ahead middle mid) (λ parts. passed middle.number parts ≡ AtEnd)
+    → IsListed Header (first.number + 1) (ahead first held) listing middle.number (ahead middle mid) → (taken taken' : Option (List ℕ)) (fetches fetches' : ℕ)
+    → IfSome held (λ bytes. ComesTo taken taken' fetches fetches' Done cached (lines_course pack_course (parts_of bytes)))
     → IfSome held (λ bytes. IsImageOf bytes (course_output (lines_course pack_course (parts_of bytes))).text)
-bytes-image held mid first middle listing law packed starts listed passes =
-    on_made held (ahead middle mid) listing middle.number (λ parts. passed middle.number parts ≡ AtEnd) (λ bytes. IsImageOf bytes (course_output (lines_course pack_course (parts_of bytes))).text)
-    (λ bytes rest is all. is_image bytes listing middle.number rest law packed is all)
-    (subst (λ reader. IsListed Header (reader.number + 1) (ahead reader held) listing middle.number (ahead middle mid)) starts listed) passes
+bytes-image None mid first middle listing law packed starts listed taken taken' fetches fetches' comes = tt
+bytes-image (Some bytes) mid first middle listing law packed starts listed taken taken' fetches fetches' comes =
+    let whole = comes.output.whole (record { read = λ bad. cc; write = λ bad. cc; memory = λ bad. cc }) in
+    on_made (Some bytes) (ahead middle mid) listing middle.number (λ rest. Unit {0})
+    (λ bytes. (lines_course pack_course (parts_of bytes)).last.exit ≡ Done → IsImageOf bytes (course_output (lines_course pack_course (parts_of bytes))).text)
+    (λ bytes rest is all done.
+    is_image bytes listing middle.number rest law packed is
+    (output-done listing (passed middle.number rest) (sym (ap (λ l. (listed_course pack_course l).last.exit) is) ∙ done)))
+    (subst (λ reader. IsListed Header (reader.number + 1) (ahead reader (Some bytes)) listing middle.number (ahead middle mid)) starts listed)
+    (on_each (ahead middle mid) _ (λ parts known. tt)) (sym whole.0)

@@ -1,4 +1,3 @@
 pub mod Passing
-pub mod Concluding
 pub mod Telling
 pub mod Again

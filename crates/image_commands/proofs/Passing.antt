@@ -1,17 +1,19 @@
 -- Line by line, whether lines are passed over.
 use Rattle.std.proofs.Common.{◌≡◌, ◌+◌, ◌∙◌, ◌∷◌, [], ℕ, List, Option, refl, sym, ap}
 use Rattle.coy_io.specs.Lines.{Part, Line, LongLine, PastLimit}
-use Rattle.coy_io.specs.Reader.{Reader, ahead}
+use Rattle.coy_io.specs.Reader.{Reader}
 use Rattle.listing_read.specs.Schedule.{eventless_line}
 use Rattle.listing_read.specs.declared.fault.ScheduleFault.{ScheduleFault}
 use Rattle.listing_read.specs.declared.fault.ScheduleFault.TheVariants.{LineTooLong}
 use Rattle.judged_lines.specs.Judged.{JudgesAll}
 use Rattle.judged_lines.specs.declared.stop.Stop.{Stop}
-use Rattle.judged_lines.specs.declared.stop.Stop.TheVariants as stops
-use Rattle.judged_lines.proofs.Made.{Follows, makes-given, makes-stop}
+use Rattle.judged_lines.proofs.Made.{Follows}
+use Rattle.listing_read.specs.Statement.{ListingValue}
 use Rattle.schedule_replay.specs.Scheduled.{AtEnd, AtFault, AtLimit}
-use Rattle.schedule_replay.proofs.ReadOn.{fails_on-judged}
-use Rattle.schedule_replay.proofs.Reading.{on_each}
+use Rattle.courses.specs.Course.{ends_in}
+use Rattle.courses.specs.declared.exit.Exit.TheVariants.{ScheduleRefused}
+use Rattle.courses.proofs.Rests.{TellsAlone, makes-rest}
+use Rattle.image_commands.specs.Packed.{pack_output}
 use Rattle.image_commands.specs.Passed.{JudgesEventless, PassesRest, passed, passed_with}
 
 module _ (n : ℕ) where
@@ -47,12 +49,17 @@ follows = record {
 -- lines were judged, and then they end
 pub passes-rest : (old new : Reader) (held held' : Option (List ℕ)) (stop : Stop ScheduleFault) → JudgesAll JudgesEventless LineTooLong tt tt old new held held' stop
     → PassesRest old new held held' stop
-passes-rest old new held held' stops.End a =
-    on_each (ahead old held) _ (makes-stop JudgesEventless LineTooLong (λ none. passed) _ AtFault AtLimit follows tt tt old new held held' stops.End (λ same. cc) a)
-passes-rest old new held held' (stops.Refused line fault) a =
-    on_each (ahead old held) _ (makes-stop JudgesEventless LineTooLong (λ none. passed) _ AtFault AtLimit follows tt tt old new held held' (stops.Refused line fault) (λ same. cc) a)
-passes-rest old new held held' stops.TooLong a =
-    on_each (ahead old held) _ (makes-stop JudgesEventless LineTooLong (λ none. passed) _ AtFault AtLimit follows tt tt old new held held' stops.TooLong (λ same. cc) a)
-passes-rest old new held held' stops.ReadFault a =
-    fails_on-judged JudgesEventless LineTooLong _ _ tt tt old new held held' a
-    (makes-given JudgesEventless LineTooLong (λ none. passed) (λ none n. AtEnd) AtFault AtLimit follows tt tt old new held held' a)
+passes-rest old new held held' stop a = makes-rest JudgesEventless LineTooLong (λ none. passed) (λ none n. AtEnd) AtFault AtLimit follows tt tt old new held held' stop a
+
+-- where they are not all passed over, no more is told than why
+pub tells : (listing : ListingValue) → TellsAlone (λ ending. ends_in (pack_output listing ending)) AtEnd AtFault AtLimit ScheduleRefused
+tells listing = record {
+  refusal = λ line fault. refl;
+  limit = refl;
+  given = λ line fault. record { read = λ bad. cc; write = λ bad. cc; memory = λ bad. cc };
+  form = λ line fault bad. cc;
+  unfinished = λ line fault. refl;
+  going = refl;
+  records = refl;
+  touches = refl;
+}

@@ -1,6 +1,5 @@
 -- From what was read of an image, to what `unpack` writes and how the program ends.
-use Rattle.std.proofs.Common.{◌≡◌, ◌≢◌, ◌∙◌, [], ℕ, List, false, length, Option, Some, None, IfSome, Result, Ok, Err, refl, sym, ap, subst, arith}
-use Rattle.std.specs.Prelude.{OnOk}
+use Rattle.std.proofs.Common.{◌≡◌, ◌≢◌, ◌∙◌, [], ℕ, List, true, false, length, Option, Some, None, IfSome, Result, Ok, Err, refl, sym, ap, subst, arith}
 use Rattle.std.specs.Io.KnownBytes.{Appends, Consumes, IsAtEnd}
 use Rattle.std.proofs.KnownBytes.{Appends-nil}
 use Rattle.coy_io.specs.Causes.{Rose}
@@ -10,23 +9,26 @@ use Rattle.image_binary.specs.Image.{IsOpen, concluded, ended, head_of, listing_
 use Rattle.image_binary.specs.Unpacked.{Answers}
 use Rattle.image_binary.specs.declared.fault.ImageFault.{ImageFault}
 use Rattle.image_binary.specs.declared.fault.ImageFault.TheVariants as faulty
+use Rattle.image_binary.specs.declared.fault.ImageWord.{ImageWord}
 use Rattle.image_binary.specs.declared.stop.Stop.TheVariants.{Short, Wrong}
 use Rattle.listing_read.specs.Statement.{ListingValue}
 use Rattle.courses.specs.Course.{ComesTo, cached, course_output}
-use Rattle.courses.specs.Ending.{Outputs, Ends, EndsNothing, HasCauses}
+use Rattle.courses.specs.Ending.{Concludes, EndsIn, EndsNothing, IsGiven, Output, Outputs}
+use Rattle.courses.specs.Exit.{is_finished}
 use Rattle.courses.specs.Sure.{StandsSure}
+use Rattle.courses.specs.Taken.{TakesInput}
 use Rattle.courses.specs.declared.exit.Exit.{Exit}
-use Rattle.courses.specs.declared.exit.Exit.TheVariants.{Done, Usage, ReadFault, WriteFault, OutOfMemory}
+use Rattle.courses.specs.declared.exit.Exit.TheVariants.{Usage, ReadFault, WriteFault, OutOfMemory}
+use Rattle.courses.proofs.Concluding.{outputs_memory}
 use Rattle.courses.proofs.Endings.{outputs_none}
-use Rattle.courses.proofs.Lasts.{IsLast, comes-last, done-last, last-causes, last-done, last-memory, last-read, last-usage, past-last, read-causes}
-use Rattle.courses.proofs.Unlisted.{outputs_memory}
-use Rattle.image_commands.specs.Unpacked.{TellsImage, image_course, read_course, unpack_course, unpack_output}
+use Rattle.courses.proofs.Lasts.{comes-last, ends-causes, ends-own, read-causes}
+use Rattle.image_commands.specs.Unpacked.{image_course, image_exit, read_course, unpack_course, unpack_output}
 
 -- ---- bytes that were read
 
 -- bytes with no fault end nothing
 open-ends : (n total : ℕ) (read : Read ListingValue) → IsOpen read → EndsNothing n (unpack_output (concluded false total read)).exit
-open-ends n total (Ok x) none = subst (λ rest. EndsNothing n (unpack_output (ended false total x.0 rest)).exit) (sym none) tt
+open-ends n total (Ok x) none = subst (λ rest. EndsNothing n (unpack_output (ended false total x.0 rest)).exit) (sym none) refl
 open-ends n total (Err (Short left)) short = refl
 open-ends n total (Err (Wrong left fault)) wrong = absurd wrong
 
@@ -35,114 +37,121 @@ nothing-open : IsOpen (listing_of [])
 unfolding listing_of head_of field_of front_of
 nothing-open = tt
 
+-- reading failed behind bytes, where they are known
+pub record StoppedBehind (known left : Option (List ℕ)) : Type 0 where
+  pub bytes : List ℕ
+  pub consumed : Consumes known left bytes
+  pub opens : IsOpen (listing_of bytes)
+
+stopped-behind : (known left : Option (List ℕ)) → Answers (Err faulty.ReadFault) known left → StoppedBehind known left
+stopped-behind None left a = record { bytes = []; consumed = tt; opens = nothing-open }
+stopped-behind (Some bytes) None a = absurd a
+stopped-behind (Some bytes) (Some left) a = record { bytes = a.0; consumed = a.1; opens = a.2 }
+
+-- where a text is told, the known bytes give it
+known-refused : (known left : Option (List ℕ)) (offset : ℕ) (fault : ImageWord) → Answers (Err (faulty.Refused offset fault)) known left
+    → IfSome known (λ bytes. unpacked bytes ≡ Err (faulty.Refused offset fault))
+known-refused None left offset fault a = tt
+known-refused (Some bytes) None offset fault a = absurd a
+known-refused (Some bytes) (Some left) offset fault a = a
+
+known-long : (known left : Option (List ℕ)) → Answers (Err faulty.TooLong) known left → IfSome known (λ bytes. unpacked bytes ≡ Err faulty.TooLong)
+known-long None left a = tt
+known-long (Some bytes) None a = absurd a
+known-long (Some bytes) (Some left) a = a
+
+pub known-listing : (known left : Option (List ℕ)) (listing : ListingValue) → Answers (Ok listing) known left → IfSome known (λ bytes. unpacked bytes ≡ Ok listing)
+known-listing None left listing a = tt
+known-listing (Some bytes) None listing a = absurd a
+known-listing (Some bytes) (Some left) listing a = a.0
+
 -- ---- what was told
 
-module _ {K : Type 0} (taken : K → Option (List ℕ)) (faults : K → ℕ) (out out' : K) (exit : Exit) where
-  abbrev Told : Result ListingValue ImageFault → Type 0
-  Told answer = TellsImage taken faults answer out out' exit
+module _ {S K : Type 0} (held : S → Option (List ℕ)) (source_faults : S → ℕ) (taken : K → Option (List ℕ)) (sink_faults : K → ℕ)
+    (old new : S) (out out' : K) (exit : Exit) where
+  abbrev Takes : Type 0
+  Takes = (fetches : ℕ) → TakesInput held source_faults taken sink_faults old new out out' fetches fetches exit cached image_course read_course
 
-  abbrev Ends_with : Result ListingValue ImageFault → Type 0
-  Ends_with answer = Ends (taken out) (taken out') (faults out) (faults out') exit (unpack_output answer)
+  -- a text was told that the known bytes give
+  pub tells-given : (answer : Result ListingValue ImageFault) → IsGiven (unpack_output answer).exit → (unpack_output answer).exit ≢ Usage
+      → EndsIn taken sink_faults out out' exit (unpack_output answer) → IfSome (held old) (λ bytes. unpacked bytes ≡ answer) → source_faults new ≡ source_faults old
+      → (is_finished (unpack_output answer).exit ≡ true → IsAtEnd (held new)) → Takes
+  tells-given answer given form e known quiet end = λ fetches.
+      let o : Output = unpack_output answer in
+      let own : (x : Exit) → x ≢ WriteFault → exit ≡ x → o.exit ≡ x = ends-own _ _ _ _ exit o e in
+      record {
+        comes = comes fetches (held old) known;
+        end = λ done.
+            let uncut : exit ≢ WriteFault = λ cut. let bad : false ≡ true = sym (ap is_finished cut) ∙ done in cc in
+            end (ap is_finished (sym (e.given uncut)) ∙ done);
+        sure = λ same. absurd (given.read (own ReadFault (λ cut. cc) same));
+        usage = λ same. form (own Usage (λ cut. cc) same);
+        causes = ends-causes _ _ _ _ exit o e _ _ _ given.read quiet refl;
+        unwritten = λ same. absurd (given.memory (own OutOfMemory (λ cut. cc) same));
+        unspent = λ same. refl;
+      }
+    where
+      comes : (fetches : ℕ) (known : Option (List ℕ)) → IfSome known (λ bytes. unpacked bytes ≡ answer)
+          → IfSome known (λ bytes. ComesTo (taken out) (taken out') fetches fetches exit cached (image_course bytes))
+      comes fetches None is = tt
+      comes fetches (Some bytes) is =
+          subst (λ a. ComesTo (taken out) (taken out') fetches fetches exit cached (unpack_course a)) (sym is) (comes-last _ _ _ _ fetches fetches exit cached _ e refl refl)
 
-  -- a part of what an answer comes to, by its cases: a text was told, or reading failed, or memory was wanting
-  by_answer : (P : Result ListingValue ImageFault → Type 0)
-      → ((answer : Result ListingValue ImageFault) → answer ≢ Err faulty.ReadFault → IsLast (unpack_output answer) → Ends_with answer → P answer)
-      → (exit ≡ ReadFault → out' ≡ out → P (Err faulty.ReadFault)) → (exit ≡ OutOfMemory → out' ≡ out → P (Err faulty.OutOfMemory))
-      → (answer : Result ListingValue ImageFault) → Told answer → P answer
-  by_answer P at read memory (Ok listing) t =
-      at (Ok listing) (λ same. cc) (done-last _) t
-  by_answer P at read memory (Err (faulty.Refused offset fault)) t =
-      at (Err (faulty.Refused offset fault)) (λ same. cc) (record { usage = λ e. omega (arith, e); read = λ e. omega (arith, e); memory = λ e. omega (arith, e) }) t
-  by_answer P at read memory (Err faulty.TooLong) t =
-      at (Err faulty.TooLong) (λ same. cc) past-last t
-  by_answer P at read memory (Err faulty.ReadFault) t = read t.0 t.1
-  by_answer P at read memory (Err faulty.OutOfMemory) t = memory t.0 t.1
+  -- nothing was told, and so of all bytes
+  comes-nothing : (IsGiven exit → ⊥) → ((o : Output) → Outputs (taken out) (taken out') exit o) → (fetches : ℕ) (known : Option (List ℕ))
+      → IfSome known (λ bytes. ComesTo (taken out) (taken out') fetches fetches exit cached (image_course bytes))
+  comes-nothing never outputs fetches None = tt
+  comes-nothing never outputs fetches (Some bytes) = record {
+    output = outputs (course_output (image_course bytes));
+    fetched = record { whole = λ given. absurd (never given); most = omega arith };
+  }
 
-  -- the program does not tell its usage
-  pub tells-usage : (answer : Result ListingValue ImageFault) → Told answer → exit ≢ Usage
-  tells-usage =
-      by_answer (λ answer. exit ≢ Usage) (λ answer other last e. last-usage _ _ _ _ _ _ last e)
-      (λ read same usage. let bad : ReadFault ≡ Usage = sym read ∙ usage in cc) (λ memory same usage. let bad : OutOfMemory ≡ Usage = sym memory ∙ usage in cc)
+  -- reading failed behind these bytes
+  stands : (fetches : ℕ) (bytes : List ℕ) → out' ≡ out → Consumes (held old) (held new) bytes → IsOpen (listing_of bytes)
+      → StandsSure (held old) (held new) (taken out) (taken out') fetches fetches cached read_course
+  stands fetches bytes same consumed opens =
+      let none : cached [] ≡ 0 = refl in
+      record {
+        writes = record {
+          bytes = bytes;
+          read = consumed;
+          goes_on = open-ends (length (whole_lines [] bytes)) (length bytes) (listing_of bytes) opens;
+          written = subst (λ k. Appends (taken out) (taken k) []) (sym same) (Appends-nil (taken out));
+        };
+        fetched = omega (arith, none);
+      }
 
-  -- where memory was wanting, nothing was written
-  pub tells-unwritten : (answer : Result ListingValue ImageFault) → Told answer → exit ≡ OutOfMemory → taken out' ≡ taken out
-  tells-unwritten =
-      by_answer (λ answer. exit ≡ OutOfMemory → taken out' ≡ taken out) (λ answer other last e memory. absurd (last-memory _ _ _ _ _ _ last e memory))
-      (λ read same memory. let bad : ReadFault ≡ OutOfMemory = sym read ∙ memory in cc) (λ memory same is. ap taken same)
-
-  -- the causes of both faults
-  pub tells-causes : (unread unread' : ℕ) (answer : Result ListingValue ImageFault) → Told answer
-      → (answer ≡ Err faulty.ReadFault → Rose unread unread') → (answer ≢ Err faulty.ReadFault → unread' ≡ unread) → HasCauses unread unread' (faults out) (faults out') exit
-  tells-causes unread unread' =
-      by_answer (λ answer. (answer ≡ Err faulty.ReadFault → Rose unread unread') → (answer ≢ Err faulty.ReadFault → unread' ≡ unread) → HasCauses unread unread' (faults out) (faults out') exit)
-      (λ answer other last e rose quiet. last-causes _ _ _ _ _ _ last e unread unread' (faults out) (quiet other) refl)
-      (λ read same rose quiet. read-causes unread unread' (faults out) (faults out') exit read (rose refl) (ap faults same))
-      (λ memory same rose quiet. record {
-        read = λ fault. let bad : OutOfMemory ≡ ReadFault = sym memory ∙ fault in cc;
-        read_quiet = λ other. quiet (λ is. cc);
-        write = λ cut. let bad : OutOfMemory ≡ WriteFault = sym memory ∙ cut in cc;
-        write_quiet = λ other. ap faults same;
-      })
-
-  -- a listing was read where all was done
-  pub tells-done : (left : Option (List ℕ)) (answer : Result ListingValue ImageFault) → Told answer → OnOk answer (IsAtEnd left) → exit ≡ Done → IsAtEnd left
-  tells-done left (Ok listing) t end done = end
-  tells-done left (Err (faulty.Refused offset fault)) t end done =
-      let bad = last-done _ _ _ _ _ _ (record { usage = λ e. omega (arith, e); read = λ e. omega (arith, e); memory = λ e. omega (arith, e) }) t done in cc
-  tells-done left (Err faulty.TooLong) t end done = let bad = last-done _ _ _ _ _ _ past-last t done in cc
-  tells-done left (Err faulty.ReadFault) t end done = let bad : ReadFault ≡ Done = sym t.0 ∙ done in cc
-  tells-done left (Err faulty.OutOfMemory) t end done = let bad : OutOfMemory ≡ Done = sym t.0 ∙ done in cc
-
-  module _ (fetches : ℕ) where
-    -- what the bytes give was told
-    comes-by : (bytes : List ℕ) (answer : Result ListingValue ImageFault) → unpacked bytes ≡ answer → Ends_with answer
-        → ComesTo (taken out) (taken out') fetches fetches exit cached (image_course bytes)
-    comes-by bytes answer is e =
-        subst (λ a. ComesTo (taken out) (taken out') fetches fetches exit cached (unpack_course a)) (sym is)
-        (comes-last _ _ _ _ fetches fetches exit cached _ e refl refl)
-
-    -- what was written is what the known bytes come to
-    pub tells-comes : (held held' : Option (List ℕ)) (answer : Result ListingValue ImageFault) → Answers answer held held' → Told answer
-        → IfSome held (λ bytes. ComesTo (taken out) (taken out') fetches fetches exit cached (image_course bytes))
-    tells-comes None held' answer a t = tt
-    tells-comes (Some bytes) None answer a t = absurd a
-    tells-comes (Some bytes) (Some left) (Ok listing) a t = comes-by bytes (Ok listing) a.0 t
-    tells-comes (Some bytes) (Some left) (Err (faulty.Refused offset fault)) a t = comes-by bytes (Err (faulty.Refused offset fault)) a t
-    tells-comes (Some bytes) (Some left) (Err faulty.TooLong) a t = comes-by bytes (Err faulty.TooLong) a t
-    tells-comes (Some bytes) (Some left) (Err faulty.ReadFault) a t = record {
-      output = subst (λ x. Outputs (taken out) (taken out') x (course_output (image_course bytes))) (sym t.0) (outputs_none (taken out) (taken out') _);
-      fetched = record { whole = λ given. absurd (given.read t.0); most = omega arith };
-    }
-    tells-comes (Some bytes) (Some left) (Err faulty.OutOfMemory) a t = record {
-      output = subst (λ x. Outputs (taken out) (taken out') x (course_output (image_course bytes))) (sym t.0) (outputs_memory (taken out) (taken out') _ (ap taken t.1));
-      fetched = record { whole = λ given. absurd (given.memory t.0); most = omega arith };
-    }
-
-    -- reading failed behind these bytes
-    stands : (held held' : Option (List ℕ)) (bytes : List ℕ) → out' ≡ out → Consumes held held' bytes → IsOpen (listing_of bytes)
-        → StandsSure held held' (taken out) (taken out') fetches fetches cached read_course
-    stands held held' bytes same consumed opens =
-        let none : cached [] ≡ 0 = refl in
-        record {
-          writes = record {
-            bytes = bytes;
-            read = consumed;
-            goes_on = open-ends (length (whole_lines [] bytes)) (length bytes) (listing_of bytes) opens;
-            written = subst (λ k. Appends (taken out) (taken k) []) (sym same) (Appends-nil (taken out));
-          };
-          fetched = omega (arith, none);
-        }
-
-    -- what stands where reading failed
-    pub tells-sure : (held held' : Option (List ℕ)) (answer : Result ListingValue ImageFault) → Answers answer held held' → Told answer → exit ≡ ReadFault
-        → StandsSure held held' (taken out) (taken out') fetches fetches cached read_course
-    tells-sure held held' answer a t =
-        by_answer (λ answer. Answers answer held held' → exit ≡ ReadFault → StandsSure held held' (taken out) (taken out') fetches fetches cached read_course)
-        (λ answer other last e a read. absurd (last-read _ _ _ _ _ _ last e read))
-        (λ read same a is. by held held' same a)
-        (λ memory same a is. let bad : OutOfMemory ≡ ReadFault = sym memory ∙ is in cc) answer t a
-      where
-        by : (held held' : Option (List ℕ)) → out' ≡ out → Answers (Err faulty.ReadFault) held held' → StandsSure held held' (taken out) (taken out') fetches fetches cached read_course
-        by None left same a = stands None left [] same tt nothing-open
-        by (Some bytes) None same a = absurd a
-        by (Some bytes) (Some left) same a = stands (Some bytes) (Some left) a.0 same a.1 a.2
+  -- there is no listing, and why was told
+  pub tells-stopped : (fault : ImageFault) → Concludes taken sink_faults (image_exit fault) out out' exit → Answers (Err fault) (held old) (held new)
+      → (fault ≡ faulty.ReadFault → Rose (source_faults old) (source_faults new)) → (fault ≢ faulty.ReadFault → source_faults new ≡ source_faults old) → Takes
+  tells-stopped (faulty.Refused offset fault) c a rose quiet =
+      tells-given (Err (faulty.Refused offset fault)) (record { read = λ bad. cc; write = λ bad. cc; memory = λ bad. cc }) (λ bad. cc) c
+      (known-refused (held old) (held new) offset fault a) (quiet (λ bad. cc)) (λ bad. cc)
+  tells-stopped faulty.TooLong c a rose quiet =
+      tells-given (Err faulty.TooLong) (record { read = λ bad. cc; write = λ bad. cc; memory = λ bad. cc }) (λ bad. cc) c (known-long (held old) (held new) a) (quiet (λ bad. cc)) (λ bad. cc)
+  tells-stopped faulty.ReadFault c a rose quiet = λ fetches.
+      let behind = stopped-behind (held old) (held new) a in
+      record {
+        comes = comes-nothing (λ given. given.read c.0) (λ o. subst (λ x. Outputs (taken out) (taken out') x o) (sym c.0) (outputs_none (taken out) (taken out') o)) fetches (held old);
+        end = λ done. let bad : false ≡ true = sym (ap is_finished c.0) ∙ done in cc;
+        sure = λ failed. stands fetches behind.bytes c.1 behind.consumed behind.opens;
+        usage = λ usage. let bad : ReadFault ≡ Usage = sym c.0 ∙ usage in cc;
+        causes = read-causes _ _ _ _ exit c.0 (rose refl) (ap sink_faults c.1);
+        unwritten = λ memory. let bad : ReadFault ≡ OutOfMemory = sym c.0 ∙ memory in cc;
+        unspent = λ memory. refl;
+      }
+  tells-stopped faulty.OutOfMemory c a rose quiet = λ fetches. record {
+    comes = comes-nothing (λ given. given.memory c.0)
+        (λ o. subst (λ x. Outputs (taken out) (taken out') x o) (sym c.0) (outputs_memory (taken out) (taken out') o (ap taken c.1))) fetches (held old);
+    end = λ done. let bad : false ≡ true = sym (ap is_finished c.0) ∙ done in cc;
+    sure = λ failed. let bad : OutOfMemory ≡ ReadFault = sym c.0 ∙ failed in cc;
+    usage = λ usage. let bad : OutOfMemory ≡ Usage = sym c.0 ∙ usage in cc;
+    causes = record {
+      read = λ failed. let bad : OutOfMemory ≡ ReadFault = sym c.0 ∙ failed in cc;
+      read_quiet = λ other. quiet (λ is. cc);
+      write = λ cut. let bad : OutOfMemory ≡ WriteFault = sym c.0 ∙ cut in cc;
+      write_quiet = λ other. ap sink_faults c.1;
+    };
+    unwritten = λ memory. ap taken c.1;
+    unspent = λ memory. refl;
+  }

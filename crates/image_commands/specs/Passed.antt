@@ -1,14 +1,13 @@
 -- Lines where no event may stand: all of them are skipped, or this is the first that is refused (this project's own).
 use Rattle.std.specs.Prelude.{◌≡◌, ℕ, ◌+◌, List, [], ◌∷◌, Option, Result, Ok, Err}
 use Rattle.coy_io.specs.Lines.{Part, Line, LongLine, PastLimit}
-use Rattle.coy_io.specs.Reader.{Reader, ahead}
+use Rattle.coy_io.specs.Reader.{Reader}
 use Rattle.listing_read.specs.Schedule.{eventless_line}
 use Rattle.listing_read.specs.declared.fault.ScheduleFault.{ScheduleFault}
 use Rattle.listing_read.specs.declared.fault.ScheduleFault.TheVariants.{LineTooLong}
-use Rattle.schedule_replay.specs.Lines.{FailsOn}
-use Rattle.schedule_replay.specs.Scheduled.{Ending, AtEnd, AtFault, AtLimit, OnParts}
+use Rattle.schedule_replay.specs.Scheduled.{Ending, AtEnd, AtFault, AtLimit}
 use Rattle.judged_lines.specs.declared.stop.Stop.{Stop}
-use Rattle.judged_lines.specs.declared.stop.Stop.TheVariants as stops
+use Rattle.courses.specs.Stopped.{MakesRest}
 
 -- where lines end of which line `n` is the first, by what is wrong with it and where those behind it end
 abbrev pub passed_with : ℕ → Result (Unit {0}) ScheduleFault → Ending → Ending
@@ -29,13 +28,6 @@ JudgesEventless before line answer behind = answer ≡ eventless_line line
 
 -- ---- lines as they are read
 
--- the lines to come end here
-abbrev pub PassAll : Reader → Option (List ℕ) → Ending → Type 0
-PassAll old held ending = OnParts (ahead old held) (λ parts. passed old.number parts ≡ ending)
-
 -- what reading all lines came to, up to where they end
 abbrev pub PassesRest : Reader → Reader → Option (List ℕ) → Option (List ℕ) → Stop ScheduleFault → Type 0
-PassesRest old new held held' stops.End = PassAll old held AtEnd
-PassesRest old new held held' (stops.Refused line fault) = PassAll old held (AtFault line fault)
-PassesRest old new held held' stops.TooLong = PassAll old held AtLimit
-PassesRest old new held held' stops.ReadFault = FailsOn (passed old.number) AtEnd old new held held'
+PassesRest old new held held' stop = MakesRest (passed old.number) AtEnd AtFault AtLimit old new held held' stop

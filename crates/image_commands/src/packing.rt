@@ -1,23 +1,20 @@
 //! The command `pack`.
 ghost use Rattle.std.specs.Prelude.{ℕ, ◌≡◌, false, IfSome};
 ghost use Rattle.coy_io.specs.Lines.{parts_of};
-ghost use Rattle.coy_io.specs.Reader.{TellsEnd, ahead};
+ghost use Rattle.coy_io.specs.Reader.{TellsEnd};
 ghost use Rattle.image_binary.specs.Image.{image_of};
-ghost use Rattle.schedule_replay.specs.Scheduled.{AtEnd, OnParts};
 ghost use Rattle.courses.specs.Course.{cached, course_output};
 ghost use Rattle.courses.specs.Ending.{EndsIn};
 ghost use Rattle.courses.specs.Listed.{lines_course};
 ghost use Rattle.courses.specs.Taken.{TakesLines, TakesListing};
-ghost use Rattle.image_commands.specs.Passed.{passed};
-ghost use Rattle.image_commands.specs.Packed.{pack_course, Concludes};
+ghost use Rattle.image_commands.specs.Packed.{pack_course};
 ghost use Rattle.image_commands.specs.Same.{IsImageOf};
 
 use crate::lines::pass_lines;
-use courses::{Exit, end_past_limit, read_head, refuse_schedule};
+use courses::{Exit, conclude, read_head, schedule_exit};
 use coy_io::{LineReader, Sink, Source};
 use image_binary::{images_are_read, listing_is_packed, pack};
 use listing_read::Listing;
-use schedule_replay::Stop;
 use std::alloc::Global;
 
 /// Reads a listing, behind which no event may stand, to the end of the source, and writes its image. No slot is
@@ -40,7 +37,7 @@ pub fn answer_pack<S: Source, K: Sink>(alloc: Global, input: &mut S, output: &mu
     pack_all(&listing, &mut lines, input, output)
 }
 
-/// Reads the lines behind a listing, and writes its image.
+/// Reads the lines behind a listing, and writes its image where all of them were passed over, or why they were not.
 fn pack_all<S: Source, K: Sink>(
     listing: &Listing,
     lines: &mut LineReader,
@@ -49,25 +46,14 @@ fn pack_all<S: Source, K: Sink>(
 ) -> Exit
     requires reader { lines.old.failed ≡ false }
     requires told { TellsEnd lines.old (S.held input.old) }
-    ensures course { (fetches : ℕ) → TakesLines S.held S.faults K.taken K.faults lines.old lines.new
+    ensures { (fetches : ℕ) → TakesLines S.held S.faults K.taken K.faults lines.old lines.new
         input.old input.new output.old output.new fetches fetches result cached
         (pack_course listing.now lines.old.number) }
-    ensures passed { result ≡ Exit.Done → OnParts (ahead lines.old (S.held input.old)) (λ parts.
-        passed lines.old.number parts ≡ AtEnd) }
 {
     let stop = pass_lines(lines, input);
-    conclude(stop, listing, output)
-}
-
-/// Writes the image of a listing behind which all lines were passed over, or why they were not.
-fn conclude<K: Sink>(stop: Stop, listing: &Listing, output: &mut K) -> Exit
-    ensures { Concludes K.taken K.faults listing.now stop output.old output.new result }
-{
-    match stop {
-        Stop::End => write_image(listing, output),
-        Stop::Refused { line, fault } => refuse_schedule(line, fault, output),
-        Stop::TooLong => end_past_limit(output),
-        Stop::ReadFault => Exit::ReadFault,
+    match schedule_exit(stop) {
+        None => write_image(listing, output),
+        Some(exit) => conclude(exit, output),
     }
 }
 

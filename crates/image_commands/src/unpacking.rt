@@ -1,12 +1,12 @@
 //! The command `unpack`.
-ghost use Rattle.std.specs.Prelude.{ℕ};
+ghost use Rattle.std.specs.Prelude.{◌≡◌, ℕ};
 ghost use Rattle.statement_text.specs.Text.{listing_text};
 ghost use Rattle.courses.specs.Course.{cached};
 ghost use Rattle.courses.specs.Ending.{EndsIn};
 ghost use Rattle.courses.specs.Taken.{TakesInput};
-ghost use Rattle.image_commands.specs.Unpacked.{image_course, read_course, TellsImage};
+ghost use Rattle.image_commands.specs.Unpacked.{image_course, image_exit, read_course};
 
-use courses::{Exit, end_past_limit, refuse_image};
+use courses::{Exit, conclude};
 use coy_io::{Sink, Source};
 use image_binary::{ImageFault, unpack};
 use listing_read::Listing;
@@ -20,20 +20,21 @@ pub fn answer_unpack<S: Source, K: Sink>(alloc: Global, input: &mut S, output: &
         input.old input.new output.old output.new fetches fetches result cached
         image_course read_course }
 {
-    let answer = unpack(alloc, input);
-    tell_image(answer, output)
+    match unpack(alloc, input) {
+        Ok(listing) => write_text(&listing, output),
+        Err(fault) => conclude(image_exit(fault), output),
+    }
 }
 
-/// Writes the text of the listing that was read, or why there is none.
-fn tell_image<K: Sink>(answer: Result<Listing, ImageFault>, output: &mut K) -> Exit
-    ensures { TellsImage K.taken K.faults answer output.old output.new result }
+/// The exit where there is no listing.
+fn image_exit(fault: ImageFault) -> Exit
+    ensures { result ≡ image_exit fault }
 {
-    match answer {
-        Ok(listing) => write_text(&listing, output),
-        Err(ImageFault::Refused { offset, fault }) => refuse_image(offset, fault, output),
-        Err(ImageFault::TooLong) => end_past_limit(output),
-        Err(ImageFault::ReadFault) => Exit::ReadFault,
-        Err(ImageFault::OutOfMemory) => Exit::OutOfMemory,
+    match fault {
+        ImageFault::Refused { offset, fault } => Exit::ImageRefused { offset, fault },
+        ImageFault::TooLong => Exit::TooLong,
+        ImageFault::ReadFault => Exit::ReadFault,
+        ImageFault::OutOfMemory => Exit::OutOfMemory,
     }
 }
 

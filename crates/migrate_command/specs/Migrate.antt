@@ -13,9 +13,8 @@ use Rattle.schedule_replay.specs.Scheduled.{AtEnd, AtFault, AtLimit, OnParts}
 use Rattle.listing_read.specs.declared.fault.ScheduleFault.{ScheduleFault}
 use Rattle.judged_lines.specs.declared.stop.Stop.{Stop}
 use Rattle.judged_lines.specs.declared.stop.Stop.TheVariants as stops
-use Rattle.courses.specs.Ending.{EndsIn, refused_schedule, too_long}
 use Rattle.courses.specs.declared.exit.Exit.{Exit}
-use Rattle.courses.specs.declared.exit.Exit.TheVariants.{Done, ReadFault, WriteFault}
+use Rattle.courses.specs.declared.exit.Exit.TheVariants.{Done, ScheduleRefused, ReadFault, WriteFault, TooLong}
 
 -- this is what was asked for up to here, and why there was no further line; or writing failed in its last line
 abbrev pub Accords : {E : Type 0} → Result (Stop ScheduleFault) E → List Timed → Asked → Type 0
@@ -37,10 +36,10 @@ pub record PutsLines {E : Type 0} (harts : ℕ) (old new : Reader) (held held' t
   pub written : WritesLines taken taken' answer lines
   pub fails : answer ≡ Ok stops.ReadFault → FailsOn (asked harts old.number) (record { lines = lines; ending = AtEnd }) old new held held'
 
--- how the program ends behind these lines: by what is written last, or where reading or writing failed with nothing more
-abbrev pub Concludes : {K E : Type 0} → (K → Option (List ℕ)) → (K → ℕ) → Result (Stop ScheduleFault) E → K → K → Exit → Type 0
-Concludes taken faults (Ok stops.End) old new exit = (exit ≡ Done) × (new ≡ old)
-Concludes taken faults (Ok (stops.Refused line fault)) old new exit = EndsIn taken faults old new exit (refused_schedule line fault)
-Concludes taken faults (Ok stops.TooLong) old new exit = EndsIn taken faults old new exit too_long
-Concludes taken faults (Ok stops.ReadFault) old new exit = (exit ≡ ReadFault) × (new ≡ old)
-Concludes taken faults (Err fault) old new exit = (exit ≡ WriteFault) × (new ≡ old)
+-- the exit that the lines give, behind which nothing more is written than the line that tells it
+abbrev pub lines_exit : {E : Type 0} → Result (Stop ScheduleFault) E → Exit
+lines_exit (Ok stops.End) = Done
+lines_exit (Ok (stops.Refused line fault)) = ScheduleRefused line fault
+lines_exit (Ok stops.TooLong) = TooLong
+lines_exit (Ok stops.ReadFault) = ReadFault
+lines_exit (Err fault) = WriteFault

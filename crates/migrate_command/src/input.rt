@@ -7,11 +7,11 @@ ghost use Rattle.courses.specs.Course.{cached, course_output};
 ghost use Rattle.courses.specs.Listed.{lines_course};
 ghost use Rattle.courses.specs.Taken.{TakesLines, TakesListing};
 ghost use Rattle.courses.specs.Migrated.{migrate_course};
-ghost use Rattle.migrate_command.specs.Migrate.{Concludes};
+ghost use Rattle.migrate_command.specs.Migrate.{lines_exit};
 ghost use Rattle.migrate_command.specs.Same.{IsMigrated, ReadsAgain};
 
 use crate::lines::put_lines;
-use courses::{Exit, end_past_limit, read_head, refuse_schedule};
+use courses::{Exit, conclude, read_head};
 use coy_io::{LineReader, Sink, Source, WriteFault};
 use listing_read::Listing;
 use schedule_replay::Stop;
@@ -58,18 +58,18 @@ fn write_all<S: Source, K: Sink>(
     migrated_is_read();
     tell_listing(listing);
     let harts = listing.sizes().harts;
-    let answer = put_lines(harts, lines, input, output);
-    conclude(answer, output)
+    let exit = lines_exit(put_lines(harts, lines, input, output));
+    conclude(exit, output)
 }
 
-/// Writes what comes behind the lines.
-fn conclude<K: Sink>(answer: Result<Stop, WriteFault>, output: &mut K) -> Exit
-    ensures { Concludes K.taken K.faults answer output.old output.new result }
+/// The exit that lines give which were written as they were read.
+fn lines_exit(answer: Result<Stop, WriteFault>) -> Exit
+    ensures { result ≡ lines_exit answer }
 {
     match answer {
         Ok(Stop::End) => Exit::Done,
-        Ok(Stop::Refused { line, fault }) => refuse_schedule(line, fault, output),
-        Ok(Stop::TooLong) => end_past_limit(output),
+        Ok(Stop::Refused { line, fault }) => Exit::ScheduleRefused { line, fault },
+        Ok(Stop::TooLong) => Exit::TooLong,
         Ok(Stop::ReadFault) => Exit::ReadFault,
         Err(_) => Exit::WriteFault,
     }

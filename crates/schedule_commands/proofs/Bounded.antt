@@ -15,20 +15,19 @@ use Rattle.fetch_economy.proofs.Bound.{bound_in_every_run, slot_reads-most}
 use Rattle.fetch_economy.proofs.Economic.{fetch_economy}
 use Rattle.run_economy.proofs.Events.{run-ages}
 use Rattle.schedule_commands.specs.declared.command.ScheduleCommand.{ScheduleCommand}
-use Rattle.schedule_commands.specs.declared.command.ScheduleCommand.TheVariants.{Walk}
-use Rattle.courses.specs.Course.{ends_in}
-use Rattle.courses.proofs.Sound.{IsSound, ends-sound}
-use Rattle.schedule_commands.specs.Finished.{course_behind, course_of, finished, fetches_for, accesses_for, printed_for, schedule_course}
+use Rattle.schedule_commands.specs.declared.command.ScheduleCommand.TheVariants.{Of}
+use Rattle.coyotos_words.specs.declared.command.RunCommand.TheVariants.{Walk}
+use Rattle.courses.proofs.Sound.{IsSound}
+use Rattle.schedule_commands.specs.Finished.{course_behind, fetches_for, accesses_for, printed_for, schedule_course}
 use Rattle.courses.specs.Running.{if_ended}
-use Rattle.schedule_commands.specs.Runs.{runs}
-use Rattle.schedule_replay.specs.Replay.{count_answer, run_answer}
+use Rattle.schedule_replay.specs.Replay.{run_answer}
 use Rattle.schedule_replay.specs.Scheduled.{Scheduled, scheduled}
 use Rattle.schedule_replay.specs.declared.replayed.Replayed.{Replayed}
 use Rattle.schedule_replay.specs.declared.replayed.Replayed.TheVariants as answers
 
 -- what is fetched for the last text is at most 32 for each access that is made for it and 16 for each GPT that is printed
 for-most : (command : ScheduleCommand) (s : State) → fetches_for command s ≤ 32 * accesses_for command s + 16 * printed_for command s
-for-most (Walk process kind address) s = on (nat_lt process (size_of s.store.items Process))
+for-most (Of (Walk process kind address)) s = on (nat_lt process (size_of s.store.items Process))
   where
     on : (is : Bool) → (if is then slots s.store.items (space_of s process) address kind else 0) ≤ 32 * (if is then 1 else 0) + 16 * 0
     on true = omega (arith, slots_law s.store.items (space_of s process) address kind)
@@ -55,13 +54,8 @@ behind-sound command s events answer =
       sharp_economy = λ fits. let few = (fetch_economy s.store.items end.store.items touches (run-ages s events) fits).few in omega (arith, few, last);
     }
 
-of-sound : (command : ScheduleCommand) (s : State) (all : Scheduled) → IsSound (course_of command s all)
-of-sound command s all = on (runs command)
-  where
-    on : (run : Bool) → IsSound (if run then course_behind command s all.events (run_answer s all) else ends_in (finished command s nothing (count_answer all)))
-    on true = behind-sound command s all.events (run_answer s all)
-    on false = ends-sound (finished command s nothing (count_answer all))
-
 -- with whatever listing
 pub schedule-sound : (command : ScheduleCommand) (listing : ListingValue) (last : ℕ) (rest : List Part) → IsSound (schedule_course command listing last rest)
-schedule-sound command listing last rest = of-sound command (booted listing) (scheduled listing.sizes.harts last rest)
+schedule-sound command listing last rest =
+    let all : Scheduled = scheduled listing.sizes.harts last rest in
+    behind-sound command (booted listing) all.events (run_answer (booted listing) all)

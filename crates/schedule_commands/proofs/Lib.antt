@@ -1,4 +1,5 @@
 pub mod Entries
-pub mod Concluding
+pub mod RunEntries
+pub mod Counts
 pub mod Behind
 pub mod Bounded

@@ -13,18 +13,21 @@ use Rattle.map_cache.specs.Held.{held_entries}
 use Rattle.map_cache.specs.Kept.{KeptValue, cost_of, kept_after, kept_without, nothing}
 use Rattle.run_text.specs.State.{state_text}
 use Rattle.run_text.specs.Walk.{walk_text, no_process_text}
-use Rattle.schedule_commands.specs.Runs.{runs, mode_of}
+use Rattle.schedule_commands.specs.Runs.{mode_of}
 use Rattle.courses.specs.Course.{Course, ends_in}
-use Rattle.courses.specs.Ending.{Output}
+use Rattle.courses.specs.Ending.{Output, told_end}
 use Rattle.courses.specs.Listed.{Behind}
-use Rattle.courses.specs.Running.{Runner, finished_by, run_course}
+use Rattle.courses.specs.Running.{Runner, run_course}
+use Rattle.courses.specs.declared.exit.Exit.TheVariants.{Done, ScheduleRefused, ReadFault, WriteFault, TooLong}
 use Rattle.schedule_commands.specs.Tables.{entries_text}
 use Rattle.schedule_replay.specs.Scheduled.{Scheduled, scheduled}
 use Rattle.schedule_replay.specs.Replay.{run_answer, count_answer}
 use Rattle.schedule_replay.specs.declared.counts.Counts.{Counts}
 use Rattle.schedule_replay.specs.declared.replayed.Replayed.{Replayed}
+use Rattle.schedule_replay.specs.declared.replayed.Replayed.TheVariants as answers
 use Rattle.schedule_commands.specs.declared.command.ScheduleCommand.{ScheduleCommand}
-use Rattle.schedule_commands.specs.declared.command.ScheduleCommand.TheVariants.{Check, Run, Trace, Tables, Walk, Summary}
+use Rattle.schedule_commands.specs.declared.command.ScheduleCommand.TheVariants.{Of, Summary}
+use Rattle.coyotos_words.specs.declared.command.RunCommand.TheVariants.{Run, Trace, Tables, Walk}
 
 -- what `walk` writes of a state: where an access of a process's space ends, by a walk at this moment
 abbrev pub access_text : State → ℕ → Kind → ℕ → List ℕ
@@ -52,40 +55,29 @@ tables_text s kept = last_state_text s ++ entries_text (held_entries s.store.ite
 
 -- what comes behind the records where all lines were read, by the last state, what is kept then, and the counts of the run
 abbrev pub last_text : ScheduleCommand → State → KeptValue → Counts → List ℕ
-last_text Check s kept counts = count_text counts.events
-last_text Run s kept counts = last_state_text s
-last_text Trace s kept counts = last_state_text s
-last_text Tables s kept counts = tables_text s kept
-last_text (Walk process kind address) s kept counts = access_text s process kind address
+last_text (Of Run) s kept counts = last_state_text s
+last_text (Of Trace) s kept counts = last_state_text s
+last_text (Of Tables) s kept counts = tables_text s kept
+last_text (Of (Walk process kind address)) s kept counts = access_text s process kind address
 last_text Summary s kept counts = summary_text counts
 
 -- the slots that are fetched for it: all of each GPT to print a state, and those that the access of `walk` reads
 abbrev pub fetches_for : ScheduleCommand → State → ℕ
-fetches_for Check s = 0
-fetches_for Run s = 16 * size_of s.store.items Gpt
-fetches_for Trace s = 16 * size_of s.store.items Gpt
-fetches_for Tables s = 16 * size_of s.store.items Gpt
-fetches_for (Walk process kind address) s =
+fetches_for (Of (Walk process kind address)) s =
     if nat_lt process (size_of s.store.items Process) then slots s.store.items (space_of s process) address kind
     else 0
+fetches_for (Of state) s = 16 * size_of s.store.items Gpt
 fetches_for Summary s = 0
 
 -- the accesses that are made for it
 abbrev pub accesses_for : ScheduleCommand → State → ℕ
-accesses_for Check s = 0
-accesses_for Run s = 0
-accesses_for Trace s = 0
-accesses_for Tables s = 0
-accesses_for (Walk process kind address) s = if nat_lt process (size_of s.store.items Process) then 1 else 0
-accesses_for Summary s = 0
+accesses_for (Of (Walk process kind address)) s = if nat_lt process (size_of s.store.items Process) then 1 else 0
+accesses_for _ s = 0
 
 -- the GPTs that are printed
 abbrev pub printed_for : ScheduleCommand → State → ℕ
-printed_for Check s = 0
-printed_for Run s = size_of s.store.items Gpt
-printed_for Trace s = size_of s.store.items Gpt
-printed_for Tables s = size_of s.store.items Gpt
-printed_for (Walk process kind address) s = 0
+printed_for (Of (Walk process kind address)) s = 0
+printed_for (Of state) s = size_of s.store.items Gpt
 printed_for Summary s = 0
 
 -- a command as one that runs the lines
@@ -99,23 +91,30 @@ runner_of command = record {
   entries = λ s kept. held_entries s.store.items kept;
 }
 
--- what is written last, and how the program ends, by the answer of a run that came to this state and left this kept
-abbrev pub finished : ScheduleCommand → State → KeptValue → Replayed → Output
-finished command s kept answer = finished_by (runner_of command) s kept answer
-
 -- ---- the lines behind a listing
 
 -- over the mapping cache, which keeps nothing at first, the events of a run come first, and then what its answer comes to
 abbrev pub course_behind : ScheduleCommand → State → List Event → Replayed → Course
 course_behind command s events answer = run_course cost_of kept_after kept_without nothing (runner_of command) s events answer
 
--- what a command comes to with what the lines ask for; `check` runs nothing, and counts their events
+-- what a command comes to with what the lines ask for
 abbrev pub course_of : ScheduleCommand → State → Scheduled → Course
-course_of command s all =
-    if runs command then course_behind command s all.events (run_answer s all)
-    else ends_in (finished command s nothing (count_answer all))
+course_of command s all = course_behind command s all.events (run_answer s all)
 
 -- what a command comes to with a listing, the number of its line `end` and the lines behind that: the machine of the
 -- listing runs their events
 abbrev pub schedule_course : ScheduleCommand → Behind
 schedule_course command listing last rest = course_of command (booted listing) (scheduled listing.sizes.harts last rest)
+
+-- what `check` writes last, and how the program ends, by the answer of a count
+abbrev pub counted : Replayed → Output
+counted (answers.Ended counts) = record { text = count_text counts.events; exit = Done }
+counted (answers.Refused line fault) = told_end (ScheduleRefused line fault)
+counted answers.TooLong = told_end TooLong
+counted answers.ReadFault = told_end ReadFault
+counted answers.WriteFault = told_end WriteFault
+
+-- what `check` comes to with a listing, the number of its line `end` and the lines behind that: nothing runs, and their events
+-- are counted
+abbrev pub check_course : Behind
+check_course listing last rest = ends_in (counted (count_answer (scheduled listing.sizes.harts last rest)))

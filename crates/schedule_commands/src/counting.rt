@@ -1,23 +1,33 @@
-//! The lines behind a listing with their events counted, and the number that is written of them. No machine is made.
+//! The command `check`: the lines behind a listing with their events counted. No machine is made.
 ghost use Rattle.std.specs.Prelude.{ℕ, ◌≡◌, false};
 ghost use Rattle.coy_io.specs.Reader.{TellsEnd};
-ghost use Rattle.kernel_core.specs.State.{State};
-ghost use Rattle.map_cache.specs.Kept.{nothing};
 ghost use Rattle.courses.specs.Course.{cached};
 ghost use Rattle.courses.specs.Ending.{EndsIn};
-ghost use Rattle.courses.specs.Running.{ConcludesBy};
-ghost use Rattle.courses.specs.Taken.{TakesLines};
-ghost use Rattle.schedule_commands.specs.declared.command.ScheduleCommand.TheVariants.{Check};
-ghost use Rattle.schedule_commands.specs.Finished.{count_text, runner_of, schedule_course};
+ghost use Rattle.courses.specs.Taken.{TakesLines, TakesListing};
+ghost use Rattle.schedule_commands.specs.Finished.{check_course, count_text};
 
-use courses::{Exit, end_past_limit, end_with, refuse_schedule};
+use courses::{Exit, conclude, counts_or_exit, end_with, read_head};
 use coy_io::{LineReader, Sink, Source};
 use coy_text::LineBuf;
 use listing_read::Listing;
-use schedule_replay::{Replayed, count_lines};
+use schedule_replay::count_lines;
+use std::alloc::Global;
 
-/// Counts the events of the lines behind a listing, and writes their number. No slot is fetched.
-pub(crate) fn count_schedule<S: Source, K: Sink>(
+/// Reads a listing and its schedule, and writes how many events that has. No slot is fetched.
+pub fn check<S: Source, K: Sink>(alloc: Global, input: &mut S, output: &mut K) -> Exit
+    ensures { (fetches : ℕ) → TakesListing S.held S.faults K.taken K.faults
+        input.old input.new output.old output.new fetches fetches result cached check_course }
+{
+    let mut lines = LineReader::new();
+    let listing = match read_head(alloc, &mut lines, input, output) {
+        Ok(listing) => listing,
+        Err(exit) => return exit,
+    };
+    count_schedule(&listing, &mut lines, input, output)
+}
+
+/// Counts the events of the lines behind a listing, and writes their number, or why they were not all read.
+fn count_schedule<S: Source, K: Sink>(
     listing: &Listing,
     lines: &mut LineReader,
     input: &mut S,
@@ -27,25 +37,13 @@ pub(crate) fn count_schedule<S: Source, K: Sink>(
     requires told { TellsEnd lines.old (S.held input.old) }
     ensures { (fetches : ℕ) → TakesLines S.held S.faults K.taken K.faults lines.old lines.new
         input.old input.new output.old output.new fetches fetches result cached
-        (schedule_course Check listing.now lines.old.number) }
+        (check_course listing.now lines.old.number) }
 {
     let harts = listing.sizes().harts;
     let answer = count_lines(lines, input, harts);
-    conclude_count(answer, output)
-}
-
-/// Writes the number of events where all lines were read, or why they were not. That is the same whatever the state.
-fn conclude_count<K: Sink>(answer: Replayed, output: &mut K) -> Exit
-    ensures { (s : State) (fetches : ℕ) →
-        ConcludesBy K.taken K.faults (runner_of Check) s nothing answer
-        output.old output.new fetches fetches result }
-{
-    match answer {
-        Replayed::Ended(counts) => count(counts.events, output),
-        Replayed::Refused { line, fault } => refuse_schedule(line, fault, output),
-        Replayed::TooLong => end_past_limit(output),
-        Replayed::ReadFault => Exit::ReadFault,
-        Replayed::WriteFault => Exit::WriteFault,
+    match counts_or_exit(answer) {
+        Ok(counts) => count(counts.events, output),
+        Err(exit) => conclude(exit, output),
     }
 }
 

@@ -1,10 +1,10 @@
 //! What comes behind the records.
 ghost use Rattle.std.specs.Prelude.{◌≡◌, ◌<◌, ◌≤◌, ◌+◌, ◌*◌, ◌++◌, [], decimal, length};
 ghost use Rattle.kernel_core.specs.State.{state_of, space_of};
-ghost use Rattle.schedule_commands.specs.Runs.{as_command};
 ghost use Rattle.courses.specs.Ending.{EndsIn, Fetches};
-ghost use Rattle.courses.specs.Running.{ConcludesBy};
-ghost use Rattle.schedule_commands.specs.Finished.{finished, summary_text, access_text, last_state_text, fetches_for, runner_of};
+ghost use Rattle.coyotos_words.specs.declared.command.RunCommand.TheVariants.{Walk};
+ghost use Rattle.schedule_commands.specs.declared.command.ScheduleCommand.TheVariants.{Of};
+ghost use Rattle.schedule_commands.specs.Finished.{summary_text, access_text, last_state_text, last_text, fetches_for};
 ghost use Rattle.map_cache.specs.Cache.{kept_of};
 ghost use Rattle.walk_meaning.specs.Trail.{slots};
 ghost use Rattle.walk_meaning.specs.Walk.{access};
@@ -13,46 +13,26 @@ ghost use Rattle.object_store.specs.Meaning.{meaning};
 ghost use Rattle.object_store.specs.Store.{size_of};
 ghost use Rattle.cap_format.specs.declared.kind.CapKind.TheVariants.{Gpt, Process};
 
-use crate::command::RunCommand;
+use crate::command::ScheduleCommand;
 use crate::tables::tables;
 use cap_format::Cap;
-use courses::{Exit, end_past_limit, end_with, refuse_schedule};
+use courses::{Exit, end_with};
 use coy_io::Sink;
 use coy_text::LineBuf;
+use coyotos_words::RunCommand;
 use kernel_core::Machine;
 use map_cache::MapCache;
 use run_text::{dump, walk_line};
-use schedule_replay::{Counts, Replayed};
+use schedule_replay::Counts;
 use std::sync::ledger::Ledger;
 use steps::Steps;
 use walk_engine::{Trail, Translator, walk};
 use walk_meaning::Kind;
 
-/// Writes what comes behind the records, by the answer of the lines.
-pub(crate) fn conclude<K: Sink, L: Ledger>(
-    command: RunCommand,
-    answer: Replayed,
-    machine: &Machine<MapCache>,
-    output: &mut K,
-    fetches: &mut Steps<L>,
-) -> Exit
-    ensures concludes { let kept = kept_of machine.now.translator in
-        ConcludesBy K.taken K.faults (runner_of (as_command command)) (state_of machine.now) kept answer
-        output.old output.new fetches.old fetches.new result }
-{
-    match answer {
-        Replayed::Ended(counts) => finish(command, counts, machine, output, fetches),
-        Replayed::Refused { line, fault } => refuse_schedule(line, fault, output),
-        Replayed::TooLong => end_past_limit(output),
-        Replayed::ReadFault => Exit::ReadFault,
-        Replayed::WriteFault => Exit::WriteFault,
-    }
-}
-
 /// Writes what comes last where all lines were read: the counts, the last state with the entries of the mapping cache or
 /// without, or where a walk ends.
-fn finish<K: Sink, L: Ledger>(
-    command: RunCommand,
+pub(crate) fn finish<K: Sink, L: Ledger>(
+    command: ScheduleCommand,
     counts: Counts,
     machine: &Machine<MapCache>,
     output: &mut K,
@@ -60,19 +40,23 @@ fn finish<K: Sink, L: Ledger>(
 ) -> Exit
     ensures ends { let kept = kept_of machine.now.translator in
         EndsIn K.taken K.faults output.old output.new result
-        (finished (as_command command) (state_of machine.now) kept (Replayed.Ended counts)) }
+        (record { text = last_text command (state_of machine.now) kept counts; exit = Exit.Done }) }
     ensures fetched { Fetches fetches.old fetches.new result
-        (fetches_for (as_command command) (state_of machine.now)) }
+        (fetches_for command (state_of machine.now)) }
 {
     match command {
-        RunCommand::Walk {
-            process,
-            kind,
-            address,
-        } => access(machine, process as u16, kind, address, output, fetches),
-        RunCommand::Tables => tables(machine, output, fetches),
-        RunCommand::Summary => summary(counts, output),
-        RunCommand::Run | RunCommand::Trace => last_state(machine, output, fetches),
+        ScheduleCommand::Of(
+            RunCommand::Walk {
+                process,
+                kind,
+                address,
+            },
+        ) => access(machine, process as u16, kind, address, output, fetches),
+        ScheduleCommand::Of(RunCommand::Tables) => tables(machine, output, fetches),
+        ScheduleCommand::Of(RunCommand::Run | RunCommand::Trace) => {
+            last_state(machine, output, fetches)
+        }
+        ScheduleCommand::Summary => summary(counts, output),
     }
 }
 
@@ -122,7 +106,7 @@ fn access<T: Translator, K: Sink, L: Ledger>(
 ) -> Exit
     ensures ends { EndsIn K.taken K.faults output.old output.new result
         (record { text = access_text (state_of machine.now) process kind address; exit = Exit.Done }) }
-    ensures counted { let command = as_command (RunCommand.Walk process kind address) in
+    ensures counted { let command = Of (Walk process kind address) in
         fetches.new ≡ fetches.old + fetches_for command (state_of machine.now) }
 {
     let mut line = LineBuf::new();

@@ -1,14 +1,12 @@
 //! A listing and its schedule, from the first line to the last. Here, and nowhere else, a translator is chosen.
-ghost use Rattle.std.specs.Prelude.{◌≡◌, false, IfSome};
+ghost use Rattle.std.specs.Prelude.{◌≡◌, IfSome};
 ghost use Rattle.coy_io.specs.Lines.{parts_of};
 ghost use Rattle.courses.specs.Course.{HasEntries, cached};
 ghost use Rattle.courses.specs.Listed.{lines_course};
 ghost use Rattle.courses.specs.Taken.{TakesListing};
 ghost use Rattle.schedule_commands.specs.Finished.{schedule_course};
-ghost use Rattle.schedule_commands.specs.Runs.{runs};
 
 use crate::command::ScheduleCommand;
-use crate::counting::count_schedule;
 use crate::schedule::answer_lines;
 use courses::{Exit, read_head};
 use coy_io::{LineReader, Sink, Source};
@@ -18,7 +16,7 @@ use std::alloc::Global;
 use std::sync::ledger::Ledger;
 use steps::Steps;
 
-/// Reads a listing and its schedule, and does with them what the command says.
+/// Reads a listing and its schedule, runs it, and writes of the run what the command says.
 pub fn answer_schedule<S: Source, K: Sink, L: Ledger>(
     alloc: Global,
     command: ScheduleCommand,
@@ -32,17 +30,11 @@ pub fn answer_schedule<S: Source, K: Sink, L: Ledger>(
     // What the entries of the mapping cache say then.
     ensures entries { result ≡ Exit.Done → IfSome (S.held input.old) (λ bytes.
         HasEntries (lines_course (schedule_course command) (parts_of bytes))) }
-
-    // Where no slot is fetched.
-    ensures stays { runs command ≡ false → fetches.new ≡ fetches.old }
 {
     let mut lines = LineReader::new();
     let listing = match read_head(alloc, &mut lines, input, output) {
         Ok(listing) => listing,
         Err(exit) => return exit,
-    };
-    let Some(command) = command.to_run() else {
-        return count_schedule(&listing, &mut lines, input, output);
     };
     let Ok(cache) = MapCache::new(alloc, listing.sizes().harts) else {
         return Exit::OutOfMemory;

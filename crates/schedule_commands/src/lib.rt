@@ -11,4 +11,5 @@ mod schedule;
 mod tables;
 
 pub use command::ScheduleCommand;
+pub use counting::check;
 pub use input::answer_schedule;

@@ -11,9 +11,9 @@ ghost use Rattle.courses.specs.Taken.{TakesLines, TakesListing};
 ghost use Rattle.share_command.specs.Few.{IsSharedBounded, TellsFew};
 ghost use Rattle.share_command.specs.Share.{share_course, shared_fetched, sharing};
 
-use crate::telling::conclude;
+use crate::telling::tell;
 use boot_again::listing_boots_in_ranges;
-use courses::{Exit, read_head};
+use courses::{Exit, conclude, counts_or_exit, read_head};
 use coy_io::{LineReader, Sink, Source};
 use image_builder::boot;
 use kernel_core::Machine;
@@ -71,5 +71,8 @@ fn answer_lines<S: Source, K: Sink, L: Ledger>(
         (λ parts. sharing (state_of machine.old) (scheduled machine.old.objects.harts lines.old.number parts)) }
 {
     let replayed = replay(machine, lines, input, Mode::Records, output, fetches);
-    conclude(replayed, machine, output)
+    match counts_or_exit(replayed) {
+        Ok(_counts) => tell(machine, output),
+        Err(exit) => conclude(exit, output),
+    }
 }

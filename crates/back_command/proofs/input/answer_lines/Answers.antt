@@ -1,26 +1,48 @@
+use Rattle.std.proofs.Common.{◌∙◌, length, Some, refl, sym, ap, arith}
 use Rattle.machine_state.specs.State.{state_of}
-use Rattle.back_command.proofs.Concluding.{comes-run, concludes-causes, concludes-done, concludes-memory, concludes-usage, sure-run}
+use Rattle.schedule_replay.specs.Counts.{events_alone}
+use Rattle.schedule_replay.specs.Scheduled.{AtEnd, AtFault, AtLimit, Scheduled, scheduled}
+use Rattle.courses.specs.Course.{cached}
+use Rattle.courses.specs.declared.exit.Exit.TheVariants.{OutOfMemory, ScheduleRefused}
+use Rattle.courses.proofs.Concluding.{concludes-own}
+use Rattle.courses.proofs.Endings.{ends_text}
+use Rattle.courses.proofs.Lasts.{ends-own}
+use Rattle.courses.proofs.Rests.{at, follows-rest, stop-ended, stop-given, stop-stopped}
+use Rattle.back_command.specs.Back.{undoing}
+use Rattle.back_command.proofs.Concluding.{tells}
+use Rattle.back_command.proofs.Histories.{text-at}
 use Rattle.back_command.proofs.input.answer_lines.Goals as goal
 
-pub returns-clause-comes : goal.returns-clause-comes
-returns-clause-comes g c =
-    comes-run g.K.Sink.taken g.K.Sink.faults c.args.number _ _ _ _ (state_of c.args.reversible.now.machine) _ _ _ _ _ _ c.run_lines-stop.ensures.runs c.conclude.ensures
+-- all lines were read
+pub returns-in-None-clause-course : goal.returns-in-None-clause-course
+returns-in-None-clause-course g c =
+    let e = c.run_lines-stop.ensures in
+    let m = c.args.reversible.now.machine in
+    let harts = m.objects.harts in
+    let events = e.runs.events in
+    stop-ended g.S.Source.held g.S.Source.faults g.K.Sink.taken g.K.Sink.faults c.args.lines.now _ _ _ _ 0 cached refl
+    (scheduled harts c.args.lines.now.number) (undoing c.args.number (state_of m)) (at events AtEnd) (λ line fault. at events (AtFault line fault)) (at events AtLimit) ScheduleRefused
+    (tells c.args.number (state_of m) events) c.run_lines-stop.result (follows-rest (λ (all : Scheduled). events_alone (length all.events)) harts _ _ _ _ events (events_alone (length events)) c.run_lines-stop.result e.runs.follows) e.read e.quiet _ 0 _
+    (sym c.schedule_exit.ensures ∙ c.in-None.is) (record { read = λ bad. cc; write = λ bad. cc; memory = λ bad. cc }) (λ bad. cc)
+    (ends_text _ _ _ _ _ _ _ _ (text-at c.args.number (state_of m) _ events e.runs.history) c.tell_undone.ensures)
+    (record { whole = λ given. refl; most = omega arith }) (λ end. e.told c.requires.told (e.end end))
 
-pub returns-clause-end : goal.returns-clause-end
-returns-clause-end g c =
-    λ done. c.run_lines-stop.ensures.told c.requires.told
-    (c.run_lines-stop.ensures.end (concludes-done g.K.Sink.taken g.K.Sink.faults c.args.number _ _ _ _ _ c.conclude.ensures done))
+pub returns-in-None-clause-memory : goal.returns-in-None-clause-memory
+returns-in-None-clause-memory g c = λ memory. let bad = ends-own _ _ _ _ _ _ c.tell_undone.ensures OutOfMemory (λ cut. cc) memory in cc
 
-pub returns-clause-sure : goal.returns-clause-sure
-returns-clause-sure g c =
-    sure-run g.K.Sink.taken g.K.Sink.faults c.args.number _ _ _ _ (state_of c.args.reversible.now.machine) _ _ _ _ _ _ c.run_lines-stop.ensures.runs c.conclude.ensures
+-- or not
+pub returns-in-Some-clause-course : goal.returns-in-Some-clause-course
+returns-in-Some-clause-course g c =
+    let e = c.run_lines-stop.ensures in
+    let m = c.args.reversible.now.machine in
+    let harts = m.objects.harts in
+    let events = e.runs.events in
+    stop-stopped g.S.Source.held g.S.Source.faults g.K.Sink.taken g.K.Sink.faults c.args.lines.now _ _ _ _ 0 cached refl
+    (scheduled harts c.args.lines.now.number) (undoing c.args.number (state_of m)) (at events AtEnd) (λ line fault. at events (AtFault line fault)) (at events AtLimit) ScheduleRefused
+    (tells c.args.number (state_of m) events) c.run_lines-stop.result (follows-rest (λ (all : Scheduled). events_alone (length all.events)) harts _ _ _ _ events (events_alone (length events)) c.run_lines-stop.result e.runs.follows) e.read e.quiet _ 0 _
+    c.in-Some.exit (sym c.schedule_exit.ensures ∙ c.in-Some.is) c.conclude.ensures refl
 
-pub returns-clause-usage : goal.returns-clause-usage
-returns-clause-usage g c = concludes-usage g.K.Sink.taken g.K.Sink.faults c.args.number _ _ _ _ _ c.conclude.ensures
-
-pub returns-clause-memory : goal.returns-clause-memory
-returns-clause-memory g c = concludes-memory g.K.Sink.taken g.K.Sink.faults c.args.number _ _ _ _ _ c.conclude.ensures
-
-pub returns-clause-causes : goal.returns-clause-causes
-returns-clause-causes g c =
-    concludes-causes g.K.Sink.taken g.K.Sink.faults c.args.number _ _ _ _ _ _ _ c.conclude.ensures c.run_lines-stop.ensures.read c.run_lines-stop.ensures.quiet
+pub returns-in-Some-clause-memory : goal.returns-in-Some-clause-memory
+returns-in-Some-clause-memory g c = λ memory.
+    stop-given ScheduleRefused (λ line fault bad. cc) c.run_lines-stop.result
+    (sym c.schedule_exit.ensures ∙ c.in-Some.is ∙ ap Some (concludes-own g.K.Sink.taken g.K.Sink.faults _ _ _ c.in-Some.exit c.conclude.ensures OutOfMemory (λ bad. cc) memory))

@@ -1,9 +1,8 @@
 use Rattle.std.proofs.Common.{◌∙◌, ap, sym}
 use Rattle.kernel_core.specs.State.{state_of}
 use Rattle.confine_check.specs.Breach.{breach_in, breach_of, sleeper_of}
-use Rattle.confine_check.specs.Found.{meant, meant_of}
+use Rattle.confine_check.specs.Found.{meant_of}
 use Rattle.confine_check.specs.Sides.{cut_of}
-use Rattle.confine_check.proofs.Found.{meant-yes}
 use Rattle.confine_command.proofs.Awake.{awake-none}
 use Rattle.confine_command.specs.Confine.{cut_text}
 use Rattle.confine_command.proofs.Verdicts.{breach-found, found-awake, text-meant}
@@ -25,8 +24,3 @@ push_verdict-requires-clause-awake g c = λ p is.
     let cut = cut_of c.args.cut.now in
     let m = c.args.machine.now in
     found-awake (breach_of cut m.objects) (sleeper_of cut m.queues) p (awake-none cut m.queues c.requires) (sym c.confined-verdict.ensures.verdict ∙ is)
-
-pub returns-clause-exactly : goal.returns-clause-exactly
-returns-clause-exactly g c =
-    let e = c.confined-verdict.ensures in
-    (λ yes. e.exactly.0 (meant-yes c.confined-verdict.result (e.means ∙ yes)), λ holds. sym e.means ∙ ap meant (e.exactly.1 holds))

@@ -1,21 +1,28 @@
-use Rattle.image_commands.proofs.Concluding.{concludes-causes, concludes-comes, concludes-done, concludes-memory, concludes-passed, concludes-sure, concludes-usage}
+use Rattle.std.proofs.Common.{◌∙◌, refl, sym, arith}
+use Rattle.courses.specs.Course.{cached, ends_in}
+use Rattle.courses.specs.declared.exit.Exit.TheVariants.{ScheduleRefused}
+use Rattle.courses.proofs.Rests.{stop-ended, stop-stopped}
+use Rattle.schedule_replay.specs.Scheduled.{AtEnd, AtFault, AtLimit}
+use Rattle.image_commands.specs.Packed.{pack_output}
+use Rattle.image_commands.specs.Passed.{passed}
+use Rattle.image_commands.proofs.Passing.{tells}
 use Rattle.image_commands.proofs.packing.pack_all.Goals as goal
 
-pub returns-clause-course : goal.returns-clause-course
-returns-clause-course g c = λ fetches.
-    let taken = g.K.Sink.taken in
-    let faults = g.K.Sink.faults in
+-- all lines were passed over
+pub returns-in-None : goal.returns-in-None
+returns-in-None g c = λ fetches.
     let p = c.pass_lines-stop.ensures in
-    record {
-      comes = concludes-comes taken faults c.args.listing.now _ _ _ c.args.lines.now c.pass_lines-stop.new.lines _ _ fetches c.pass_lines-stop.result p.passes c.conclude.ensures;
-      end = λ done. p.told c.requires.told (p.end (concludes-done taken faults c.args.listing.now _ _ _ c.pass_lines-stop.result c.conclude.ensures done));
-      sure = λ failed. concludes-sure taken faults c.args.listing.now _ _ _ c.args.lines.now c.pass_lines-stop.new.lines _ _ fetches c.pass_lines-stop.result p.passes c.conclude.ensures failed;
-      usage = concludes-usage taken faults c.args.listing.now _ _ _ c.pass_lines-stop.result c.conclude.ensures;
-      memory = concludes-memory taken faults c.args.listing.now _ _ _ c.pass_lines-stop.result c.conclude.ensures;
-      causes = concludes-causes taken faults c.args.listing.now _ _ _ _ _ c.pass_lines-stop.result c.conclude.ensures p.read p.quiet;
-    }
+    let listing = c.args.listing.now in
+    stop-ended g.S.Source.held g.S.Source.faults g.K.Sink.taken g.K.Sink.faults c.args.lines.now _ _ _ _ fetches cached refl
+    (passed c.args.lines.now.number) (λ ending. ends_in (pack_output listing ending)) AtEnd AtFault AtLimit ScheduleRefused (tells listing)
+    c.pass_lines-stop.result p.passes p.read p.quiet _ fetches _ (sym c.schedule_exit.ensures ∙ c.in-None.is) (record { read = λ bad. cc; write = λ bad. cc; memory = λ bad. cc }) (λ bad. cc)
+    c.write_image.ensures (record { whole = λ given. omega arith; most = omega arith }) (λ end. p.told c.requires.told (p.end end))
 
-pub returns-clause-passed : goal.returns-clause-passed
-returns-clause-passed g c = λ done.
-    let end = concludes-done g.K.Sink.taken g.K.Sink.faults c.args.listing.now _ _ _ c.pass_lines-stop.result c.conclude.ensures done in
-    concludes-passed c.args.lines.now c.pass_lines-stop.new.lines _ _ c.pass_lines-stop.result c.pass_lines-stop.ensures.passes end
+-- or not
+pub returns-in-Some : goal.returns-in-Some
+returns-in-Some g c = λ fetches.
+    let p = c.pass_lines-stop.ensures in
+    let listing = c.args.listing.now in
+    stop-stopped g.S.Source.held g.S.Source.faults g.K.Sink.taken g.K.Sink.faults c.args.lines.now _ _ _ _ fetches cached refl
+    (passed c.args.lines.now.number) (λ ending. ends_in (pack_output listing ending)) AtEnd AtFault AtLimit ScheduleRefused (tells listing)
+    c.pass_lines-stop.result p.passes p.read p.quiet _ fetches _ c.in-Some.exit (sym c.schedule_exit.ensures ∙ c.in-Some.is) c.conclude.ensures refl

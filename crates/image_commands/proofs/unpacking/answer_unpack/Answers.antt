@@ -1,18 +1,16 @@
-use Rattle.std.proofs.Common.{refl}
-use Rattle.image_commands.proofs.Telling.{tells-causes, tells-comes, tells-done, tells-sure, tells-unwritten, tells-usage}
+use Rattle.std.proofs.Common.{◌≡◌, Err, Ok, ap}
+use Rattle.image_commands.proofs.Telling.{known-listing, tells-given, tells-stopped}
 use Rattle.image_commands.proofs.unpacking.answer_unpack.Goals as goal
 
-pub returns : goal.returns
-returns g c = λ fetches.
-    let taken = g.K.Sink.taken in
-    let faults = g.K.Sink.faults in
-    let u = c.unpack-answer.ensures in
-    record {
-      comes = tells-comes taken faults _ _ _ fetches _ _ c.unpack-answer.result u.answer c.tell_image.ensures;
-      end = tells-done taken faults _ _ _ _ c.unpack-answer.result c.tell_image.ensures u.end;
-      sure = λ failed. tells-sure taken faults _ _ _ fetches _ _ c.unpack-answer.result u.answer c.tell_image.ensures failed;
-      usage = tells-usage taken faults _ _ _ c.unpack-answer.result c.tell_image.ensures;
-      causes = tells-causes taken faults _ _ _ _ _ c.unpack-answer.result c.tell_image.ensures u.read u.quiet;
-      unwritten = tells-unwritten taken faults _ _ _ c.unpack-answer.result c.tell_image.ensures;
-      unspent = λ memory. refl;
-    }
+pub returns-in-Ok : goal.returns-in-Ok
+returns-in-Ok g c =
+    let u = c.in-Ok.ensures in
+    tells-given g.S.Source.held g.S.Source.faults g.K.Sink.taken g.K.Sink.faults _ _ _ _ _ (Ok c.in-Ok.listing) (record { read = λ bad. cc; write = λ bad. cc; memory = λ bad. cc }) (λ bad. cc)
+    c.write_text.ensures (known-listing _ _ c.in-Ok.listing u.answer) (u.quiet (λ bad. cc)) (λ done. u.end)
+
+pub returns-in-Err : goal.returns-in-Err
+returns-in-Err g c =
+    let u = c.in-Err.ensures in
+    let concluded = rw c.image_exit.ensures at c.conclude.ensures in
+    tells-stopped g.S.Source.held g.S.Source.faults g.K.Sink.taken g.K.Sink.faults _ _ _ _ _ c.in-Err.fault concluded u.answer
+    (λ same. u.read (ap Err same)) (λ other. u.quiet (λ same. other (let is : c.in-Err.fault ≡ _ = cc in is)))

@@ -1,13 +1,12 @@
 use Rattle.std.proofs.Common.{refl}
-use Rattle.courses.proofs.Taken.{takes-listing, takes-unlisted}
+use Rattle.courses.proofs.Taken.{takes-listing}
 use Rattle.courses.specs.Course.{cached}
 use Rattle.courses.specs.Migrated.{migrate_course}
 use Rattle.migrate_command.proofs.Again.{bytes-migrated}
 use Rattle.migrate_command.proofs.input.migrate.Goals as goal
 
 pub returns-in-Err-clause-course : goal.returns-in-Err-clause-course
-returns-in-Err-clause-course g c = λ fetches.
-    takes-unlisted g.S.Source.held g.S.Source.faults g.K.Sink.taken g.K.Sink.faults _ _ _ _ fetches _ cached migrate_course refl c.in-Err.ensures.ended
+returns-in-Err-clause-course g c = c.in-Err.ensures.ended.takes migrate_course cached refl
 
 pub returns-clause-course : goal.returns-clause-course
 returns-clause-course g c = λ fetches.

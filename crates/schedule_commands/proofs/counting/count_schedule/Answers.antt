@@ -1,28 +1,17 @@
-use Rattle.std.proofs.Common.{ap, refl}
-use Rattle.image_builder.specs.Boot.{booted}
-use Rattle.map_cache.specs.Kept.{nothing}
-use Rattle.courses.specs.Course.{cached}
-use Rattle.courses.proofs.Running.{concludes-causes, concludes-done, concludes-memory, concludes-usage}
-use Rattle.schedule_commands.specs.Finished.{runner_of}
-use Rattle.schedule_commands.specs.declared.command.ScheduleCommand.TheVariants.{Check}
-use Rattle.schedule_commands.proofs.Concluding.{comes-count, counted-harts, counted-reasons, sure-count}
+use Rattle.std.proofs.Common.{◌∙◌, ap, refl, sym}
+use Rattle.schedule_commands.proofs.Counts.{count-ended, count-stopped, counted-harts}
 use Rattle.schedule_commands.proofs.counting.count_schedule.Goals as goal
 
-pub returns : goal.returns
-returns g c = λ fetches.
-    let k = g.K.Sink in
-    let s = booted c.args.listing.now in
-    let harts = ap (λ sizes. sizes.harts) c.sizes-harts.ensures.value in
+pub returns-in-Ok : goal.returns-in-Ok
+returns-in-Ok g c = λ fetches.
     let l = c.count_lines-answer.ensures in
-    let counted = counted-harts _ _ _ _ _ _ _ harts l.counted in
-    let e = c.conclude_count.ensures s fetches in
-    record {
-      comes = comes-count k.taken k.faults s _ _ _ _ _ _ _ fetches _ _ cached refl counted e;
-      end = λ done.
-          let ended = concludes-done k.taken k.faults (runner_of Check) s nothing _ _ fetches fetches _ _ e done in
-          l.told c.requires.told (l.end ended.counts ended.is);
-      sure = sure-count k.taken k.faults s _ _ _ _ _ _ _ fetches _ _ cached refl counted e;
-      usage = concludes-usage k.taken k.faults (runner_of Check) s nothing _ _ fetches fetches _ _ e;
-      memory = concludes-memory k.taken k.faults (runner_of Check) s nothing _ _ fetches fetches _ _ e;
-      causes = concludes-causes k.taken k.faults (runner_of Check) s nothing _ _ fetches fetches _ _ _ _ _ (counted-reasons _ _ _ _ l.counted.written l.reasons) e;
-    }
+    let counted = counted-harts _ _ _ _ _ _ _ (ap (λ sizes. sizes.harts) c.sizes-harts.ensures.value) l.counted in
+    count-ended g.S.Source.held g.S.Source.faults g.K.Sink.taken g.K.Sink.faults c.args.lines.now _ _ _ _ _ fetches _ _ c.count_lines-answer.result counted l.reasons c.in-Ok.counts
+    (sym c.counts_or_exit.ensures ∙ c.in-Ok.is) c.count.ensures (λ is. l.told c.requires.told (l.end c.in-Ok.counts is))
+
+pub returns-in-Err : goal.returns-in-Err
+returns-in-Err g c = λ fetches.
+    let l = c.count_lines-answer.ensures in
+    let counted = counted-harts _ _ _ _ _ _ _ (ap (λ sizes. sizes.harts) c.sizes-harts.ensures.value) l.counted in
+    count-stopped g.S.Source.held g.S.Source.faults g.K.Sink.taken g.K.Sink.faults c.args.lines.now _ _ _ _ _ fetches _ _ c.count_lines-answer.result counted l.reasons c.in-Err.exit
+    c.count_lines-answer.result refl (sym c.counts_or_exit.ensures ∙ c.in-Err.is) c.conclude.ensures

@@ -1,28 +1,20 @@
-use Rattle.kernel_core.specs.State.{state_of}
+use Rattle.std.proofs.Common.{◌∙◌, refl, sym, arith}
 use Rattle.shared_leaves.specs.Cache.{kept_of}
 use Rattle.shared_leaves.specs.Kept.{cost_of, kept_after, kept_without, nothing}
-use Rattle.courses.proofs.Running.{comes-run, concludes-causes, concludes-done, concludes-memory, concludes-usage, sure-run}
+use Rattle.courses.proofs.Running.{run-ended, run-stopped}
 use Rattle.share_command.specs.Share.{share_runner}
 use Rattle.share_command.proofs.input.answer_lines.Goals as goal
 
-pub returns : goal.returns
-returns g c =
-    let taken = g.K.Sink.taken in
-    let faults = g.K.Sink.faults in
-    let s = state_of c.replay-replayed.new.machine in
-    let kept = kept_of c.replay-replayed.new.machine.translator in
+pub returns-in-Ok : goal.returns-in-Ok
+returns-in-Ok g c =
     let l = c.replay-replayed.ensures in
-    record {
-      comes =
-          comes-run kept_of cost_of kept_after kept_without nothing share_runner c.args.machine.now c.replay-replayed.new.machine c.requires.nothing
-          taken faults _ _ _ _ _ _ _ _ _ _ _ _ l.replays (c.conclude.ensures _);
-      end = λ done.
-          let ended = concludes-done taken faults share_runner s kept _ _ 0 0 _ _ (c.conclude.ensures 0) done in
-          l.told c.requires.told (l.end ended.counts ended.is);
-      sure =
-          sure-run kept_of cost_of kept_after kept_without nothing share_runner c.args.machine.now c.replay-replayed.new.machine c.requires.nothing
-          taken faults _ _ _ _ _ _ _ _ _ _ _ _ l.replays (c.conclude.ensures _);
-      usage = concludes-usage taken faults share_runner s kept _ _ 0 0 _ _ (c.conclude.ensures 0);
-      memory = concludes-memory taken faults share_runner s kept _ _ 0 0 _ _ (c.conclude.ensures 0);
-      causes = concludes-causes taken faults share_runner s kept _ _ 0 0 _ _ _ _ _ l.reasons (c.conclude.ensures 0);
-    }
+    run-ended kept_of cost_of kept_after kept_without nothing share_runner c.args.machine.now c.replay-replayed.new.machine c.requires.nothing
+    g.S.Source.held g.S.Source.faults g.K.Sink.taken g.K.Sink.faults _ _ _ _ _ _ _ _ _ l.replays l.reasons (λ counts is. l.told c.requires.told (l.end counts is)) _ _ _ c.in-Ok._counts
+    (sym c.counts_or_exit.ensures ∙ c.in-Ok.is) c.tell.ensures (record { whole = λ given. omega arith; most = omega arith })
+
+pub returns-in-Err : goal.returns-in-Err
+returns-in-Err g c =
+    let l = c.replay-replayed.ensures in
+    run-stopped kept_of cost_of kept_after kept_without nothing share_runner c.args.machine.now c.replay-replayed.new.machine c.requires.nothing
+    g.S.Source.held g.S.Source.faults g.K.Sink.taken g.K.Sink.faults _ _ _ _ _ _ _ _ _ l.replays l.reasons (λ counts is. l.told c.requires.told (l.end counts is)) _ _ _ c.in-Err.exit
+    (sym c.counts_or_exit.ensures ∙ c.in-Err.is) c.conclude.ensures refl

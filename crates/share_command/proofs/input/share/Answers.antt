@@ -1,6 +1,7 @@
-use Rattle.std.proofs.Common.{◌∙◌, ap, refl}
+use Rattle.std.proofs.Common.{◌≡◌, ◌∙◌, true, false, ap, refl, sym}
 use Rattle.shared_leaves.specs.Cache.{kept_of}
-use Rattle.courses.proofs.Taken.{takes-listing, takes-same, takes-unlisted}
+use Rattle.courses.proofs.Taken.{takes-listing, takes-same}
+use Rattle.courses.specs.Exit.{is_finished}
 use Rattle.share_command.specs.Share.{share_course, shared_fetched}
 use Rattle.share_command.proofs.Behind.{of-listing}
 use Rattle.share_command.proofs.Few.{call-bounded, call-few, unspent-bounded}
@@ -11,7 +12,7 @@ answer_lines-requires-clause-nothing g c = ap kept_of c.in-Ok-boot.ensures.trans
 
 pub returns-in-Err-clause-course : goal.returns-in-Err-clause-course
 returns-in-Err-clause-course g c =
-    takes-unlisted g.S.Source.held g.S.Source.faults g.K.Sink.taken g.K.Sink.faults _ _ _ _ _ _ shared_fetched share_course refl c.in-Err.ensures.ended
+    c.in-Err.ensures.ended.takes share_course shared_fetched refl _
 
 pub returns-clause-course : goal.returns-clause-course
 returns-clause-course g c =
@@ -24,7 +25,7 @@ returns-clause-course g c =
 -- ---- frames and bounds
 
 pub returns-in-Err-clause-fewer : goal.returns-in-Err-clause-fewer
-returns-in-Err-clause-fewer g c = λ done. absurd (c.in-Err.ensures.ended.done done)
+returns-in-Err-clause-fewer g c = λ done. let bad : false ≡ true = sym c.in-Err.ensures.ended.unfinished ∙ ap is_finished done in cc
 
 pub returns-in-Err-clause-bounded : goal.returns-in-Err-clause-bounded
 returns-in-Err-clause-bounded g c = unspent-bounded _ _
