@@ -1,8 +1,10 @@
 //! The program: standard input, standard output and the words after the program's name.
 #![tactic(auto)]
 
-ghost use Rattle.std.specs.Prelude.{◌≡◌, map, string_bytes};
+ghost use Rattle.std.specs.Prelude.{◌≡◌, map, string_bytes, IfSome, Some};
+ghost use Rattle.confine_command.specs.Decided.{IsDecided};
 ghost use Rattle.coyotos_words.specs.Command.{command_of};
+ghost use Rattle.coyotos_words.specs.declared.command.Command.TheVariants.{Confine};
 ghost use Rattle.courses.specs.Flush.{AnswersFor, GoesOutFor};
 ghost use Rattle.coyotos_cli.specs.Program.{out, sure};
 ghost use Rattle.coyotos_cli.specs.Contract.{bytes_for, HasForm, ReadsInput};
@@ -27,10 +29,10 @@ fn main(rt: HostRuntime) -> ExitCode {
         Err(_) => Ok(Vec::new(rt.alloc())),
     };
     let Ok(words) = words else {
-        return ExitCode::from(Exit::OutOfMemory.status());
+        return Exit::OutOfMemory.code();
     };
     let Ok(writer) = BufWriter::new(rt.alloc(), io::writer(&rt)) else {
-        return ExitCode::from(Exit::OutOfMemory.status());
+        return Exit::OutOfMemory.code();
     };
     let mut input = ReadSource::new(rt.reader());
     let mut output = WriteSink::new(writer);
@@ -41,7 +43,7 @@ fn main(rt: HostRuntime) -> ExitCode {
         &mut output,
         Permit::new(&rt),
     );
-    ExitCode::from(exit.status())
+    exit.code()
 }
 
 /// Does what the words ask for, and then flushes the output.
@@ -58,6 +60,11 @@ fn run_and_flush<S: Source, W: Write + Drop, L: Ledger>(
     ensures output { let words = map string_bytes words.now in
         GoesOutFor S.held S.faults W.contents input.old input.new output.old output.new result
         (bytes_for (command_of words)) (out words) (sure words) }
+
+    // What `confine` writes of a cut is so of the machine that the listing boots.
+    ensures decided { let words = map string_bytes words.now in command_of words ≡ Some Confine →
+        result ≡ Exit.Done → IfSome (S.held input.old) (λ bytes.
+        IsDecided bytes (out words bytes).text) }
 
     // How much of the input is read, and to which words Usage is answered.
     ensures reads { ReadsInput S.held (map string_bytes words.now) input.old input.new result }
@@ -80,6 +87,9 @@ fn counted<S: Source, K: Sink, L: Ledger>(
     ensures answers { let words = map string_bytes words.now in
         AnswersFor S.held S.faults K.taken K.faults input.old input.new output.old output.new result
         (bytes_for (command_of words)) (out words) (sure words) }
+    ensures decided { let words = map string_bytes words.now in command_of words ≡ Some Confine →
+        result ≡ Exit.Done → IfSome (S.held input.old) (λ bytes.
+        IsDecided bytes (out words bytes).text) }
     ensures reads { ReadsInput S.held (map string_bytes words.now) input.old input.new result }
     ensures form { HasForm (map string_bytes words.now) result }
 {

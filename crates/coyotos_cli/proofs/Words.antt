@@ -8,7 +8,7 @@ use Rattle.generated_text.specs.Text.{make_text}
 use Rattle.kernel_core.specs.Outcome.{Touch}
 use Rattle.coyotos_words.specs.Command.{command_of, is_dashed, is_help}
 use Rattle.coyotos_words.specs.declared.command.Command.{Command}
-use Rattle.coyotos_words.specs.declared.command.Command.TheVariants.{Help, Check, Run, Trace, Tables, Walk, Make, Pack, Unpack, Migrate, Confine, Share, Back}
+use Rattle.coyotos_words.specs.declared.command.Command.TheVariants.{Help, Check, Schedule, Make, Pack, Unpack, Migrate, Confine, Share, Back}
 use Rattle.coyotos_words.proofs.Dashed.{bytes_dashed}
 use Rattle.coyotos_cli.specs.Command.{asks_run, count_of, has_cache, tells_fetches}
 use Rattle.courses.specs.Exit.{status_of}
@@ -22,7 +22,9 @@ use Rattle.schedule_commands.specs.declared.command.ScheduleCommand.{ScheduleCom
 use Rattle.schedule_commands.specs.declared.command.ScheduleCommand.TheVariants as schedule
 use Rattle.schedule_commands.proofs.Bounded.{schedule-sound}
 use Rattle.image_builder.specs.Boot.{booted}
-use Rattle.schedule_commands.specs.Finished.{course_of, schedule_course}
+use Rattle.schedule_commands.specs.Finished.{check_course, counted, course_of, schedule_course}
+use Rattle.schedule_commands.proofs.Behind.{check-entries, check-sound}
+use Rattle.schedule_replay.specs.Replay.{count_answer}
 use Rattle.confine_command.specs.Confine.{confine_course}
 use Rattle.courses.specs.Migrated.{migrate_course}
 use Rattle.migrate_command.specs.Same.{Says, SaySame}
@@ -55,6 +57,11 @@ count-cached _ has = refl
 -- and `share` has none
 pub cache-shared : {X : Type 0} (command : Command) → command ≡ Share → has_cache (Some command) ≡ true → X
 cache-shared command is has = let bad : false ≡ true = ap (λ c. has_cache (Some c)) (sym is) ∙ has in cc
+
+-- a count has no entries
+pub known-check : (held : Option (List ℕ)) → IfSome held (λ bytes. HasEntries (lines_course check_course (parts_of bytes)))
+known-check None = tt
+known-check (Some bytes) = lines-entries check_course check-entries (parts_of bytes)
 
 -- an image has no entries, and neither has its text
 pub known-pack : (held : Option (List ℕ)) → IfSome held (λ bytes. HasEntries (lines_course pack_course (parts_of bytes)))
@@ -95,11 +102,8 @@ same-scheduled bytes text same command = same-behind bytes text same (schedule_c
 -- and so for each command that runs or counts them
 pub same-course : SameCourseLaw
 same-course bytes text same Help asks = refl
-same-course bytes text same Check asks = same-scheduled bytes text same schedule.Check
-same-course bytes text same Run asks = same-scheduled bytes text same schedule.Run
-same-course bytes text same Trace asks = same-scheduled bytes text same schedule.Trace
-same-course bytes text same Tables asks = same-scheduled bytes text same schedule.Tables
-same-course bytes text same (Walk process kind address) asks = same-scheduled bytes text same (schedule.Walk process kind address)
+same-course bytes text same Check asks = same-behind bytes text same check_course (λ all. ends_in (counted (count_answer all))) (λ last rest. refl)
+same-course bytes text same (Schedule command) asks = same-scheduled bytes text same (schedule.Of command)
 same-course bytes text same (Make number summary) asks = refl
 same-course bytes text same Pack asks = cc
 same-course bytes text same Unpack asks = cc
@@ -126,11 +130,8 @@ over-sound command parts = lines-sound (schedule_course command) (schedule-sound
 -- and so is what any comes to that runs over a mapping cache
 command-sound : (command : Command) (input : Input) → has_cache (Some command) ≡ true → IsSound (command_course command input)
 command-sound Help input has = ends-sound _
-command-sound Check input has = over-sound schedule.Check input.lines
-command-sound Run input has = over-sound schedule.Run input.lines
-command-sound Trace input has = over-sound schedule.Trace input.lines
-command-sound Tables input has = over-sound schedule.Tables input.lines
-command-sound (Walk process kind address) input has = over-sound (schedule.Walk process kind address) input.lines
+command-sound Check input has = lines-sound check_course check-sound input.lines
+command-sound (Schedule command) input has = over-sound (schedule.Of command) input.lines
 command-sound (Make number false) input has = ends-sound _
 command-sound (Make number true) input has = over-sound schedule.Summary (parts_of (make_text number))
 command-sound Pack input has = lines-sound pack_course (λ listing last rest. ends-sound _) input.lines

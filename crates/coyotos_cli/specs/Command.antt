@@ -1,7 +1,7 @@
 -- What commands ask for. The forms of the words are those of `coyotos_words`.
 use Rattle.std.specs.Prelude.{ℕ, Bool, true, false, if◌then◌else◌, List, Option, Some, None}
 use Rattle.coyotos_words.specs.declared.command.Command.{Command}
-use Rattle.coyotos_words.specs.declared.command.Command.TheVariants.{Help, Check, Run, Trace, Tables, Walk, Make, Pack, Unpack, Migrate, Confine, Share, Back}
+use Rattle.coyotos_words.specs.declared.command.Command.TheVariants.{Help, Check, Schedule, Make, Pack, Unpack, Migrate, Confine, Share, Back}
 use Rattle.kernel_core.specs.Outcome.{Touch}
 use Rattle.courses.specs.Course.{cached}
 use Rattle.share_command.specs.Share.{shared_fetched}
@@ -21,10 +21,7 @@ pub record Asks : Type 0 where
 abbrev pub asks_for : Command → Asks
 asks_for Help = record { input = false; run = false; schedule = true; tells = true; cache = true }
 asks_for Check = record { input = true; run = false; schedule = true; tells = true; cache = true }
-asks_for Run = record { input = true; run = true; schedule = true; tells = true; cache = true }
-asks_for Trace = record { input = true; run = true; schedule = true; tells = true; cache = true }
-asks_for Tables = record { input = true; run = true; schedule = true; tells = true; cache = true }
-asks_for (Walk process kind address) = record { input = true; run = true; schedule = true; tells = true; cache = true }
+asks_for (Schedule command) = record { input = true; run = true; schedule = true; tells = true; cache = true }
 asks_for (Make number summary) = record { input = false; run = summary; schedule = true; tells = true; cache = true }
 asks_for Pack = record { input = true; run = false; schedule = false; tells = true; cache = true }
 asks_for Unpack = record { input = true; run = false; schedule = false; tells = true; cache = true }
@@ -36,11 +33,6 @@ asks_for (Back number) = record { input = true; run = true; schedule = true; tel
 -- whether a command asks for input
 abbrev pub asks_input : Command → Bool
 asks_input command = (asks_for command).input
-
--- whether the input is read for these words; for words of no form it is not
-abbrev pub reads_input : Option Command → Bool
-reads_input None = false
-reads_input (Some command) = asks_input command
 
 -- whether words ask for a run or for a look at all GPTs; others fetch nothing
 abbrev pub asks_run : Option Command → Bool

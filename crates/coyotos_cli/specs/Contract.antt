@@ -1,42 +1,34 @@
 -- What one call of the program promises, in the words that its clauses cite.
-use Rattle.std.specs.Prelude.{◌≡◌, ◌≢◌, ◌⊎◌, ◌+◌, ℕ, true, false, if◌then◌else◌, List, [], Option, Some, None, IfSome}
-use Rattle.std.specs.List.{list_any}
-use Rattle.std.specs.Io.KnownBytes.{IsAtEnd}
-use Rattle.coyotos_words.specs.Command.{command_of, is_dashed}
-use Rattle.coyotos_cli.specs.Command.{count_of, has_cache, reads_input, asks_run, tells_fetches}
+use Rattle.std.specs.Prelude.{◌≡◌, ◌+◌, ℕ, true, false, List, Option, Some, IfSome}
+use Rattle.coyotos_words.specs.Command.{command_of}
+use Rattle.coyotos_cli.specs.Command.{count_of, has_cache, asks_run, tells_fetches}
 use Rattle.courses.specs.Course.{Course, course_fetches, course_output}
 use Rattle.courses.specs.Ending.{Outputs, Fetches}
 use Rattle.courses.specs.Bounds.{IsBounded}
 use Rattle.share_command.specs.Few.{IsSharedBounded, TellsFew}
 use Rattle.coyotos_words.specs.declared.command.Command.TheVariants.{Share}
 use Rattle.courses.specs.Sure.{WritesSure}
-use Rattle.coyotos_cli.specs.Program.{out, fetched, whole_course}
+use Rattle.courses.specs.Program as programs
+use Rattle.coyotos_cli.specs.Program.{coyotos, out, fetched, whole_course}
 use Rattle.coyotos_words.specs.declared.command.Command.{Command}
 use Rattle.courses.specs.declared.exit.Exit.{Exit}
-use Rattle.courses.specs.declared.exit.Exit.TheVariants.{Done, Usage, ReadFault, WriteFault, OutOfMemory}
+use Rattle.courses.specs.declared.exit.Exit.TheVariants.{Done, OutOfMemory}
 
--- the bytes that are read for words, where they are known: those that the source tells, and none where it is not read
+-- the bytes that are read for words, where they are known
 abbrev pub bytes_for : Option Command → Option (List ℕ) → Option (List ℕ)
-bytes_for asked held = if reads_input asked then held else Some []
+bytes_for asked held = programs.bytes_for coyotos asked held
+
+-- how words are answered, and how much of the input is read for them
+abbrev pub HasForm : List (List ℕ) → Exit → Type 0
+HasForm words exit = programs.HasForm coyotos words exit
+
+abbrev pub ReadsInput : {S : Type 0} → (S → Option (List ℕ)) → List (List ℕ) → S → S → Exit → Type 0
+ReadsInput held words old new exit = programs.ReadsInput coyotos held words old new exit
 
 -- what was written and how it ended is what the words and the bytes that are read for them come to
 pub record Answers (words : List (List ℕ)) (held taken taken' : Option (List ℕ)) (exit : Exit) : Type 0 where
   pub output : IfSome (bytes_for (command_of words) held) (λ bytes. Outputs taken taken' exit (out words bytes))
   pub unwritten : exit ≡ OutOfMemory → taken' ≡ taken
-
--- words of no form are answered as such, and no others, but where there was no memory to read them; a word that begins
--- with `-` is answered without any
-pub record HasForm (words : List (List ℕ)) (exit : Exit) : Type 0 where
-  pub usage : exit ≡ Usage → command_of words ≡ None
-  pub no_form : command_of words ≡ None → (exit ≡ Usage) ⊎ ((exit ≡ WriteFault) ⊎ (exit ≡ OutOfMemory))
-  pub early : list_any is_dashed words ≡ true → exit ≢ OutOfMemory
-
--- where all was done the input was read to its end, and where it is not read the source stays as it was and no reading
--- fails
-pub record ReadsInput {S : Type 0} (held : S → Option (List ℕ)) (words : List (List ℕ)) (old new : S) (exit : Exit) : Type 0 where
-  pub end : exit ≡ Done → reads_input (command_of words) ≡ true → IsAtEnd (held new)
-  pub unread : reads_input (command_of words) ≡ false → new ≡ old
-  pub unfailed : reads_input (command_of words) ≡ false → exit ≢ ReadFault
 
 -- what a call wrote and how it ended is what it comes to, and so is how many slots it fetched, where their number is told
 pub record ComesFor (asked : Option Command) (taken taken' : Option (List ℕ)) (fetches fetches' : ℕ) (exit : Exit) (course : Course) : Type 0 where

@@ -9,6 +9,7 @@ ghost use Rattle.coyotos_cli.specs.Input.{read_input, whole_input};
 ghost use Rattle.coyotos_cli.specs.Program.{command_course, usage_text};
 ghost use Rattle.courses.specs.Course.{HasEntries, course_output};
 ghost use Rattle.courses.specs.Ending.{HasCauses, IsGiven, EndsIn};
+ghost use Rattle.courses.specs.Exit.{is_finished};
 ghost use Rattle.image_commands.specs.Same.{IsImageOf};
 ghost use Rattle.migrate_command.specs.Same.{IsMigrated};
 ghost use Rattle.share_command.specs.Few.{IsSharedBounded, TellsFew};
@@ -21,7 +22,7 @@ use coy_io::{Sink, Source};
 use coyotos_words::Command;
 use image_commands::{answer_pack, answer_unpack};
 use migrate_command::migrate;
-use schedule_commands::{ScheduleCommand, answer_schedule};
+use schedule_commands::{ScheduleCommand, answer_schedule, check};
 use share_command::share;
 use std::alloc::Global;
 use std::sync::ledger::Ledger;
@@ -39,7 +40,7 @@ pub(crate) fn answer<S: Source, K: Sink, L: Ledger>(
     ensures comes { IfSome (bytes_for (Some command) (S.held input.old)) (λ bytes.
         ComesFor (Some command) (K.taken output.old) (K.taken output.new)
         fetches.old fetches.new result (command_course command (whole_input bytes))) }
-    ensures end { result ≡ Exit.Done → asks_input command ≡ true → IsAtEnd (S.held input.new) }
+    ensures end { is_finished result ≡ true → asks_input command ≡ true → IsAtEnd (S.held input.new) }
     ensures unread { asks_input command ≡ false → input.new ≡ input.old }
     ensures unfailed { asks_input command ≡ false → result ≢ Exit.ReadFault }
     ensures sure { result ≡ Exit.ReadFault →
@@ -85,25 +86,10 @@ pub(crate) fn answer<S: Source, K: Sink, L: Ledger>(
 {
     match command {
         Command::Help => usage(output, Exit::Done),
-        Command::Check => answer_schedule(alloc, ScheduleCommand::Check, input, output, fetches),
-        Command::Run => answer_schedule(alloc, ScheduleCommand::Run, input, output, fetches),
-        Command::Trace => answer_schedule(alloc, ScheduleCommand::Trace, input, output, fetches),
-        Command::Tables => answer_schedule(alloc, ScheduleCommand::Tables, input, output, fetches),
-        Command::Walk {
-            process,
-            kind,
-            address,
-        } => answer_schedule(
-            alloc,
-            ScheduleCommand::Walk {
-                process,
-                kind,
-                address,
-            },
-            input,
-            output,
-            fetches,
-        ),
+        Command::Check => check(alloc, input, output),
+        Command::Schedule(command) => {
+            answer_schedule(alloc, ScheduleCommand::Of(command), input, output, fetches)
+        }
         Command::Make { number, summary } => make(alloc, number, summary, output, fetches),
         Command::Pack => answer_pack(alloc, input, output),
         Command::Unpack => answer_unpack(alloc, input, output),

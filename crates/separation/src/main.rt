@@ -1,12 +1,10 @@
 //! The program `separation`: standard input, standard output and the words after the program's name.
 #![tactic(auto)]
 
-ghost use Rattle.std.specs.Prelude.{◌≡◌, IfSome, map, string_bytes};
+ghost use Rattle.std.specs.Prelude.{◌≡◌, map, string_bytes};
 ghost use Rattle.courses.specs.Flush.{AnswersFor, GoesOutFor};
-ghost use Rattle.separation_program.specs.Judged.{HasJudged, judged};
-ghost use Rattle.separation_program.specs.Program.{asked_by, bytes_for, out, sure, HasForm, ReadsInput};
-ghost use Rattle.separation_program.specs.Theorem.{IsSeparated, IsViolated};
-ghost use Rattle.separation_program.specs.declared.words.Asked.TheVariants.{Judge};
+ghost use Rattle.courses.specs.Program.{bytes_for, out, sure, HasForm, ReadsInput};
+ghost use Rattle.separation_program.specs.Program.{asked_by, separation, Judges};
 ghost use Rattle.steps.specs.Permit.{permit_for};
 
 use courses::flush_after;
@@ -28,10 +26,10 @@ fn main(rt: HostRuntime) -> ExitCode {
         Err(_) => one_word(rt.alloc()),
     };
     let Ok(words) = words else {
-        return ExitCode::from(Exit::OutOfMemory.status());
+        return Exit::OutOfMemory.code();
     };
     let Ok(writer) = BufWriter::new(rt.alloc(), io::writer(&rt)) else {
-        return ExitCode::from(Exit::OutOfMemory.status());
+        return Exit::OutOfMemory.code();
     };
     let mut input = ReadSource::new(rt.reader());
     let mut output = WriteSink::new(writer);
@@ -42,7 +40,7 @@ fn main(rt: HostRuntime) -> ExitCode {
         &mut output,
         Permit::new(&rt),
     );
-    ExitCode::from(exit.status())
+    exit.code()
 }
 
 /// One word, which is empty.
@@ -68,17 +66,14 @@ fn run_and_flush<S: Source, W: Write + Drop, L: Ledger>(
     // is told before the last line.
     ensures output { let words = map string_bytes words.now in
         GoesOutFor S.held S.faults W.contents input.old input.new output.old output.new result
-        (bytes_for (asked_by words)) (out words) (sure words) }
+        (bytes_for separation (asked_by words)) (out separation words) (sure separation words) }
 
     // The theorem: where it told that the policy holds, so it does of the state that was judged.
-    ensures separated { asked_by (map string_bytes words.now) ≡ Some Judge → result ≡ Exit.Done →
-        IfSome (S.held input.old) (λ bytes. HasJudged IsSeparated (judged bytes)) }
-    ensures violated { result ≡ Exit.Crossings →
-        IfSome (S.held input.old) (λ bytes. HasJudged IsViolated (judged bytes)) }
+    ensures judges { Judges (map string_bytes words.now) (S.held input.old) result }
 
     // How much of the input is read, and to which words Usage is answered.
-    ensures reads { ReadsInput S.held (map string_bytes words.now) input.old input.new result }
-    ensures form { HasForm (map string_bytes words.now) result }
+    ensures reads { ReadsInput separation S.held (map string_bytes words.now) input.old input.new result }
+    ensures form { HasForm separation (map string_bytes words.now) result }
 {
     let exit = counted::<_, _, L>(alloc, words, input, output, permit);
     flush_after(exit, output)
@@ -96,13 +91,10 @@ fn counted<S: Source, K: Sink, L: Ledger>(
 
     ensures answers { let words = map string_bytes words.now in
         AnswersFor S.held S.faults K.taken K.faults input.old input.new output.old output.new result
-        (bytes_for (asked_by words)) (out words) (sure words) }
-    ensures separated { asked_by (map string_bytes words.now) ≡ Some Judge → result ≡ Exit.Done →
-        IfSome (S.held input.old) (λ bytes. HasJudged IsSeparated (judged bytes)) }
-    ensures violated { result ≡ Exit.Crossings →
-        IfSome (S.held input.old) (λ bytes. HasJudged IsViolated (judged bytes)) }
-    ensures reads { ReadsInput S.held (map string_bytes words.now) input.old input.new result }
-    ensures form { HasForm (map string_bytes words.now) result }
+        (bytes_for separation (asked_by words)) (out separation words) (sure separation words) }
+    ensures judges { Judges (map string_bytes words.now) (S.held input.old) result }
+    ensures reads { ReadsInput separation S.held (map string_bytes words.now) input.old input.new result }
+    ensures form { HasForm separation (map string_bytes words.now) result }
 {
     let mut fetches = Steps::<L>::new(permit);
     separation(alloc, words, input, output, &mut fetches)

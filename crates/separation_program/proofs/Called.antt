@@ -1,97 +1,159 @@
--- From what was judged of the lines behind a listing to what a call did with its input.
-use Rattle.std.proofs.Common.{◌≡◌, ◌≢◌, ◌+◌, [], ℕ, List, Option, Some, None, Result, Ok, Err, IfSome, true, false, refl, sym, ap, subst, arith}
-use Rattle.std.specs.Io.KnownBytes.{Appends, Keeps}
-use Rattle.std.proofs.KnownBytes.{Appends-nil, Keeps-refl}
+-- From what was judged of the lines behind a listing, to what a call judged of its input.
+use Rattle.std.proofs.Common.{◌≡◌, ◌≢◌, ◌⊎◌, ◌+◌, ◌∙◌, [], ◌∷◌, ℕ, List, Bool, if◌then◌else◌, bytes_eq, codes, true, false, Option, Some, None, IfSome, Result, Ok, Err, inl, inr, refl, sym, ap, subst}
 use Rattle.coy_io.specs.Lines.{Part, parts_of, whole_lines}
 use Rattle.coy_io.specs.Reader.{Reader, ahead, new_reader}
+use Rattle.confinement.specs.Acts.{system_of}
 use Rattle.image_builder.specs.Boot.{booted}
+use Rattle.kernel_core.specs.Run.{run_state}
 use Rattle.kernel_core.specs.State.{State}
-use Rattle.listing_read.specs.Listing.{IsListed}
-use Rattle.listing_read.specs.Reads.{GivesListing}
+use Rattle.listing_read.specs.Listing.{Listed, Good, Refused, Past, IsListed, listing_of}
 use Rattle.listing_read.specs.Statement.{ListingValue}
 use Rattle.listing_read.specs.declared.place.Place.TheVariants.{Header}
 use Rattle.separation_policy.specs.Making.{first_policy}
-use Rattle.separation_policy.specs.Policy.{PolicyValue}
-use Rattle.schedule_replay.specs.Scheduled.{OnParts}
-use Rattle.courses.specs.Course.{cached, course_output}
-use Rattle.courses.specs.Ending.{Output, Outputs}
-use Rattle.courses.specs.Listed.{lines_course}
+use Rattle.separation_policy.specs.Policy.{PolicyHolds, PolicyValue}
+use Rattle.schedule_replay.specs.Scheduled.{AtEnd, AtFault, AtLimit, Ending, OnParts, Scheduled, scheduled}
+use Rattle.courses.specs.Course.{ComesTo, Course, cached, course_output, ends_in}
+use Rattle.coy_io.specs.Causes.{Rose}
+use Rattle.courses.specs.Ending.{Completes, HasCauses, IsGiven, Outputs}
+use Rattle.courses.specs.Exit.{is_finished}
+use Rattle.courses.specs.Flush.{exit_after}
+use Rattle.courses.specs.Listed.{lines_course, listed_course}
+use Rattle.courses.specs.Program.{HasForm, asked_course, bytes_for, sure, whole_course}
 use Rattle.courses.specs.Sure.{WritesSure}
+use Rattle.courses.proofs.Endings.{completes}
 use Rattle.courses.specs.declared.exit.Exit.{Exit}
-use Rattle.courses.specs.declared.exit.Exit.TheVariants.{Done, Crossings, ReadFault, WriteFault, OutOfMemory}
-use Rattle.courses.proofs.Bytes.{on_bytes, on_listed, sure-going}
-use Rattle.courses.proofs.Lasts.{exits-differ}
-use Rattle.separation_program.specs.Judged.{HasJudged, Judged, Judges, OutputsOr, exit_of, is_judged, judged, judged_behind, judged_by, separation_course, stated_output}
-use Rattle.separation_program.specs.Stated.{stated}
-use Rattle.separation_program.specs.Theorem.{IsSeparated, IsViolated}
+use Rattle.courses.specs.declared.exit.Exit.TheVariants.{Done, Crossings, ReadFault, Usage}
+use Rattle.courses.proofs.Bytes.{on_listed}
+use Rattle.separation_program.specs.Judged.{HasJudged, Judged, ended_output, judged, judged_at, judged_behind, judged_by, separation_course, stated_output}
+use Rattle.separation_program.specs.Program.{Judges, asked_by, is_early, separation}
+use Rattle.separation_program.specs.declared.words.Asked.{Asked}
+use Rattle.separation_program.specs.Stated.{PastEnd, RefusedAt, Stated, States, stated}
+use Rattle.separation_program.specs.Theorem.{IsExact, IsSeparated, IsViolated, TellsOf}
+use Rattle.separation_program.specs.declared.words.Asked.TheVariants.{Help, Judge}
+use Rattle.separation_program.proofs.Verdicts.{told-finished}
 
--- an exit that is neither of the two judged nothing
-pub not_judged-exit : (exit : Exit) → exit ≢ Done → exit ≢ Crossings → is_judged exit ≡ true → ⊥
-not_judged-exit Done done crossed is = done refl
-not_judged-exit Crossings done crossed is = crossed refl
-not_judged-exit _ done crossed is = cc
-
--- ---- the exit of a part that may want memory
-
-module _ {E : Type 0} where
-  outputs-exit : (old new : Option (List ℕ)) (result : Result Exit E) (o : Output) → OutputsOr old new result o → Outputs old new (exit_of result) o
-  outputs-exit old new (Ok exit) o is = is
-  outputs-exit old new (Err wanting) o same = record {
-    whole = λ given. absurd (given.memory refl);
-    part = λ cut. absurd (exits-differ OutOfMemory WriteFault (λ n. let bad : 6 ≡ 5 = n in omega (arith, bad)) cut);
-    nothing = λ none. subst (Keeps old) (sym same) (Keeps-refl old);
-  }
-
-  -- an exit that is no want of memory was given
-  exit-given : (result : Result Exit E) (exit : Exit) → (OutOfMemory ≡ exit → ⊥) → exit_of result ≡ exit → result ≡ Ok exit
-  exit-given (Ok e) exit other is = ap Ok is
-  exit-given (Err wanting) exit other is = absurd (other is)
-
--- ---- behind a listing
-
-module _ {E : Type 0} (held mid held' taken taken' : Option (List ℕ)) (unread unread' unwritten unwritten' : ℕ) (result : Result Exit E)
-    (first middle reader : Reader) (listing : ListingValue) (s : State) (harts : ℕ) (policy : PolicyValue)
-    (j : Judges middle reader mid held' taken taken' unread unread' unwritten unwritten' result
-    (λ parts. stated_output s harts (stated policy middle.number parts)) (λ parts. judged_by s harts (stated policy middle.number parts)))
+module _ (listing : ListingValue) (last : ℕ) (s : State) (harts : ℕ) (policy : PolicyValue)
     (state : s ≡ booted listing) (sizes : harts ≡ listing.sizes.harts) (start : policy ≡ first_policy listing.sizes) where
-  -- what is so of what is written of its lines is so of what is written of the listing with them
-  output-same : (P : Output → Type 0) → OnParts (ahead middle mid) (λ parts. P (stated_output s harts (stated policy middle.number parts)))
-      → OnParts (ahead middle mid) (λ parts. P (stated_output (booted listing) listing.sizes.harts (stated (first_policy listing.sizes) middle.number parts)))
-  output-same P is = rw (state, sizes, start) at is
+  -- what lines come to on the machine of the listing is what is done with it and them
+  pub of-listing : (parts : List Part) → ends_in (stated_output s harts (stated policy last parts)) ≡ separation_course listing last parts
+  of-listing parts = rw (state, sizes, start) refl
 
-  judged-same : (P : Option Judged → Type 0) → OnParts (ahead middle mid) (λ parts. P (judged_by s harts (stated policy middle.number parts)))
-      → OnParts (ahead middle mid) (λ parts. P (judged_by (booted listing) listing.sizes.harts (stated (first_policy listing.sizes) middle.number parts)))
-  judged-same P is = rw (state, sizes, start) at is
+  -- and what is judged of them is judged of the known bytes
+  pub judged-bytes : (P : PolicyValue → State → Type 0) (held mid : Option (List ℕ)) (first middle : Reader) → middle.number ≡ last → first ≡ new_reader
+      → IsListed Header (first.number + 1) (ahead first held) listing middle.number (ahead middle mid)
+      → OnParts (ahead middle mid) (λ parts. HasJudged P (judged_by s harts (stated policy last parts))) → IfSome held (λ bytes. HasJudged P (judged bytes))
+  judged-bytes P held mid first middle number starts listed is =
+      on_listed held (ahead middle mid) listing last (λ listed. HasJudged P (judged_behind listed))
+      (subst (λ n. IsListed Header 1 (ahead new_reader held) listing n (ahead middle mid)) number
+      (subst (λ r. IsListed Header (r.number + 1) (ahead r held) listing middle.number (ahead middle mid)) starts listed))
+      (on_parts-judged (ahead middle mid) is)
+    where
+      on_parts-judged : (left : Option (List Part)) → OnParts left (λ parts. HasJudged P (judged_by s harts (stated policy last parts)))
+          → OnParts left (λ parts. HasJudged P (judged_by (booted listing) listing.sizes.harts (stated (first_policy listing.sizes) last parts)))
+      on_parts-judged left is = rw (state, sizes, start) at is
 
-  module _ (starts : first ≡ new_reader) (listed : IsListed Header (first.number + 1) (ahead first held) listing middle.number (ahead middle mid)) where
-    pub call-comes : IfSome held (λ bytes. Outputs taken taken' (exit_of result) (course_output (lines_course separation_course (parts_of bytes))))
-    call-comes =
-        on_bytes separation_course held mid first middle listing (λ course. Outputs taken taken' (exit_of result) (course_output course)) starts listed
-        (on_outputs (ahead middle mid) (output-same (OutputsOr taken taken' result) j.comes))
-      where
-        on_outputs : (left : Option (List Part)) → OnParts left (λ parts. OutputsOr taken taken' result (stated_output (booted listing) listing.sizes.harts (stated (first_policy listing.sizes) middle.number parts)))
-            → OnParts left (λ parts. Outputs taken taken' (exit_of result) (course_output (separation_course listing middle.number parts)))
-        on_outputs None is = tt
-        on_outputs (Some parts) is = outputs-exit taken taken' result _ is
+-- ---- the theorem
 
-    judged-bytes : (P : PolicyValue → State → Type 0) → OnParts (ahead middle mid) (λ parts. HasJudged P (judged_by s harts (stated policy middle.number parts)))
-        → IfSome held (λ bytes. HasJudged P (judged bytes))
-    judged-bytes P is =
-        on_listed held (ahead middle mid) listing middle.number (λ listed. HasJudged P (judged_behind listed))
-        (subst (λ r. IsListed Header (r.number + 1) (ahead r held) listing middle.number (ahead middle mid)) starts listed) (judged-same (HasJudged P) is)
+-- what is so by the exit is so of what was judged
+told-of : (P : PolicyValue → State → Type 0) (exit : Exit) (o : Option Judged) → ((policy : PolicyValue) (s : State) → TellsOf exit policy s → P policy s) → HasJudged (TellsOf exit) o → HasJudged P o
+told-of P exit None follows t = t
+told-of P exit (Some j) follows t = follows j.policy j.state t
 
-    pub call-separated : exit_of result ≡ Done → IfSome held (λ bytes. HasJudged IsSeparated (judged bytes))
-    call-separated done = judged-bytes IsSeparated (j.separated (exit-given result Done (exits-differ OutOfMemory Done (λ n. let bad : 6 ≡ 0 = n in omega (arith, bad))) done))
+-- a call that did all ended as done or told crossings
+finished-or : (exit : Exit) → is_finished exit ≡ true → (exit ≡ Done) ⊎ (exit ≡ Crossings)
+finished-or Done done = inl refl
+finished-or Crossings done = inr refl
+finished-or _ done = cc
 
-    pub call-violated : exit_of result ≡ Crossings → IfSome held (λ bytes. HasJudged IsViolated (judged bytes))
-    call-violated done =
-        judged-bytes IsViolated (j.violated (exit-given result Crossings (exits-differ OutOfMemory Crossings (λ n. let bad : 6 ≡ 10 = n in omega (arith, bad))) done))
+exact-told : (exit : Exit) (o : Option Judged) → is_finished exit ≡ true → HasJudged (TellsOf exit) o → IsExact exit o
+exact-told exit None done t = tt
+exact-told exit (Some j) done t = (λ is. (t.separated is).holds, λ holds. by (finished-or exit done) holds)
+  where
+    by : (exit ≡ Done) ⊎ (exit ≡ Crossings) → PolicyHolds j.policy (system_of j.state) → exit ≡ Done
+    by (inl is) holds = is
+    by (inr is) holds = absurd (t.violated is holds)
 
-  pub call-sure : first ≡ new_reader → (middle.ended ≡ false → GivesListing first middle held mid listing) → exit_of result ≡ ReadFault
-      → WritesSure held held' taken taken' (λ bytes. lines_course separation_course (whole_lines [] bytes))
-  call-sure starts given read =
-      let is = exit-given result ReadFault (exits-differ OutOfMemory ReadFault (λ n. let bad : 6 ≡ 4 = n in omega (arith, bad))) read in
-      let f = j.sure is in
-      let goes = rw (state, sizes, start) at f.goes_on in
-      (sure-going separation_course held held' taken taken' 0 0 cached mid first middle reader listing f.given starts (given f.before) f.going f.unfinished f.gives goes
-      (subst (λ t. Appends taken t []) (sym (j.silent is)) (Appends-nil taken)) refl).writes
+-- where not all was done, nothing was judged
+exact-at : (exit : Exit) (policy : PolicyValue) (s : State) (ending : Ending) → is_finished (ended_output policy s ending).exit ≡ false → IsExact exit (judged_at policy s ending)
+exact-at exit policy s AtEnd never = let bad : false ≡ true = sym never ∙ told-finished policy s in cc
+exact-at exit policy s (AtFault line fault) never = tt
+exact-at exit policy s AtLimit never = tt
+
+exact-stated : (exit : Exit) (s : State) (harts : ℕ) (all : Stated) → is_finished (stated_output s harts all).exit ≡ false → IsExact exit (judged_by s harts all)
+exact-stated exit s harts (States policy last rest) never =
+    let all : Scheduled = scheduled harts last rest in exact-at exit policy (run_state s all.events) all.ending never
+exact-stated exit s harts (RefusedAt line fault) never = tt
+exact-stated exit s harts PastEnd never = tt
+
+exact-listed : (exit : Exit) (listed : Listed) → is_finished (listed_course separation_course listed).last.exit ≡ false → IsExact exit (judged_behind listed)
+exact-listed exit (Good listing last rest) never = exact-stated exit (booted listing) listing.sizes.harts (stated (first_policy listing.sizes) last rest) never
+exact-listed exit (Refused line fault) never = tt
+exact-listed exit Past never = tt
+
+-- a call that judged its input
+pub judges-call : (words : List (List ℕ)) (held taken taken' : Option (List ℕ)) (exit : Exit)
+    → IfSome held (λ bytes. ComesTo taken taken' 0 0 exit cached (lines_course separation_course (parts_of bytes)))
+    → (is_finished exit ≡ true → IfSome held (λ bytes. HasJudged (TellsOf exit) (judged bytes))) → Judges words held exit
+judges-call words None taken taken' exit comes tells = record { separated = λ asked done. tt; violated = λ crossed. tt; exactly = λ asked given. tt }
+judges-call words (Some bytes) taken taken' exit comes tells = record {
+  separated = λ asked done. told-of IsSeparated exit (judged bytes) (λ policy s t. t.separated done) (tells (ap is_finished done));
+  violated = λ crossed. told-of IsViolated exit (judged bytes) (λ policy s t. t.violated crossed) (tells (ap is_finished crossed));
+  exactly = λ asked given. by given (is_finished exit) refl;
+}
+  where
+    by : IsGiven exit → (b : Bool) → is_finished exit ≡ b → IsExact exit (judged bytes)
+    by given true is = exact-told exit (judged bytes) is (tells is)
+    by given false is =
+        let own = (comes.output.whole given).0 in
+        exact-listed exit (listing_of Header 1 (parts_of bytes)) (ap is_finished (sym own) ∙ is)
+
+-- one that judged none, since it was not asked to, or ended for want of memory before
+pub judges-none : (words : List (List ℕ)) (held : Option (List ℕ)) (exit : Exit) → exit ≢ Crossings → (asked_by words ≡ Some Judge → ⊥) → Judges words held exit
+judges-none words held exit uncrossed other = record {
+  separated = λ asked done. absurd (other asked);
+  violated = λ crossed. absurd (uncrossed crossed);
+  exactly = λ asked given. absurd (other asked);
+}
+
+-- and it is so behind a flush
+pub judges-after : {T E : Type 0} (words : List (List ℕ)) (held : Option (List ℕ)) (exit : Exit) (flushed : Result T E) → Judges words held exit → Judges words held (exit_after exit flushed)
+judges-after words held exit (Ok done) j = j
+judges-after words held ReadFault (Err fault) j = record { separated = λ asked bad. cc; violated = λ bad. cc; exactly = λ asked given. absurd (given.read refl) }
+judges-after words held _ (Err fault) j = record { separated = λ asked bad. cc; violated = λ bad. cc; exactly = λ asked given. absurd (given.write refl) }
+
+-- ---- words
+
+-- what is so of what is asked for is so of the words that ask for it
+pub known-words : (P : Course → Type 0) (words : List (List ℕ)) (asked : Option Asked) → asked_by words ≡ asked → (held : Option (List ℕ))
+    → IfSome (bytes_for separation asked held) (λ bytes. P (asked_course separation asked (parts_of bytes)))
+    → IfSome (bytes_for separation (asked_by words) held) (λ bytes. P (whole_course separation words bytes))
+known-words P words asked is held all = subst (λ a. IfSome (bytes_for separation a held) (λ bytes. P (asked_course separation a (parts_of bytes)))) (sym is) all
+
+pub sure-words : (words : List (List ℕ)) → asked_by words ≡ Some Judge → (held held' taken taken' : Option (List ℕ))
+    → WritesSure held held' taken taken' (λ bytes. lines_course separation_course (whole_lines [] bytes)) → WritesSure held held' taken taken' (sure separation words)
+sure-words words is held held' taken taken' w = subst (λ a. WritesSure held held' taken taken' (λ bytes. asked_course separation a (whole_lines [] bytes))) (sym is) w
+
+-- where no fault ended a call, it wrote the whole text, or memory was wanting
+pub completes-known : (known old new : Option (List ℕ)) (unread unread' unwritten unwritten' : ℕ) (exit : Exit) (course : List ℕ → Course)
+    → IfSome known (λ bytes. Outputs old new exit (course_output (course bytes))) → HasCauses unread unread' unwritten unwritten' exit
+    → (Rose unread unread' → ⊥) → (Rose unwritten unwritten' → ⊥) → IfSome known (λ bytes. Completes old new exit (course_output (course bytes)))
+completes-known None old new unread unread' unwritten unwritten' exit course all causes read write = tt
+completes-known (Some bytes) old new unread unread' unwritten unwritten' exit course all causes read write =
+    completes old new exit (course_output (course bytes)) (λ same. read (causes.read same)) (λ same. write (causes.write same)) all
+
+-- words that ask for a judgement are none, so memory may be taken for them
+judge-early : (words : List (List ℕ)) → asked_by words ≡ Some Judge → is_early words ≡ false
+judge-early [] asked = refl
+judge-early (word ∷ []) asked = by (bytes_eq word (codes "--help")) asked
+  where
+    by : (b : Bool) → (if b then Some Help else None) ≡ Some Judge → true ≡ false
+    by true asked = cc
+    by false asked = cc
+judge-early (word ∷ other ∷ words) asked = cc
+
+pub form-judge : (words : List (List ℕ)) → asked_by words ≡ Some Judge → (exit : Exit) → exit ≢ Usage → HasForm separation words exit
+form-judge words asked exit usage = record {
+  usage = λ same. absurd (usage same);
+  no_form = λ none. let bad : Some Judge ≡ None = sym asked ∙ none in cc;
+  early = λ is. let bad : false ≡ true = sym (judge-early words asked) ∙ is in cc;
+}

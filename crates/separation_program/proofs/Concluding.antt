@@ -1,153 +1,130 @@
--- From what the lines of a schedule come to, to what is written and how the program ends.
-use Rattle.std.proofs.Common.{◌≡◌, ◌≢◌, ◌∙◌, ℕ, List, Option, Result, Ok, Err, refl, sym, ap, subst, arith, true, false}
+-- From the answer of the lines of a schedule, to what a part of a call did with them and what it told.
+use Rattle.std.proofs.Common.{◌≡◌, ◌≢◌, ◌∙◌, ◌++◌, [], ℕ, List, length, Option, Some, Ok, Err, refl, sym, ap, ap₂, subst, append-nil, inl, inr, arith, true, false, ◌⊎◌}
+use Rattle.std.specs.Io.KnownBytes.{IsAtEnd}
+use Rattle.coy_io.specs.Causes.{Rose}
+use Rattle.coy_io.specs.Lines.{Part}
 use Rattle.coy_io.specs.Reader.{Reader, ahead}
 use Rattle.machine_state.specs.declared.event.Event.{Event}
-use Rattle.kernel_core.specs.Run.{run_state}
+use Rattle.kernel_core.specs.Run.{run_records, run_state}
 use Rattle.kernel_core.specs.State.{State}
+use Rattle.listing_read.specs.declared.fault.ScheduleFault.{ScheduleFault}
+use Rattle.judged_lines.specs.declared.stop.Stop.{Stop}
+use Rattle.judged_lines.specs.declared.stop.Stop.TheVariants as stops
 use Rattle.separation_policy.specs.Policy.{PolicyValue}
-use Rattle.schedule_replay.specs.Replay.{Accords, Follows, HasReasons, run_answer}
-use Rattle.schedule_replay.specs.Scheduled.{AtEnd, AtFault, AtLimit, Ending, OnParts, Scheduled, ends, preceded, scheduled}
+use Rattle.schedule_replay.specs.Counts.{counts_of, events_alone}
+use Rattle.schedule_replay.specs.Replay.{Accords, Follows, HasReasons, WritesRun, run_answer}
+use Rattle.schedule_replay.specs.Scheduled.{AtEnd, AtFault, AtLimit, Ending, OnParts, Scheduled, scheduled}
+use Rattle.schedule_replay.specs.Told.{told as told_of}
 use Rattle.schedule_replay.specs.declared.counts.Counts.{Counts}
+use Rattle.schedule_replay.specs.declared.mode.Mode.TheVariants.{Silent}
 use Rattle.schedule_replay.specs.declared.replayed.Replayed.{Replayed}
 use Rattle.schedule_replay.specs.declared.replayed.Replayed.TheVariants as answers
-use Rattle.schedule_replay.proofs.Ended.{ended-at, past-at, refused-at}
+use Rattle.schedule_replay.proofs.Ended.{ended-at}
 use Rattle.schedule_replay.proofs.Reading.{on_all}
-use Rattle.courses.specs.Ending.{EndsIn, EndsNothing, HasCauses, Output, refused_schedule, too_long}
+use Rattle.schedule_replay.proofs.Told.{silent_untold}
+use Rattle.courses.specs.Course.{Course, cached, ends_in}
+use Rattle.courses.specs.Ending.{Concludes, EndsIn, IsGiven}
+use Rattle.courses.specs.Exit.{is_finished}
+use Rattle.courses.specs.Stopped.{replay_exit}
 use Rattle.courses.specs.declared.exit.Exit.{Exit}
-use Rattle.courses.specs.declared.exit.Exit.TheVariants.{Usage, ReadFault, WriteFault, OutOfMemory}
-use Rattle.courses.proofs.Endings.{outputs_none}
-use Rattle.courses.proofs.Lasts.{IsLast, exits-differ, last-causes, last-memory, last-read, last-usage, past-last, read-causes, refused-last, write-causes}
-use Rattle.separation_program.specs.Judged.{ConcludesSchedule, EndsOr, FailsGoing, HasJudged, HasReasonOr, OutputsOr, ended_output, is_judged, judged_at, judged_of, judging}
+use Rattle.courses.specs.declared.exit.Exit.TheVariants.{OutOfMemory, ReadFault, ScheduleRefused, TooLong, WriteFault}
+use Rattle.courses.proofs.Concluding.{Did, takes-wanting}
+use Rattle.courses.proofs.Rests.{TellsAlone, at, follows-rest, run-ends, stop-ended, stop-stopped}
+use Rattle.separation_program.specs.Judged.{HasJudged, judged_at, judged_of, judging}
 use Rattle.separation_program.specs.Text.{told}
-use Rattle.separation_program.proofs.Verdicts.{ok-exit, told-last, told-nothing}
+use Rattle.separation_program.proofs.Verdicts.{finished-form, finished-given, memory-or, told-finished}
 
--- ---- any answer
+-- where lines of a schedule are not all read, no more is told than why
+tells : (policy : PolicyValue) (start : State) (events : List Event)
+    → TellsAlone (λ all. ends_in (judging policy start all)) (at events AtEnd) (λ line fault. at events (AtFault line fault)) (at events AtLimit) ScheduleRefused
+tells policy start events = record {
+  refusal = λ line fault. refl;
+  limit = refl;
+  given = λ line fault. record { read = λ bad. cc; write = λ bad. cc; memory = λ bad. cc };
+  form = λ line fault bad. cc;
+  unfinished = λ line fault. refl;
+  going = told-finished policy (run_state start events);
+  records = refl;
+  touches = refl;
+}
 
-module _ {K : Type 0} (E : Type 0) (taken : K → Option (List ℕ)) (faults : K → ℕ) (policy : PolicyValue) (s : State) (old new : K) where
-  abbrev Concluded : Replayed → Result Exit E → Type 0
-  Concluded answer result = ConcludesSchedule taken faults policy s answer old new result
+module _ {S K : Type 0} (held : S → Option (List ℕ)) (source_faults : S → ℕ) (taken : K → Option (List ℕ)) (sink_faults : K → ℕ)
+    (policy : PolicyValue) (start : State) (harts : ℕ) (lines lines' : Reader) (old new : S) (mid out : K) (exit : Exit)
+    (events : List Event) (answer : Replayed) (follows : Follows (run_answer start) harts lines lines' (held old) (held new) events answer) where
+  abbrev sched : List Part → Scheduled
+  sched parts = scheduled harts lines.number parts
 
-  -- why the call ends so, where the lines had a reason for their answer
-  pub ends-reason : (unread unread' unwritten : ℕ) (result : Result Exit E) (o : Output) → IsLast o → EndsOr taken faults old new result o
-      → unread' ≡ unread → faults old ≡ unwritten → HasReasonOr unread unread' unwritten (faults new) result
-  ends-reason unread unread' unwritten (Ok exit) o last e quiet still = record {
-    usage = last-usage _ _ _ _ _ _ last e;
-    memory = last-memory _ _ _ _ _ _ last e;
-    causes = last-causes _ _ _ _ _ _ last e unread unread' unwritten quiet still;
-  }
-  ends-reason unread unread' unwritten (Err wanting) o last same quiet still = (quiet, ap faults same ∙ still)
+  abbrev Did_here : Type 0
+  Did_here = Did held source_faults taken sink_faults lines lines' old new mid mid 0 0 cached (λ parts. ends_in (judging policy start (sched parts))) out 0 exit
 
-  fault-reason : (unread unread' unwritten : ℕ) (answer : Replayed) (fault : Exit) (result : Result Exit E) → result ≡ Ok fault → new ≡ old
-      → (fault ≡ Usage → ⊥) → (fault ≡ OutOfMemory → ⊥) → HasCauses unread unread' unwritten (faults old) fault → HasReasonOr unread unread' unwritten (faults new) result
-  fault-reason unread unread' unwritten answer fault result is same usage memory causes =
-      subst (HasReasonOr unread unread' unwritten (faults new)) (sym is)
-      (record { usage = usage; memory = memory; causes = subst (λ k. HasCauses unread unread' unwritten (faults k) fault) (sym same) causes })
+  follows-at : (a : Replayed) → answer ≡ a → Follows (run_answer start) harts lines lines' (held old) (held new) events a
+  follows-at a is = subst (Follows (run_answer start) harts lines lines' (held old) (held new) events) is follows
 
-  pub concludes-reason : (unread unread' unwritten : ℕ) (answer : Replayed) (result : Result Exit E) → HasReasons unread unread' unwritten (faults old) answer
-      → Concluded answer result → HasReasonOr unread unread' unwritten (faults new) result
-  concludes-reason unread unread' unwritten (answers.Ended counts) result r c =
-      ends-reason unread unread' unwritten result (told policy s) (told-last policy s) c (r.read_quiet (λ same. cc)) (r.write_quiet (λ same. cc))
-  concludes-reason unread unread' unwritten (answers.Refused line fault) result r c =
-      ends-reason unread unread' unwritten result (refused_schedule line fault) (refused-last line fault) c (r.read_quiet (λ same. cc)) (r.write_quiet (λ same. cc))
-  concludes-reason unread unread' unwritten answers.TooLong result r c =
-      ends-reason unread unread' unwritten result too_long past-last c (r.read_quiet (λ same. cc)) (r.write_quiet (λ same. cc))
-  concludes-reason unread unread' unwritten answers.ReadFault result r c =
-      fault-reason unread unread' unwritten answers.ReadFault ReadFault result c.0 c.1
-      (exits-differ ReadFault Usage (λ n. let bad : 4 ≡ 1 = n in omega (arith, bad)))
-      (exits-differ ReadFault OutOfMemory (λ n. let bad : 4 ≡ 6 = n in omega (arith, bad)))
-      (read-causes unread unread' unwritten (faults old) ReadFault refl (r.read refl) (r.write_quiet (λ same. cc)))
-  concludes-reason unread unread' unwritten answers.WriteFault result r c =
-      fault-reason unread unread' unwritten answers.WriteFault WriteFault result c.0 c.1
-      (exits-differ WriteFault Usage (λ n. let bad : 5 ≡ 1 = n in omega (arith, bad)))
-      (exits-differ WriteFault OutOfMemory (λ n. let bad : 5 ≡ 6 = n in omega (arith, bad)))
-      (write-causes unread unread' unwritten (faults old) WriteFault refl (r.write refl) (r.read_quiet (λ same. cc)))
+  -- all lines were read, and what they lead to was judged
+  pub judge-ended : (counts : Counts) → replay_exit answer ≡ Ok counts → source_faults new ≡ source_faults old → IsAtEnd (held new) → (s : State) → s ≡ run_state start events
+      → (exit ≢ OutOfMemory → EndsIn taken sink_faults mid out exit (told policy s)) → (exit ≡ OutOfMemory → out ≡ mid) → Did_here
+  judge-ended counts given quiet end s state e unwritten = by (memory-or exit)
+    where
+      by : (exit ≡ OutOfMemory) ⊎ (exit ≢ OutOfMemory) → Did_here
+      by (inl same) =
+          takes-wanting held source_faults taken sink_faults lines lines' old new mid mid 0 0 cached (λ parts. ends_in (judging policy start (sched parts))) out 0 exit same (unwritten same) refl
+          (record { unwritten = refl; unspent = refl; quiet = quiet; still = refl })
+      by (inr other) =
+          let finished = told-finished policy (run_state start events) in
+          stop-ended held source_faults taken sink_faults lines lines' old new mid 0 cached refl (scheduled harts lines.number) (λ all. ends_in (judging policy start all))
+          (at events AtEnd) (λ line fault. at events (AtFault line fault)) (at events AtLimit) ScheduleRefused (tells policy start events) stops.End
+          (follows-rest (λ (all : Scheduled). counts_of start all.events) harts lines lines' (held old) (held new) events counts stops.End (follows-at (answers.Ended counts) (run-ends counts answer given)))
+          (λ bad. cc) (λ other. quiet) out 0 exit refl (finished-given _ finished) (finished-form _ finished)
+          (subst (λ t. EndsIn taken sink_faults mid out exit (told policy t)) state (e other)) (record { whole = λ given. refl; most = omega arith }) (λ same. end)
 
-  -- where a state was judged, all lines were read
-  pub record IsEnded (answer : Replayed) : Type 0 where
-    pub counts : Counts
-    pub is : answer ≡ answers.Ended counts
+  -- they were not, and why was told
+  pub judge-stopped : (given : Exit) (a : Replayed) → answer ≡ a → replay_exit a ≡ Err given → (answer ≢ answers.WriteFault)
+      → (answer ≡ answers.ReadFault → Rose (source_faults old) (source_faults new)) → (answer ≢ answers.ReadFault → source_faults new ≡ source_faults old)
+      → Concludes taken sink_faults given mid out exit → Did_here
+  judge-stopped given (answers.Ended counts) is at_exit whole rose quiet c = cc
+  judge-stopped given (answers.Refused line fault) is at_exit whole rose quiet c =
+      stop-stopped held source_faults taken sink_faults lines lines' old new mid 0 cached refl (scheduled harts lines.number) (λ all. ends_in (judging policy start all))
+      (at events AtEnd) (λ line fault. at events (AtFault line fault)) (at events AtLimit) ScheduleRefused (tells policy start events) (stops.Refused line fault)
+      (follows-rest (λ (all : Scheduled). counts_of start all.events) harts lines lines' (held old) (held new) events (events_alone 0) (stops.Refused line fault) (follows-at (answers.Refused line fault) is))
+      (λ bad. cc) (λ other. quiet (λ same. let bad = sym is ∙ same in cc)) out 0 exit
+      given (let same : ScheduleRefused line fault ≡ given = cc in ap Some same) c refl
+  judge-stopped given answers.TooLong is at_exit whole rose quiet c =
+      stop-stopped held source_faults taken sink_faults lines lines' old new mid 0 cached refl (scheduled harts lines.number) (λ all. ends_in (judging policy start all))
+      (at events AtEnd) (λ line fault. at events (AtFault line fault)) (at events AtLimit) ScheduleRefused (tells policy start events) stops.TooLong
+      (follows-rest (λ (all : Scheduled). counts_of start all.events) harts lines lines' (held old) (held new) events (events_alone 0) stops.TooLong (follows-at answers.TooLong is))
+      (λ bad. cc) (λ other. quiet (λ same. let bad = sym is ∙ same in cc)) out 0 exit
+      given (let same : TooLong ≡ given = cc in ap Some same) c refl
+  judge-stopped given answers.ReadFault is at_exit whole rose quiet c =
+      stop-stopped held source_faults taken sink_faults lines lines' old new mid 0 cached refl (scheduled harts lines.number) (λ all. ends_in (judging policy start all))
+      (at events AtEnd) (λ line fault. at events (AtFault line fault)) (at events AtLimit) ScheduleRefused (tells policy start events) stops.ReadFault
+      (follows-rest (λ (all : Scheduled). counts_of start all.events) harts lines lines' (held old) (held new) events (events_alone 0) stops.ReadFault (follows-at answers.ReadFault is))
+      (λ same. rose is) (λ other. absurd (other refl)) out 0 exit
+      given (let same : ReadFault ≡ given = cc in ap Some same) c refl
+  judge-stopped given answers.WriteFault is at_exit whole rose quiet c = absurd (whole is)
 
-  pub not_judged : (exit : Exit) (o : Output) → IsLast o → EndsIn taken faults old new exit o → is_judged o.exit ≡ false → is_judged exit ≡ true → ⊥
-  not_judged exit o last e other done =
-      let given : exit ≢ WriteFault = λ cut. let bad : false ≡ true = sym (ap is_judged cut) ∙ done in cc in
-      let bad : false ≡ true = sym other ∙ ap is_judged (sym (e.given given)) ∙ done in cc
+  -- where all lines were read, what is so of the state that they lead to is so of what is judged of the known lines
+  pub judged-run : (P : PolicyValue → State → Type 0) (counts : Counts) → replay_exit answer ≡ Ok counts → (s : State) → s ≡ run_state start events → P policy s
+      → OnParts (ahead lines (held old)) (λ parts. HasJudged P (judged_of policy start (sched parts)))
+  judged-run P counts given s state is =
+      on_all (ahead lines (held old)) _ _ (λ parts accords. of_all (sched parts) accords) (follows-at (answers.Ended counts) (run-ends counts answer given)).lines
+    where
+      of_all : (all : Scheduled) → Accords (run_answer start) (answers.Ended counts) events all → HasJudged P (judged_of policy start all)
+      of_all all a =
+          subst (λ e. HasJudged P (judged_at policy (run_state start all.events) e)) (sym (ended-at _ _ all.ending a.1))
+          (subst (λ es. P policy (run_state start es)) a.0 (subst (P policy) state is))
 
-  pub concludes-judged : (answer : Replayed) (exit : Exit) → Concluded answer (Ok exit) → is_judged exit ≡ true → IsEnded answer
-  concludes-judged (answers.Ended counts) exit c done = record { counts = counts; is = refl }
-  concludes-judged (answers.Refused line fault) exit c done = absurd (not_judged exit (refused_schedule line fault) (refused-last line fault) c refl done)
-  concludes-judged answers.TooLong exit c done = absurd (not_judged exit too_long past-last c refl done)
-  concludes-judged answers.ReadFault exit c done = let same = ok-exit exit ReadFault (Ok exit) refl c.0 in let bad : false ≡ true = sym (ap is_judged same) ∙ done in cc
-  concludes-judged answers.WriteFault exit c done = let same = ok-exit exit WriteFault (Ok exit) refl c.0 in let bad : false ≡ true = sym (ap is_judged same) ∙ done in cc
+-- nothing is written of a run without a word, so no writing fails in it
+pub no_write : (start : State) (taken taken' : Option (List ℕ)) (events : List Event) (answer : Replayed) → WritesRun Silent start taken taken' events answer → answer ≢ answers.WriteFault
+no_write start taken taken' events answer text is =
+    let stops = subst (WritesRun Silent start taken taken' events) is text in
+    let none : length (told_of Silent start events) ≡ 0 = ap length (silent_untold (run_records start events)) in
+    let short = stops.short in
+    omega (arith, none, short)
 
-  -- where reading failed, it failed in the lines
-  pub concludes-read : (answer : Replayed) (exit : Exit) → Concluded answer (Ok exit) → exit ≡ ReadFault → answer ≡ answers.ReadFault
-  concludes-read (answers.Ended counts) exit c read = absurd (last-read _ _ _ _ _ _ (told-last policy s) c read)
-  concludes-read (answers.Refused line fault) exit c read = absurd (last-read _ _ _ _ _ _ (refused-last line fault) c read)
-  concludes-read answers.TooLong exit c read = absurd (last-read _ _ _ _ _ _ past-last c read)
-  concludes-read answers.ReadFault exit c read = refl
-  concludes-read answers.WriteFault exit c read =
-      let same = ok-exit exit WriteFault (Ok exit) refl c.0 in absurd (exits-differ WriteFault ReadFault (λ n. let bad : 5 ≡ 4 = n in omega (arith, bad)) (sym same ∙ read))
-
-  -- ---- what is written
-
-  module _ (start : State) where
-    abbrev Comes : Result Exit E → Scheduled → Type 0
-    Comes result all = OutputsOr (taken old) (taken new) result (judging policy start all)
-
-    ends-outputs : (result : Result Exit E) (o : Output) → EndsOr taken faults old new result o → OutputsOr (taken old) (taken new) result o
-    ends-outputs (Ok exit) o e = e.output
-    ends-outputs (Err wanting) o same = ap taken same
-
-    -- the last text is that of all that the lines ask for
-    comes-at : (result : Result Exit E) (events : List Event) (all : Scheduled) (ending : Ending) → events ≡ all.events → all.ending ≡ ending → s ≡ run_state start events
-        → OutputsOr (taken old) (taken new) result (ended_output policy s ending) → Comes result all
-    comes-at result events all ending is at state o =
-        subst (λ e. OutputsOr (taken old) (taken new) result (ended_output policy (run_state start all.events) e)) (sym at)
-        (subst (λ es. OutputsOr (taken old) (taken new) result (ended_output policy (run_state start es) ending)) is
-        (subst (λ t. OutputsOr (taken old) (taken new) result (ended_output policy t ending)) state o))
-
-    comes-accord : (events : List Event) (answer : Replayed) (result : Result Exit E) (all : Scheduled) → s ≡ run_state start events
-        → (answer ≡ answers.WriteFault → ⊥) → Concluded answer result → Accords (run_answer start) answer events all → Comes result all
-    comes-accord events (answers.Ended counts) result all state whole c a =
-        comes-at result events all AtEnd a.0 (ended-at _ _ all.ending a.1) state (ends-outputs result (told policy s) c)
-    comes-accord events (answers.Refused line fault) result all state whole c a =
-        comes-at result events all (AtFault line fault) a.0 (refused-at line fault _ all.ending a.1) state (ends-outputs result (refused_schedule line fault) c)
-    comes-accord events answers.TooLong result all state whole c a =
-        comes-at result events all AtLimit a.0 (past-at _ all.ending a.1) state (ends-outputs result too_long c)
-    comes-accord events answers.ReadFault result all state whole c a =
-        subst (λ r. OutputsOr (taken old) (taken new) r (judging policy start all)) (sym c.0) (outputs_none (taken old) (taken new) (judging policy start all))
-    comes-accord events answers.WriteFault result all state whole c a = absurd (whole refl)
-
-    module _ (harts : ℕ) (lines lines' : Reader) (held held' : Option (List ℕ)) (events : List Event) (answer : Replayed)
-        (follows : Follows (run_answer start) harts lines lines' held held' events answer) where
-      -- what was written is what the known lines come to
-      pub comes-run : (result : Result Exit E) → s ≡ run_state start events → (answer ≡ answers.WriteFault → ⊥) → Concluded answer result
-          → OnParts (ahead lines held) (λ parts. Comes result (scheduled harts lines.number parts))
-      comes-run result state whole c =
-          on_all (ahead lines held) _ _ (λ parts accords. comes-accord events answer result (scheduled harts lines.number parts) state whole c accords) follows.lines
-
-      -- where reading failed, the whole lines end nothing
-      pub sure-run : (exit : Exit) → Concluded answer (Ok exit) → exit ≡ ReadFault
-          → FailsGoing lines lines' held held' (λ parts. judging policy start (scheduled harts lines.number parts))
-      sure-run exit c read =
-          let fails = follows.read (concludes-read answer exit c read) in
-          record {
-            before = fails.before;
-            going = fails.going;
-            unfinished = fails.unfinished;
-            given = fails.given;
-            gives = fails.gives;
-            goes_on = λ lines. subst (λ (all : Scheduled). EndsNothing lines (judging policy start all).exit) (sym fails.makes)
-                (told-nothing policy (run_state start (preceded events (ends AtEnd)).events) lines);
-          }
-
-      -- where a state was judged, what is so of it is so of what is judged of the known lines
-      pub judged-run : (P : PolicyValue → State → Type 0) → P policy s → s ≡ run_state start events → IsEnded answer
-          → OnParts (ahead lines held) (λ parts. HasJudged P (judged_of policy start (scheduled harts lines.number parts)))
-      judged-run P is state ended =
-          on_all (ahead lines held) _ _ (λ parts accords. of_all (scheduled harts lines.number parts) (subst (λ a. Accords (run_answer start) a events (scheduled harts lines.number parts)) ended.is accords)) follows.lines
-        where
-          of_all : (all : Scheduled) → Accords (run_answer start) (answers.Ended ended.counts) events all → HasJudged P (judged_of policy start all)
-          of_all all a =
-              subst (λ e. HasJudged P (judged_at policy (run_state start all.events) e)) (sym (ended-at _ _ all.ending a.1))
-              (subst (λ es. P policy (run_state start es)) a.0 (subst (P policy) state is))
+-- lines of a schedule that were not all read gave no exit of a call that did all
+pub unfinished : (given : Exit) (a : Replayed) → replay_exit a ≡ Err given → is_finished given ≡ false
+unfinished given (answers.Ended counts) is = cc
+unfinished given (answers.Refused line fault) is = let same : ScheduleRefused line fault ≡ given = cc in subst (λ e. is_finished e ≡ false) same refl
+unfinished given answers.TooLong is = let same : TooLong ≡ given = cc in subst (λ e. is_finished e ≡ false) same refl
+unfinished given answers.ReadFault is = let same : ReadFault ≡ given = cc in subst (λ e. is_finished e ≡ false) same refl
+unfinished given answers.WriteFault is = let same : WriteFault ≡ given = cc in subst (λ e. is_finished e ≡ false) same refl

@@ -1,195 +1,121 @@
--- From the lines of a policy and of a schedule to what was judged.
-use Rattle.std.proofs.Common.{◌≡◌, ◌++◌, [], ℕ, List, Option, Some, None, Result, Ok, Err, IfOk, OnErr, true, false, length, refl, sym, ap, subst, arith}
-use Rattle.std.specs.Io.KnownBytes.{IsAtEnd}
+-- From the lines of a policy and of a schedule, to what a part of a call did with them.
+use Rattle.std.proofs.Common.{◌≡◌, ◌≢◌, ◌∙◌, ◌++◌, [], ℕ, List, Option, Some, None, true, false, refl, sym, ap, subst, arith}
+use Rattle.std.specs.Io.KnownBytes.{Appends}
 use Rattle.coy_io.specs.Causes.{Rose}
 use Rattle.coy_io.specs.Lines.{Part}
-use Rattle.coy_io.specs.Reader.{Reader, TellsEnd, ahead, bytes_ahead}
+use Rattle.coy_io.specs.Reader.{Reader, ahead, bytes_ahead}
 use Rattle.coy_io.proofs.GivenLaws.{GivesLines-trans}
-use Rattle.kernel_core.specs.Run.{run_records, run_state}
+use Rattle.kernel_core.specs.Run.{run_state}
 use Rattle.kernel_core.specs.State.{State}
-use Rattle.machine_state.specs.declared.event.Event.{Event}
+use Rattle.listing_read.specs.declared.object_fault.PolicyFault.{PolicyFault}
+use Rattle.judged_lines.specs.declared.stop.Stop.{Stop}
+use Rattle.judged_lines.specs.declared.stop.Stop.TheVariants as stops
+use Rattle.separation_lines.specs.declared.fault.Untaken.{Untaken}
+use Rattle.separation_lines.specs.declared.fault.Untaken.TheVariants.{Refused, OutOfMemory}
 use Rattle.separation_policy.specs.Policy.{PolicyValue}
-use Rattle.schedule_replay.specs.Lines.{FailsOn}
-use Rattle.schedule_replay.specs.Replay.{Follows, HasReasons, WritesRun, run_answer}
-use Rattle.schedule_replay.specs.Told.{told}
-use Rattle.schedule_replay.specs.declared.mode.Mode.TheVariants.{Silent}
+use Rattle.kernel_core.specs.Outcome.{Touch}
 use Rattle.schedule_replay.specs.Scheduled.{OnParts, Scheduled, scheduled}
-use Rattle.schedule_replay.specs.declared.counts.Counts.{Counts}
-use Rattle.schedule_replay.specs.declared.replayed.Replayed.{Replayed}
-use Rattle.schedule_replay.specs.declared.replayed.Replayed.TheVariants as answers
-use Rattle.schedule_replay.proofs.Reading.{on_all, on_each}
 use Rattle.schedule_replay.proofs.Scheduled.{scheduled-end}
-use Rattle.schedule_replay.proofs.Told.{silent_untold}
-use Rattle.courses.specs.Ending.{EndsIn, EndsNothing, Output, Outputs}
+use Rattle.courses.specs.Course.{ComesTo, Course, cached, ends_in}
+use Rattle.courses.specs.Ending.{Concludes, HasCauses}
+use Rattle.courses.specs.Exit.{is_finished}
+use Rattle.courses.specs.Stopped.{stop_exit}
+use Rattle.courses.specs.Taken.{TakesLines}
 use Rattle.courses.specs.declared.exit.Exit.{Exit}
-use Rattle.courses.specs.declared.exit.Exit.TheVariants.{Done, Crossings, Usage, ReadFault, OutOfMemory}
-use Rattle.courses.proofs.Endings.{outputs_none}
-use Rattle.courses.proofs.Lasts.{IsLast, exits-differ, last-read, read-causes}
-use Rattle.separation_program.specs.Judged.{ConcludesSchedule, HasJudged, HasReasonOr, Judges, OutputsOr, is_judged, judged_by, judged_of, judging, stated_output}
-use Rattle.separation_program.specs.Stated.{AreStated, IsOver, StateAll, Stated, States, stated}
-use Rattle.separation_program.specs.Theorem.{IsSeparated, IsViolated}
-use Rattle.separation_program.proofs.Concluding.{IsEnded, comes-run, concludes-judged, concludes-read, concludes-reason, ends-reason, judged-run, not_judged, sure-run}
-use Rattle.separation_program.proofs.Verdicts.{told-nothing}
+use Rattle.courses.specs.declared.exit.Exit.TheVariants as exits
+use Rattle.courses.specs.declared.exit.Exit.TheVariants.{PolicyRefused, ReadFault, TooLong}
+use Rattle.courses.proofs.Concluding.{Did, came-wanting, takes-concluded}
+use Rattle.courses.proofs.Rests.{TellsAlone, stop-stopped}
+use Rattle.separation_program.specs.Judged.{judging, stated_output}
+use Rattle.separation_program.specs.Stated.{AreStated, IsOver, PastEnd, RefusedAt, Stated, States, StatesRest, stated, untaken_exit}
+use Rattle.separation_program.proofs.Verdicts.{told-finished}
 
--- ---- known lines
+-- what a call did with a sink it did with what that is known to be
+pub from-start : {S K : Type 0} (held : S → Option (List ℕ)) (source_faults : S → ℕ) (taken : K → Option (List ℕ)) (sink_faults : K → ℕ)
+    (lines lines' : Reader) (old new : S) (mid out start : K) (exit : Exit) (course : List Part → Course) (count : List Touch → ℕ) → mid ≡ start
+    → TakesLines held source_faults taken sink_faults lines lines' old new mid out 0 0 exit count course → TakesLines held source_faults taken sink_faults lines lines' old new start out 0 0 exit count course
+from-start held source_faults taken sink_faults lines lines' old new mid out start exit course count same t =
+    subst (λ k. TakesLines held source_faults taken sink_faults lines lines' old new k out 0 0 exit count course) same t
 
 -- what is so of a policy with all lines behind it is so of what the known lines state
-on_stated : (first last : PolicyValue) (n k : ℕ) (old new : Option (List Part)) (P : Stated → Type 0) → AreStated first n old last k new
+pub on_stated : (first last : PolicyValue) (n k : ℕ) (old new : Option (List Part)) (P : Stated → Type 0) → AreStated first n old last k new
     → OnParts new (λ rest. P (States last k rest)) → OnParts old (λ parts. P (stated first n parts))
 on_stated first last n k None new P all is = tt
 on_stated first last n k (Some parts) None P all is = absurd all
 on_stated first last n k (Some parts) (Some rest) P all is = subst P (sym all) is
 
--- ---- a schedule
+-- where lines of a policy are not all read, no more is told than why
+tells : (s : State) (harts : ℕ) (policy : PolicyValue) (n : ℕ) → TellsAlone (λ st. ends_in (stated_output s harts st)) (States policy n []) RefusedAt PastEnd PolicyRefused
+tells s harts policy n = record {
+  refusal = λ line fault. refl;
+  limit = refl;
+  given = λ line fault. record { read = λ bad. cc; write = λ bad. cc; memory = λ bad. cc };
+  form = λ line fault bad. cc;
+  unfinished = λ line fault. refl;
+  going = subst (λ (all : Scheduled). is_finished (judging policy s all).exit ≡ true) (sym (scheduled-end harts n)) (told-finished policy (run_state s []));
+  records = refl;
+  touches = refl;
+}
 
-module _ {K E : Type 0} (taken : K → Option (List ℕ)) (faults : K → ℕ) (policy : PolicyValue) (s start : State) (harts : ℕ) (lines lines' : Reader)
-    (held held' : Option (List ℕ)) (old mid new : K) (unread unread' : ℕ) (events : List Event) (answer : Replayed) (result : Result Exit E) where
-  pub judges-run : s ≡ run_state start events → Follows (run_answer start) harts lines lines' held held' events answer
-      → mid ≡ old → HasReasons unread unread' (faults old) (faults mid) answer → WritesRun Silent start (taken old) (taken mid) events answer → ConcludesSchedule taken faults policy s answer mid new result
-      → (result ≡ Ok Done → IsSeparated policy s) → (result ≡ Ok Crossings → IsViolated policy s)
-      → ((counts : Counts) → answer ≡ answers.Ended counts → lines'.ended ≡ true) → TellsEnd lines' held'
-      → Judges lines lines' held held' (taken old) (taken new) unread unread' (faults old) (faults new) result
-      (λ parts. judging policy start (scheduled harts lines.number parts)) (λ parts. judged_of policy start (scheduled harts lines.number parts))
-  judges-run state follows same reasons text c separated violated ended tells =
-      subst (λ k. Judges lines lines' held held' (taken k) (taken new) unread unread' (faults k) (faults new) result
-      (λ parts. judging policy start (scheduled harts lines.number parts)) (λ parts. judged_of policy start (scheduled harts lines.number parts))) same
-      (record {
-        comes = comes-run E taken faults policy s mid new start harts lines lines' held held' events answer follows result state no_write c;
-        separated = λ is. judged-run E taken faults policy s mid new start harts lines lines' held held' events answer follows IsSeparated (separated is) state (over Done refl is);
-        violated = λ is. judged-run E taken faults policy s mid new start harts lines lines' held held' events answer follows IsViolated (violated is) state (over Crossings refl is);
-        end = at_end result refl;
-        sure = λ is. sure-run E taken faults policy s mid new start harts lines lines' held held' events answer follows ReadFault (concluded ReadFault is) refl;
-        silent = λ is. ap taken (still answer (concludes-read E taken faults policy s mid new answer ReadFault (concluded ReadFault is) refl) c);
-        nothing = at_err answer result c;
-        reason = concludes-reason E taken faults policy s mid new unread unread' (faults mid) answer result quiet c;
-      })
-    where
-      quiet : HasReasons unread unread' (faults mid) (faults mid) answer
-      quiet = subst (λ k. HasReasons unread unread' (faults k) (faults mid) answer) (sym same) reasons
+-- a policy that was not read to its end gave no exit of a call that did all
+pub policy-open : (given : Exit) (stop : Stop Untaken) → stop_exit untaken_exit stop ≡ Some given → is_finished given ≡ false
+policy-open given stops.End at = cc
+policy-open given (stops.Refused line (Refused fault)) at = let same : PolicyRefused line fault ≡ given = cc in subst (λ e. is_finished e ≡ false) same refl
+policy-open given (stops.Refused line OutOfMemory) at = let same : exits.OutOfMemory ≡ given = cc in subst (λ e. is_finished e ≡ false) same refl
+policy-open given stops.TooLong at = let same : TooLong ≡ given = cc in subst (λ e. is_finished e ≡ false) same refl
+policy-open given stops.ReadFault at = let same : ReadFault ≡ given = cc in subst (λ e. is_finished e ≡ false) same refl
 
-      no_write : answer ≡ answers.WriteFault → ⊥
-      no_write is =
-          let stops = subst (λ a. WritesRun Silent start (taken old) (taken mid) events a) is text in
-          let none : length (told Silent start events) ≡ 0 = ap length (silent_untold (run_records start events)) in
-          let short = stops.short in
-          omega (arith, none, short)
+module _ {S K : Type 0} (held : S → Option (List ℕ)) (source_faults : S → ℕ) (taken : K → Option (List ℕ)) (sink_faults : K → ℕ)
+    (first policy : PolicyValue) (s : State) (harts : ℕ) (old new : Reader) (source source' : S) where
+  abbrev here : List Part → Course
+  here parts = ends_in (stated_output s harts (stated first old.number parts))
 
-      concluded : (exit : Exit) → result ≡ Ok exit → ConcludesSchedule {E = E} taken faults policy s answer mid new (Ok exit)
-      concluded exit is = subst (ConcludesSchedule taken faults policy s answer mid new) is c
+  -- the policy was not read to its end, and why was told
+  pub policy-stopped : (out out' : K) (exit : Exit) (given : Exit) (stop : Stop Untaken) → StatesRest first policy old new (held source) (held source') stop
+      → stop_exit untaken_exit stop ≡ Some given → (stop ≡ stops.ReadFault → Rose (source_faults source) (source_faults source')) → (stop ≢ stops.ReadFault → source_faults source' ≡ source_faults source)
+      → Concludes taken sink_faults given out out' exit → TakesLines held source_faults taken sink_faults old new source source' out out' 0 0 exit cached here
+  policy-stopped out out' exit given stops.End r at rose quiet c = cc
+  policy-stopped out out' exit given (stops.Refused line (Refused fault)) r at rose quiet c =
+      stop-stopped held source_faults taken sink_faults old new source source' out 0 cached refl (stated first old.number) (λ st. ends_in (stated_output s harts st))
+      (States first 0 []) RefusedAt PastEnd PolicyRefused (tells s harts first 0) (stops.Refused line fault) r (λ bad. cc) (λ other. quiet (λ bad. cc)) out' 0 exit
+      given (let same : PolicyRefused line fault ≡ given = cc in ap Some same) c refl
+  policy-stopped out out' exit given (stops.Refused line OutOfMemory) r at rose quiet c =
+      takes-concluded held source_faults taken sink_faults old new source source' out out 0 0 cached here out' 0 exit given
+      (came-wanting (let same : given ≡ exits.OutOfMemory = cc in same) (record { unwritten = refl; unspent = refl; quiet = quiet (λ bad. cc); still = refl })) c refl
+  policy-stopped out out' exit given stops.TooLong r at rose quiet c =
+      stop-stopped held source_faults taken sink_faults old new source source' out 0 cached refl (stated first old.number) (λ st. ends_in (stated_output s harts st))
+      (States first 0 []) RefusedAt PastEnd PolicyRefused (tells s harts first 0) stops.TooLong r (λ bad. cc) (λ other. quiet (λ bad. cc)) out' 0 exit
+      given (let same : TooLong ≡ given = cc in ap Some same) c refl
+  policy-stopped out out' exit given stops.ReadFault r at rose quiet c =
+      stop-stopped held source_faults taken sink_faults old new source source' out 0 cached refl (stated first old.number) (λ st. ends_in (stated_output s harts st))
+      (States policy new.number []) RefusedAt PastEnd PolicyRefused (tells s harts policy new.number) stops.ReadFault r (λ same. rose refl) (λ other. absurd (other refl)) out' 0 exit
+      given (let same : ReadFault ≡ given = cc in ap Some same) c refl
 
-      over : (exit : Exit) → is_judged exit ≡ true → result ≡ Ok exit → IsEnded E taken faults policy s mid new answer
-      over exit done is = concludes-judged E taken faults policy s mid new answer exit (concluded exit is) done
-
-      still : (a : Replayed) → a ≡ answers.ReadFault → ConcludesSchedule taken faults policy s a mid new result → new ≡ mid
-      still answers.ReadFault is c = c.1
-      still (answers.Ended counts) is c = cc
-      still (answers.Refused line fault) is c = cc
-      still answers.TooLong is c = cc
-      still answers.WriteFault is c = cc
-
-      at_err : (a : Replayed) (r : Result Exit E) → ConcludesSchedule taken faults policy s a mid new r → OnErr r (taken new ≡ taken mid)
-      at_err a (Ok exit) c = tt
-      at_err (answers.Ended counts) (Err wanting) c = ap taken c
-      at_err (answers.Refused line fault) (Err wanting) c = ap taken c
-      at_err answers.TooLong (Err wanting) c = ap taken c
-      at_err answers.ReadFault (Err wanting) c = ap taken c.1
-      at_err answers.WriteFault (Err wanting) c = ap taken c.1
-
-      at_end : (r : Result Exit E) → result ≡ r → IfOk r (λ exit. is_judged exit ≡ true → IsAtEnd held')
-      at_end (Ok exit) is = λ done. let all = over exit done is in tells (ended all.counts all.is)
-      at_end (Err wanting) is = tt
-
--- ---- a policy, and then a schedule
-
-module _ {E : Type 0} (first last : PolicyValue) (s : State) (harts : ℕ) (old mid new : Reader) (held held' held'' taken taken' : Option (List ℕ))
-    (unread unread' unread'' unwritten unwritten' : ℕ) (result : Result Exit E) where
   -- the policy was read, and the schedule behind it judged
-  pub judges-behind : IsOver first last old mid held held' → unread' ≡ unread
-      → Judges mid new held' held'' taken taken' unread' unread'' unwritten unwritten' result
-      (λ parts. judging last s (scheduled harts mid.number parts)) (λ parts. judged_of last s (scheduled harts mid.number parts))
-      → Judges old new held held'' taken taken' unread unread'' unwritten unwritten' result
-      (λ parts. stated_output s harts (stated first old.number parts)) (λ parts. judged_by s harts (stated first old.number parts))
-  judges-behind over quiet j = record {
-    comes = behind (λ st. OutputsOr taken taken' result (stated_output s harts st)) j.comes;
-    separated = λ is. behind (λ st. HasJudged IsSeparated (judged_by s harts st)) (j.separated is);
-    violated = λ is. behind (λ st. HasJudged IsViolated (judged_by s harts st)) (j.violated is);
-    end = j.end;
-    sure = λ is.
-        let f = j.sure is in
+  pub policy-over : (mid : Reader) (between : S) (out out' : K) (exit : Exit) → IsOver first policy old mid (held source) (held between) → source_faults between ≡ source_faults source
+      → TakesLines held source_faults taken sink_faults mid new between source' out out' 0 0 exit cached (λ parts. ends_in (judging policy s (scheduled harts mid.number parts)))
+      → TakesLines held source_faults taken sink_faults old new source source' out out' 0 0 exit cached here
+  policy-over mid between out out' exit over quiet t = record {
+    comes = behind (λ st. ComesTo (taken out) (taken out') 0 0 exit cached (ends_in (stated_output s harts st))) t.comes;
+    end = t.end;
+    sure = λ failed.
+        let f = t.sure failed in
         let r = over.given f.before in
         record {
           before = r.before f.before;
           going = f.going;
           unfinished = f.unfinished;
           given = r.given ++ f.given;
-          gives = GivesLines-trans (bytes_ahead old held) (bytes_ahead mid held') (bytes_ahead new held'') r.given f.given (r.bytes f.before) f.gives;
-          goes_on = λ lines. subst (λ (st : Stated). EndsNothing lines (stated_output s harts st).exit) (sym (r.makes f.given)) (f.goes_on lines);
+          gives = GivesLines-trans (bytes_ahead old (held source)) (bytes_ahead mid (held between)) (bytes_ahead new (held source')) r.given f.given (r.bytes f.before) f.gives;
+          goes_on = subst (λ (st : Stated). is_finished (stated_output s harts st).exit ≡ true) (sym (r.makes f.given)) f.goes_on;
+          written = f.written;
+          fetched = f.fetched;
         };
-    silent = j.silent;
-    nothing = j.nothing;
-    reason = subst (λ k. HasReasonOr k unread'' unwritten unwritten' result) quiet j.reason;
+    usage = t.usage;
+    causes = subst (λ k. HasCauses k (source_faults source') (sink_faults out) (sink_faults out') exit) quiet t.causes;
+    unwritten = t.unwritten;
+    unspent = t.unspent;
   }
     where
-      behind : (P : Stated → Type 0) → OnParts (ahead mid held') (λ rest. P (States last mid.number rest)) → OnParts (ahead old held) (λ parts. P (stated first old.number parts))
-      behind P is = on_stated first last old.number mid.number (ahead old held) (ahead mid held') P over.known is
-
-module _ {K E : Type 0} (taken : K → Option (List ℕ)) (faults : K → ℕ) (first : PolicyValue) (s : State) (harts : ℕ) (old new : Reader)
-    (held held' : Option (List ℕ)) (out out' : K) (unread unread' : ℕ) where
-  abbrev JudgesTo : K → Result Exit E → Type 0
-  JudgesTo now result = Judges old new held held' (taken out) (taken now) unread unread' (faults out) (faults now) result
-      (λ parts. stated_output s harts (stated first old.number parts)) (λ parts. judged_by s harts (stated first old.number parts))
-
-  -- a line was refused, or the input is too long
-  pub judges-last : (exit : Exit) (all : Stated) (o : Output) → StateAll first old held all → stated_output s harts all ≡ o → IsLast o → is_judged o.exit ≡ false
-      → EndsIn taken faults out out' exit o → unread' ≡ unread → JudgesTo out' (Ok exit)
-  judges-last exit all o states is last other e quiet = record {
-    comes = on_all (ahead old held) _ _ (λ parts same. subst (λ (st : Stated). Outputs (taken out) (taken out') exit (stated_output s harts st)) (sym same) (subst (Outputs (taken out) (taken out') exit) (sym is) e.output)) states;
-    separated = λ same. let done : exit ≡ Done = cc in absurd (not_done (ap is_judged done));
-    violated = λ same. let done : exit ≡ Crossings = cc in absurd (not_done (ap is_judged done));
-    end = λ done. absurd (not_done done);
-    sure = λ same. absurd (last-read _ _ _ _ _ _ last e (let read : exit ≡ ReadFault = cc in read));
-    silent = λ same. absurd (last-read _ _ _ _ _ _ last e (let read : exit ≡ ReadFault = cc in read));
-    nothing = tt;
-    reason = ends-reason E taken faults first s out out' unread unread' (faults out) (Ok exit) o last e quiet refl;
-  }
-    where
-      not_done : is_judged exit ≡ true → ⊥
-      not_done done = not_judged E taken faults first s out out' exit o last e other done
-
-  -- reading failed
-  pub judges-read : (policy : PolicyValue) (k : ℕ) → FailsOn (stated first old.number) (States policy k []) old new held held' → Rose unread unread' → JudgesTo out (Ok ReadFault)
-  judges-read policy k f rose = record {
-    comes = on_each (ahead old held) _ (λ parts known. outputs_none (taken out) (taken out) (stated_output s harts (stated first old.number parts)));
-    separated = λ same. cc;
-    violated = λ same. cc;
-    end = λ done. cc;
-    sure = λ same. record {
-      before = f.before;
-      going = f.going;
-      unfinished = f.unfinished;
-      given = f.given;
-      gives = f.gives;
-      goes_on = λ lines. subst (λ (st : Stated). EndsNothing lines (stated_output s harts st).exit) (sym f.makes)
-          (subst (λ (all : Scheduled). EndsNothing lines (judging policy s all).exit) (sym (scheduled-end harts k)) (told-nothing policy (run_state s []) lines));
-    };
-    silent = λ same. refl;
-    nothing = tt;
-    reason = record {
-      usage = exits-differ ReadFault Usage (λ n. let bad : 4 ≡ 1 = n in omega (arith, bad));
-      memory = exits-differ ReadFault OutOfMemory (λ n. let bad : 4 ≡ 6 = n in omega (arith, bad));
-      causes = read-causes unread unread' (faults out) (faults out) ReadFault refl rose refl;
-    };
-  }
-
-  -- memory was wanting
-  pub judges-memory : (wanting : E) → unread' ≡ unread → JudgesTo out (Err wanting)
-  judges-memory wanting quiet = record {
-    comes = on_each (ahead old held) _ (λ parts known. refl);
-    separated = λ same. cc;
-    violated = λ same. cc;
-    end = tt;
-    sure = λ same. cc;
-    silent = λ same. cc;
-    nothing = refl;
-    reason = (quiet, refl);
-  }
+      behind : (P : Stated → Type 0) → OnParts (ahead mid (held between)) (λ rest. P (States policy mid.number rest)) → OnParts (ahead old (held source)) (λ parts. P (stated first old.number parts))
+      behind P is = on_stated first policy old.number mid.number (ahead old (held source)) (ahead mid (held between)) P over.known is

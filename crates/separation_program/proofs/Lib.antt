@@ -2,5 +2,5 @@ mod Stating
 mod Verdicts
 mod Concluding
 mod Judges
-mod Called
+pub mod Called
 mod ReadBelow

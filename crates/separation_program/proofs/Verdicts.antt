@@ -1,5 +1,5 @@
 -- What is told of a state, by what was found.
-use Rattle.std.proofs.Common.{◌≡◌, ◌≢◌, ◌++◌, ◌∙◌, ◌∷◌, [], ℕ, List, map, flat_map, Result, Ok, refl, ap, ap₂, arith, sym}
+use Rattle.std.proofs.Common.{◌≡◌, ◌≢◌, ◌⊎◌, ◌++◌, ◌∙◌, ◌∷◌, [], ℕ, List, map, flat_map, true, false, inl, inr, refl, ap, ap₂, arith, sym}
 use Rattle.std.proofs.lemmas.List.{length-map}
 use Rattle.kernel_core.specs.State.{State}
 use Rattle.separation_policy.specs.Policy.{PolicyValue}
@@ -8,37 +8,35 @@ use Rattle.separation_check.specs.Marks.{marks_in}
 use Rattle.separation_check.specs.declared.marks.Marks.{Marks}
 use Rattle.separation_check.specs.declared.crossing.Crossing.{Crossing}
 use Rattle.separation_check.specs.declared.crossing.Crossing.TheVariants as crossings
-use Rattle.listing_read.specs.declared.object_fault.PolicyFault.{PolicyFault}
-use Rattle.courses.specs.Ending.{EndsNothing, refused_policy}
+use Rattle.courses.specs.Ending.{IsGiven}
+use Rattle.courses.specs.Exit.{is_finished}
 use Rattle.courses.specs.declared.exit.Exit.{Exit}
-use Rattle.courses.specs.declared.exit.Exit.TheVariants.{Done, Crossings}
-use Rattle.courses.proofs.Lasts.{IsLast, done-last, exits-differ}
+use Rattle.courses.specs.declared.exit.Exit.TheVariants.{Done, Crossings, OutOfMemory, Usage}
+use Rattle.courses.proofs.Lasts.{exits-differ}
 use Rattle.separation_program.specs.Text.{crossing_text, crossings_text, head_text, told, told_by, total_text}
 
--- a refused line of a policy has an exit of its own
-pub policy-last : (line : ℕ) (fault : PolicyFault) → IsLast (refused_policy line fault)
-policy-last line fault = record { usage = λ e. omega (arith, e); read = λ e. omega (arith, e); memory = λ e. omega (arith, e) }
+-- an exit of a call that did all was given, and tells no usage
+pub finished-given : (e : Exit) → is_finished e ≡ true → IsGiven e
+finished-given Done done = record { read = λ bad. cc; write = λ bad. cc; memory = λ bad. cc }
+finished-given Crossings done = record { read = λ bad. cc; write = λ bad. cc; memory = λ bad. cc }
+finished-given _ done = cc
 
--- the exit of a part that wanted no memory
-pub ok-exit : {E : Type 0} (a b : Exit) (result : Result Exit E) → result ≡ Ok a → result ≡ Ok b → a ≡ b
-ok-exit a b result is same = cc
+pub finished-form : (e : Exit) → is_finished e ≡ true → e ≢ Usage
+finished-form e done usage = let bad : true ≡ false = sym done ∙ ap is_finished usage in cc
+
+-- memory was wanting or not
+pub memory-or : (e : Exit) → (e ≡ OutOfMemory) ⊎ (e ≢ OutOfMemory)
+memory-or OutOfMemory = inl refl
+memory-or _ = inr (λ bad. cc)
 
 module _ (policy : PolicyValue) (s : State) where
-  -- what is told has an exit of its own
-  pub told-last : IsLast (told policy s)
-  told-last = by (crossings_in policy s)
+  -- what is told of a state that was judged is of a call that did all
+  pub told-finished : is_finished (told policy s).exit ≡ true
+  told-finished = by (crossings_in policy s)
     where
-      by : (found : List Crossing) → IsLast (told_by policy (marks_in policy s) found)
-      by [] = done-last _
-      by (first ∷ rest) = record { usage = λ e. omega (arith, e); read = λ e. omega (arith, e); memory = λ e. omega (arith, e) }
-
-  -- and ends nothing that was asked for
-  pub told-nothing : (lines : ℕ) → EndsNothing lines (told policy s).exit
-  told-nothing lines = by (crossings_in policy s)
-    where
-      by : (found : List Crossing) → EndsNothing lines (told_by policy (marks_in policy s) found).exit
-      by [] = tt
-      by (first ∷ rest) = tt
+      by : (found : List Crossing) → is_finished (told_by policy (marks_in policy s) found).exit ≡ true
+      by [] = refl
+      by (first ∷ rest) = refl
 
   -- the same is told of a crossing and of what it means
   text-meant : (crossing : Crossing) → crossing_text policy crossing ≡ crossing_text policy (meant_crossing crossing)
@@ -73,7 +71,7 @@ module _ (policy : PolicyValue) (s : State) where
   found-some marks [] crossed none = exits-differ Done Crossings (λ n. let bad : 0 ≡ 10 = n in omega (arith, bad)) crossed
   found-some marks (first ∷ rest) crossed none = cc
 
-  -- an exit of what was told of what was found is its own
-  pub by-last : (marks : Marks) (found : List Crossing) → IsLast (told_by policy marks found)
-  by-last marks [] = done-last _
-  by-last marks (first ∷ rest) = record { usage = λ e. omega (arith, e); read = λ e. omega (arith, e); memory = λ e. omega (arith, e) }
+-- what is told wants no memory
+pub told-given : (policy : PolicyValue) (marks : Marks) (found : List Crossing) → (told_by policy marks found).exit ≢ OutOfMemory
+told-given policy marks [] bad = cc
+told-given policy marks (first ∷ rest) bad = cc

@@ -1,5 +1,5 @@
 pub mod Stated
-pub mod Theorem
 pub mod Text
 pub mod Judged
+pub mod Theorem
 pub mod Program

@@ -13,6 +13,9 @@ use Rattle.separation_lines.specs.declared.said.Next.{Next}
 use Rattle.separation_lines.specs.declared.said.Next.TheVariants as nexts
 use Rattle.judged_lines.specs.declared.stop.Stop.{Stop}
 use Rattle.judged_lines.specs.declared.stop.Stop.TheVariants as stops
+use Rattle.courses.specs.declared.exit.Exit.{Exit}
+use Rattle.courses.specs.declared.exit.Exit.TheVariants as exits
+use Rattle.courses.specs.declared.exit.Exit.TheVariants.{PolicyRefused}
 use Rattle.schedule_replay.specs.Lines.{FailsOn, ReadsOn}
 use Rattle.schedule_replay.specs.Scheduled.{OnParts}
 
@@ -68,3 +71,8 @@ StatesRest first policy old new held held' (stops.Refused line (Refused fault)) 
 StatesRest first policy old new held held' (stops.Refused line OutOfMemory) = ⊤
 StatesRest first policy old new held held' stops.TooLong = StateAll first old held PastEnd
 StatesRest first policy old new held held' stops.ReadFault = FailsOn (stated first old.number) (States policy new.number []) old new held held'
+
+-- the exit where a line of a policy is not taken in
+abbrev pub untaken_exit : ℕ → Untaken → Exit
+untaken_exit line (Refused fault) = PolicyRefused line fault
+untaken_exit line OutOfMemory = exits.OutOfMemory

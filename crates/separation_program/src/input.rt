@@ -1,21 +1,19 @@
 //! A listing, the lines of a policy and a schedule, from the first line to the last.
-ghost use Rattle.std.specs.Prelude.{◌≡◌, ◌≢◌, [], true, false, IfSome};
-ghost use Rattle.std.specs.Io.KnownBytes.{IsAtEnd};
-ghost use Rattle.coy_io.specs.Lines.{parts_of, whole_lines};
-ghost use Rattle.coy_io.specs.Reader.{TellsEnd};
+ghost use Rattle.std.specs.Prelude.{◌≡◌, true, false, IfSome};
+ghost use Rattle.coy_io.specs.Reader.{TellsEnd, ahead};
 ghost use Rattle.kernel_core.specs.State.{state_of};
-ghost use Rattle.courses.specs.Course.{course_output};
-ghost use Rattle.courses.specs.Ending.{HasCauses, Outputs};
-ghost use Rattle.courses.specs.Listed.{lines_course};
-ghost use Rattle.courses.specs.Sure.{WritesSure};
-ghost use Rattle.separation_program.specs.Judged.{HasJudged, Judges, exit_of, is_judged, judged, judged_by, separation_course, stated_output};
-ghost use Rattle.separation_program.specs.Stated.{stated};
-ghost use Rattle.separation_program.specs.Theorem.{IsSeparated, IsViolated};
+ghost use Rattle.schedule_replay.specs.Scheduled.{OnParts};
+ghost use Rattle.courses.specs.Course.{cached, ends_in};
+ghost use Rattle.courses.specs.Exit.{is_finished};
+ghost use Rattle.courses.specs.Stopped.{stop_exit};
+ghost use Rattle.courses.specs.Taken.{TakesLines, TakesListing};
+ghost use Rattle.separation_program.specs.Judged.{HasJudged, judged, judged_by, separation_course, stated_output};
+ghost use Rattle.separation_program.specs.Stated.{stated, untaken_exit};
+ghost use Rattle.separation_program.specs.Theorem.{TellsOf};
 
 use crate::judging::judge;
 use crate::lines::read_policies;
-use cap_format::OutOfMemory;
-use courses::{Exit, end_past_limit, read_head, refuse_policy};
+use courses::{Exit, conclude, read_head};
 use coy_io::{LineReader, Sink, Source};
 use image_builder::boot;
 use judged_lines::Stop;
@@ -35,26 +33,13 @@ pub(crate) fn separate<S: Source, K: Sink, L: Ledger>(
     output: &mut K,
     fetches: &mut Steps<L>,
 ) -> Exit
-    // What the known bytes come to, and where the source stands then.
-    ensures comes { IfSome (S.held input.old) (λ bytes.
-        Outputs (K.taken output.old) (K.taken output.new) result
-        (course_output (lines_course separation_course (parts_of bytes)))) }
-    ensures end { is_judged result ≡ true → IsAtEnd (S.held input.new) }
-    ensures sure { result ≡ Exit.ReadFault →
-        WritesSure (S.held input.old) (S.held input.new) (K.taken output.old) (K.taken output.new)
-        (λ bytes. lines_course separation_course (whole_lines [] bytes)) }
+    // What is done with the input, its slots left out.
+    ensures course { TakesListing S.held S.faults K.taken K.faults
+        input.old input.new output.old output.new 0 0 result cached separation_course }
 
-    // The theorem: what is so of the state that was judged.
-    ensures separated { result ≡ Exit.Done → IfSome (S.held input.old) (λ bytes.
-        HasJudged IsSeparated (judged bytes)) }
-    ensures violated { result ≡ Exit.Crossings → IfSome (S.held input.old) (λ bytes.
-        HasJudged IsViolated (judged bytes)) }
-
-    // Why it may end otherwise.
-    ensures usage { result ≢ Exit.Usage }
-    ensures causes { HasCauses (S.faults input.old) (S.faults input.new)
-        (K.faults output.old) (K.faults output.new) result }
-    ensures unwritten { result ≡ Exit.OutOfMemory → K.taken output.new ≡ K.taken output.old }
+    // What is so of the state that was judged.
+    ensures judged { is_finished result ≡ true → IfSome (S.held input.old) (λ bytes.
+        HasJudged (TellsOf result) (judged bytes)) }
 {
     let mut lines = LineReader::new();
     let listing = match read_head(alloc, &mut lines, input, output) {
@@ -67,7 +52,7 @@ pub(crate) fn separate<S: Source, K: Sink, L: Ledger>(
     let Ok(mut policy) = Policy::new(alloc, listing.sizes()) else {
         return Exit::OutOfMemory;
     };
-    let judged = judge_lines(
+    judge_lines(
         alloc,
         &mut machine,
         &mut policy,
@@ -75,21 +60,10 @@ pub(crate) fn separate<S: Source, K: Sink, L: Ledger>(
         input,
         output,
         fetches,
-    );
-    exit_of(judged)
+    )
 }
 
-/// The exit of what may want memory.
-fn exit_of(judged: Result<Exit, OutOfMemory>) -> Exit
-    ensures { result ≡ exit_of judged }
-{
-    match judged {
-        Ok(exit) => exit,
-        Err(_) => Exit::OutOfMemory,
-    }
-}
-
-/// Reads the lines of a policy and of a schedule, and judges the machine behind them.
+/// Reads the lines of a policy and of a schedule, and judges the machine behind them, or tells why they ended before.
 fn judge_lines<T: Translator, S: Source, K: Sink, L: Ledger>(
     alloc: Global,
     machine: &mut Machine<T>,
@@ -98,27 +72,42 @@ fn judge_lines<T: Translator, S: Source, K: Sink, L: Ledger>(
     input: &mut S,
     output: &mut K,
     fetches: &mut Steps<L>,
-) -> Result<Exit, OutOfMemory>
+) -> Exit
     requires reader { lines.old.failed ≡ false }
     requires told { TellsEnd lines.old (S.held input.old) }
-    ensures { let m = machine.old in
-        Judges lines.old lines.new (S.held input.old) (S.held input.new)
-        (K.taken output.old) (K.taken output.new) (S.faults input.old) (S.faults input.new)
-        (K.faults output.old) (K.faults output.new) result
-        (λ parts. stated_output (state_of m) m.objects.harts (stated policy.old lines.old.number parts))
-        (λ parts. judged_by (state_of m) m.objects.harts (stated policy.old lines.old.number parts)) }
+    ensures course { let m = machine.old in
+        TakesLines S.held S.faults K.taken K.faults lines.old lines.new
+        input.old input.new output.old output.new 0 0 result cached (λ parts.
+        ends_in (stated_output (state_of m) m.objects.harts (stated policy.old lines.old.number parts))) }
+    ensures judged { let m = machine.old in is_finished result ≡ true →
+        OnParts (ahead lines.old (S.held input.old)) (λ parts. HasJudged (TellsOf result)
+        (judged_by (state_of m) m.objects.harts (stated policy.old lines.old.number parts))) }
 {
-    match read_policies(lines, input, policy) {
-        Stop::End => judge(alloc, machine, policy, lines, input, output, fetches),
-        Stop::Refused {
-            line,
-            fault: Untaken::Refused(fault),
-        } => Ok(refuse_policy(line, fault, output)),
-        Stop::Refused {
-            fault: Untaken::OutOfMemory,
-            ..
-        } => Err(OutOfMemory),
-        Stop::TooLong => Ok(end_past_limit(output)),
-        Stop::ReadFault => Ok(Exit::ReadFault),
+    let stop = read_policies(lines, input, policy);
+    match policy_exit(stop) {
+        None => judge(alloc, machine, policy, lines, input, output, fetches),
+        Some(exit) => conclude(exit, output),
+    }
+}
+
+/// The exit of the lines of a policy, or `None` where that is over.
+fn policy_exit(stop: Stop<Untaken>) -> Option<Exit>
+    ensures { result ≡ stop_exit untaken_exit stop }
+{
+    match stop {
+        Stop::End => None,
+        Stop::Refused { line, fault } => Some(untaken_exit(line, fault)),
+        Stop::TooLong => Some(Exit::TooLong),
+        Stop::ReadFault => Some(Exit::ReadFault),
+    }
+}
+
+/// The exit where a line of a policy is not taken in.
+fn untaken_exit(line: u32, fault: Untaken) -> Exit
+    ensures { result ≡ untaken_exit line fault }
+{
+    match fault {
+        Untaken::Refused(fault) => Exit::PolicyRefused { line, fault },
+        Untaken::OutOfMemory => Exit::OutOfMemory,
     }
 }

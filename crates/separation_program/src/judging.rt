@@ -1,21 +1,23 @@
 //! A machine set up by its schedule, and judged.
-ghost use Rattle.std.specs.Prelude.{◌≡◌, [], false};
-ghost use Rattle.coy_io.specs.Reader.{TellsEnd};
+ghost use Rattle.std.specs.Prelude.{◌≡◌, ◌≢◌, false, true};
+ghost use Rattle.coy_io.specs.Reader.{TellsEnd, ahead};
 ghost use Rattle.kernel_core.specs.State.{state_of};
 ghost use Rattle.separation_policy.specs.Closure.{IsClosure};
-ghost use Rattle.schedule_replay.specs.Scheduled.{scheduled};
+ghost use Rattle.schedule_replay.specs.Scheduled.{OnParts, scheduled};
+ghost use Rattle.courses.specs.Course.{cached, ends_in};
 ghost use Rattle.courses.specs.Ending.{EndsIn};
-ghost use Rattle.separation_program.specs.Judged.{ConcludesSchedule, EndsOr, Judges, judged_of, judging};
+ghost use Rattle.courses.specs.Exit.{is_finished};
+ghost use Rattle.courses.specs.Taken.{TakesLines};
+ghost use Rattle.separation_program.specs.Judged.{HasJudged, judged_of, judging};
 ghost use Rattle.separation_program.specs.Text.{crossings_text, separated_by, told, told_by};
-ghost use Rattle.separation_program.specs.Theorem.{IsSeparated, IsViolated};
+ghost use Rattle.separation_program.specs.Theorem.{TellsOf};
 
 use crate::crossing::put_crossings;
 use crate::telling::put_separated;
-use cap_format::OutOfMemory;
-use courses::{Exit, end_past_limit, refuse_schedule};
+use courses::{Exit, conclude, counts_or_exit};
 use coy_io::{LineReader, Sink, Source};
 use kernel_core::Machine;
-use schedule_replay::{Mode, Replayed, replay};
+use schedule_replay::{Mode, replay};
 use separation_check::{Crossing, Marks, crossings};
 use separation_policy::{Closure, Policy};
 use std::alloc::Global;
@@ -23,7 +25,8 @@ use std::sync::ledger::Ledger;
 use steps::Steps;
 use walk_engine::Translator;
 
-/// Runs the lines of a schedule without a word, and tells whether the policy holds of the state behind them.
+/// Runs the lines of a schedule without a word, and tells whether the policy holds of the state behind them, or why they ended
+/// before.
 pub(crate) fn judge<T: Translator, S: Source, K: Sink, L: Ledger>(
     alloc: Global,
     machine: &mut Machine<T>,
@@ -32,40 +35,21 @@ pub(crate) fn judge<T: Translator, S: Source, K: Sink, L: Ledger>(
     input: &mut S,
     output: &mut K,
     fetches: &mut Steps<L>,
-) -> Result<Exit, OutOfMemory>
+) -> Exit
     requires reader { lines.old.failed ≡ false }
     requires told { TellsEnd lines.old (S.held input.old) }
-    ensures { let m = machine.old in
-        Judges lines.old lines.new (S.held input.old) (S.held input.new)
-        (K.taken output.old) (K.taken output.new) (S.faults input.old) (S.faults input.new)
-        (K.faults output.old) (K.faults output.new) result
-        (λ parts. judging policy.now (state_of m) (scheduled m.objects.harts lines.old.number parts))
-        (λ parts. judged_of policy.now (state_of m) (scheduled m.objects.harts lines.old.number parts)) }
+    ensures course { let m = machine.old in
+        TakesLines S.held S.faults K.taken K.faults lines.old lines.new
+        input.old input.new output.old output.new 0 0 result cached (λ parts.
+        ends_in (judging policy.now (state_of m) (scheduled m.objects.harts lines.old.number parts))) }
+    ensures judged { let m = machine.old in is_finished result ≡ true →
+        OnParts (ahead lines.old (S.held input.old)) (λ parts. HasJudged (TellsOf result)
+        (judged_of policy.now (state_of m) (scheduled m.objects.harts lines.old.number parts))) }
 {
     let replayed = replay(machine, lines, input, Mode::Silent, output, fetches);
-    conclude(alloc, replayed, machine, policy, output, fetches)
-}
-
-/// Tells whether the policy holds, where all lines of the schedule were read, or why they were not.
-fn conclude<T: Translator, K: Sink, L: Ledger>(
-    alloc: Global,
-    answer: Replayed,
-    machine: &Machine<T>,
-    policy: &Policy,
-    output: &mut K,
-    fetches: &mut Steps<L>,
-) -> Result<Exit, OutOfMemory>
-    ensures concludes { ConcludesSchedule K.taken K.faults policy.now (state_of machine.now) answer
-        output.old output.new result }
-    ensures separated { result ≡ Ok Exit.Done → IsSeparated policy.now (state_of machine.now) }
-    ensures violated { result ≡ Ok Exit.Crossings → IsViolated policy.now (state_of machine.now) }
-{
-    match answer {
-        Replayed::Ended(_) => tell(alloc, machine, policy, output, fetches),
-        Replayed::Refused { line, fault } => Ok(refuse_schedule(line, fault, output)),
-        Replayed::TooLong => Ok(end_past_limit(output)),
-        Replayed::ReadFault => Ok(Exit::ReadFault),
-        Replayed::WriteFault => Ok(Exit::WriteFault),
+    match counts_or_exit(replayed) {
+        Ok(_counts) => tell(alloc, machine, policy, output, fetches),
+        Err(exit) => conclude(exit, output),
     }
 }
 
@@ -76,21 +60,25 @@ fn tell<T: Translator, K: Sink, L: Ledger>(
     policy: &Policy,
     output: &mut K,
     fetches: &mut Steps<L>,
-) -> Result<Exit, OutOfMemory>
-    ensures ends { EndsOr K.taken K.faults output.old output.new result
+) -> Exit
+    ensures ends { result ≢ Exit.OutOfMemory → EndsIn K.taken K.faults output.old output.new result
         (told policy.now (state_of machine.now)) }
-    ensures separated { result ≡ Ok Exit.Done → IsSeparated policy.now (state_of machine.now) }
-    ensures violated { result ≡ Ok Exit.Crossings → IsViolated policy.now (state_of machine.now) }
+    ensures unwritten { result ≡ Exit.OutOfMemory → output.new ≡ output.old }
+    ensures tells { TellsOf result policy.now (state_of machine.now) }
 {
-    let found = crossings(alloc, machine, policy, fetches)?;
-    let closure = Closure::new(alloc, policy)?;
-    Ok(tell_found(
+    let Ok(found) = crossings(alloc, machine, policy, fetches) else {
+        return Exit::OutOfMemory;
+    };
+    let Ok(closure) = Closure::new(alloc, policy) else {
+        return Exit::OutOfMemory;
+    };
+    tell_found(
         policy,
         &closure,
         found.marks,
         found.crossings.as_slice(),
         output,
-    ))
+    )
 }
 
 /// Tells that a policy holds, or all crossings that were found.

@@ -2,11 +2,9 @@
 ghost use Rattle.std.specs.Prelude.{◌≡◌, map, string_bytes, IfSome};
 ghost use Rattle.coy_io.specs.Causes.{Rose};
 ghost use Rattle.courses.specs.Ending.{Completes, EndsIn, HasCauses, IsGiven, Outputs};
+ghost use Rattle.courses.specs.Program.{bytes_for, out, sure, HasForm, ReadsInput};
 ghost use Rattle.courses.specs.Sure.{WritesSure};
-ghost use Rattle.separation_program.specs.Judged.{HasJudged, judged};
-ghost use Rattle.separation_program.specs.Program.{asked_by, bytes_for, out, sure, usage_text, HasForm, IsExact, ReadsInput};
-ghost use Rattle.separation_program.specs.Theorem.{IsSeparated, IsViolated};
-ghost use Rattle.separation_program.specs.declared.words.Asked.TheVariants.{Judge};
+ghost use Rattle.separation_program.specs.Program.{asked_by, separation, usage_text, Judges};
 
 use crate::input::separate;
 use crate::words::{Asked, read_words};
@@ -28,35 +26,30 @@ pub fn separation<S: Source, K: Sink, L: Ledger>(
 ) -> Exit
     // What is written, and how it ends, where the bytes that are read are told.
     ensures answers { let words = map string_bytes words.now in
-        IfSome (bytes_for (asked_by words) (S.held input.old)) (λ bytes.
-        Outputs (K.taken output.old) (K.taken output.new) result (out words bytes)) }
+        IfSome (bytes_for separation (asked_by words) (S.held input.old)) (λ bytes.
+        Outputs (K.taken output.old) (K.taken output.new) result (out separation words bytes)) }
 
     // Where nothing failed, that is the whole answer, or there was no memory for it.
     ensures complete { let words = map string_bytes words.now in
         ¬ Rose (S.faults input.old) (S.faults input.new) →
         ¬ Rose (K.faults output.old) (K.faults output.new) →
-        IfSome (bytes_for (asked_by words) (S.held input.old)) (λ bytes.
-        Completes (K.taken output.old) (K.taken output.new) result (out words bytes)) }
+        IfSome (bytes_for separation (asked_by words) (S.held input.old)) (λ bytes.
+        Completes (K.taken output.old) (K.taken output.new) result (out separation words bytes)) }
 
     // The theorem: where it told that the policy holds, so it does of the state that was judged, and from there on nobody
-    // writes across domains, and nobody sees across them, but who reads.
-    ensures separated { asked_by (map string_bytes words.now) ≡ Some Judge → result ≡ Exit.Done →
-        IfSome (S.held input.old) (λ bytes. HasJudged IsSeparated (judged bytes)) }
-    ensures violated { result ≡ Exit.Crossings →
-        IfSome (S.held input.old) (λ bytes. HasJudged IsViolated (judged bytes)) }
-    ensures exactly { asked_by (map string_bytes words.now) ≡ Some Judge → IsGiven result →
-        IfSome (S.held input.old) (λ bytes. IsExact result (judged bytes)) }
+    // writes across domains, and nobody sees across them, but who reads; and it told so exactly where the policy holds.
+    ensures judges { Judges (map string_bytes words.now) (S.held input.old) result }
 
     // Where reading failed, nothing was written, and no whole line that was read ended the call.
     ensures sure { let words = map string_bytes words.now in result ≡ Exit.ReadFault →
         WritesSure (S.held input.old) (S.held input.new)
-        (K.taken output.old) (K.taken output.new) (sure words) }
+        (K.taken output.old) (K.taken output.new) (sure separation words) }
 
     // How much of the input is read.
-    ensures reads { ReadsInput S.held (map string_bytes words.now) input.old input.new result }
+    ensures reads { ReadsInput separation S.held (map string_bytes words.now) input.old input.new result }
 
     // Why it ends as it does.
-    ensures form { HasForm (map string_bytes words.now) result }
+    ensures form { HasForm separation (map string_bytes words.now) result }
     ensures causes { HasCauses (S.faults input.old) (S.faults input.new)
         (K.faults output.old) (K.faults output.new) result }
     ensures unwritten { result ≡ Exit.OutOfMemory → K.taken output.new ≡ K.taken output.old }

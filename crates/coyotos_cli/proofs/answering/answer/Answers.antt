@@ -1,12 +1,13 @@
 use Rattle.std.proofs.Common.{◌∙◌, Some, ap, refl, sym}
 use Rattle.courses.specs.Course.{cached}
 use Rattle.courses.specs.declared.exit.Exit.TheVariants.{Done}
-use Rattle.courses.proofs.Lasts.{done-last, last-causes, none-entries}
-use Rattle.coyotos_words.specs.declared.command.Command.TheVariants.{Help, Check, Run, Trace, Tables, Walk, Make, Pack, Unpack, Migrate, Confine, Share}
+use Rattle.courses.proofs.Bytes.{known-output}
+use Rattle.courses.proofs.Lasts.{ends-causes, none-entries}
+use Rattle.coyotos_words.specs.declared.command.Command.TheVariants.{Help, Check, Schedule, Make, Pack, Unpack, Migrate, Confine, Share}
 use Rattle.share_command.specs.Share.{shared_fetched}
 use Rattle.coyotos_cli.specs.Command.{asks_run}
-use Rattle.coyotos_cli.specs.Program.{tells_usage, usage_text}
-use Rattle.coyotos_cli.proofs.Words.{cache-shared, causes-other, comes-back, comes-known, comes-text, comes-told, known-back, known-confine, known-migrate, known-pack, known-unpack, stands-back, stands-told}
+use Rattle.coyotos_cli.specs.Program.{usage_text}
+use Rattle.coyotos_cli.proofs.Words.{cache-shared, causes-other, comes-back, comes-known, comes-text, comes-told, known-back, known-check, known-confine, known-migrate, known-pack, known-unpack, stands-back, stands-told}
 use Rattle.coyotos_cli.proofs.answering.answer.Goals as goal
 
 -- ---- no input
@@ -15,13 +16,13 @@ pub returns-in-Help-clause-comes : goal.returns-in-Help-clause-comes
 returns-in-Help-clause-comes g c = rw c.in-Help.is (comes-text Help _ _ _ _ _ _ _ _ refl c.usage.ensures refl)
 
 pub returns-in-Help-clause-entries : goal.returns-in-Help-clause-entries
-returns-in-Help-clause-entries g c = λ done has. rw c.in-Help.is (none-entries (tells_usage Done).last)
+returns-in-Help-clause-entries g c = λ done has. rw c.in-Help.is (none-entries (record { text = usage_text; exit = Done }))
 
 pub returns-in-Help-clause-unread : goal.returns-in-Help-clause-unread
 returns-in-Help-clause-unread g c = λ off. refl
 
 pub returns-in-Help-clause-causes : goal.returns-in-Help-clause-causes
-returns-in-Help-clause-causes g c = last-causes _ _ _ _ _ _ (done-last usage_text) c.usage.ensures _ _ _ refl refl
+returns-in-Help-clause-causes g c = ends-causes _ _ _ _ _ _ c.usage.ensures _ _ _ (λ bad. cc) refl refl
 
 pub returns-in-Make-clause-comes : goal.returns-in-Make-clause-comes
 returns-in-Make-clause-comes g c = rw c.in-Make.is (comes-told (Make c.in-Make.number c.in-Make.summary) _ _ _ _ _ cached refl _ c.make.ensures.comes)
@@ -40,55 +41,37 @@ returns-in-Make-clause-stays g c = λ off. c.make.ensures.stays (sym (ap (λ com
 
 -- ---- a schedule
 
-pub returns-in-Check-clause-comes : goal.returns-in-Check-clause-comes
-returns-in-Check-clause-comes g c = rw c.in-Check.is (comes-known Check _ _ _ _ _ cached refl _ _ c.answer_schedule.ensures.course.comes)
+pub returns-in-Schedule-clause-comes : goal.returns-in-Schedule-clause-comes
+returns-in-Schedule-clause-comes g c = rw c.in-Schedule.is (comes-known (Schedule c.in-Schedule.command) _ _ _ _ _ cached refl _ _ c.answer_schedule.ensures.course.comes)
 
-pub returns-in-Check-clause-sure : goal.returns-in-Check-clause-sure
-returns-in-Check-clause-sure g c = λ fault. rw c.in-Check.is (stands-told (Some Check) _ _ _ _ _ _ cached refl _ (c.answer_schedule.ensures.course.sure fault))
+pub returns-in-Schedule-clause-sure : goal.returns-in-Schedule-clause-sure
+returns-in-Schedule-clause-sure g c = λ fault. rw c.in-Schedule.is (stands-told (Some (Schedule c.in-Schedule.command)) _ _ _ _ _ _ cached refl _ (c.answer_schedule.ensures.course.sure fault))
 
-pub returns-in-Check-clause-entries : goal.returns-in-Check-clause-entries
-returns-in-Check-clause-entries g c = λ done has. rw c.in-Check.is (c.answer_schedule.ensures.entries done)
-
-pub returns-in-Check-clause-stays : goal.returns-in-Check-clause-stays
-returns-in-Check-clause-stays g c = λ off. c.answer_schedule.ensures.stays refl
-
-pub returns-in-Run-clause-comes : goal.returns-in-Run-clause-comes
-returns-in-Run-clause-comes g c = rw c.in-Run.is (comes-known Run _ _ _ _ _ cached refl _ _ c.answer_schedule-in-Run.ensures.course.comes)
-
-pub returns-in-Run-clause-sure : goal.returns-in-Run-clause-sure
-returns-in-Run-clause-sure g c = λ fault. rw c.in-Run.is (stands-told (Some Run) _ _ _ _ _ _ cached refl _ (c.answer_schedule-in-Run.ensures.course.sure fault))
-
-pub returns-in-Run-clause-entries : goal.returns-in-Run-clause-entries
-returns-in-Run-clause-entries g c = λ done has. rw c.in-Run.is (c.answer_schedule-in-Run.ensures.entries done)
-
-pub returns-in-Trace-clause-comes : goal.returns-in-Trace-clause-comes
-returns-in-Trace-clause-comes g c = rw c.in-Trace.is (comes-known Trace _ _ _ _ _ cached refl _ _ c.answer_schedule-in-Trace.ensures.course.comes)
-
-pub returns-in-Trace-clause-sure : goal.returns-in-Trace-clause-sure
-returns-in-Trace-clause-sure g c = λ fault. rw c.in-Trace.is (stands-told (Some Trace) _ _ _ _ _ _ cached refl _ (c.answer_schedule-in-Trace.ensures.course.sure fault))
-
-pub returns-in-Trace-clause-entries : goal.returns-in-Trace-clause-entries
-returns-in-Trace-clause-entries g c = λ done has. rw c.in-Trace.is (c.answer_schedule-in-Trace.ensures.entries done)
-
-pub returns-in-Tables-clause-comes : goal.returns-in-Tables-clause-comes
-returns-in-Tables-clause-comes g c = rw c.in-Tables.is (comes-known Tables _ _ _ _ _ cached refl _ _ c.answer_schedule-in-Tables.ensures.course.comes)
-
-pub returns-in-Tables-clause-sure : goal.returns-in-Tables-clause-sure
-returns-in-Tables-clause-sure g c = λ fault. rw c.in-Tables.is (stands-told (Some Tables) _ _ _ _ _ _ cached refl _ (c.answer_schedule-in-Tables.ensures.course.sure fault))
-
-pub returns-in-Tables-clause-entries : goal.returns-in-Tables-clause-entries
-returns-in-Tables-clause-entries g c = λ done has. rw c.in-Tables.is (c.answer_schedule-in-Tables.ensures.entries done)
-
-pub returns-in-Walk-clause-comes : goal.returns-in-Walk-clause-comes
-returns-in-Walk-clause-comes g c = rw c.in-Walk.is (comes-known (Walk c.in-Walk.process c.in-Walk.kind c.in-Walk.address) _ _ _ _ _ cached refl _ _ c.answer_schedule-in-Walk.ensures.course.comes)
-
-pub returns-in-Walk-clause-sure : goal.returns-in-Walk-clause-sure
-returns-in-Walk-clause-sure g c = λ fault. rw c.in-Walk.is (stands-told (Some (Walk c.in-Walk.process c.in-Walk.kind c.in-Walk.address)) _ _ _ _ _ _ cached refl _ (c.answer_schedule-in-Walk.ensures.course.sure fault))
-
-pub returns-in-Walk-clause-entries : goal.returns-in-Walk-clause-entries
-returns-in-Walk-clause-entries g c = λ done has. rw c.in-Walk.is (c.answer_schedule-in-Walk.ensures.entries done)
+pub returns-in-Schedule-clause-entries : goal.returns-in-Schedule-clause-entries
+returns-in-Schedule-clause-entries g c = λ done has. rw c.in-Schedule.is (c.answer_schedule.ensures.entries done)
 
 -- ---- what is no schedule over the mapping cache
+
+pub returns-in-Check-clause-comes : goal.returns-in-Check-clause-comes
+returns-in-Check-clause-comes g c = rw c.in-Check.is (comes-known Check _ _ _ _ _ cached refl _ _ (c.check.ensures _).comes)
+
+pub returns-in-Check-clause-sure : goal.returns-in-Check-clause-sure
+returns-in-Check-clause-sure g c = λ fault. rw c.in-Check.is (stands-told (Some Check) _ _ _ _ _ _ cached refl _ ((c.check.ensures _).sure fault))
+
+pub returns-in-Check-clause-entries : goal.returns-in-Check-clause-entries
+returns-in-Check-clause-entries g c = λ done has. rw c.in-Check.is (known-check _)
+
+pub returns-in-Check-clause-end : goal.returns-in-Check-clause-end
+returns-in-Check-clause-end g c = λ done asks. (c.check.ensures 0).end done
+
+pub returns-in-Check-clause-usage : goal.returns-in-Check-clause-usage
+returns-in-Check-clause-usage g c = (c.check.ensures 0).usage
+
+pub returns-in-Check-clause-causes : goal.returns-in-Check-clause-causes
+returns-in-Check-clause-causes g c = (c.check.ensures 0).causes
+
+pub returns-in-Check-clause-unwritten : goal.returns-in-Check-clause-unwritten
+returns-in-Check-clause-unwritten g c = (c.check.ensures 0).unwritten
 
 pub returns-in-Pack-clause-comes : goal.returns-in-Pack-clause-comes
 returns-in-Pack-clause-comes g c = rw c.in-Pack.is (comes-known Pack _ _ _ _ _ cached refl _ _ (c.answer_pack.ensures.course _).comes)
@@ -178,10 +161,10 @@ pub returns-in-Share-clause-bounded : goal.returns-in-Share-clause-bounded
 returns-in-Share-clause-bounded g c = λ asked. rw c.in-Share.is c.share.ensures.bounded
 
 pub returns-in-Back-clause-comes : goal.returns-in-Back-clause-comes
-returns-in-Back-clause-comes g c = rw c.in-Back.is (comes-back _ _ _ _ _ _ _ c.back.ensures.comes)
+returns-in-Back-clause-comes g c = rw c.in-Back.is (comes-back _ _ _ _ _ _ _ (known-output _ _ _ 0 0 _ cached _ c.back.ensures.course.comes))
 
 pub returns-in-Back-clause-sure : goal.returns-in-Back-clause-sure
-returns-in-Back-clause-sure g c = λ fault. rw c.in-Back.is (stands-back _ _ _ _ _ _ _ (c.back.ensures.sure fault))
+returns-in-Back-clause-sure g c = λ fault. rw c.in-Back.is (stands-back _ _ _ _ _ _ _ (c.back.ensures.course.sure fault).writes)
 
 pub returns-in-Back-clause-entries : goal.returns-in-Back-clause-entries
 returns-in-Back-clause-entries g c = λ done has. rw c.in-Back.is (known-back _ _)

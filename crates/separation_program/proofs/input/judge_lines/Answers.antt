@@ -1,39 +1,38 @@
-use Rattle.std.proofs.Common.{refl}
+use Rattle.std.proofs.Common.{◌∙◌, Some, ap, refl, subst, sym}
 use Rattle.kernel_core.specs.State.{state_of}
-use Rattle.courses.specs.Ending.{refused_policy, too_long}
-use Rattle.courses.proofs.Lasts.{past-last}
-use Rattle.separation_program.specs.Stated.{PastEnd, RefusedAt}
-use Rattle.separation_program.proofs.Judges.{judges-behind, judges-last, judges-memory, judges-read}
-use Rattle.separation_program.proofs.Verdicts.{policy-last}
+use Rattle.courses.proofs.Concluding.{concludes-open}
+use Rattle.courses.proofs.Rests.{stop-end}
+use Rattle.separation_program.specs.Judged.{HasJudged, judged_by}
+use Rattle.separation_program.specs.Stated.{Stated, StatesRest, untaken_exit}
+use Rattle.separation_program.specs.Theorem.{TellsOf}
+use Rattle.separation_program.proofs.Judges.{on_stated, policy-open, policy-over, policy-stopped}
 use Rattle.separation_program.proofs.input.judge_lines.Goals as goal
 
-pub returns-in-End : goal.returns-in-End
-returns-in-End g c =
-    let e = c.in-End.ensures in
-    judges-behind c.args.policy.now c.read_policies.new.policy (state_of c.args.machine.now) c.args.machine.now.objects.harts c.args.lines.now c.read_policies.new.lines c.judge.new.lines
-    _ _ _ _ _ _ _ _ _ _ _ e.states (e.quiet (λ same. cc)) c.judge.ensures
+-- the policy is over
+pub returns-in-None-clause-course : goal.returns-in-None-clause-course
+returns-in-None-clause-course g c =
+    let e = c.read_policies-stop.ensures in
+    let is = stop-end untaken_exit c.read_policies-stop.result (sym c.policy_exit.ensures ∙ c.in-None.is) in
+    let over = subst (λ stop. StatesRest c.args.policy.now c.read_policies-stop.new.policy c.args.lines.now c.read_policies-stop.new.lines _ _ stop) is e.states in
+    policy-over g.S.Source.held g.S.Source.faults g.K.Sink.taken g.K.Sink.faults c.args.policy.now c.read_policies-stop.new.policy (state_of c.args.machine.now) c.args.machine.now.objects.harts
+    c.args.lines.now c.judge.new.lines _ _ c.read_policies-stop.new.lines _ _ _ _ over (e.quiet (λ same. let bad = sym is ∙ same in cc)) c.judge.ensures.course
 
-pub returns-in-Refused-default-Refused : goal.returns-in-Refused-default-Refused
-returns-in-Refused-default-Refused g c =
-    let e = rw c.in-Refused-default-Refused.fault-is at c.in-Refused-default-Refused.ensures in
-    let ends = rw c.in-Refused-default-Refused.fault-is at c.refuse_policy.ensures in
-    judges-last g.K.Sink.taken g.K.Sink.faults c.args.policy.now (state_of c.args.machine.now) c.args.machine.now.objects.harts c.args.lines.now c.read_policies.new.lines _ _ _ _ _ _
-    c.refuse_policy.result (RefusedAt c.in-Refused-default-Refused.line c.in-Refused-default-Refused.fault) (refused_policy c.in-Refused-default-Refused.line c.in-Refused-default-Refused.fault)
-    e.states refl (policy-last c.in-Refused-default-Refused.line c.in-Refused-default-Refused.fault) refl ends (e.quiet (λ same. cc))
+pub returns-in-None-clause-judged : goal.returns-in-None-clause-judged
+returns-in-None-clause-judged g c = λ done.
+    let e = c.read_policies-stop.ensures in
+    let m = c.args.machine.now in
+    let is = stop-end untaken_exit c.read_policies-stop.result (sym c.policy_exit.ensures ∙ c.in-None.is) in
+    let over = subst (λ stop. StatesRest c.args.policy.now c.read_policies-stop.new.policy c.args.lines.now c.read_policies-stop.new.lines _ _ stop) is e.states in
+    on_stated c.args.policy.now c.read_policies-stop.new.policy c.args.lines.now.number c.read_policies-stop.new.lines.number _ _
+    (λ (st : Stated). HasJudged (TellsOf c.judge.result) (judged_by (state_of m) m.objects.harts st)) over.known (c.judge.ensures.judged done)
 
-pub returns-in-TooLong : goal.returns-in-TooLong
-returns-in-TooLong g c =
-    let e = c.in-TooLong.ensures in
-    judges-last g.K.Sink.taken g.K.Sink.faults c.args.policy.now (state_of c.args.machine.now) c.args.machine.now.objects.harts c.args.lines.now c.read_policies.new.lines _ _ _ _ _ _
-    c.end_past_limit.result PastEnd too_long e.states refl past-last refl c.end_past_limit.ensures (e.quiet (λ same. cc))
+-- or it was not read to its end
+pub returns-in-Some-clause-course : goal.returns-in-Some-clause-course
+returns-in-Some-clause-course g c =
+    let e = c.read_policies-stop.ensures in
+    policy-stopped g.S.Source.held g.S.Source.faults g.K.Sink.taken g.K.Sink.faults c.args.policy.now c.read_policies-stop.new.policy (state_of c.args.machine.now) c.args.machine.now.objects.harts
+    c.args.lines.now c.read_policies-stop.new.lines _ _ _ _ _ c.in-Some.exit c.read_policies-stop.result e.states (sym c.policy_exit.ensures ∙ c.in-Some.is) e.read e.quiet c.conclude.ensures
 
-pub returns-in-ReadFault : goal.returns-in-ReadFault
-returns-in-ReadFault g c =
-    let e = c.in-ReadFault.ensures in
-    judges-read g.K.Sink.taken g.K.Sink.faults c.args.policy.now (state_of c.args.machine.now) c.args.machine.now.objects.harts c.args.lines.now c.read_policies.new.lines _ _ c.args.output.now c.args.output.now _ _
-    c.read_policies.new.policy _ e.states (e.read refl)
-
-pub returns-in-Refused-default-OutOfMemory : goal.returns-in-Refused-default-OutOfMemory
-returns-in-Refused-default-OutOfMemory g c =
-    let e = rw c.in-Refused-default-OutOfMemory.fault-is at c.in-Refused-default-OutOfMemory.ensures in
-    judges-memory g.K.Sink.taken g.K.Sink.faults c.args.policy.now (state_of c.args.machine.now) c.args.machine.now.objects.harts c.args.lines.now c.read_policies.new.lines _ _ c.args.output.now c.args.output.now _ _ _ (e.quiet (λ same. cc))
+pub returns-in-Some-clause-judged : goal.returns-in-Some-clause-judged
+returns-in-Some-clause-judged g c = λ done.
+    absurd (concludes-open g.K.Sink.taken g.K.Sink.faults _ _ _ c.in-Some.exit (policy-open c.in-Some.exit c.read_policies-stop.result (sym c.policy_exit.ensures ∙ c.in-Some.is)) c.conclude.ensures done)

@@ -1,11 +1,39 @@
-use Rattle.std.proofs.Common.{refl}
+use Rattle.std.proofs.Common.{◌∙◌, ap, refl, sym, subst}
 use Rattle.kernel_core.specs.State.{state_of}
-use Rattle.separation_program.proofs.Judges.{judges-run}
+use Rattle.courses.specs.Stopped.{replay_exit}
+use Rattle.courses.proofs.Concluding.{concludes-open}
+use Rattle.courses.proofs.Rests.{run-ends}
+use Rattle.separation_program.specs.Theorem.{TellsOf}
+use Rattle.separation_program.proofs.Concluding.{judge-ended, judge-stopped, judged-run, no_write, unfinished}
+use Rattle.separation_program.proofs.Judges.{from-start}
 use Rattle.separation_program.proofs.judging.judge.Goals as goal
 
-pub returns : goal.returns
-returns g c =
+pub returns-in-Ok-clause-course : goal.returns-in-Ok-clause-course
+returns-in-Ok-clause-course g c =
     let e = c.replay-replayed.ensures in
-    judges-run g.K.Sink.taken g.K.Sink.faults c.args.policy.now (state_of c.replay-replayed.new.machine) (state_of c.args.machine.now) c.args.machine.now.objects.harts
-    c.args.lines.now c.replay-replayed.new.lines _ _ c.args.output.now c.replay-replayed.new.output c.conclude.new.output _ _ e.replays.events c.replay-replayed.result c.conclude.result
-    e.replays.ran.state e.replays.follows (e.silent refl) e.reasons e.replays.text c.conclude.ensures.concludes c.conclude.ensures.separated c.conclude.ensures.violated e.end (e.told c.requires.told)
+    let given = sym c.counts_or_exit.ensures ∙ c.in-Ok.is in
+    from-start g.S.Source.held g.S.Source.faults g.K.Sink.taken g.K.Sink.faults _ _ _ _ _ _ _ _ _ (e.silent refl)
+    (judge-ended g.S.Source.held g.S.Source.faults g.K.Sink.taken g.K.Sink.faults c.args.policy.now (state_of c.args.machine.now) c.args.machine.now.objects.harts
+    c.args.lines.now c.replay-replayed.new.lines _ _ c.replay-replayed.new.output _ _ e.replays.events c.replay-replayed.result e.replays.follows c.in-Ok._counts given
+    (e.reasons.read_quiet (λ same. let bad = sym given ∙ ap replay_exit same in cc)) (e.told c.requires.told (e.end c.in-Ok._counts (run-ends c.in-Ok._counts c.replay-replayed.result given)))
+    (state_of c.replay-replayed.new.machine) e.replays.ran.state c.tell.ensures.ends c.tell.ensures.unwritten)
+
+pub returns-in-Err-clause-course : goal.returns-in-Err-clause-course
+returns-in-Err-clause-course g c =
+    let e = c.replay-replayed.ensures in
+    let given = sym c.counts_or_exit.ensures ∙ c.in-Err.is in
+    from-start g.S.Source.held g.S.Source.faults g.K.Sink.taken g.K.Sink.faults _ _ _ _ _ _ _ _ _ (e.silent refl)
+    (judge-stopped g.S.Source.held g.S.Source.faults g.K.Sink.taken g.K.Sink.faults c.args.policy.now (state_of c.args.machine.now) c.args.machine.now.objects.harts
+    c.args.lines.now c.replay-replayed.new.lines _ _ c.replay-replayed.new.output _ _ e.replays.events c.replay-replayed.result e.replays.follows c.in-Err.exit c.replay-replayed.result refl given
+    (no_write (state_of c.args.machine.now) _ _ e.replays.events c.replay-replayed.result e.replays.text) e.reasons.read e.reasons.read_quiet c.conclude.ensures)
+
+pub returns-in-Ok-clause-judged : goal.returns-in-Ok-clause-judged
+returns-in-Ok-clause-judged g c = λ done.
+    let e = c.replay-replayed.ensures in
+    judged-run g.S.Source.held g.S.Source.faults g.K.Sink.taken g.K.Sink.faults c.args.policy.now (state_of c.args.machine.now) c.args.machine.now.objects.harts
+    c.args.lines.now c.replay-replayed.new.lines _ _ c.replay-replayed.new.output c.tell.new.output c.tell.result e.replays.events c.replay-replayed.result e.replays.follows
+    (TellsOf c.tell.result) c.in-Ok._counts (sym c.counts_or_exit.ensures ∙ c.in-Ok.is) (state_of c.replay-replayed.new.machine) e.replays.ran.state c.tell.ensures.tells
+
+pub returns-in-Err-clause-judged : goal.returns-in-Err-clause-judged
+returns-in-Err-clause-judged g c = λ done.
+    absurd (concludes-open g.K.Sink.taken g.K.Sink.faults _ _ _ c.in-Err.exit (unfinished c.in-Err.exit c.replay-replayed.result (sym c.counts_or_exit.ensures ∙ c.in-Err.is)) c.conclude.ensures done)

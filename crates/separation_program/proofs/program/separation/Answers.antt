@@ -1,0 +1,48 @@
+use Rattle.std.proofs.Common.{◌≡◌, ◌≢◌, ◌∙◌, Some, None, map, string_bytes, refl, sym, subst}
+use Rattle.courses.specs.Course.{cached, course_output}
+use Rattle.courses.specs.Ending.{Outputs}
+use Rattle.courses.specs.Program.{whole_course}
+use Rattle.courses.proofs.Bytes.{known-output}
+use Rattle.courses.proofs.Lasts.{ends-causes, ends-own}
+use Rattle.courses.specs.declared.exit.Exit.TheVariants.{Crossings}
+use Rattle.separation_program.specs.Program.{asked_by, separation}
+use Rattle.separation_program.specs.declared.words.Asked.TheVariants.{Help, Judge}
+use Rattle.separation_program.proofs.Called.{completes-known, form-judge, judges-call, judges-none, known-words, sure-words}
+use Rattle.separation_program.proofs.program.separation.Goals as goal
+
+-- ---- the input is judged
+
+pub returns-in-Some-Judge-clause-answers : goal.returns-in-Some-Judge-clause-answers
+returns-in-Some-Judge-clause-answers g c =
+    let asked : asked_by (map string_bytes c.args.words.now) ≡ Some Judge = sym c.read_words.ensures ∙ c.in-Some-Judge.is in
+    known-words (λ course. Outputs _ _ c.separate.result (course_output course)) (map string_bytes c.args.words.now) (Some Judge) asked _
+    (known-output _ _ _ 0 0 _ cached _ c.separate.ensures.course.comes)
+
+pub returns-in-Some-Judge-clause-complete : goal.returns-in-Some-Judge-clause-complete
+returns-in-Some-Judge-clause-complete g c = λ read write.
+    completes-known _ _ _ _ _ _ _ _ (whole_course separation (map string_bytes c.args.words.now)) (returns-in-Some-Judge-clause-answers g c) c.separate.ensures.course.causes read write
+
+pub returns-in-Some-Judge-clause-judges : goal.returns-in-Some-Judge-clause-judges
+returns-in-Some-Judge-clause-judges g c =
+    judges-call (map string_bytes c.args.words.now) _ _ _ c.separate.result c.separate.ensures.course.comes c.separate.ensures.judged
+
+pub returns-in-Some-Judge-clause-sure : goal.returns-in-Some-Judge-clause-sure
+returns-in-Some-Judge-clause-sure g c = λ failed.
+    let asked : asked_by (map string_bytes c.args.words.now) ≡ Some Judge = sym c.read_words.ensures ∙ c.in-Some-Judge.is in
+    sure-words (map string_bytes c.args.words.now) asked _ _ _ _ (c.separate.ensures.course.sure failed).writes
+
+pub returns-in-Some-Judge-clause-form : goal.returns-in-Some-Judge-clause-form
+returns-in-Some-Judge-clause-form g c =
+    form-judge (map string_bytes c.args.words.now) (sym c.read_words.ensures ∙ c.in-Some-Judge.is) c.separate.result c.separate.ensures.course.usage
+
+-- ---- it is not
+
+pub returns-in-Some-Help-clause-judges : goal.returns-in-Some-Help-clause-judges
+returns-in-Some-Help-clause-judges g c =
+    judges-none (map string_bytes c.args.words.now) _ c.usage.result (λ crossed. let own = ends-own _ _ _ _ _ _ c.usage.ensures Crossings (λ cut. cc) crossed in cc)
+    (λ asked. let bad : Some Help ≡ Some Judge = sym c.in-Some-Help.is ∙ c.read_words.ensures ∙ asked in cc)
+
+pub returns-in-None-clause-judges : goal.returns-in-None-clause-judges
+returns-in-None-clause-judges g c =
+    judges-none (map string_bytes c.args.words.now) _ c.usage-in-None.result (λ crossed. let own = ends-own _ _ _ _ _ _ c.usage-in-None.ensures Crossings (λ cut. cc) crossed in cc)
+    (λ asked. let bad : None ≡ Some Judge = sym c.in-None.is ∙ c.read_words.ensures ∙ asked in cc)
