@@ -57,6 +57,11 @@ tells s harts policy n = record {
   touches = refl;
 }
 
+-- where the lines of a policy gave no exit, it is over
+pub over-at : (first policy : PolicyValue) (old new : Reader) (held held' : Option (List ℕ)) (stop : Stop Untaken) → stop ≡ stops.End → StatesRest first policy old new held held' stop
+    → IsOver first policy old new held held'
+over-at first policy old new held held' stop is r = subst (StatesRest first policy old new held held') is r
+
 -- a policy that was not read to its end gave no exit of a call that did all
 pub policy-open : (given : Exit) (stop : Stop Untaken) → stop_exit untaken_exit stop ≡ Some given → is_finished given ≡ false
 policy-open given stops.End at = cc

@@ -1,11 +1,11 @@
-use Rattle.std.proofs.Common.{◌∙◌, Some, ap, refl, subst, sym}
+use Rattle.std.proofs.Common.{◌∙◌, sym}
 use Rattle.kernel_core.specs.State.{state_of}
 use Rattle.courses.proofs.Concluding.{concludes-open}
 use Rattle.courses.proofs.Rests.{stop-end}
 use Rattle.separation_program.specs.Judged.{HasJudged, judged_by}
-use Rattle.separation_program.specs.Stated.{Stated, StatesRest, untaken_exit}
+use Rattle.separation_program.specs.Stated.{Stated, untaken_exit}
 use Rattle.separation_program.specs.Theorem.{TellsOf}
-use Rattle.separation_program.proofs.Judges.{on_stated, policy-open, policy-over, policy-stopped}
+use Rattle.separation_program.proofs.Judges.{on_stated, over-at, policy-open, policy-over, policy-stopped}
 use Rattle.separation_program.proofs.input.judge_lines.Goals as goal
 
 -- the policy is over
@@ -13,7 +13,7 @@ pub returns-in-None-clause-course : goal.returns-in-None-clause-course
 returns-in-None-clause-course g c =
     let e = c.read_policies-stop.ensures in
     let is = stop-end untaken_exit c.read_policies-stop.result (sym c.policy_exit.ensures ∙ c.in-None.is) in
-    let over = subst (λ stop. StatesRest c.args.policy.now c.read_policies-stop.new.policy c.args.lines.now c.read_policies-stop.new.lines _ _ stop) is e.states in
+    let over = over-at c.args.policy.now c.read_policies-stop.new.policy c.args.lines.now c.read_policies-stop.new.lines _ _ c.read_policies-stop.result is e.states in
     policy-over g.S.Source.held g.S.Source.faults g.K.Sink.taken g.K.Sink.faults c.args.policy.now c.read_policies-stop.new.policy (state_of c.args.machine.now) c.args.machine.now.objects.harts
     c.args.lines.now c.judge.new.lines _ _ c.read_policies-stop.new.lines _ _ _ _ over (e.quiet (λ same. let bad = sym is ∙ same in cc)) c.judge.ensures.course
 
@@ -22,7 +22,7 @@ returns-in-None-clause-judged g c = λ done.
     let e = c.read_policies-stop.ensures in
     let m = c.args.machine.now in
     let is = stop-end untaken_exit c.read_policies-stop.result (sym c.policy_exit.ensures ∙ c.in-None.is) in
-    let over = subst (λ stop. StatesRest c.args.policy.now c.read_policies-stop.new.policy c.args.lines.now c.read_policies-stop.new.lines _ _ stop) is e.states in
+    let over = over-at c.args.policy.now c.read_policies-stop.new.policy c.args.lines.now c.read_policies-stop.new.lines _ _ c.read_policies-stop.result is e.states in
     on_stated c.args.policy.now c.read_policies-stop.new.policy c.args.lines.now.number c.read_policies-stop.new.lines.number _ _
     (λ (st : Stated). HasJudged (TellsOf c.judge.result) (judged_by (state_of m) m.objects.harts st)) over.known (c.judge.ensures.judged done)
 

@@ -12,7 +12,7 @@ pub returns-in-Ok-clause-course : goal.returns-in-Ok-clause-course
 returns-in-Ok-clause-course g c =
     let e = c.replay-replayed.ensures in
     let given = sym c.counts_or_exit.ensures ∙ c.in-Ok.is in
-    from-start g.S.Source.held g.S.Source.faults g.K.Sink.taken g.K.Sink.faults _ _ _ _ _ _ _ _ _ (e.silent refl)
+    from-start g.S.Source.held g.S.Source.faults g.K.Sink.taken g.K.Sink.faults _ _ _ _ _ _ _ _ _ _ (e.silent refl)
     (judge-ended g.S.Source.held g.S.Source.faults g.K.Sink.taken g.K.Sink.faults c.args.policy.now (state_of c.args.machine.now) c.args.machine.now.objects.harts
     c.args.lines.now c.replay-replayed.new.lines _ _ c.replay-replayed.new.output _ _ e.replays.events c.replay-replayed.result e.replays.follows c.in-Ok._counts given
     (e.reasons.read_quiet (λ same. let bad = sym given ∙ ap replay_exit same in cc)) (e.told c.requires.told (e.end c.in-Ok._counts (run-ends c.in-Ok._counts c.replay-replayed.result given)))
@@ -22,7 +22,7 @@ pub returns-in-Err-clause-course : goal.returns-in-Err-clause-course
 returns-in-Err-clause-course g c =
     let e = c.replay-replayed.ensures in
     let given = sym c.counts_or_exit.ensures ∙ c.in-Err.is in
-    from-start g.S.Source.held g.S.Source.faults g.K.Sink.taken g.K.Sink.faults _ _ _ _ _ _ _ _ _ (e.silent refl)
+    from-start g.S.Source.held g.S.Source.faults g.K.Sink.taken g.K.Sink.faults _ _ _ _ _ _ _ _ _ _ (e.silent refl)
     (judge-stopped g.S.Source.held g.S.Source.faults g.K.Sink.taken g.K.Sink.faults c.args.policy.now (state_of c.args.machine.now) c.args.machine.now.objects.harts
     c.args.lines.now c.replay-replayed.new.lines _ _ c.replay-replayed.new.output _ _ e.replays.events c.replay-replayed.result e.replays.follows c.in-Err.exit c.replay-replayed.result refl given
     (no_write (state_of c.args.machine.now) _ _ e.replays.events c.replay-replayed.result e.replays.text) e.reasons.read e.reasons.read_quiet c.conclude.ensures)

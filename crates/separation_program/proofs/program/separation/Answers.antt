@@ -1,4 +1,4 @@
-use Rattle.std.proofs.Common.{◌≡◌, ◌≢◌, ◌∙◌, Some, None, map, string_bytes, refl, sym, subst}
+use Rattle.std.proofs.Common.{◌≡◌, ◌≢◌, ◌∙◌, Some, None, map, string_bytes, ap, sym}
 use Rattle.courses.specs.Course.{cached, course_output}
 use Rattle.courses.specs.Ending.{Outputs}
 use Rattle.courses.specs.Program.{whole_course}
@@ -14,8 +14,8 @@ use Rattle.separation_program.proofs.program.separation.Goals as goal
 
 pub returns-in-Some-Judge-clause-answers : goal.returns-in-Some-Judge-clause-answers
 returns-in-Some-Judge-clause-answers g c =
-    let asked : asked_by (map string_bytes c.args.words.now) ≡ Some Judge = sym c.read_words.ensures ∙ c.in-Some-Judge.is in
-    known-words (λ course. Outputs _ _ c.separate.result (course_output course)) (map string_bytes c.args.words.now) (Some Judge) asked _
+    let asked : asked_by (map string_bytes c.args.words.now) ≡ Some Judge = sym c.read_words.ensures ∙ c.in-Some-Judge.is ∙ ap Some c.in-Some-Judge.field-0-is in
+    known-words (λ course. Outputs (g.K.Sink.taken c.args.output.now) (g.K.Sink.taken c.separate.new.output) c.separate.result (course_output course)) (map string_bytes c.args.words.now) (Some Judge) asked _
     (known-output _ _ _ 0 0 _ cached _ c.separate.ensures.course.comes)
 
 pub returns-in-Some-Judge-clause-complete : goal.returns-in-Some-Judge-clause-complete
@@ -28,19 +28,19 @@ returns-in-Some-Judge-clause-judges g c =
 
 pub returns-in-Some-Judge-clause-sure : goal.returns-in-Some-Judge-clause-sure
 returns-in-Some-Judge-clause-sure g c = λ failed.
-    let asked : asked_by (map string_bytes c.args.words.now) ≡ Some Judge = sym c.read_words.ensures ∙ c.in-Some-Judge.is in
+    let asked : asked_by (map string_bytes c.args.words.now) ≡ Some Judge = sym c.read_words.ensures ∙ c.in-Some-Judge.is ∙ ap Some c.in-Some-Judge.field-0-is in
     sure-words (map string_bytes c.args.words.now) asked _ _ _ _ (c.separate.ensures.course.sure failed).writes
 
 pub returns-in-Some-Judge-clause-form : goal.returns-in-Some-Judge-clause-form
 returns-in-Some-Judge-clause-form g c =
-    form-judge (map string_bytes c.args.words.now) (sym c.read_words.ensures ∙ c.in-Some-Judge.is) c.separate.result c.separate.ensures.course.usage
+    form-judge (map string_bytes c.args.words.now) (sym c.read_words.ensures ∙ c.in-Some-Judge.is ∙ ap Some c.in-Some-Judge.field-0-is) c.separate.result c.separate.ensures.course.usage
 
 -- ---- it is not
 
 pub returns-in-Some-Help-clause-judges : goal.returns-in-Some-Help-clause-judges
 returns-in-Some-Help-clause-judges g c =
     judges-none (map string_bytes c.args.words.now) _ c.usage.result (λ crossed. let own = ends-own _ _ _ _ _ _ c.usage.ensures Crossings (λ cut. cc) crossed in cc)
-    (λ asked. let bad : Some Help ≡ Some Judge = sym c.in-Some-Help.is ∙ c.read_words.ensures ∙ asked in cc)
+    (λ asked. let bad : Some Help ≡ Some Judge = sym (c.in-Some-Help.is ∙ ap Some c.in-Some-Help.field-0-is) ∙ c.read_words.ensures ∙ asked in cc)
 
 pub returns-in-None-clause-judges : goal.returns-in-None-clause-judges
 returns-in-None-clause-judges g c =
