@@ -58,11 +58,12 @@ module _ {S : Type 0} (test : S → Bool) (states : List S) (marks : List Bool) 
 
 module _ {S : Type 0} (g : System S) (law : IsEquality g.same) where
   -- the first state that passes
-  pub first-passes : (t : ℕ) (states : List S) (marks : List Bool) → marks ≡ map (g.test t) states → IsOpened g states → (i : ℕ) → get_or marks i false ≡ true → ((k : ℕ) → k < i → get_or marks k false ≡ false) → (path : List ℕ) → IsPathTo g states i path → IsFirst g t (length path)
+  pub first-passes : (t : ℕ) (states : List S) (marks : List Bool) → marks ≡ map (g.test t) states → IsOpened g states → (i : ℕ) → get_or marks i false ≡ true → ((k : ℕ) → k < i → get_or marks k false ≡ false) → (path : List ℕ) → IsPathTo g states i path → IsFirst g states t (length path)
   first-passes t states marks are begun i here before path to = record {
     path = path;
     choices = to.choices;
     long = refl;
+    there = (i, slice_get_within states i (after g g.start path) to.leads, get_or_from_slice_get states i (after g g.start path) (after g g.start path) to.leads);
     passes = sym (mark-of (g.test t) states marks are i (after g g.start path) to.leads) ∙ here;
     least = shorter g law (λ s. g.test t s ≡ false) begun.upto states begun.front i path to (λ j s l at. sym (mark-of (g.test t) states marks are j s at) ∙ before j l);
   }

@@ -10,16 +10,16 @@ use Rattle.indexmap.specs.IndexSet.{insert_key}
 use Rattle.breadth_first.specs.System.{System, IsEquality}
 use Rattle.breadth_first.specs.Paths.{after, AreChoices}
 use Rattle.breadth_first.specs.Order.{trying, opened, reached}
-use Rattle.breadth_first.specs.Answer.{before, seen, IsFound, IsSeen, IsClosed, IsOpen, EndsByDepth, EndsByStates}
+use Rattle.breadth_first.specs.Answer.{before, seen, IsFound, IsAsFar, IsSeen, IsClosed, IsOpen, EndsByDepth, EndsByStates}
 use Rattle.breadth_first.specs.Front.{Front}
 use Rattle.breadth_first.specs.Origins.{AreOrigins, IsPathTo}
 use Rattle.breadth_first.specs.Progress.{AreSafe, EndsBadly, IsFull, AreWithin}
 use Rattle.breadth_first.specs.declared.origins.Origin.{Origin}
 use Rattle.breadth_first.specs.declared.answer.Limits.{Limits}
 use Rattle.breadth_first.specs.declared.answer.Size.{Size}
-use Rattle.breadth_first.proofs.Fronts.{front-refl, front-push, front-trans, front-length, front-back, front-take, front-any, slice_get-last, slice_get-some}
+use Rattle.breadth_first.proofs.Fronts.{front-refl, front-push, front-trans, front-length, front-get, front-back, front-full, front-take, front-any, slice_get-last, slice_get-some}
 use Rattle.breadth_first.proofs.Order.{has, has-at, has-from, Contains-has, cases, insert-there, insert-new, trying-suc, trying-front, trying-upto, opened-suc, opened-done, opened-upto, opened-start, reached-suc, reached-opened, reached-step, reached-upto, reached-from_start, closed-from_start}
-use Rattle.breadth_first.proofs.Tracing.{path-exists, shorter, agree}
+use Rattle.breadth_first.proofs.Tracing.{path-exists, shorter, sooner, agree}
 use Rattle.breadth_first.proofs.Steps.{reached-before}
 
 -- the first element that passes, by its place
@@ -75,6 +75,41 @@ module _ {S : Type 0} (g : System S) (law : IsEquality g.same) where
   pub reached-front : (d : ℕ) (states : List S) → Front states (reached g d) → Front states (opened g (reached-opened g law d).0)
   reached-front d states front = subst (Front states) (reached-opened g law d).1 front
 
+  -- a state that none before the last level leads to
+  pub as-far : (states : List S) (origins : List Origin) → AreOrigins g states origins → (d : ℕ) → AreWithin g d states → IsAsFar g d
+  as-far states origins all d is = record {
+    path = to.0;
+    choices = to.1.choices;
+    long = long d refl;
+    new = λ other choices l. shorter g law (λ t. t ≢ after g g.start to.0) n states front (before g d) to.0 to.1 apart other choices (omega (arith, l, long d refl));
+  }
+    where
+      n : ℕ
+      n = (reached-opened g law d).0
+
+      front : Front states (opened g (reached-opened g law d).0)
+      front = reached-front d states (subst (λ l. Front l (reached g d)) (sym is.are) (front-refl (reached g d)))
+
+      last : (s : S) × (slice_get states (before g d) ≡ Some s)
+      last = slice_get-some states (before g d) is.last
+
+      to : (path : List ℕ) × IsPathTo g states (before g d) path
+      to = path-exists g law states origins all (before g d) last.0 last.1
+
+      long : (e : ℕ) → d ≡ e → length to.0 ≡ d
+      long zero h = omega (arith, h, to.1.least d (omega (arith, is.last, ap length is.are)))
+      long (suc e) h = by (cases_lt (length to.0) d)
+        where
+          by : (length to.0 < d) ⊎ (d ≤ length to.0) → length to.0 ≡ d
+          by (inl l) = absurd (omega (arith, to.1.few e (omega (arith, h, l)), ap (before g) h))
+          by (inr l) = omega (arith, l, to.1.least d (omega (arith, is.last, ap length is.are)))
+
+      apart : (j : ℕ) (s : S) → j < before g d → slice_get states j ≡ Some s → s ≢ after g g.start to.0
+      apart j s l at e =
+          let t = after g g.start to.0 in
+          opened-differ n j (before g d) t l (slice_get_within (opened g n) (before g d) t (front-get front (before g d) t to.1.leads))
+          (get_or_from_slice_get (opened g n) j s t (front-get front j s at) ∙ e ∙ sym (get_or_from_slice_get (opened g n) (before g d) t t (front-get front (before g d) t to.1.leads)))
+
   -- what is told of how far a search came
   module _ (limits : Limits) (size : Size) (states : List S) (front : Front states (reached g (suc size.depth))) (many : size.states ≡ length states) where
     pub seen-is : seen g size ≡ states
@@ -123,6 +158,9 @@ module _ {S : Type 0} (g : System S) (law : IsEquality g.same) where
       holds = λ path choices. holds-there is.safe (after g g.start path) (there path choices);
       tried = tried;
       least = λ d l. fewer size.depth d l (omega (arith, is.last));
+      farthest = as-far states origins all size.depth is;
+      within = ap length (sym is.are) ∙ sym many;
+      still = front-full (reached-step g law size.depth) (omega (arith, full, ap length is.are));
     }
       where
         there : (path : List ℕ) → AreChoices g path → has g law states (after g g.start path)
@@ -158,7 +196,7 @@ module _ {S : Type 0} (g : System S) (law : IsEquality g.same) where
       let front : Front states (reached g (suc size.depth)) = subst (λ l. Front l (reached g (suc size.depth))) (sym is.are) (reached-step g law size.depth) in
       let begins : Front (reached g size.depth) states = subst (Front (reached g size.depth)) (sym is.are) (front-refl (reached g size.depth)) in (
         open_search limits size states front many origins all is.safe begins (subst (λ o. IfSome o (λ n. size.depth ≤ n)) (sym met) (omega arith)) room
-            (inl (record { limit = met; states = many ∙ ap length is.are; last = omega (arith, is.last, many); tried = tried })),
+            (inl (record { limit = met; states = many ∙ ap length is.are; last = omega (arith, is.last, many); farthest = as-far states origins all size.depth is; tried = tried })),
         seen-is limits size states front many,
       )
 
@@ -176,10 +214,12 @@ module _ {S : Type 0} (g : System S) (law : IsEquality g.same) where
         open_search limits size states front many origins all full.safe begins (weaker limits.depth far) room
             (inr (record {
               limit = full.met ∙ ap Some (sym many);
+              far = far;
               at = at;
               parent = full.parent;
               choice = choice;
               state = agree g law (reached-opened g law size.depth).0 at (reached g size.depth) (opened g at) (reached-front size.depth (reached g size.depth) (front-refl (reached g size.depth))) (front-refl (opened g at)) at full.parent to full.state;
+              came = came;
               last = from;
               within = full.within;
               kept = is ∙ full.kept;
@@ -189,19 +229,37 @@ module _ {S : Type 0} (g : System S) (law : IsEquality g.same) where
         is,
       )
     where
+      turn : slice_get states at ≡ Some full.parent
+      turn = subst (λ l. slice_get l at ≡ Some full.parent) (sym full.kept) (front-get (trying-front g law (opened g at) full.parent choice) at full.parent full.state)
+
+      came : IsSeen g size.depth full.parent
+      came =
+          let path = path-exists g law states origins all at full.parent turn in
+          record {
+            path = path.0;
+            choices = path.1.choices;
+            few = path.1.least size.depth to;
+            leads = same_Some (after g g.start path.0) full.parent (sym path.1.leads ∙ turn);
+            holds = All-at (λ t. g.violated t ≡ None) states full.safe at full.parent turn;
+          }
+
       weaker : (limit : Option ℕ) → IfSome limit (λ n. size.depth < n) → IfSome limit (λ n. size.depth ≤ n)
       weaker None l = tt
       weaker (Some n) l = omega arith
 
   -- a state that violates a property, behind a path to the last state
-  pub found : (limits : Limits) (d property : ℕ) (states : List S) → Front states (reached g (suc d)) → (bad : EndsBadly g property states) → (path : List ℕ) → IsPathTo g states (length bad.others) path → IfSome limits.depth (λ n. d < n) → IsFound g limits property path
-  found limits d property states front bad path to below = record {
+  pub found : (limits : Limits) (d property : ℕ) (states : List S) → Front states (reached g (suc d)) → (bad : EndsBadly g property states) → (path : List ℕ) → IsPathTo g states (length bad.others) path → IfSome limits.depth (λ n. d < n)
+      → IfSome limits.states (λ n. length states ≤ n) → IsFound g limits property path
+  found limits d property states front bad path to below few = record {
     far = far limits.depth below;
     choices = to.choices;
     violates = ap g.violated (sym is) ∙ bad.violates;
     shortest = shorter g law (λ s. g.violated s ≡ None) n states whole (length bad.others) path to earlier;
-    first = find-at (λ s. is_some (g.violated s)) (reached g (length path)) (length bad.others) (after g g.start path)
-        (agree g law m.0 n (reached g (length path)) states (subst (Front (reached g (length path))) m.1 (front-refl (reached g (length path)))) whole (length bad.others) (after g g.start path) (to.few (length path) (omega arith)) to.leads)
+    earliest = sooner g law (λ s. g.violated s ≡ None) n states whole (length bad.others) path to earlier;
+    index = length bad.others;
+    at = there;
+    room = room limits.states few;
+    first = find-at (λ s. is_some (g.violated s)) (reached g (length path)) (length bad.others) (after g g.start path) there
         (ap (λ s. is_some (g.violated s)) (sym is) ∙ ap is_some bad.violates)
         (λ j s l at. ap is_some (earlier j s l (agree g law n m.0 states (reached g (length path)) whole (subst (Front (reached g (length path))) m.1 (front-refl (reached g (length path)))) j s (omega (arith, slice_get_within states (length bad.others) (after g g.start path) to.leads)) at)));
   }
@@ -220,6 +278,13 @@ module _ {S : Type 0} (g : System S) (law : IsEquality g.same) where
 
       earlier : (j : ℕ) (s : S) → j < length bad.others → slice_get states j ≡ Some s → g.violated s ≡ None
       earlier j s l at = All-at (λ t. g.violated t ≡ None) bad.others bad.safe j s (front-back (front-push bad.others bad.last) j s l (subst (λ t. slice_get t j ≡ Some s) bad.are at))
+
+      there : slice_get (reached g (length path)) (length bad.others) ≡ Some (after g g.start path)
+      there = agree g law m.0 n (reached g (length path)) states (subst (Front (reached g (length path))) m.1 (front-refl (reached g (length path)))) whole (length bad.others) (after g g.start path) (to.few (length path) (omega arith)) to.leads
+
+      room : (limit : Option ℕ) → IfSome limit (λ n. length states ≤ n) → IfSome limit (λ n. length bad.others < n)
+      room None l = tt
+      room (Some n) l = omega (arith, slice_get_within states (length bad.others) (after g g.start path) to.leads)
 
       far : (limit : Option ℕ) → IfSome limit (λ n. d < n) → IfSome limit (λ n. length path ≤ n)
       far None l = tt

@@ -9,7 +9,7 @@ use Rattle.breadth_first.specs.Answer.{CanAlwaysCome, IsLost}
 use Rattle.breadth_first.specs.Origins.{IsPathTo}
 use Rattle.breadth_first.specs.Progress.{AreAll, AreEdges, IsOpened, IsFirstStuck}
 use Rattle.breadth_first.proofs.Keys.{keeps-map}
-use Rattle.breadth_first.proofs.Tracing.{shorter}
+use Rattle.breadth_first.proofs.Tracing.{shorter, sooner}
 use Rattle.breadth_first.proofs.Endings.{All-at}
 
 -- what is known of states at one moment is known at another
@@ -37,6 +37,7 @@ module _ {S : Type 0} (g : System S) (law : IsEquality g.same) where
     choices = to.choices;
     never = λ other choices. never other choices (g.test t (after g (after g g.start path) other)) refl;
     shortest = shorter g law (CanCome g t) begun.upto states begun.front i path to before;
+    earliest = sooner g law (CanCome g t) begun.upto states begun.front i path to before;
     index = i;
     state = to.leads;
     first = before;

@@ -8,3 +8,4 @@ mod Counts
 mod Numbers
 mod Evers
 mod Telling
+pub mod One

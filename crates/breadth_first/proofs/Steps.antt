@@ -62,17 +62,26 @@ module _ {S : Type 0} (g : System S) (law : IsEquality g.same) where
           earlier = is.earlier;
           from = is.from;
           to = is.to;
+          turn = is.turn;
+          place = is.place;
+          stands = is.stands;
         }
+
+        leads : (i : ℕ) → i ≡ length states → slice_get news i ≡ Some (g.next parent origin.choice)
+        leads i e = subst (λ n. slice_get news n ≡ Some (g.next parent origin.choice)) (sym e) (subst (λ n. slice_get news (length states) ≡ Some (g.next parent n)) (sym ischoice) (subst (λ l. slice_get l (length states) ≡ Some (g.next parent choice)) (sym are) (slice_get-last states (g.next parent choice))))
 
         last : (i : ℕ) → i ≡ length states → IsOrigin g news i origin
         last i e = record {
           parent = parent;
           at = subst (λ n. slice_get news n ≡ Some parent) (sym isat) (front-get front at parent (front-get begins at parent state));
           choice = subst (λ n. n < g.choices) (sym ischoice) within;
-          leads = subst (λ n. slice_get news n ≡ Some (g.next parent origin.choice)) (sym e) (subst (λ n. slice_get news (length states) ≡ Some (g.next parent n)) (sym ischoice) (subst (λ l. slice_get l (length states) ≡ Some (g.next parent choice)) (sym are) (slice_get-last states (g.next parent choice))));
+          leads = leads i e;
           earlier = omega (arith, slice_get_within states at parent (front-get begins at parent state));
           from = subst (λ n. length (opened g n) ≤ i) (sym isat) (omega (arith, front-length begins));
           to = subst (λ n. i < length (opened g (suc n))) (sym isat) (omega (arith, front-length (next-front news inserted), ap length are, length_push states (g.next parent choice)));
+          turn = subst (λ n. slice_get (opened g n) n ≡ Some parent) (sym isat) state;
+          place = e ∙ ap length kept ∙ ap (λ n. length (trying g (opened g n) parent choice)) (sym isat) ∙ ap (λ n. length (trying g (opened g origin.parent) parent n)) (sym ischoice);
+          stands = subst (λ n. slice_get (opened g (suc n)) i ≡ Some (g.next parent origin.choice)) (sym isat) (front-get (next-front news inserted) i (g.next parent origin.choice) (leads i e));
         }
 
         by : (i : ℕ) (o : Origin) → 0 < i → slice_get (origins ++ origin ∷ []) i ≡ Some o → (i < length origins) ⊎ (length origins ≤ i) → IsOrigin g news i o

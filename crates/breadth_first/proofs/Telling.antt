@@ -1,10 +1,11 @@
 -- What is told of a search, and what that rests on.
-use Rattle.std.proofs.Common.{◌≡◌, ℕ, suc, ◌*◌, ◌-◌, ◌<◌, ◌≤◌, Bool, true, false, List, [], ◌∷◌, length, map, Option, Some, None, is_some, All, IfSome, IfOk, OnOk, Result, Ok, Err, not, ◌==◌, refl, sym, ap, subst, arith}
+use Rattle.std.proofs.Common.{◌≡◌, ℕ, suc, ◌*◌, ◌-◌, ◌<◌, ◌≤◌, Bool, true, false, List, [], ◌∷◌, length, map, slice_get, Option, Some, None, is_some, All, IfSome, IfOk, OnOk, Result, Ok, Err, not, ◌==◌, refl, sym, ap, subst, arith}
 use Rattle.std.proofs.lemmas.Bool.Decides.{Decides-eqb}
 use Rattle.std.proofs.lemmas.List.{length_push}
 use Rattle.std.proofs.lemmas.Option.{slice_get_within}
 use Rattle.breadth_first.specs.System.{System, IsEquality}
 use Rattle.breadth_first.specs.Kept.{Keeps}
+use Rattle.breadth_first.specs.Paths.{after, AreChoices, IsEarlier}
 use Rattle.breadth_first.specs.Order.{trying, opened, reached}
 use Rattle.breadth_first.specs.Answer.{seen, first_violating, IsFound, IsClosed, IsEver}
 use Rattle.breadth_first.specs.Front.{Front}
@@ -42,24 +43,33 @@ module _ {S : Type 0} (g : System S) (law : IsEquality g.same) where
       (closed g law limits size states front many origins all is full tried far room, seen-is g law limits size states front many)
 
   -- where the start violates a property
-  pub found-start : (limits : Limits) (property : ℕ) → g.violated g.start ≡ Some property → IsFound g limits property []
-  found-start limits property bad = record {
+  pub found-start : (limits : Limits) (property : ℕ) → IfSome limits.states (λ n. 0 < n) → g.violated g.start ≡ Some property → IsFound g limits property []
+  found-start limits property room bad = record {
     far = far limits.depth;
     choices = λ k d l. absurd (omega arith);
     violates = bad;
     shortest = λ other choices l. absurd (omega arith);
+    earliest = none;
+    index = 0;
+    at = ap (λ l. slice_get l 0) (reached-start g law);
+    room = room;
     first = subst (λ l. first_violating g l ≡ Some g.start) (sym (reached-start g law)) (find-at (λ s. is_some (g.violated s)) (g.start ∷ []) 0 g.start refl (ap is_some bad) (λ j y l e. absurd (omega arith)));
   }
     where
+      none : (other : List ℕ) → AreChoices g other → length other ≡ 0 → IsEarlier other [] → g.violated (after g g.start other) ≡ None
+      none [] choices long earlier = absurd earlier
+      none (c ∷ other) choices long earlier = absurd (omega (arith, long))
+
       far : (limit : Option ℕ) → IfSome limit (λ n. 0 ≤ n)
       far None = tt
       far (Some n) = omega arith
 
   -- the last of the states
-  pub found-last : (limits : Limits) (d property : ℕ) (states : List S) → Front states (reached g (suc d)) → (bad : EndsBadly g property states) → (n last : ℕ) → n ≡ length states → last ≡ n - 1 → (path : List ℕ) → IsPathTo g states last path → IfSome limits.depth (λ n. d < n) → IsFound g limits property path
-  found-last limits d property states front bad n last many is path to below =
+  pub found-last : (limits : Limits) (d property : ℕ) (states : List S) → Front states (reached g (suc d)) → (bad : EndsBadly g property states) → (n last : ℕ) → n ≡ length states → last ≡ n - 1 → (path : List ℕ) → IsPathTo g states last path → IfSome limits.depth (λ n. d < n)
+      → IfSome limits.states (λ m. length states ≤ m) → IsFound g limits property path
+  found-last limits d property states front bad n last many is path to below few =
       let place : last ≡ length bad.others = omega (arith, many, is, ap length bad.are, length_push bad.others bad.last) in
-      found g law limits d property states front bad path (subst (λ i. IsPathTo g states i path) place to) below
+      found g law limits d property states front bad path (subst (λ i. IsPathTo g states i path) place to) below few
 
 -- what is known of states at one moment is known at another
 module _ {K S : Type 0} {g h : System S} {held holds : K → Type 0} {means stands : K → S} (keeps : Keeps g held means h holds stands) (keys : List K) (all : All held keys) where

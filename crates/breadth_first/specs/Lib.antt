@@ -3,6 +3,7 @@ pub mod Paths
 pub mod Order
 pub mod Kept
 pub mod Answer
+pub mod Told
 pub mod Front
 pub mod Origins
 pub mod Trace

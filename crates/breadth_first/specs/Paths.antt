@@ -1,6 +1,13 @@
 -- Lists of choices, and where they lead.
-use Rattle.std.specs.Prelude.{◌≡◌, ℕ, ◌<◌, true, List, [], ◌∷◌, All}
+use Rattle.std.specs.Prelude.{◌≡◌, ℕ, ◌<◌, ◌⊎◌, true, List, [], ◌∷◌, All}
 use Rattle.breadth_first.specs.System.{System}
+
+-- in the order of choices the first list comes before the other, which is as long: where they first differ it has the earlier
+-- choice
+abbrev pub IsEarlier : List ℕ → List ℕ → Type 0
+IsEarlier [] path = ⊥
+IsEarlier (c ∷ other) [] = ⊥
+IsEarlier (c ∷ other) (d ∷ path) = (c < d) ⊎ ((c ≡ d) × IsEarlier other path)
 
 module _ {S : Type 0} (g : System S) where
   -- the state after a list of choices, the first first

@@ -59,6 +59,7 @@ impl<S: Space> Search<S> {
         origin: Origin,
     ) -> Result<Added, AllocError>
         requires held { S.held space.old key }
+        requires stands { S.stands space.old (S.means space.old key) }
         requires all { All (S.held space.old) self.old.seen.keys }
         requires few { length self.old.seen.keys ≤ 2 ^ 32 }
         requires room { IfSome limit (λ n. length self.old.seen.keys ≤ n) }

@@ -27,6 +27,9 @@ pub trait Space {
     /// The state that a key stands for.
     ghost means: { Self → Self.Key → State };
 
+    /// The space stands at a state: the last call gave a key of it.
+    ghost stands: { Self → State → Type 0 };
+
     /// How many choices there are, in each state.
     fn choices(&self) -> u32
         ensures { result ≡ (system self.now).choices };
@@ -35,6 +38,7 @@ pub trait Space {
     fn start(&mut self) -> Result<Self::Key, AllocError>
         ensures held { IfOk result (held self.new) }
         ensures means { IfOk result (λ key. means self.new key ≡ (system self.old).start) }
+        ensures stands { IfOk result (λ key. stands self.new (means self.new key)) }
         ensures keeps { OnOk result
             (Keeps (system self.old) (held self.old) (means self.old)
             (system self.new) (held self.new) (means self.new)) };
@@ -47,14 +51,16 @@ pub trait Space {
         ensures held { IfOk result (held self.new) }
         ensures means { IfOk result (λ key.
             means self.new key ≡ (system self.old).next (means self.old from.now) choice) }
+        ensures stands { IfOk result (λ key. stands self.new (means self.new key)) }
         ensures keeps { OnOk result
             (Keeps (system self.old) (held self.old) (means self.old)
             (system self.new) (held self.new) (means self.new)) };
 
     /// The first property that the state violates. Each new state is asked about once, just after the call
-    /// that gave its key.
+    /// that gave its key, so the space stands at it.
     fn violated(&mut self, key: &Self::Key) -> Result<Option<usize>, AllocError>
         requires held { held self.old key.now }
+        requires stands { stands self.old (means self.old key.now) }
         ensures value { IfOk result (λ property. property ≡ (system self.old).violated (means self.old key.now)) }
         ensures keeps { OnOk result
             (Keeps (system self.old) (held self.old) (means self.old)

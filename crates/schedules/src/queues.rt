@@ -1,7 +1,7 @@
 ghost use Rattle.std.specs.Prelude.{◌≡◌, ◌↔◌, ◌+◌, ◌==◌, ◌<◌, ◌≤◌, ℕ, List, cond, length, map, slice_index_or, slice_get, Some, None, IfSome, IfOk, IsTrue};
 ghost use Rattle.std.specs.List.{sum_by};
 ghost use Rattle.schedules.specs.Queues.{priorities, without, hart_without, enqueued, asleep, left, dispatched, hart_of, ready_queue, sleepers_of};
-ghost use Rattle.schedules.specs.Standing.{IsSpot, standing, times_in, times_on, empty_queues};
+ghost use Rattle.schedules.specs.Standing.{IsQueues, IsSpot, standing, times_in, times_on, empty_queues};
 ghost use Rattle.schedules.specs.Ready.{unslept, runs, places_due, Agrees, AgreesBut};
 ghost use Rattle.process_objects.specs.Process.{ProcessValue, empty_process};
 
@@ -54,6 +54,13 @@ impl Queues {
             harts,
             last: 0,
         })
+    }
+
+    /// Does nothing: its contract tells callers what all queues keep.
+    pub fn tell_kept(&self)
+        ensures { IsQueues self.now }
+    {
+        let _last = self.last;
     }
 
     /// The process on this hart.

@@ -19,7 +19,7 @@ begin-requires-clause-room g c = c.requires.room
 pub returns-in-Some-clause-answer : goal.returns-in-Some-clause-answer
 returns-in-Some-clause-answer g c =
     let bad = subst (Begins (g.S.Space.system c.args.space.now) (g.S.Space.held c.begin.new.space) (g.S.Space.means c.begin.new.space) c.args.limits.now.states c.begin.new.self.seen.keys c.begin.new.self.origins.items) c.in-Some.is c.in_ok-property.ensures.begins in
-    subst (IsFound (g.S.Space.system c.args.space.now) c.args.limits.now c.in-Some.property) (sym c.new-in-Some.ensures.items) (found-start (g.S.Space.system c.args.space.now) (g.met.S.Space.decides c.args.space.now) c.args.limits.now c.in-Some.property bad)
+    subst (IsFound (g.S.Space.system c.args.space.now) c.args.limits.now c.in-Some.property) (sym c.new-in-Some.ensures.items) (found-start (g.S.Space.system c.args.space.now) (g.met.S.Space.decides c.args.space.now) c.args.limits.now c.in-Some.property c.requires.room bad)
 
 pub returns-in-Some-clause-keeps : goal.returns-in-Some-clause-keeps
 returns-in-Some-clause-keeps g c = c.in_ok-property.ensures.keeps

@@ -1,4 +1,4 @@
-use Rattle.std.proofs.Common.{◌≡◌, map, Some, true, false, not, Bool, refl, sym, ap, ◌∙◌, rules, is_some}
+use Rattle.std.proofs.Common.{◌≡◌, map, Some, true, false, not, Bool, refl, sym, ap, ◌∙◌, subst, rules, is_some}
 use Rattle.std.proofs.lemmas.List.{length-map}
 use Rattle.std.specs.List.{list_any}
 use Rattle.breadth_first.proofs.Keys.{keeps-all, any-map, seen-position, seen-stored, stored-means, held-news, held-at, added-then, kept-there, kept-new}
@@ -43,11 +43,18 @@ returns-then-not-new-clause-adds g c =
     kept-there (g.S.Space.system s) (g.met.S.Space.decides s) (g.S.Space.held s) (g.S.Space.means s) g.S.Key.PartialEq.eq (g.met.S.Space.alike s) c.args.key c.requires.held keys c.requires.all
     some (map (g.S.Space.means s) c.insert_full.new.self.keys) is.0 c.args.self.now.origins.items c.args.origin c.in_ok-index.index is.1
 
-pub violated-requires : goal.violated-requires
-violated-requires g c =
+pub violated-requires-clause-held : goal.violated-requires-clause-held
+violated-requires-clause-held g c =
     let s = c.args.space.now in
     let news = held-news (g.S.Space.system s) (g.met.S.Space.decides s) (g.S.Space.held s) (g.S.Space.means s) g.S.Key.PartialEq.eq (g.met.S.Space.alike s) c.args.key c.requires.held c.args.self.now.seen.keys c.insert_full.new.self.keys c.requires.all c.in_ok-index.ensures.keys in
-    record { held = held-at (g.S.Space.held s) c.insert_full.new.self.keys news c.in_ok-index.index c.index.result.now c.index.ensures }
+    held-at (g.S.Space.held s) c.insert_full.new.self.keys news c.in_ok-index.index c.index.result.now c.index.ensures
+
+pub violated-requires-clause-stands : goal.violated-requires-clause-stands
+violated-requires-clause-stands g c =
+    let s = c.args.space.now in
+    let news = held-news (g.S.Space.system s) (g.met.S.Space.decides s) (g.S.Space.held s) (g.S.Space.means s) g.S.Key.PartialEq.eq (g.met.S.Space.alike s) c.args.key c.requires.held c.args.self.now.seen.keys c.insert_full.new.self.keys c.requires.all c.in_ok-index.ensures.keys in
+    let is = stored-means (g.S.Space.system s) (g.met.S.Space.decides s) (g.S.Space.held s) (g.S.Space.means s) g.S.Key.PartialEq.eq (g.met.S.Space.alike s) c.args.key c.requires.held c.insert_full.new.self.keys news c.in_ok-index.index c.index.result.now c.index.ensures c.in_ok-index.ensures.stored in
+    subst (g.S.Space.stands s) (sym is) c.requires.stands
 
 pub returns-in-Some-2-clause-all : goal.returns-in-Some-2-clause-all
 returns-in-Some-2-clause-all g c =

@@ -32,7 +32,7 @@ returns-clause-count g c =
     let long : length c.in_ok-path.path.items ≡ c.len.result = omega (arith, c.len.ensures, c.in_ok-path.path.ok) in
     record {
       number = c.count_marks-states.ensures ∙ ap (count_by (λ mark. mark)) (c.deref.ensures.value ∙ c.in_ok-marks.ensures.marks) ∙ count-map test states;
-      first = subst (IsFirst (g.S.Space.system s) c.args.test) long first;
+      first = subst (IsFirst (g.S.Space.system s) states c.args.test) long first;
     }
 
 pub returns-in_default-clause-keeps : goal.returns-in_default-clause-keeps

@@ -28,6 +28,7 @@ returns-in_ok-path-in-Bad-clause-answer g c evers =
     let many : c.len-states.result ≡ length states = c.len-states.ensures.len ∙ sym (length-map keys (g.S.Space.means c.args.space.now)) in
     let bad = subst (λ stop. GoesOn (g.S.Space.system c.args.space.now) c.args.limits.states c.args.depth states (Some stop)) c.in-Bad.is c.requires.stopped in
     found-last (g.S.Space.system c.args.space.now) (g.met.S.Space.decides c.args.space.now) c.args.limits c.args.depth c.in-Bad.property states bad.0 bad.1 c.len-states.result (c.len-states.result - 1) many refl c.in_ok-path-in-Bad.path.items c.in_ok-path-in-Bad.ensures.path c.requires.below
+    (room-of c.args.limits.states keys (length states) (length-map keys (g.S.Space.means c.args.space.now)) c.requires.searched.room)
 
 pub tried_of-requires : goal.tried_of-requires
 tried_of-requires g c =
