@@ -9,3 +9,4 @@ pub mod Moved
 pub mod Saved
 pub mod Noted
 pub mod OnHart
+pub mod Taken

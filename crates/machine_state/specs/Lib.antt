@@ -12,3 +12,4 @@ pub mod CapAccess
 pub mod Reply
 pub mod Operation
 pub mod Past
+pub mod Taking

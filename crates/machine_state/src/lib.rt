@@ -25,6 +25,7 @@ mod records;
 mod replies;
 mod restoring;
 mod strings;
+mod taking;
 
 pub use event::Event;
 pub use log_bytes::LogBytes;
@@ -34,3 +35,4 @@ pub use past::Past;
 pub use places::Place;
 pub use record::Record;
 pub use records::Records;
+pub use taking::Name;
