@@ -1,0 +1,5 @@
+pub mod Compared
+pub mod Mapped
+pub mod Buried
+pub mod Tables
+pub mod Revived

@@ -1,0 +1,139 @@
+//! Comparing parts.
+ghost use Rattle.std.specs.Prelude.{◌≡◌, ◌<◌, ◌≤◌, ◌↔◌, IsTrue, length};
+ghost use Rattle.object_parts.specs.Same.{same_numbers, same_caps, same_wait, same_accept, same_doing, same_process, same_endpoint};
+
+use endpoint_objects::Endpoint;
+use page_store::{CapPage, Page};
+use process_objects::{Accept, Process, State, Wait};
+
+pub(crate) fn same_pages(a: &Page, b: &Page) -> bool
+    ensures { result ≡ same_numbers a.now b.now }
+{
+    a.tell_range();
+    b.tell_range();
+    let mut bytes = [0; 4096];
+    let mut others = [0; 4096];
+    a.read(0, &mut bytes);
+    b.read(0, &mut others);
+    bytes == others
+}
+
+pub(crate) fn same_cap_pages(a: &CapPage, b: &CapPage) -> bool
+    ensures { result ≡ same_caps a.now b.now }
+{
+    all_slots_same(a, b)
+}
+
+fn all_slots_same(a: &CapPage, b: &CapPage) -> bool
+    ensures { IsTrue result ↔ (a.now ≡ b.now) }
+{
+    a.tell_range();
+    b.tell_range();
+    for i in 0..=255 {
+        if a.get(i) != b.get(i) {
+            return false;
+        }
+    }
+    true
+}
+
+pub(crate) fn same_processes(a: &Process, b: &Process) -> bool
+    ensures { result ≡ same_process a.now b.now }
+{
+    a.pc() == b.pc()
+        && a.registers() == b.registers()
+        && same_states(a.state(), b.state())
+        && same_slots(a, b)
+        && same_cap_registers(a, b)
+}
+
+fn same_slots(a: &Process, b: &Process) -> bool
+    ensures { result ≡ same_caps a.now.slots b.now.slots }
+{
+    all_process_slots_same(a, b)
+}
+
+fn all_process_slots_same(a: &Process, b: &Process) -> bool
+    ensures { IsTrue result ↔ (a.now.slots ≡ b.now.slots) }
+{
+    a.tell_range();
+    b.tell_range();
+    for i in 0..3 {
+        if a.slot(i) != b.slot(i) {
+            return false;
+        }
+    }
+    true
+}
+
+fn same_cap_registers(a: &Process, b: &Process) -> bool
+    ensures { result ≡ same_caps a.now.capregs b.now.capregs }
+{
+    all_cap_registers_same(a, b)
+}
+
+fn all_cap_registers_same(a: &Process, b: &Process) -> bool
+    ensures { IsTrue result ↔ (a.now.capregs ≡ b.now.capregs) }
+{
+    a.tell_range();
+    b.tell_range();
+    for i in 0..32 {
+        if a.capreg(i) != b.capreg(i) {
+            return false;
+        }
+    }
+    true
+}
+
+fn same_states(a: State, b: State) -> bool
+    ensures { result ≡ same_doing a b }
+{
+    match a {
+        State::Running => match b {
+            State::Running => true,
+            _ => false,
+        },
+        State::Receiving(x) => match b {
+            State::Receiving(y) => same_accepts(x, y),
+            _ => false,
+        },
+        State::Faulted { code, address } => match b {
+            State::Faulted {
+                code: other,
+                address: at,
+            } => code.number() == other.number() && address == at,
+            _ => false,
+        },
+    }
+}
+
+fn same_accepts(a: Accept, b: Accept) -> bool
+    ensures { result ≡ same_accept a b }
+{
+    same_waits(a.wait(), b.wait())
+        && a.caps() == b.caps()
+        && a.regs() == b.regs()
+        && a.at() == b.at()
+        && a.bound() == b.bound()
+}
+
+fn same_waits(a: Wait, b: Wait) -> bool
+    ensures { result ≡ same_wait a b }
+{
+    match a {
+        Wait::Open => match b {
+            Wait::Open => true,
+            Wait::Closed(_) => false,
+        },
+        Wait::Closed(id) => match b {
+            Wait::Open => false,
+            Wait::Closed(other) => id == other,
+        },
+    }
+}
+
+pub(crate) fn same_endpoints(a: &Endpoint, b: &Endpoint) -> bool
+    ensures { result ≡ same_endpoint a.now b.now }
+{
+    a.recipient == b.recipient && a.id == b.id && a.payload == b.payload && a.matching == b.matching
+}

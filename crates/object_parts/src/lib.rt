@@ -1,0 +1,20 @@
+//! Objects kept by parts: each value of an object once.
+//!
+//! One object at a time, and tables of them. Nothing here knows of queues, of machines or of what is searched for.
+#![tactic(auto)]
+
+mod compare;
+mod count;
+mod feeding;
+mod making;
+mod part;
+mod putting;
+mod slots;
+mod table;
+
+pub use count::Count;
+pub use making::part_of;
+pub use part::Part;
+pub use putting::put_part;
+pub use slots::Slots;
+pub use table::{Kept, Table};

@@ -1,0 +1,11 @@
+pub mod Whole
+pub mod Brought
+pub mod Looked
+pub mod Kept
+pub mod Ends
+pub mod Marked
+pub mod Boards
+pub mod Unchanged
+pub mod Holding
+pub mod Alike
+pub mod Stepping

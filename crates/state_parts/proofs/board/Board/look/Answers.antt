@@ -1,0 +1,87 @@
+use Rattle.std.proofs.Common.{◌≡◌, List, IfOk, map, sym, ap, ◌∙◌, subst}
+use Rattle.std.proofs.lemmas.List.{length-map}
+use Rattle.object_store.specs.Store.{Store}
+use Rattle.object_store.specs.Saved.{AreThere}
+use Rattle.object_store.proofs.Stays.{stays_turned}
+use Rattle.object_store.proofs.Restored.{there_same}
+use Rattle.machine_state.specs.declared.taking.Name.{Name}
+use Rattle.machine_state.specs.Taking.{name_of, names_of}
+use Rattle.object_parts.specs.Live.{live_store}
+use Rattle.object_parts.specs.Objects.{object_in}
+use Rattle.state_parts.specs.Board.{BoardValue}
+use Rattle.state_parts.specs.Keys.{objects_of, Reads}
+use Rattle.state_parts.specs.Looking.{AreKnown, AreRanged}
+use Rattle.state_parts.specs.Marking.{HaveCounts}
+use Rattle.state_parts.proofs.Whole.{names_there}
+use Rattle.state_parts.proofs.Unchanged.{counts_stay, known_but, numbers_many}
+use Rattle.state_parts.proofs.board.Board.look.Goals as goal
+
+pub counts_same-requires-clause-here : goal.counts_same-requires-clause-here
+counts_same-requires-clause-here g c =
+    let i = c.self.inside in
+    let There : List Name → Type 0 = λ xs. AreThere i.machine.objects (names_of xs) in
+    rw c.objects-objects.ensures (subst There (sym c.as_slice-changed.ensures.value) (there_same i.machine.objects i.desk (names_of i.changed.items) c.self.invariant.sizes c.self.invariant.there))
+
+pub counts_same-requires-clause-there : goal.counts_same-requires-clause-there
+counts_same-requires-clause-there g c =
+    let i = c.self.inside in
+    let There : List Name → Type 0 = λ xs. AreThere i.desk (names_of xs) in
+    subst There (sym c.as_slice-changed.ensures.value) c.self.invariant.there
+
+pub look-requires-clause-there : goal.look-requires-clause-there
+look-requires-clause-there g c =
+    let i = c.self.inside in
+    let all = rw (← c.self.view_is) at c.requires.all in
+    rw c.objects-objects.ensures (there_same i.machine.objects i.desk (names_of c.args.names.now) c.self.invariant.sizes (names_there i.desk (names_of c.args.names.now) all))
+
+pub look-requires-clause-many : goal.look-requires-clause-many
+look-requires-clause-many g c =
+    let i = c.self.inside in
+    let reads = rw (← c.self.view_is) at c.requires.reads in
+    numbers_many (map object_in c.args.table.now) c.args.numbers.now (names_of c.args.names.now) i.desk reads ∙ length-map c.args.names.now name_of
+
+pub look-requires-clause-known : goal.look-requires-clause-known
+look-requires-clause-known g c =
+    let i = c.self.inside in
+    let T = map object_in c.args.table.now in
+    let names = names_of c.args.names.now in
+    let changed = names_of i.changed.items in
+    let reads = rw (← c.self.view_is) at c.requires.reads in
+    let alive = rw (← c.self.view_is) at c.requires.live in
+    let ranges = rw (← c.self.view_is) at c.requires.ranges in
+    let Have : List Name → Type 0 = λ xs. HaveCounts c.objects-objects.result.now i.desk (names_of xs) in
+    let HaveOf : Store → Type 0 = λ s. HaveCounts s i.desk changed in
+    let have : HaveCounts i.machine.objects i.desk changed = subst HaveOf c.objects-objects.ensures (subst Have c.as_slice-changed.ensures.value (c.counts_same.ensures c.if-counts_same.true)) in
+    let counts : i.machine.objects.items.counts ≡ i.desk.items.counts = counts_stay i.machine.objects i.desk changed c.self.invariant.sizes (stays_turned changed i.desk i.machine.objects c.self.invariant.stays) have in
+    let Known : List Name → Type 0 = λ xs. AreKnown T (live_store i.machine.objects) (names_of xs) names c.args.numbers.now in
+    rw c.objects-objects.ensures (subst Known (sym c.as_slice-changed.ensures.value) (known_but T c.args.numbers.now names changed i.desk i.machine.objects reads alive ranges (sym counts) c.self.invariant.stays))
+
+pub look_anew-requires : goal.look_anew-requires
+look_anew-requires g c =
+    let i = c.self.inside in
+    let all = rw (← c.self.view_is) at c.requires.all in
+    record { there = rw c.objects-objects.ensures (there_same i.machine.objects i.desk (names_of c.args.names.now) c.self.invariant.sizes (names_there i.desk (names_of c.args.names.now) all)) }
+
+pub returns-then-counts_same-clause-reads : goal.returns-then-counts_same-clause-reads
+returns-then-counts_same-clause-reads g c =
+    let here : c.objects-objects.result.now ≡ c.args.self.now.machine.objects = c.objects-objects.ensures ∙ ap (λ (b : BoardValue). b.machine.objects) c.self.view_is in
+    let Is : Store → Type 0 = λ s. IfOk c.look.result (λ found. Reads (map object_in c.look.new.table) found.items (objects_of (names_of c.args.names.now) (live_store s))) in
+    subst Is here c.look.ensures.reads
+
+pub returns-then-counts_same-clause-ranged : goal.returns-then-counts_same-clause-ranged
+returns-then-counts_same-clause-ranged g c =
+    let here : c.objects-objects.result.now ≡ c.args.self.now.machine.objects = c.objects-objects.ensures ∙ ap (λ (b : BoardValue). b.machine.objects) c.self.view_is in
+    let Is : Store → Type 0 = λ s. IfOk c.look.result (λ found. AreRanged (objects_of (names_of c.args.names.now) (live_store s))) in
+    subst Is here c.look.ensures.ranged
+
+pub returns-clause-reads : goal.returns-clause-reads
+returns-clause-reads g c =
+    let here : c.objects-objects.result.now ≡ c.args.self.now.machine.objects = c.objects-objects.ensures ∙ ap (λ (b : BoardValue). b.machine.objects) c.self.view_is in
+    let Is : Store → Type 0 = λ s. IfOk c.look_anew.result (λ found. Reads (map object_in c.look_anew.new.table) found.items (objects_of (names_of c.args.names.now) (live_store s))) in
+    subst Is here c.look_anew.ensures.reads
+
+pub returns-clause-ranged : goal.returns-clause-ranged
+returns-clause-ranged g c =
+    let here : c.objects-objects.result.now ≡ c.args.self.now.machine.objects = c.objects-objects.ensures ∙ ap (λ (b : BoardValue). b.machine.objects) c.self.view_is in
+    let Is : Store → Type 0 = λ s. IfOk c.look_anew.result (λ found. AreRanged (objects_of (names_of c.args.names.now) (live_store s))) in
+    subst Is here c.look_anew.ensures.ranged

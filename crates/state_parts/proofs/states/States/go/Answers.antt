@@ -1,0 +1,50 @@
+use Rattle.std.proofs.Common.{◌≡◌, ℕ, List, Some, map, sym, ap, ◌∙◌, subst}
+use Rattle.object_store.specs.Store.{Store, sizes_of}
+use Rattle.machine_state.specs.Taking.{names_of}
+use Rattle.object_parts.specs.Objects.{object_in}
+use Rattle.state_parts.specs.StandingLaws.{standing_in}
+use Rattle.state_parts.specs.Space.{store_of}
+use Rattle.state_parts.specs.States.{tables_of, IsDesk}
+use Rattle.state_parts.specs.Standing.{standing_at}
+use Rattle.state_parts.proofs.Stepping.{target_of, machine_of, desk_of, state_there, standing_some, standing_same, store_by_same}
+use Rattle.state_parts.proofs.states.States.go.Goals as goal
+
+pub go-requires-clause-new : goal.go-requires-clause-new
+go-requires-clause-new g c =
+    let i = c.self.inside in
+    let t = tables_of i.sizes (names_of i.names.items) (map object_in i.parts) (map standing_in i.standings) in
+    let held = rw (← c.self.view_is) at c.requires in
+    rw (c.as_slice-2.ensures.value, c.as_slice-4.ensures.value) (target_of t c.args.key.now held (sizes_of i.board.desk) c.self.invariant.1.same)
+
+pub go-requires-clause-machine : goal.go-requires-clause-machine
+go-requires-clause-machine g c =
+    let i = c.self.inside in
+    let t = tables_of i.sizes (names_of i.names.items) (map object_in i.parts) (map standing_in i.standings) in
+    let held = rw (← c.self.view_is) at c.requires in
+    rw (c.as_slice-2.ensures.value, c.as_slice-4.ensures.value) (machine_of t c.args.key.now held (sizes_of i.board.desk) (standing_in c.get-standing.result.now) c.self.invariant.1.same c.get-standing.ensures.value)
+
+pub invariant_of-self-2 : goal.invariant_of-self-2
+invariant_of-self-2 g c =
+    let i = c.self.inside in
+    let key = c.args.key.now in
+    let m = c.go.new.self.machine in
+    let standing = standing_in c.get-standing.result.now in
+    let t = tables_of i.sizes (names_of i.names.items) (map object_in i.parts) (map standing_in i.standings) in
+    let held = rw (← c.self.view_is) at c.requires in
+    let there : c.go.new.self.desk ≡ store_of t key = c.in_ok-go.ensures.desk ∙ store_by_same (map object_in i.parts) c.self.invariant.1.same (ap names_of c.as_slice-2.ensures.value) c.as_slice-4.ensures.value in
+    let copied : c.in_ok-at.at.items ≡ key.parts.items = c.in_ok-at.ensures ∙ c.as_slice.ensures.value in
+    let DeskOf : Store → Type 0 = λ s. IsDesk t s key.parts.items in
+    let DeskAt : List ℕ → Type 0 = λ ns. IsDesk t c.go.new.self.desk ns in
+    let stands : standing_at m ≡ standing = standing_same m standing c.in_ok-go.ensures.queues c.in_ok-go.ensures.halted in
+    (c.self.invariant.0, subst DeskAt (sym copied) (subst DeskOf (sym there) (desk_of t key held)), standing_some t key.standing m (c.get-standing.ensures.value ∙ ap Some (sym stands)))
+
+pub returns-clause-state : goal.returns-clause-state
+returns-clause-state g c =
+    let i = c.self.inside in
+    let key = c.args.key.now in
+    let m = c.go.new.self.machine in
+    let standing = standing_in c.get-standing.result.now in
+    let t = tables_of i.sizes (names_of i.names.items) (map object_in i.parts) (map standing_in i.standings) in
+    let held = rw (← c.self.view_is) at c.requires in
+    let there : c.go.new.self.desk ≡ store_of t key = c.in_ok-go.ensures.desk ∙ store_by_same (map object_in i.parts) c.self.invariant.1.same (ap names_of c.as_slice-2.ensures.value) c.as_slice-4.ensures.value in
+    rw (← c.self.view_is) (state_there t key held m standing (c.in_ok-go.ensures.objects ∙ there) c.get-standing.ensures.value c.in_ok-go.ensures.queues c.in_ok-go.ensures.halted)

@@ -1,0 +1,18 @@
+-- A machine, and the objects from which it started.
+use Rattle.std.specs.Prelude.{◌≡◌, List}
+use Rattle.object_store.specs.Store.{Store, sizes_of}
+use Rattle.object_store.specs.Object.{ObjectName, Stays}
+use Rattle.object_store.specs.Saved.{AreThere}
+use Rattle.machine_state.specs.Machine.{MachineValue}
+
+-- the machine, the objects from which it started, and the names of those that may have changed since
+pub record BoardValue : Type 0 where
+  pub machine : MachineValue (Unit {0})
+  pub desk : Store
+  pub changed : List ObjectName
+
+-- the objects `here` are those of the desk, but for those that are named
+pub record IsBoard (here desk : Store) (changed : List ObjectName) : Type 0 where
+  pub sizes : sizes_of here ≡ sizes_of desk
+  pub there : AreThere desk changed
+  pub stays : Stays changed desk here

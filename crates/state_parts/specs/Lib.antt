@@ -1,0 +1,12 @@
+pub mod Same
+pub mod SameLaws
+pub mod Keys
+pub mod Standing
+pub mod StandingLaws
+pub mod Key
+pub mod KeyLaws
+pub mod Looking
+pub mod Marking
+pub mod Space
+pub mod Board
+pub mod States

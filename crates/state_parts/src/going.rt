@@ -1,0 +1,90 @@
+//! Going from one state to another.
+ghost use Rattle.std.specs.Prelude.{◌≡◌, ◌<◌, ◌++◌, ◌∷◌, [], List, length, map, slice_get, Some, IfOk, OnOk};
+ghost use Rattle.object_store.specs.Store.{Store, size_of, sizes_of};
+ghost use Rattle.object_store.specs.Object.{ObjectName, ObjectValue, object_name, with_object, object_at, IsEven};
+ghost use Rattle.machine_state.specs.Taking.{names_of};
+ghost use Rattle.object_parts.specs.Objects.{object_in, kind_in};
+ghost use Rattle.state_parts.specs.Keys.{AreAll, objects_of, values_of, Reads, store_by};
+ghost use Rattle.state_parts.specs.Looking.{AreMarked, HasAll, IsMarked, IsMore, IsTarget, kind_of};
+
+use crate::marking::mark_name;
+use cap_format::OutOfMemory;
+use machine_state::Name;
+use object_parts::{Part, Table, put_part};
+use object_store::Objects;
+
+/// Marks the names whose numbers differ. Where memory is wanting some are marked.
+pub(crate) fn mark(
+    marked: &mut Vec<Name>,
+    names: &[Name],
+    old: &[u32],
+    new: &[u32],
+) -> Result<(), OutOfMemory>
+    requires here { length old.now ≡ length names.now }
+    requires there { length new.now ≡ length names.now }
+    ensures grows { IsMore (names_of names.now) (names_of marked.old.items) (names_of marked.new.items) }
+    ensures each { OnOk result (AreMarked (length names.now) (names_of names.now) old.now new.now (names_of marked.new.items)) }
+{
+    for i in 0..names.len() {
+        mark_one(marked, names[i], old[i], new[i])?;
+    }
+    Ok(())
+}
+
+/// Marks a name, if its numbers differ.
+fn mark_one(marked: &mut Vec<Name>, name: Name, old: u32, new: u32) -> Result<(), OutOfMemory>
+    ensures grows { IsMore (object_name name.kind name.number ∷ []) (names_of marked.old.items) (names_of marked.new.items) }
+    ensures marks { OnOk result (IsMarked (object_name name.kind name.number) old new (names_of marked.new.items)) }
+{
+    if old == new {
+        return Ok(());
+    }
+    mark_name(marked, name)?;
+    Ok(())
+}
+
+/// Marks all names. Where memory is wanting some are marked.
+pub(crate) fn mark_all(marked: &mut Vec<Name>, names: &[Name]) -> Result<(), OutOfMemory>
+    ensures grows { IsMore (names_of names.now) (names_of marked.old.items) (names_of marked.new.items) }
+    ensures all { OnOk result (HasAll (names_of names.now) (names_of marked.new.items)) }
+{
+    for i in 0..names.len() {
+        marked.push(names[i])?;
+    }
+    Ok(())
+}
+
+/// Puts the parts in place of the objects whose numbers differ.
+pub(crate) fn bring(
+    objects: &mut Objects,
+    table: &Table<Part>,
+    names: &[Name],
+    old: &[u32],
+    new: &[u32],
+)
+    requires all { AreAll (sizes_of objects.old) (names_of names.now) }
+    requires old { Reads (map object_in table.now) old.now (objects_of (names_of names.now) objects.old) }
+    requires new { let target = store_by (sizes_of objects.old) (names_of names.now) (values_of (map object_in table.now) new.now) in
+        IsTarget (map object_in table.now) (names_of names.now) new.now (sizes_of objects.old) target }
+    ensures { objects.new ≡ store_by (sizes_of objects.old) (names_of names.now) (values_of (map object_in table.now) new.now) }
+{
+    let _sizes = objects.sizes();
+    for i in 0..names.len() {
+        bring_one(objects, table, names[i], old[i], new[i]);
+    }
+}
+
+/// Puts a part in place of an object, if its number differs.
+fn bring_one(objects: &mut Objects, table: &Table<Part>, name: Name, old: u32, new: u32)
+    requires there { name.number < size_of objects.old.items name.kind }
+    requires inside { new < length table.now }
+    requires kind { (x : ObjectValue) → slice_get (map object_in table.now) new ≡ Some x → kind_of x ≡ name.kind }
+    ensures same { old ≡ new → objects.new ≡ objects.old }
+    ensures put { (old ≡ new → ⊥) → (x : ObjectValue) → slice_get (map object_in table.now) new ≡ Some x →
+        objects.new ≡ with_object objects.old name.number x }
+{
+    if old == new {
+        return;
+    }
+    put_part(objects, name.number, table.get(new));
+}
