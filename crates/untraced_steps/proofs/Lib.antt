@@ -1,2 +1,3 @@
 mod Cycle
+mod KeptSteps
 mod Ran

@@ -1,2 +1,3 @@
 pub mod HartSteps
+pub mod KeptSteps
 pub mod Untraced

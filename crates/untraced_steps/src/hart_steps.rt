@@ -54,6 +54,18 @@ impl HartSteps {
         Some(hart)
     }
 
+    /// How many steps are left, where all are of this hart, and otherwise 0.
+    #[tactic(auto, using(crate::proofs::Cycle::in_cycle_alone))]
+    pub fn alone(&self, hart: u8) -> u32
+        ensures { 1 ≤ result → steps_left self.now ≡ replicate result (Step hart) }
+    {
+        if self.first == self.last && self.first == self.hart && self.hart == hart {
+            self.times
+        } else {
+            0
+        }
+    }
+
     /// The hart that steps behind the next one.
     fn hart_behind(&self) -> u8
         ensures { result ≡ hart_behind self.now.first self.now.last self.now.hart }

@@ -1,23 +1,24 @@
 //! Steps of harts, one after the other.
-ghost use Rattle.std.specs.Prelude.{◌≡◌, ◌<◌, ◌≤◌, ◌-◌, ◌^◌, ◌∷◌, [], length, take, drop};
+ghost use Rattle.std.specs.Prelude.{◌≡◌, ◌<◌, ◌≤◌, ◌-◌, ◌^◌, ◌∷◌, ℕ, [], length, take, drop};
 ghost use Rattle.machine_state.specs.declared.event.Event.TheVariants.{Step};
 ghost use Rattle.machine_state.specs.State.{state_of};
 ghost use Rattle.kernel_core.specs.Event.{event_of};
 ghost use Rattle.untraced_steps.specs.HartSteps.{OfHarts, steps_left};
 ghost use Rattle.untraced_steps.specs.Untraced.{CameUntraced, RanUntraced, TellsNothing};
 
+use crate::code::run_kept;
 use crate::hart_steps::HartSteps;
+use kept_pages::PageTranslator;
 use kernel_core::{Event, Machine, Notable, event_for};
 use std::sync::ledger::Ledger;
 use steps::Steps;
-use walk_engine::Translator;
 
 /// Performs a step of a hart, and then the steps that are left. It stops early behind a step that is told of, and answers
 /// how many it performed. What the last of them told is left in the list.
 ///
 /// It is not inlined, so that its loop has the registers of the processor to itself.
 #[inline(never)]
-pub fn run_untraced<T: Translator, L: Ledger>(
+pub fn run_untraced<T: PageTranslator, L: Ledger>(
     machine: &mut Machine<T>,
     hart: u8,
     left: &mut HartSteps,
@@ -40,6 +41,7 @@ pub fn run_untraced<T: Translator, L: Ledger>(
     let mut next = hart;
     let mut done = 0;
     'steps: loop {
+        done += run_ahead(machine, next, left);
         step_untraced(machine, next, observer, fetches);
         done += 1;
         let plain = observer.records.is_empty();
@@ -53,8 +55,26 @@ pub fn run_untraced<T: Translator, L: Ledger>(
     }
 }
 
+/// Performs steps of a hart whose accesses are all kept, where all that are left are of it, but not the last. It answers how
+/// many.
+fn run_ahead<T: PageTranslator>(machine: &mut Machine<T>, hart: u8, left: &mut HartSteps) -> u32
+    requires hart { hart < machine.old.objects.harts }
+    ensures most { result ≤ length (steps_left left.old) }
+    ensures ran { (fetches : ℕ) → RanUntraced T.kept T.cost T.after T.without (take result (Step hart ∷ steps_left left.old))
+        machine.old fetches machine.new [] fetches }
+    ensures behind { Step hart ∷ steps_left left.new ≡ drop result (Step hart ∷ steps_left left.old) }
+{
+    let times = left.alone(hart);
+    if times == 0 {
+        return 0;
+    }
+    let done = run_kept(machine, hart, times);
+    *left = HartSteps::of_hart(hart, times - done);
+    done
+}
+
 /// One step of a hart, of which nothing was told before.
-fn step_untraced<T: Translator, L: Ledger>(
+fn step_untraced<T: PageTranslator, L: Ledger>(
     machine: &mut Machine<T>,
     hart: u8,
     observer: &mut Notable,

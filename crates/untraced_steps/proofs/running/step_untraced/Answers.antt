@@ -3,6 +3,7 @@ use Rattle.machine_state.specs.declared.event.Event.TheVariants.{Step}
 use Rattle.machine_state.specs.declared.record.Record.{Record}
 use Rattle.machine_state.specs.State.{state_of}
 use Rattle.machine_state.specs.Noted.{noted, untraced}
+use Rattle.machine_state.proofs.Changed.{sizes_left}
 use Rattle.machine_state.proofs.Noted.{noted-untraced}
 use Rattle.kernel_core.specs.Event.{event_of}
 use Rattle.untraced_steps.proofs.running.step_untraced.Goals as goal
@@ -17,4 +18,5 @@ returns g c =
       counted = e.counted;
       keeps = e.kept;
       harts = e.leaves.harts;
+      sizes = sizes_left _ _ _ e.leaves;
     }
