@@ -63,7 +63,7 @@ module _ {T K : Type 0} (kept : T → K) (cost : K → Items → Capability → 
       let ends : RunsEvents mode all left m fetches n fetches' entries counts counts' (take done all) =
       record {
         split = sym (take-append-drop done all) ∙ ap (λ es. take done all ++ es) (sym behind);
-        ran = record { state = ran.state; counted = ran.counted; keeps = ran.keeps; harts = ran.harts };
+        ran = record { state = ran.state; counted = ran.counted; keeps = ran.keeps; harts = ran.harts; sizes = ran.sizes };
         lines = ap (lines_of mode) ran.records ∙ untraced_lines mode other (run_records s (take done all));
         counted =
             counted ∙ (ap (and_more counts done) ran.records ∙ and_more-untraced counts done (run_records s (take done all)))

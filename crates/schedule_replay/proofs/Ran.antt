@@ -2,7 +2,7 @@
 use Rattle.std.proofs.Common.{◌≡◌, ◌+◌, ◌∙◌, ◌∷◌, ◌++◌, [], ℕ, List, refl, sym, ap, append-nil, arith}
 use Rattle.cap_format.specs.Capability.{Capability}
 use Rattle.cap_format.specs.declared.item.Item.{Item}
-use Rattle.object_store.specs.Store.{Items}
+use Rattle.object_store.specs.Store.{Items, sizes_of}
 use Rattle.walk_meaning.specs.declared.kind.Kind.{Kind}
 use Rattle.machine_state.specs.declared.event.Event.{Event}
 use Rattle.kernel_core.specs.Event.{event_of}
@@ -32,18 +32,20 @@ module _ {T K : Type 0} (kept : T → K) (cost : K → Items → Capability → 
         counted = omega (arith, none);
         keeps = sym (ap (kept_after cost after without (kept m.translator)) (run_touches-nil (state_of m)));
         harts = refl;
+        sizes = refl;
       }
 
   -- one
   pub ran-one : (m n : MachineValue T) (fetches fetches' : ℕ) (event : Event) → state_of n ≡ (event_of (state_of m) event).state
       → fetches' ≡ fetches + spent cost after without (kept m.translator) (event_of (state_of m) event).touches
-      → kept n.translator ≡ kept_after cost after without (kept m.translator) (event_of (state_of m) event).touches → n.objects.harts ≡ m.objects.harts
+      → kept n.translator ≡ kept_after cost after without (kept m.translator) (event_of (state_of m) event).touches → n.objects.harts ≡ m.objects.harts → sizes_of n.objects ≡ sizes_of m.objects
       → Ran kept cost after without m fetches n fetches' (event ∷ [])
-  ran-one m n fetches fetches' event state counted keeps harts = record {
+  ran-one m n fetches fetches' event state counted keeps harts sizes = record {
     state = state ∙ sym (state-one (state_of m) event);
     counted = counted ∙ ap (λ touches. fetches + spent cost after without (kept m.translator) touches) (sym (touches-one (state_of m) event));
     keeps = keeps ∙ ap (kept_after cost after without (kept m.translator)) (sym (touches-one (state_of m) event));
     harts = harts;
+    sizes = sizes;
   }
 
   -- some, and then others
@@ -68,4 +70,5 @@ module _ {T K : Type 0} (kept : T → K) (cost : K → Items → Capability → 
             ∙ sym (kept_after-append cost after without k (run_touches s first) (run_touches (state_of m) second))
             ∙ ap (kept_after cost after without k) (sym touches);
         harts = b.harts ∙ a.harts;
+        sizes = b.sizes ∙ a.sizes;
       }

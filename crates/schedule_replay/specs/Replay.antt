@@ -5,7 +5,7 @@ use Rattle.cap_format.specs.Capability.{Capability}
 use Rattle.cap_format.specs.declared.item.Item.{Item}
 use Rattle.coy_io.specs.Causes.{Rose}
 use Rattle.coy_io.specs.Reader.{Reader, ahead}
-use Rattle.object_store.specs.Store.{Items}
+use Rattle.object_store.specs.Store.{Items, sizes_of}
 use Rattle.walk_meaning.specs.declared.kind.Kind.{Kind}
 use Rattle.machine_state.specs.declared.event.Event.{Event}
 use Rattle.kernel_core.specs.Machine.{MachineValue}
@@ -64,7 +64,8 @@ pub record Follows (answer_of : Scheduled → Replayed) (harts : ℕ)
   pub lines : OnParts (ahead old held) (λ parts. Accords answer_of answer events (scheduled harts old.number parts))
   pub read : answer ≡ answers.ReadFault → FailsBehind harts old new held held' events
 
--- a machine ran these events: its state, the slots that it fetched, and what its translator keeps
+-- a machine ran these events: its state, the slots that it fetched, and what its translator keeps; there are as
+-- many harts and objects as before
 pub record Ran {T K : Type 0}
     (kept : T → K)
     (cost : K → Items → Capability → ℕ → Kind → ℕ)
@@ -77,6 +78,7 @@ pub record Ran {T K : Type 0}
   pub counted : fetches' ≡ fetches + spent cost after without (kept m.translator) (run_touches (state_of m) events)
   pub keeps : kept n.translator ≡ kept_after cost after without (kept m.translator) (run_touches (state_of m) events)
   pub harts : n.objects.harts ≡ m.objects.harts
+  pub sizes : sizes_of n.objects ≡ sizes_of m.objects
 
 -- writing failed in the records of the last of these events: no fewer of them have more text than was written
 pub record StopsInLast (mode : Mode) (s : State) (taken taken' : Option (List ℕ)) (events : List Event) : Type 0 where

@@ -10,6 +10,7 @@ ghost use Rattle.schedule_replay.specs.First.{RunsFirst};
 use crate::counts::{Counts, count_events};
 use crate::events::Events;
 use crate::mode::Mode;
+use kept_pages::PageTranslator;
 use kernel_core::{Event, Machine, Notable, Records, event_into};
 use std::sync::ledger::Ledger;
 use steps::Steps;
@@ -19,7 +20,7 @@ use walk_engine::Translator;
 /// Performs and counts this event, and where no trace is written some of the steps behind it. None but the last of them
 /// tells anything that the mode names. What they told is left in the list of records, of which, where no trace is written,
 /// those of accesses and instructions may be missing.
-pub(crate) fn perform<T: Translator, L: Ledger>(
+pub(crate) fn perform<T: PageTranslator, L: Ledger>(
     event: Event,
     events: &mut Events,
     mode: Mode,
@@ -63,7 +64,7 @@ fn perform_one<T: Translator, L: Ledger>(
 }
 
 /// Performs and counts a step of this hart, and some of those that are left. No trace is kept.
-fn perform_steps<T: Translator, L: Ledger>(
+fn perform_steps<T: PageTranslator, L: Ledger>(
     hart: u8,
     steps: &mut HartSteps,
     machine: &mut Machine<T>,

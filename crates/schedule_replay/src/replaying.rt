@@ -12,15 +12,15 @@ use crate::replayed::Replayed;
 use crate::telling::put_told;
 use coy_io::{LineReader, Sink, Source};
 use coy_text::LineBuf;
+use kept_pages::PageTranslator;
 use kernel_core::{Machine, Notable, Records};
 use std::sync::ledger::Ledger;
 use steps::Steps;
-use walk_engine::Translator;
 
 /// Runs the events of the lines that the reader and the source have left, each line's before the next line is read, and
 /// writes the records that the mode names, each event's before the next event is run. It takes no memory. After a fault
 /// of reading or writing the machine stands behind the events that were run.
-pub fn replay<T: Translator, S: Source, K: Sink, L: Ledger>(
+pub fn replay<T: PageTranslator, S: Source, K: Sink, L: Ledger>(
     machine: &mut Machine<T>,
     lines: &mut LineReader,
     source: &mut S,
