@@ -1,7 +1,7 @@
 -- A verdict is Yes exactly where the cut holds.
-use Rattle.std.proofs.Common.{◌≡◌, ℕ, zero, suc, ◌+◌, ◌-◌, ◌<◌, ◌≤◌, ◌⊎◌, inl, inr, Bool, true, false, ◌&&◌, ◌||◌, nat_lt, if◌then◌else◌, List, [], ◌∷◌, length, get_or, replicate, map, Option, Some, None, refl, sym, ◌∙◌, ap, subst, arith}
+use Rattle.std.proofs.Common.{◌≡◌, ℕ, zero, suc, ◌+◌, ◌-◌, ◌<◌, ◌≤◌, ◌⊎◌, inl, inr, Bool, true, false, not, ◌&&◌, ◌||◌, nat_lt, if◌then◌else◌, List, [], ◌∷◌, length, get_or, replicate, map, Option, Some, None, refl, sym, ◌∙◌, ap, subst, arith}
 use Rattle.std.specs.Option.{option_or}
-use Rattle.std.proofs.lemmas.Bool.{cases_lt, and_parts, lt-ltb, ltb-true}
+use Rattle.std.proofs.lemmas.Bool.{cases_lt, and_from, and_parts, or_cases, or_left, or_right, lt-ltb, ltb-true}
 use Rattle.std.proofs.lemmas.List.{get_or_past}
 use Rattle.std.proofs.Math.ListN.{get_or-map}
 use Rattle.cap_format.specs.declared.kind.CapKind.{CapKind}
@@ -10,7 +10,7 @@ use Rattle.cap_format.specs.Kind.{is_counted, object_kind}
 use Rattle.cap_format.specs.Capability.{Capability, null, bare}
 use Rattle.cap_format.specs.Weakening.{is_harmless}
 use Rattle.confinement.specs.declared.cut_side.CutSide.{CutSide}
-use Rattle.confinement.specs.Cut.{Cut, side_of, same_side, MayHold, EachMayHold, AllOn, SleepApart}
+use Rattle.confinement.specs.Cut.{Cut, side_of, same_side, NamesOwn, MayCross, MayHold, EachMayHold, AllOn, SleepApart}
 use Rattle.gpt_objects.specs.Gpt.{GptValue, slot_of as gpt_slot_of, empty_gpt, empty_slots as empty_gpt_slots}
 use Rattle.page_store.specs.CapPage.{cap_at, empty_cappage}
 use Rattle.process_objects.specs.Process.{ProcessValue, capreg_of, slot_of, empty_process, empty_capregs, empty_slots as empty_process_slots}
@@ -22,7 +22,7 @@ use Rattle.schedules.specs.Queues.{QueuesValue, sleepers_of}
 use Rattle.object_store.specs.Meaning.{is_live, live, meaning, state_map}
 use Rattle.confine_check.specs.declared.verdict.Breach.{Breach}
 use Rattle.confine_check.specs.declared.verdict.Verdict.TheVariants.{Yes}
-use Rattle.confine_check.specs.Breach.{first_from, is_range, may_hold, places_in, cap_in, breach_at, breach_of_object, breach_of_kind, breach_of, found_by, across_at, least_on, sleeper_of}
+use Rattle.confine_check.specs.Breach.{first_from, is_range, is_sysctl, is_kernlog, may_share, may_hold, places_in, cap_in, breach_at, breach_of_object, breach_of_kind, breach_of, found_by, across_at, least_on, sleeper_of}
 use Rattle.confine_check.specs.Full.{AreFull}
 use Rattle.confinement.proofs.Held.{may-null}
 use Rattle.confinement.proofs.Sides.{same_side-tells, same_side-true}
@@ -48,54 +48,90 @@ is_range-kind Discrim e = absurd (cc (e))
 is_range-kind KernLog e = absurd (cc (e))
 is_range-kind SysCtl e = absurd (cc (e))
 
-module _ (cut : Cut) (side : CutSide) (c : Capability) where
-  -- the test, by its four answers
-  abbrev tested : Bool → Bool → Bool → Bool → Bool
-  tested range counted own cross = if range then false else (if counted then own || cross else true)
+-- SysCtl and KernLog are told by the tests
+is_sysctl-kind : (k : CapKind) → is_sysctl k ≡ true → k ≡ SysCtl
+is_sysctl-kind SysCtl e = refl
+is_sysctl-kind _ e = absurd (cc (e))
 
-  says : (range counted own cross : Bool) → is_range c.kind ≡ range → is_counted c.kind ≡ counted
+is_kernlog-kind : (k : CapKind) → is_kernlog k ≡ true → k ≡ KernLog
+is_kernlog-kind KernLog e = refl
+is_kernlog-kind _ e = absurd (cc (e))
+
+-- what is wanted of those for which a test says true
+wanted : (may is : Bool) → (may || not is) ≡ true → is ≡ true → may ≡ true
+wanted may true e h = elim (or_cases may false e) [ inl here ↦ here | inr other ↦ absurd (cc (other)) ]
+wanted may false e h = absurd (cc (h))
+
+meets : (may is : Bool) → (is ≡ true → may ≡ true) → (may || not is) ≡ true
+meets may true if_so = or_left may false (if_so refl)
+meets may false if_so = or_right may true refl
+
+module _ (cut : Cut) (side : CutSide) (c : Capability) where
+  -- the test, by its five answers
+  abbrev tested : Bool → Bool → Bool → Bool → Bool → Bool
+  tested range share counted own cross = if range then false else (if share then (if counted then own || cross else true) else false)
+
+  -- of a kind that may be held, and naming what may be named
+  held-by : is_range c.kind ≡ false → may_share cut side c.kind ≡ true → NamesOwn cut side c ⊎ MayCross cut side c → MayHold cut side c
+  held-by r s own =
+      let both = and_parts (cut.halts side || not (is_sysctl c.kind)) (cut.logs side || not (is_kernlog c.kind)) s in
+      record {
+        no_range = λ k. let h = sym r ∙ ap (λ (j : CapKind). is_range j) k in cc;
+        halting = λ k. wanted (cut.halts side) (is_sysctl c.kind) both.0 (ap is_sysctl k);
+        logging = λ k. wanted (cut.logs side) (is_kernlog c.kind) both.1 (ap is_kernlog k);
+        own = own;
+      }
+
+  says : (range share counted own cross : Bool) → is_range c.kind ≡ range → may_share cut side c.kind ≡ share → is_counted c.kind ≡ counted
       → same_side (side_of cut (object_kind c.kind) c.object) side ≡ own → (cut.weakly side && is_harmless c) ≡ cross
-      → tested range counted own cross ≡ true → MayHold cut side c
-  says true counted own cross r n o x e = absurd (cc (e))
-  says false false own cross r n o x e = record { no_range = λ k. let h = sym r ∙ ap (λ (j : CapKind). is_range j) k in cc; own = inl (λ h. let f = sym n ∙ h in absurd (cc (f))) }
-  says false true true cross r n o x e = record { no_range = λ k. let h = sym r ∙ ap (λ (j : CapKind). is_range j) k in cc; own = inl (λ h. same_side-tells _ _ o) }
-  says false true false true r n o x e = record { no_range = λ k. let h = sym r ∙ ap (λ (j : CapKind). is_range j) k in cc; own = inr (let p = and_parts _ _ x in (p.0, p.1)) }
-  says false true false false r n o x e = absurd (cc (e))
+      → tested range share counted own cross ≡ true → MayHold cut side c
+  says true share counted own cross r s n o x e = absurd (cc (e))
+  says false false counted own cross r s n o x e = absurd (cc (e))
+  says false true false own cross r s n o x e = held-by r s (inl (λ h. let f = sym n ∙ h in absurd (cc (f))))
+  says false true true true cross r s n o x e = held-by r s (inl (λ h. same_side-tells _ _ o))
+  says false true true false true r s n o x e = held-by r s (inr (let p = and_parts _ _ x in (p.0, p.1)))
+  says false true true false false r s n o x e = absurd (cc (e))
 
   -- what passes the test may be held
   pub may_hold-says : may_hold cut side c ≡ true → MayHold cut side c
-  may_hold-says e = says (is_range c.kind) (is_counted c.kind) (same_side (side_of cut (object_kind c.kind) c.object) side) (cut.weakly side && is_harmless c) refl refl refl refl e
+  may_hold-says e = says (is_range c.kind) (may_share cut side c.kind) (is_counted c.kind) (same_side (side_of cut (object_kind c.kind) c.object) side) (cut.weakly side && is_harmless c) refl refl refl refl refl e
 
   both_true : (a b : Bool) → a ≡ true → b ≡ true → (a && b) ≡ true
   both_true true true e f = refl
   both_true true false e f = absurd (cc (f))
   both_true false b e f = absurd (cc (e))
 
-  passes : (range counted own cross : Bool) → is_range c.kind ≡ range → is_counted c.kind ≡ counted
+  share-held : MayHold cut side c → may_share cut side c.kind ≡ true
+  share-held m = and_from _ _
+      (meets (cut.halts side) (is_sysctl c.kind) (λ e. m.halting (is_sysctl-kind c.kind e)))
+      (meets (cut.logs side) (is_kernlog c.kind) (λ e. m.logging (is_kernlog-kind c.kind e)))
+
+  passes : (range share counted own cross : Bool) → is_range c.kind ≡ range → may_share cut side c.kind ≡ share → is_counted c.kind ≡ counted
       → same_side (side_of cut (object_kind c.kind) c.object) side ≡ own → (cut.weakly side && is_harmless c) ≡ cross
-      → MayHold cut side c → tested range counted own cross ≡ true
-  passes true counted own cross r n o x m = absurd (m.no_range (is_range-kind c.kind r))
-  passes false false own cross r n o x m = refl
-  passes false true true cross r n o x m = refl
-  passes false true false true r n o x m = refl
-  passes false true false false r n o x m = elim m.own [
+      → MayHold cut side c → tested range share counted own cross ≡ true
+  passes true share counted own cross r s n o x m = absurd (m.no_range (is_range-kind c.kind r))
+  passes false false counted own cross r s n o x m = let e = sym s ∙ share-held m in absurd (cc (e))
+  passes false true false own cross r s n o x m = refl
+  passes false true true true cross r s n o x m = refl
+  passes false true true false true r s n o x m = refl
+  passes false true true false false r s n o x m = elim m.own [
     | inl own ↦ let e = sym o ∙ same_side-true _ _ (own n) in absurd (cc (e))
     | inr weak ↦ let e = sym x ∙ both_true (cut.weakly side) (is_harmless c) weak.0 weak.1 in absurd (cc (e))
   ]
 
   -- what may be held passes the test
   pub may_hold-passes : MayHold cut side c → may_hold cut side c ≡ true
-  may_hold-passes m = passes (is_range c.kind) (is_counted c.kind) (same_side (side_of cut (object_kind c.kind) c.object) side) (cut.weakly side && is_harmless c) refl refl refl refl m
+  may_hold-passes m = passes (is_range c.kind) (may_share cut side c.kind) (is_counted c.kind) (same_side (side_of cut (object_kind c.kind) c.object) side) (cut.weakly side && is_harmless c) refl refl refl refl refl m
 
 -- ---- stored capabilities and their meanings
 
 module _ (cut : Cut) (side : CutSide) (o : Items) (c : Capability) where
   means-may : (b : Bool) → MayHold cut side (if b then c else null) → MayHold cut side (if b then bare c else null)
-  means-may true m = record { no_range = m.no_range; own = m.own }
+  means-may true m = record { no_range = m.no_range; halting = m.halting; logging = m.logging; own = m.own }
   means-may false m = m
 
   may-means : (b : Bool) → MayHold cut side (if b then bare c else null) → MayHold cut side (if b then c else null)
-  may-means true m = record { no_range = m.no_range; own = m.own }
+  may-means true m = record { no_range = m.no_range; halting = m.halting; logging = m.logging; own = m.own }
   may-means false m = m
 
   -- the count is looked at by none

@@ -1,9 +1,9 @@
 -- What breaks a cut: the first capability that may not stand where it does, or the least process that sleeps on one of
 -- the other side. (Own; the order is that in which a state is printed.)
-use Rattle.std.specs.Prelude.{ℕ, zero, suc, ◌-◌, nat_lt, Bool, true, false, ◌&&◌, ◌||◌, if◌then◌else◌, length, slice_index, Option, Some, None}
+use Rattle.std.specs.Prelude.{ℕ, zero, suc, ◌-◌, nat_lt, Bool, true, false, not, ◌&&◌, ◌||◌, if◌then◌else◌, length, slice_index, Option, Some, None}
 use Rattle.std.specs.Option.{option_or}
 use Rattle.cap_format.specs.declared.kind.CapKind.{CapKind}
-use Rattle.cap_format.specs.declared.kind.CapKind.TheVariants.{CapPage, Gpt, Endpoint, Process, Range}
+use Rattle.cap_format.specs.declared.kind.CapKind.TheVariants.{CapPage, Gpt, Endpoint, Process, Range, KernLog, SysCtl}
 use Rattle.cap_format.specs.Kind.{is_counted, object_kind}
 use Rattle.cap_format.specs.Capability.{Capability, null}
 use Rattle.cap_format.specs.Weakening.{is_harmless}
@@ -30,13 +30,29 @@ abbrev pub is_range : CapKind → Bool
 is_range Range = true
 is_range _ = false
 
+-- whether it is SysCtl
+abbrev pub is_sysctl : CapKind → Bool
+is_sysctl SysCtl = true
+is_sysctl _ = false
+
+-- whether it is KernLog
+abbrev pub is_kernlog : CapKind → Bool
+is_kernlog KernLog = true
+is_kernlog _ = false
+
+-- whether an object of this side may hold a capability of this kind, as far as SysCtl and KernLog go
+abbrev pub may_share : Cut → CutSide → CapKind → Bool
+may_share cut side k = (cut.halts side || not (is_sysctl k)) && (cut.logs side || not (is_kernlog k))
+
 -- whether an object of this side may hold a capability: one that names nothing, or what is of this side, or that is
--- harmless; and no Range
+-- harmless; no Range; and SysCtl and KernLog where the cut says so
 abbrev pub may_hold : Cut → CutSide → Capability → Bool
 may_hold cut side c =
     if is_range c.kind then false
-    else (if is_counted c.kind then same_side (side_of cut (object_kind c.kind) c.object) side || (cut.weakly side && is_harmless c)
+    else (if may_share cut side c.kind then
+    (if is_counted c.kind then same_side (side_of cut (object_kind c.kind) c.object) side || (cut.weakly side && is_harmless c)
     else true)
+    else false)
 
 -- how many places for capabilities an object of a kind has
 abbrev pub places_in : CapKind → ℕ

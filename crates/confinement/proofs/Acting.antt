@@ -9,7 +9,7 @@ use Rattle.page_store.specs.CapPage.{cap_at, empty_cappage}
 use Rattle.process_objects.specs.Process.{ProcessValue, capreg_of, slot_of, empty_process}
 use Rattle.endpoint_objects.specs.declared.endpoint.Endpoint.{Endpoint as EndpointValue}
 use Rattle.endpoint_objects.specs.Endpoint.{empty_endpoint}
-use Rattle.object_store.specs.Store.{Store, slot_at, gpt_at, process_at, set_gpt, set_slot, set_header, with_items, with_page, with_cappage, with_process, with_endpoint}
+use Rattle.object_store.specs.Store.{Store, gpt_at, process_at, set_gpt, set_slot, set_header, with_items, with_page, with_cappage, with_process, with_endpoint}
 use Rattle.object_store.specs.Object.{ObjectName, object_name, IsAmong, Stays}
 use Rattle.object_store.proofs.Stays.{stays_process, stays_page, stays_cappage, stays_endpoint, stays_gpt}
 use Rattle.schedules.specs.Queues.{QueuesValue, sleepers_of, without, left}
@@ -17,7 +17,7 @@ use Rattle.schedules.specs.Ready.{readied, readied_process, readied_queues, read
 use Rattle.schedules.proofs.Waking.{sleepers-readied}
 use Rattle.operations.specs.System.{System, system, with_store, with_runs}
 use Rattle.confinement.specs.declared.cut_side.CutSide.{CutSide}
-use Rattle.confinement.specs.Cut.{Cut, side_of, MayHold, AllOn, SleepApart, Holds}
+use Rattle.confinement.specs.Cut.{Cut, side_of, MayHold, AllOn, SleepApart, HoldsFor}
 use Rattle.confinement.specs.Acts.{Spares, SparesSleepers, SparesPlaces, SameSizes, Acts, ProcessHeld}
 use Rattle.confinement.proofs.Placing.{places-same, places-then, places-left, places-readied}
 use Rattle.confinement.proofs.Sleeping.{each_set, length-map_lists, apart-left, apart-unslept, apart-readied, spares-left, spares-slept}
@@ -62,11 +62,11 @@ module _ (cut : Cut) (side : CutSide) where
   ]
 
   -- nothing happens
-  pub acts-same : (w : System) → Holds cut w → Acts cut side w w
-  acts-same w holds = record { holds = holds; spares = λ kind n other. refl; sleepers = λ n other. refl; places = places-same cut side w.queues; sizes = sizes-same w }
+  pub acts-same : (w : System) → HoldsFor cut side w → Acts cut side w w
+  acts-same w holds = record { holds = holds; spares = λ kind n other. refl; sleepers = λ n other. refl; places = places-same cut side w.queues; sizes = sizes-same w; ages = refl }
 
   -- one thing after another
-  pub acts-then : (w v u : System) → Acts cut side w v → (Holds cut v → Acts cut side v u) → Acts cut side w u
+  pub acts-then : (w v u : System) → Acts cut side w v → (HoldsFor cut side v → Acts cut side v u) → Acts cut side w u
   acts-then w v u first second =
       let last = second first.holds in
       record {
@@ -75,22 +75,23 @@ module _ (cut : Cut) (side : CutSide) where
         sleepers = λ n other. first.sleepers n other ∙ last.sleepers n other;
         places = places-then cut side w.queues v.queues u.queues first.places last.places;
         sizes = sizes-then w v u first.sizes last.sizes;
+        ages = first.ages ∙ last.ages;
       }
 
   -- ---- one object
 
   -- a process, which may hold what it has
-  pub acts-process : (w : System) (p : ℕ) (v : ProcessValue) → side_of cut Process p ≡ side → ProcessHeld cut side v → Holds cut w
+  pub acts-process : (w : System) (p : ℕ) (v : ProcessValue) → side_of cut Process p ≡ side → ProcessHeld cut side v → HoldsFor cut side w
       → Acts cut side w (with_store w (with_process w.store p v))
   acts-process w p v own held holds = record {
     holds = record {
       each = record {
         slots = holds.each.slots;
         cappages = holds.each.cappages;
-        capregs = λ n i. each_set (λ n (v : ProcessValue). MayHold cut (side_of cut Process n) (capreg_of v i)) w.store.contents.processes p v empty_process
-            (subst (λ b. MayHold cut b (capreg_of v i)) (sym own) (held.capregs i)) (λ n. holds.each.capregs n i) n;
-        process_slots = λ n i. each_set (λ n (v : ProcessValue). MayHold cut (side_of cut Process n) (slot_of v i)) w.store.contents.processes p v empty_process
-            (subst (λ b. MayHold cut b (slot_of v i)) (sym own) (held.slots i)) (λ n. holds.each.process_slots n i) n;
+        capregs = λ n i. each_set (λ n (v : ProcessValue). side_of cut Process n ≡ side → MayHold cut side (capreg_of v i)) w.store.contents.processes p v empty_process
+            (λ on. held.capregs i) (λ n. holds.each.capregs n i) n;
+        process_slots = λ n i. each_set (λ n (v : ProcessValue). side_of cut Process n ≡ side → MayHold cut side (slot_of v i)) w.store.contents.processes p v empty_process
+            (λ on. held.slots i) (λ n. holds.each.process_slots n i) n;
         recipients = holds.each.recipients;
       };
       sleepers = holds.sleepers;
@@ -99,10 +100,11 @@ module _ (cut : Cut) (side : CutSide) where
     sleepers = λ n other. refl;
     places = places-same cut side w.queues;
     sizes = sizes-by w (with_store w (with_process w.store p v)) refl refl refl (sym (length-set w.store.contents.processes p v)) refl refl;
+    ages = refl;
   }
 
   -- a page
-  pub acts-page : (w : System) (n : ℕ) (page : List ℕ) → side_of cut Page n ≡ side → Holds cut w → Acts cut side w (with_store w (with_page w.store n page))
+  pub acts-page : (w : System) (n : ℕ) (page : List ℕ) → side_of cut Page n ≡ side → HoldsFor cut side w → Acts cut side w (with_store w (with_page w.store n page))
   acts-page w n page own holds = record {
     holds = record {
       each = record {
@@ -118,17 +120,18 @@ module _ (cut : Cut) (side : CutSide) where
     sleepers = λ n other. refl;
     places = places-same cut side w.queues;
     sizes = sizes-by w (with_store w (with_page w.store n page)) (sym (length-set w.store.contents.pages n page)) refl refl refl refl refl;
+    ages = refl;
   }
 
   -- a capability page
-  pub acts-cappage : (w : System) (n : ℕ) (page : List Capability) → side_of cut CapPage n ≡ side → ((i : ℕ) → MayHold cut side (cap_at page i)) → Holds cut w
+  pub acts-cappage : (w : System) (n : ℕ) (page : List Capability) → side_of cut CapPage n ≡ side → ((i : ℕ) → MayHold cut side (cap_at page i)) → HoldsFor cut side w
       → Acts cut side w (with_store w (with_cappage w.store n page))
   acts-cappage w n page own held holds = record {
     holds = record {
       each = record {
         slots = holds.each.slots;
-        cappages = λ m i. each_set (λ m (page : List Capability). MayHold cut (side_of cut CapPage m) (cap_at page i)) w.store.contents.cappages n page empty_cappage
-            (subst (λ b. MayHold cut b (cap_at page i)) (sym own) (held i)) (λ m. holds.each.cappages m i) m;
+        cappages = λ m i. each_set (λ m (page : List Capability). side_of cut CapPage m ≡ side → MayHold cut side (cap_at page i)) w.store.contents.cappages n page empty_cappage
+            (λ on. held i) (λ m. holds.each.cappages m i) m;
         capregs = holds.each.capregs;
         process_slots = holds.each.process_slots;
         recipients = holds.each.recipients;
@@ -139,16 +142,17 @@ module _ (cut : Cut) (side : CutSide) where
     sleepers = λ n other. refl;
     places = places-same cut side w.queues;
     sizes = sizes-by w (with_store w (with_cappage w.store n page)) refl (sym (length-set w.store.contents.cappages n page)) refl refl refl refl;
+    ages = refl;
   }
 
   -- a GPT
-  pub acts-gpt : (w : System) (g : ℕ) (gpt : GptValue) → side_of cut Gpt g ≡ side → ((i : ℕ) → MayHold cut side (gpt_slot_of gpt i)) → Holds cut w
+  pub acts-gpt : (w : System) (g : ℕ) (gpt : GptValue) → side_of cut Gpt g ≡ side → ((i : ℕ) → MayHold cut side (gpt_slot_of gpt i)) → HoldsFor cut side w
       → Acts cut side w (with_store w (with_items w.store (set_gpt w.store.items g gpt)))
   acts-gpt w g gpt own held holds = record {
     holds = record {
       each = record {
-        slots = λ h i. each_set (λ h (gpt : GptValue). MayHold cut (side_of cut Gpt h) (gpt_slot_of gpt i)) w.store.items.gpts g gpt empty_gpt
-            (subst (λ b. MayHold cut b (gpt_slot_of gpt i)) (sym own) (held i)) (λ h. holds.each.slots h i) h;
+        slots = λ h i. each_set (λ h (gpt : GptValue). side_of cut Gpt h ≡ side → MayHold cut side (gpt_slot_of gpt i)) w.store.items.gpts g gpt empty_gpt
+            (λ on. held i) (λ h. holds.each.slots h i) h;
         cappages = holds.each.cappages;
         capregs = holds.each.capregs;
         process_slots = holds.each.process_slots;
@@ -160,10 +164,11 @@ module _ (cut : Cut) (side : CutSide) where
     sleepers = λ n other. refl;
     places = places-same cut side w.queues;
     sizes = sizes-by w (with_store w (with_items w.store (set_gpt w.store.items g gpt))) refl refl (sym (length-set w.store.items.gpts g gpt)) refl refl refl;
+    ages = refl;
   }
 
   -- an endpoint
-  pub acts-endpoint : (w : System) (e : ℕ) (v : EndpointValue) → side_of cut Endpoint e ≡ side → MayHold cut side v.recipient → Holds cut w
+  pub acts-endpoint : (w : System) (e : ℕ) (v : EndpointValue) → side_of cut Endpoint e ≡ side → MayHold cut side v.recipient → HoldsFor cut side w
       → Acts cut side w (with_store w (with_endpoint w.store e v))
   acts-endpoint w e v own held holds = record {
     holds = record {
@@ -172,8 +177,8 @@ module _ (cut : Cut) (side : CutSide) where
         cappages = holds.each.cappages;
         capregs = holds.each.capregs;
         process_slots = holds.each.process_slots;
-        recipients = λ f. each_set (λ f (v : EndpointValue). MayHold cut (side_of cut Endpoint f) v.recipient) w.store.contents.endpoints e v empty_endpoint
-            (subst (λ b. MayHold cut b v.recipient) (sym own) held) holds.each.recipients f;
+        recipients = λ f. each_set (λ f (v : EndpointValue). side_of cut Endpoint f ≡ side → MayHold cut side v.recipient) w.store.contents.endpoints e v empty_endpoint
+            (λ on. held) holds.each.recipients f;
       };
       sleepers = holds.sleepers;
     };
@@ -181,30 +186,31 @@ module _ (cut : Cut) (side : CutSide) where
     sleepers = λ n other. refl;
     places = places-same cut side w.queues;
     sizes = sizes-by w (with_store w (with_endpoint w.store e v)) refl refl refl refl (sym (length-set w.store.contents.endpoints e v)) refl;
+    ages = refl;
   }
 
   -- what is held of a process that stands in the map
-  pub held-process : (w : System) (p : ℕ) → side_of cut Process p ≡ side → Holds cut w → ProcessHeld cut side (process_at w.store p)
+  pub held-process : (w : System) (p : ℕ) → side_of cut Process p ≡ side → HoldsFor cut side w → ProcessHeld cut side (process_at w.store p)
   held-process w p own holds = record {
-    capregs = λ i. subst (λ b. MayHold cut b (capreg_of (process_at w.store p) i)) own (holds.each.capregs p i);
-    slots = λ i. subst (λ b. MayHold cut b (slot_of (process_at w.store p) i)) own (holds.each.process_slots p i);
+    capregs = λ i. holds.each.capregs p i own;
+    slots = λ i. holds.each.process_slots p i own;
   }
 
   -- a slot of a GPT
-  pub acts-slot : (w : System) (g i : ℕ) (c : Capability) → side_of cut Gpt g ≡ side → MayHold cut side c → Holds cut w
+  pub acts-slot : (w : System) (g i : ℕ) (c : Capability) → side_of cut Gpt g ≡ side → MayHold cut side c → HoldsFor cut side w
       → Acts cut side w (with_store w (with_items w.store (set_slot w.store.items g i c)))
   acts-slot w g i c own may holds = acts-gpt w g _ own
-      (each_set (λ j (c : Capability). MayHold cut side c) (gpt_at w.store.items g).slots i c null may (λ j. subst (λ b. MayHold cut b (slot_at w.store.items g j)) own (holds.each.slots g j))) holds
+      (each_set (λ j (c : Capability). MayHold cut side c) (gpt_at w.store.items g).slots i c null may (λ j. holds.each.slots g j own)) holds
 
   -- the header of a GPT
-  pub acts-header : (w : System) (g : ℕ) (h : HeaderValue) → side_of cut Gpt g ≡ side → Holds cut w
+  pub acts-header : (w : System) (g : ℕ) (h : HeaderValue) → side_of cut Gpt g ≡ side → HoldsFor cut side w
       → Acts cut side w (with_store w (with_items w.store (set_header w.store.items g h)))
-  acts-header w g h own holds = acts-gpt w g _ own (λ j. subst (λ b. MayHold cut b (slot_at w.store.items g j)) own (holds.each.slots g j)) holds
+  acts-header w g h own holds = acts-gpt w g _ own (λ j. holds.each.slots g j own) holds
 
   -- ---- queues
 
   -- other queues in which the sleepers are on their sides
-  pub acts-queues : (w : System) (q : QueuesValue) → SleepApart cut q → SparesSleepers cut side w.queues q → SparesPlaces cut side w.queues q → length w.queues.sleepers ≡ length q.sleepers → Holds cut w
+  pub acts-queues : (w : System) (q : QueuesValue) → SleepApart cut q → SparesSleepers cut side w.queues q → SparesPlaces cut side w.queues q → length w.queues.sleepers ≡ length q.sleepers → HoldsFor cut side w
       → Acts cut side w (system w.store q)
   acts-queues w q apart others places size holds = record {
     holds = record { each = holds.each; sleepers = apart };
@@ -212,6 +218,7 @@ module _ (cut : Cut) (side : CutSide) where
     sleepers = others;
     places = places;
     sizes = sizes-by w (system w.store q) refl refl refl refl refl size;
+    ages = refl;
   }
 
 module _ (cut : Cut) (side : CutSide) where
@@ -221,7 +228,7 @@ module _ (cut : Cut) (side : CutSide) where
   held-readied k v held = record { capregs = held.capregs; slots = held.slots }
 
   -- a process is made ready, under whatever schedule
-  pub acts-readied : (w : System) (schedule : Capability) (p : ℕ) → side_of cut Process p ≡ side → Holds cut w
+  pub acts-readied : (w : System) (schedule : Capability) (p : ℕ) → side_of cut Process p ≡ side → HoldsFor cut side w
       → Acts cut side w (with_runs w (readied schedule p (runs_of w.store w.queues)))
   acts-readied w schedule p own holds =
       let same = sleepers-readied schedule.kind schedule.object w.queues p in
@@ -232,7 +239,7 @@ module _ (cut : Cut) (side : CutSide) where
       (λ n other. ap (λ (xs : List (List ℕ)). get_or xs n []) (sym same)) (places-readied cut side schedule.kind schedule.object w.queues p own) (ap (λ (xs : List (List ℕ)). length xs) (sym same)) h)
 
   -- several are, one after the other
-  pub acts-readied_all : (w : System) (f : ℕ → Capability) (ps : List ℕ) → AllOn cut side ps → Holds cut w
+  pub acts-readied_all : (w : System) (f : ℕ → Capability) (ps : List ℕ) → AllOn cut side ps → HoldsFor cut side w
       → Acts cut side w (with_runs w (readied_all f ps (runs_of w.store w.queues)))
   unfolding readied_all
   acts-readied_all w f [] all holds = acts-same cut side w holds
@@ -243,7 +250,7 @@ module _ (cut : Cut) (side : CutSide) where
       (λ h. acts-readied_all v f ps all.1 h)
 
   -- those who sleep on a process are woken
-  pub acts-woken : (w : System) (f : ℕ → Capability) (on : ℕ) → side_of cut Process on ≡ side → Holds cut w
+  pub acts-woken : (w : System) (f : ℕ → Capability) (on : ℕ) → side_of cut Process on ≡ side → HoldsFor cut side w
       → Acts cut side w (with_runs w (woken f on (runs_of w.store w.queues)))
   acts-woken w f on own holds =
       let v = system w.store (unslept w.queues on) in
@@ -252,6 +259,6 @@ module _ (cut : Cut) (side : CutSide) where
       (λ h. acts-readied_all v f (sleepers_of w.queues on) (subst (λ b. AllOn cut b (sleepers_of w.queues on)) own (holds.sleepers on)) h)
 
   -- a process leaves its place
-  pub acts-left : (w : System) (p : ℕ) → side_of cut Process p ≡ side → Holds cut w → Acts cut side w (system w.store (left w.queues p))
+  pub acts-left : (w : System) (p : ℕ) → side_of cut Process p ≡ side → HoldsFor cut side w → Acts cut side w (system w.store (left w.queues p))
   acts-left w p own holds =
       acts-queues cut side w (left w.queues p) (apart-left cut w.queues p holds.sleepers) (spares-left cut side w.queues p own holds.sleepers) (places-left cut side w.queues p own) (sym (length-map_lists (without p) w.queues.sleepers)) holds

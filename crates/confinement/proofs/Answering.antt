@@ -1,5 +1,5 @@
 -- Who answers what a side holds is of that side.
-use Rattle.std.proofs.Common.{◌≡◌, ℕ, Bool, true, false, if◌then◌else◌, refl, subst}
+use Rattle.std.proofs.Common.{◌≡◌, ℕ, Bool, true, false, if◌then◌else◌, refl}
 use Rattle.cap_format.specs.declared.kind.CapKind.{CapKind}
 use Rattle.cap_format.specs.declared.kind.CapKind.TheVariants.{Endpoint, Entry, Process}
 use Rattle.cap_format.specs.Capability.{Capability}
@@ -10,12 +10,12 @@ use Rattle.invocation.specs.Answerer.{Answer, takes, answered_by, asked, refuses
 use Rattle.invocation.specs.Answerer.Answer.{Dead, Open, Busy}
 use Rattle.invocation.specs.Target.{called_by, called, callee}
 use Rattle.confinement.specs.declared.cut_side.CutSide.{CutSide}
-use Rattle.confinement.specs.Cut.{Cut, side_of, MayHold, EachMayHold}
+use Rattle.confinement.specs.Cut.{Cut, side_of, MayHold, EachHeldBy}
 use Rattle.confinement.specs.Acts.{CalleeOwn}
 use Rattle.confinement.proofs.Own.{AnswersOwn}
 use Rattle.confinement.proofs.Held.{side-process, side-entry}
 
-module _ (cut : Cut) (side : CutSide) (s : Store) (each : EachMayHold cut s) where
+module _ (cut : Cut) (side : CutSide) (s : Store) (each : EachHeldBy cut side s) where
   by-own : (state : State) (id e q : ℕ) → side_of cut Endpoint e ≡ side → side_of cut Process q ≡ side → AnswersOwn cut side (answered_by state id e q)
   by-own (Receiving accept) id e q endpoint process = by (takes accept.wait id)
     where
@@ -30,7 +30,7 @@ module _ (cut : Cut) (side : CutSide) (s : Store) (each : EachMayHold cut s) whe
   asked-own e _ c k own may = tt
 
   pub entered-own : (e payload : ℕ) → side_of cut Endpoint e ≡ side → AnswersOwn cut side (entered s e payload)
-  entered-own e payload own = by (refuses (endpoint_at s e) payload) (asked-own e (endpoint_at s e).recipient.kind (endpoint_at s e).recipient refl own (subst (λ b. MayHold cut b (endpoint_at s e).recipient) own (each.recipients e)))
+  entered-own e payload own = by (refuses (endpoint_at s e) payload) (asked-own e (endpoint_at s e).recipient.kind (endpoint_at s e).recipient refl own (each.recipients e own))
     where
       by : (b : Bool) → AnswersOwn cut side (asked s e (endpoint_at s e).recipient.kind (endpoint_at s e).recipient.object) → AnswersOwn cut side (if b then Dead else asked s e (endpoint_at s e).recipient.kind (endpoint_at s e).recipient.object)
       by true rest = tt

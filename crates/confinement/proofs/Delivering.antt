@@ -20,7 +20,7 @@ use Rattle.operations.specs.System.{System, Reading, system, with_store, with_ru
 use Rattle.message_path.specs.Messages.{told, waiting, receiving, listening}
 use Rattle.fault_path.specs.Fault.{is_answer, handler_of, fault_message, faulted, answered, heard_by, fault_of}
 use Rattle.confinement.specs.declared.cut_side.CutSide.{CutSide}
-use Rattle.confinement.specs.Cut.{Cut, side_of, MayHold, EachMayHold, Holds}
+use Rattle.confinement.specs.Cut.{Cut, side_of, MayHold, EachHeldBy, HoldsFor}
 use Rattle.confinement.specs.Acts.{Acts, ProcessHeld, MayHoldIf}
 use Rattle.confinement.proofs.Own.{AllMayHold, AnswersOwn}
 use Rattle.confinement.proofs.Held.{may-own}
@@ -79,12 +79,12 @@ module _ (cut : Cut) (side : CutSide) where
       by true = refl
       by false = refl
 
-  acts-passed : (w : System) (e : ℕ) → side_of cut Endpoint e ≡ side → Holds cut w → Acts cut side w (with_store w (passed_at w.store e))
+  acts-passed : (w : System) (e : ℕ) → side_of cut Endpoint e ≡ side → HoldsFor cut side w → Acts cut side w (with_store w (passed_at w.store e))
   acts-passed w e own holds =
       acts-endpoint cut side w e (passed (endpoint_at w.store e)) own
-      (subst (λ (c : Capability). MayHold cut side c) (sym (passed-recipient (endpoint_at w.store e))) (subst (λ b. MayHold cut b (endpoint_at w.store e).recipient) own (holds.each.recipients e))) holds
+      (subst (λ (c : Capability). MayHold cut side c) (sym (passed-recipient (endpoint_at w.store e))) (holds.each.recipients e own)) holds
 
-  acts-delivered : (w : System) (e q : ℕ) (message : Message) → side_of cut Endpoint e ≡ side → side_of cut Process q ≡ side → AllMayHold cut side message.caps → Holds cut w
+  acts-delivered : (w : System) (e q : ℕ) (message : Message) → side_of cut Endpoint e ≡ side → side_of cut Process q ≡ side → AllMayHold cut side message.caps → HoldsFor cut side w
       → Acts cut side w (with_store w (delivered w.store e q message))
   unfolding delivered
   acts-delivered w e q message endpoint process all holds =
@@ -95,7 +95,7 @@ module _ (cut : Cut) (side : CutSide) where
       (λ h. acts-process cut side v q value process (held-received (process_at w.store q) (endpoint_at w.store e).id message all (held-process cut side w q process holds)) h)
 
   -- a message through an endpoint to a process
-  pub acts-told : (reading : Reading) (w : System) (e q : ℕ) (message : Message) → side_of cut Endpoint e ≡ side → side_of cut Process q ≡ side → AllMayHold cut side message.caps → Holds cut w
+  pub acts-told : (reading : Reading) (w : System) (e q : ℕ) (message : Message) → side_of cut Endpoint e ≡ side → side_of cut Process q ≡ side → AllMayHold cut side message.caps → HoldsFor cut side w
       → Acts cut side w (told reading w e q message)
   unfolding told
   acts-told reading w e q message endpoint process all holds =
@@ -105,7 +105,7 @@ module _ (cut : Cut) (side : CutSide) where
       (λ h. acts-readied cut side v (schedule_by reading v.store q) q process h)
 
   -- a process sleeps on another
-  pub acts-waiting : (w : System) (p q : ℕ) → side_of cut Process p ≡ side → side_of cut Process q ≡ side → Holds cut w → Acts cut side w (waiting w p q)
+  pub acts-waiting : (w : System) (p q : ℕ) → side_of cut Process p ≡ side → side_of cut Process q ≡ side → HoldsFor cut side w → Acts cut side w (waiting w p q)
   unfolding waiting
   acts-waiting w p q own on holds =
       let v = system w.store (left w.queues p) in
@@ -115,7 +115,7 @@ module _ (cut : Cut) (side : CutSide) where
       (spares-slept cut side v.queues q (sleepers_of v.queues q ++ p ∷ []) on) (record { ready = λ k. refl; harts = λ h. refl; size = refl }) (sym (length-set v.queues.sleepers q (sleepers_of v.queues q ++ p ∷ []))) h)
 
   -- a process gets another state and leaves its place
-  acts-state_left : (w : System) (p : ℕ) (state : State) → side_of cut Process p ≡ side → Holds cut w
+  acts-state_left : (w : System) (p : ℕ) (state : State) → side_of cut Process p ≡ side → HoldsFor cut side w
       → Acts cut side w (system (with_process w.store p (with_state (process_at w.store p) state)) (left w.queues p))
   acts-state_left w p state own holds =
       let value = with_state (process_at w.store p) state in
@@ -125,11 +125,11 @@ module _ (cut : Cut) (side : CutSide) where
       (λ h. acts-left cut side v p own h)
 
   -- a process receives
-  pub acts-receiving : (w : System) (p : ℕ) (accept : AcceptValue) → side_of cut Process p ≡ side → Holds cut w → Acts cut side w (receiving w p accept)
+  pub acts-receiving : (w : System) (p : ℕ) (accept : AcceptValue) → side_of cut Process p ≡ side → HoldsFor cut side w → Acts cut side w (receiving w p accept)
   acts-receiving w p accept own holds = acts-state_left w p (Receiving accept) own holds
 
   -- and all that slept on it are woken
-  pub acts-listening : (reading : Reading) (w : System) (p : ℕ) (accept : AcceptValue) → side_of cut Process p ≡ side → Holds cut w → Acts cut side w (listening reading w p accept)
+  pub acts-listening : (reading : Reading) (w : System) (p : ℕ) (accept : AcceptValue) → side_of cut Process p ≡ side → HoldsFor cut side w → Acts cut side w (listening reading w p accept)
   unfolding listening
   acts-listening reading w p accept own holds =
       let v = receiving w p accept in
@@ -140,20 +140,20 @@ module _ (cut : Cut) (side : CutSide) where
   -- ---- faults
 
   -- the handler that is asked may be held
-  pub may-handler : (s : Store) (p : ℕ) (handler : Option Capability) → EachMayHold cut s → side_of cut Process p ≡ side → MayHoldIf cut side handler → MayHold cut side (handler_of s p handler)
+  pub may-handler : (s : Store) (p : ℕ) (handler : Option Capability) → EachHeldBy cut side s → side_of cut Process p ≡ side → MayHoldIf cut side handler → MayHold cut side (handler_of s p handler)
   unfolding handler_of
-  may-handler s p None each own may = subst (λ b. MayHold cut b (slot_of (process_at s p) 2)) own (each.process_slots p 2)
+  may-handler s p None each own may = each.process_slots p 2 own
   may-handler s p (Some c) each own may = by (is_answer (answerer s c))
     where
       by : (b : Bool) → MayHold cut side (if b then c else slot_of (process_at s p) 2)
       by true = may
-      by false = subst (λ b. MayHold cut b (slot_of (process_at s p) 2)) own (each.process_slots p 2)
+      by false = each.process_slots p 2 own
 
-  acts-faulted : (w : System) (p : ℕ) (code : FaultCode) (address : ℕ) → side_of cut Process p ≡ side → Holds cut w → Acts cut side w (faulted w p code address)
+  acts-faulted : (w : System) (p : ℕ) (code : FaultCode) (address : ℕ) → side_of cut Process p ≡ side → HoldsFor cut side w → Acts cut side w (faulted w p code address)
   unfolding faulted
   acts-faulted w p code address own holds = acts-state_left w p (Faulted code address) own holds
 
-  acts-answered : (reading : Reading) (w : System) (p : ℕ) (code : FaultCode) (address payload : ℕ) (answer : Answer) → side_of cut Process p ≡ side → AnswersOwn cut side answer → Holds cut w
+  acts-answered : (reading : Reading) (w : System) (p : ℕ) (code : FaultCode) (address payload : ℕ) (answer : Answer) → side_of cut Process p ≡ side → AnswersOwn cut side answer → HoldsFor cut side w
       → Acts cut side w (answered reading w p code address payload answer)
   unfolding answered
   acts-answered reading w p code address payload Dead own answers holds = acts-faulted w p code address own holds
@@ -164,10 +164,10 @@ module _ (cut : Cut) (side : CutSide) where
       let message = fault_message cap (process_at w.store p) code address payload in
       acts-then cut side w v (told reading v e q message)
       (acts-faulted w p code address own holds)
-      (λ h. acts-told reading v e q message answers.0 answers.1 (may-own cut side cap (λ k. cc) own, tt) h)
+      (λ h. acts-told reading v e q message answers.0 answers.1 (may-own cut side cap refl own, tt) h)
 
   -- a fault of a process, with a handler that this side may hold
-  pub acts-fault : (reading : Reading) (w : System) (p : ℕ) (code : FaultCode) (address : ℕ) (handler : Option Capability) → side_of cut Process p ≡ side → MayHoldIf cut side handler → Holds cut w
+  pub acts-fault : (reading : Reading) (w : System) (p : ℕ) (code : FaultCode) (address : ℕ) (handler : Option Capability) → side_of cut Process p ≡ side → MayHoldIf cut side handler → HoldsFor cut side w
       → Acts cut side w (fault_of reading w w.store p code address handler)
   acts-fault reading w p code address handler own may holds =
       acts-answered reading w p code address (handler_of w.store p handler).payload (heard_by w.store p handler) own

@@ -31,7 +31,7 @@ use Rattle.kernel_core.specs.Event.{instruction}
 use Rattle.kernel_core.specs.Induction.{Notions, alone, Origins, Parts, Cases}
 use Rattle.kernel_core.proofs.Induction.{instruction-alone}
 use Rattle.confinement.specs.declared.cut_side.CutSide.{CutSide}
-use Rattle.confinement.specs.Cut.{Cut, side_of, MayHold, Holds}
+use Rattle.confinement.specs.Cut.{Cut, side_of, MayHold, HoldsFor}
 use Rattle.confinement.specs.Acts.{Acts, ProcessHeld, MayHoldIf, AnswerPermitted, CalleeOwn, system_of}
 use Rattle.confinement.specs.Reach.{Ends}
 use Rattle.confinement.proofs.Held.{may-null}
@@ -60,7 +60,7 @@ module _ (cut : Cut) (side : CutSide) (p : ℕ) (own : side_of cut Process p ≡
       cond_both (accept.caps == 0) _ _ (ProcessHeld cut side) (λ e. held-answered v 0 reply held)
       (λ e. held-capreg cut side (answered v 1 reply) _ cap may (held-answered v 1 reply held))
 
-  moves-reply : (s : State) (accept : AcceptValue) (reply : Reply) → MayHoldIf cut side reply.cap → Holds cut (system_of s) → Moves s (set_reply s p accept reply)
+  moves-reply : (s : State) (accept : AcceptValue) (reply : Reply) → MayHoldIf cut side reply.cap → HoldsFor cut side (system_of s) → Moves s (set_reply s p accept reply)
   unfolding replied
   moves-reply s accept reply may holds =
       acts-process cut side (system_of s) p (replied (process s p) accept reply) own
@@ -73,31 +73,31 @@ module _ (cut : Cut) (side : CutSide) (p : ℕ) (own : side_of cut Process p ≡
   may-sent v (Some i) held = held.capregs i
 
   -- what a request sends may be held
-  pub may-request : (s : State) (inv : InvocationValue) → Holds cut (system_of s) → MayHold cut side (request_of (process s p) inv).sent
+  pub may-request : (s : State) (inv : InvocationValue) → HoldsFor cut side (system_of s) → MayHold cut side (request_of (process s p) inv).sent
   may-request s inv holds = may-sent (process s p) (slice_get inv.sent 0) (held-process cut side (system_of s) p own holds)
 
-  leaves-memory_answered : (s : State) (inv : InvocationValue) (cap : Capability) (request : Request) (settled : Settled) → AnswerPermitted cut side settled.answer → Holds cut (system_of s)
+  leaves-memory_answered : (s : State) (inv : InvocationValue) (cap : Capability) (request : Request) (settled : Settled) → AnswerPermitted cut side settled.answer → HoldsFor cut side (system_of s)
       → Moves s (memory_answered s p inv cap request settled).state
   leaves-memory_answered s inv cap request settled may holds =
       let t = changed_by s settled.answer.changes in
       acts-next cut side s t (set_reply t p inv.accept (reply_of settled)) (acts-changed_by cut side s settled.answer.changes may.changes holds) (λ h. moves-reply t inv.accept (reply_of settled) may.cap h)
 
-  leaves-memory_op : (s : State) (inv : InvocationValue) (cap : Capability) → MayHold cut side cap → Holds cut (system_of s) → Moves s (memory_op s p inv cap).state
+  leaves-memory_op : (s : State) (inv : InvocationValue) (cap : Capability) → MayHold cut side cap → HoldsFor cut side (system_of s) → Moves s (memory_op s p inv cap).state
   leaves-memory_op s inv cap may holds =
       let request = request_of (process s p) inv in
       leaves-memory_answered s inv cap request (memory_operation s.store cap request) (memory_operation-may cut side s.store holds.each cap may request (may-request s inv holds)) holds
 
-  moves-unless : (destroyed : Option ObjectName) (s : State) (accept : AcceptValue) (reply : Reply) → MayHoldIf cut side reply.cap → Holds cut (system_of s) → Moves s (replied_unless destroyed s p accept reply)
+  moves-unless : (destroyed : Option ObjectName) (s : State) (accept : AcceptValue) (reply : Reply) → MayHoldIf cut side reply.cap → HoldsFor cut side (system_of s) → Moves s (replied_unless destroyed s p accept reply)
   moves-unless destroyed s accept reply may holds =
       cond_both (is_end_of p destroyed) _ _ (Moves s) (λ e. acts-same cut side (system_of s) holds) (λ e. moves-reply s accept reply may holds)
 
-  leaves-control_answered : (s : State) (inv : InvocationValue) (settled : Settled) (destroyed : Option ObjectName) → AnswerPermitted cut side settled.answer → Holds cut (system_of s)
+  leaves-control_answered : (s : State) (inv : InvocationValue) (settled : Settled) (destroyed : Option ObjectName) → AnswerPermitted cut side settled.answer → HoldsFor cut side (system_of s)
       → Moves s (control_answered s p inv settled destroyed).state
   leaves-control_answered s inv settled destroyed may holds =
       let t = changed_by s settled.answer.changes in
       acts-next cut side s t (replied_unless destroyed t p inv.accept (reply_of settled)) (acts-changed_by cut side s settled.answer.changes may.changes holds) (λ h. moves-unless destroyed t inv.accept (reply_of settled) may.cap h)
 
-  leaves-control_op : (s : State) (inv : InvocationValue) (cap : Capability) → MayHold cut side cap → Holds cut (system_of s) → Moves s (control_op s p inv cap).state
+  leaves-control_op : (s : State) (inv : InvocationValue) (cap : Capability) → MayHold cut side cap → HoldsFor cut side (system_of s) → Moves s (control_op s p inv cap).state
   leaves-control_op s inv cap may holds =
       let request = request_of (process s p) inv in
       let settled = control_operation Meant s.store cap request in
@@ -109,7 +109,7 @@ module _ (cut : Cut) (side : CutSide) where
   -- states in which the cut holds, processes and endpoints of this side, and capabilities that it may hold
   abbrev pub on_side : Notions
   on_side = record {
-    holds = λ s. Holds cut (system_of s);
+    holds = λ s. HoldsFor cut side (system_of s);
     by = λ p. side_of cut Process p ≡ side;
     over = λ e. side_of cut Endpoint e ≡ side;
     word = λ number. Unit {0};
@@ -122,10 +122,10 @@ module _ (cut : Cut) (side : CutSide) where
   }
 
   -- where accesses of its processes end
-  hit-here : (s : State) (p at : ℕ) (kind : Kind) → Holds cut (system_of s) → side_of cut Process p ≡ side → EndsHit cut side kind (data_access s p at kind)
+  hit-here : (s : State) (p at : ℕ) (kind : Kind) → HoldsFor cut side (system_of s) → side_of cut Process p ≡ side → EndsHit cut side kind (data_access s p at kind)
   hit-here s p at kind holds own = ends-hit cut side kind (access s.store.items (space_of s p) at kind) (ends-here cut side p own s kind at holds)
 
-  called-own : (s : State) (c : Capability) (to : Callee) → Holds cut (system_of s) → MayHold cut side c → callee s.store c ≡ to → CalleeOwn cut side to
+  called-own : (s : State) (c : Capability) (to : Callee) → HoldsFor cut side (system_of s) → MayHold cut side c → callee s.store c ≡ to → CalleeOwn cut side to
   called-own s c to holds may e = subst (CalleeOwn cut side) e (callee-own cut side s.store holds.each c may)
 
   -- a request for the kind gives nothing
@@ -196,11 +196,13 @@ module _ (cut : Cut) (side : CutSide) where
     delivers = λ s p e q inv holds own over other asks.
         let accept = accept_in (s tt) q in
         let to = side-own cut side q other (s tt) Put (spans accept.at (min inv.length accept.bound)) holds in
-        acts-delivered_part cut side p own e q over other inv (s tt) (sent_side (s tt) p inv).pieces (received_side (s tt) q inv.length).pieces (to.pieces refl) holds;
+        let from = (sent_side (s tt) p inv).pieces in
+        let onto = (received_side (s tt) q inv.length).pieces in
+        acts-delivered_part cut side p own e q over other inv (s tt) from onto (to.pieces refl) holds;
     memory = λ s p inv cap holds own asks may memory. leaves-memory_op cut side p own (s tt) inv cap may holds;
     control = λ s p inv cap holds own asks may. leaves-control_op cut side p own (s tt) inv cap may holds;
   }
 
   -- one instruction
-  pub leaves-instruction : (p : ℕ) → side_of cut Process p ≡ side → (s : State) → Holds cut (system_of s) → Leaves s (instruction s p)
+  pub leaves-instruction : (p : ℕ) → side_of cut Process p ≡ side → (s : State) → HoldsFor cut side (system_of s) → Leaves s (instruction s p)
   leaves-instruction p own s holds = instruction-alone on_side Leaves on_side-origins parts cases s p holds own

@@ -1,11 +1,11 @@
 -- Which capabilities a side may hold.
-use Rattle.std.proofs.Common.{◌≡◌, ◌≢◌, ℕ, ◌⊎◌, inl, inr, Bool, true, false, ◌&&◌, if◌then◌else◌, refl, sym, ◌∙◌, ap, subst, arith}
+use Rattle.std.proofs.Common.{◌≡◌, ℕ, ◌⊎◌, inl, inr, Bool, true, false, ◌&&◌, if◌then◌else◌, refl, sym, ◌∙◌, ap, subst, arith}
 use Rattle.std.specs.Int.{bit_at}
 use Rattle.std.specs.Int.RustNames.{bit_or}
 use Rattle.std.proofs.lemmas.Bool.{eq-eqb, eqb-true, and_from, and_parts}
 use Rattle.std.proofs.lemmas.Nat.Bits.{bit_at_or, bit_at_and, same_from_bits}
 use Rattle.cap_format.specs.declared.kind.CapKind.{CapKind}
-use Rattle.cap_format.specs.declared.kind.CapKind.TheVariants.{Null, Page, CapPage, Gpt, Window, LocalWindow, Endpoint, Entry, Process, Range, Discrim}
+use Rattle.cap_format.specs.declared.kind.CapKind.TheVariants.{Null, Page, CapPage, Gpt, Window, LocalWindow, Endpoint, Entry, Process, Range, Discrim, KernLog, SysCtl}
 use Rattle.cap_format.specs.Kind.{is_counted, object_kind}
 use Rattle.cap_format.specs.Restr.{has}
 use Rattle.cap_format.specs.Guard.{GuardValue}
@@ -13,7 +13,7 @@ use Rattle.cap_format.specs.Capability.{Capability, null, with_guard}
 use Rattle.cap_format.specs.Weakening.{reduced, weakened_kind, weakened, harmless_kind, is_harmless}
 use Rattle.operations.specs.Weak.{read_through}
 use Rattle.confinement.specs.declared.cut_side.CutSide.{CutSide}
-use Rattle.confinement.specs.Cut.{Cut, side_of, MayHold}
+use Rattle.confinement.specs.Cut.{Cut, side_of, NamesOwn, MayCross, MayHold}
 
 -- ---- restrictions
 
@@ -67,32 +67,47 @@ harmless_kind-weakened _ c e = refl
 pub is_harmless-weakened : (c : Capability) → is_harmless (weakened c) ≡ true
 is_harmless-weakened c = harmless_kind-weakened c.kind c refl
 
-module _ (cut : Cut) (side : CutSide) where
-  -- Null may be held by each side
-  pub may-null : MayHold cut side null
-  may-null = record { no_range = λ e. cc; own = inl (λ e. absurd (cc (e))) }
+-- the kinds that a cut speaks of by themselves, whatever they name
+abbrev pub is_special : CapKind → Bool
+is_special Range = true
+is_special KernLog = true
+is_special SysCtl = true
+is_special _ = false
 
-  -- so may what names no object and is no Range
-  pub may-uncounted : (c : Capability) (k : CapKind) → c.kind ≡ k → k ≢ Range → is_counted k ≡ false → MayHold cut side c
-  may-uncounted c k e other none = record {
-    no_range = λ h. other (sym e ∙ h);
-    own = inl (λ h. absurd (cc (h, none, e)));
+module _ (cut : Cut) (side : CutSide) where
+  -- what is of no such kind may be held where what it names is of this side, or it may cross
+  pub may-plain : (c : Capability) → is_special c.kind ≡ false → NamesOwn cut side c ⊎ MayCross cut side c → MayHold cut side c
+  may-plain c plain own = record {
+    no_range = λ h. let bad = sym (ap is_special h) ∙ plain in cc;
+    halting = λ h. let bad = sym (ap is_special h) ∙ plain in absurd (cc (bad));
+    logging = λ h. let bad = sym (ap is_special h) ∙ plain in absurd (cc (bad));
+    own = own;
   }
 
+  -- Null may be held by each side
+  pub may-null : MayHold cut side null
+  may-null = may-plain null refl (inl (λ e. absurd (cc (e))))
+
+  -- so may what names no object and is of a plain kind
+  pub may-uncounted : (c : Capability) (k : CapKind) → c.kind ≡ k → is_special k ≡ false → is_counted k ≡ false → MayHold cut side c
+  may-uncounted c k e plain none = may-plain c (ap is_special e ∙ plain) (inl (λ h. absurd (cc (h, none, e))))
+
   -- and what names an object of this side
-  pub may-own : (c : Capability) → c.kind ≢ Range → side_of cut (object_kind c.kind) c.object ≡ side → MayHold cut side c
-  may-own c other own = record { no_range = other; own = inl (λ h. own) }
+  pub may-own : (c : Capability) → is_special c.kind ≡ false → side_of cut (object_kind c.kind) c.object ≡ side → MayHold cut side c
+  may-own c plain own = may-plain c plain (inl (λ h. own))
 
   -- and what may be held with more restrictions
   pub may-reduced : (c : Capability) (more : ℕ) → MayHold cut side c → MayHold cut side (reduced c more)
   may-reduced c more m = record {
     no_range = m.no_range;
+    halting = m.halting;
+    logging = m.logging;
     own = elim m.own [ inl own ↦ inl own | inr cross ↦ inr (cross.0, harmless_more c.kind c.restr more cross.1) ];
   }
 
   -- and with another guard
   pub may-with_guard : (c : Capability) (guard : GuardValue) → MayHold cut side c → MayHold cut side (with_guard c guard)
-  may-with_guard c guard m = record { no_range = m.no_range; own = m.own }
+  may-with_guard c guard m = record { no_range = m.no_range; halting = m.halting; logging = m.logging; own = m.own }
 
   may-weakened_kind : (k : CapKind) (c : Capability) → c.kind ≡ k → MayHold cut side c → MayHold cut side (weakened_kind k c)
   may-weakened_kind Null c e m = m
@@ -105,19 +120,19 @@ module _ (cut : Cut) (side : CutSide) where
   may-weakened_kind _ c e m = may-null
 
   -- weakened it is a weakened one of what it names, or Null
-  weak-no_range : (k : CapKind) (c : Capability) → c.kind ≡ k → (weakened_kind k c).kind ≢ Range
-  weak-no_range Null c e h = cc
-  weak-no_range Discrim c e h = cc
-  weak-no_range Page c e h = cc
-  weak-no_range CapPage c e h = cc
-  weak-no_range Gpt c e h = cc
-  weak-no_range Window c e h = cc
-  weak-no_range LocalWindow c e h = cc
-  weak-no_range _ c e h = cc
+  weak-plain : (k : CapKind) (c : Capability) → c.kind ≡ k → is_special (weakened_kind k c).kind ≡ false
+  weak-plain Null c e = ap is_special e
+  weak-plain Discrim c e = ap is_special e
+  weak-plain Page c e = ap is_special e
+  weak-plain CapPage c e = ap is_special e
+  weak-plain Gpt c e = ap is_special e
+  weak-plain Window c e = ap is_special e
+  weak-plain LocalWindow c e = ap is_special e
+  weak-plain _ c e = refl
 
   -- what is weakened may be held by each side, where what is harmless may cross
   pub may-cross_weakened : (c : Capability) → cut.weakly side ≡ true → MayHold cut side (weakened c)
-  may-cross_weakened c weakly = record { no_range = weak-no_range c.kind c refl; own = inr (weakly, is_harmless-weakened c) }
+  may-cross_weakened c weakly = may-plain (weakened c) (weak-plain c.kind c refl) (inr (weakly, is_harmless-weakened c))
 
   through : (c : Capability) (b : Bool) → MayHold cut side c → MayHold cut side (if b then weakened c else c)
   through c true m = may-weakened_kind c.kind c refl m
@@ -167,6 +182,6 @@ module _ (cut : Cut) (side : CutSide) where
   side-entry c e m = side_named c Entry e refl refl m
 
   -- the side's own read, or one through WK
-  pub may-read : (holder : CutSide) (restr : ℕ) (c : Capability) → MayHold cut holder c → (holder ≡ side) ⊎ ((cut.weakly side ≡ true) × (has restr 4 ≡ true)) → MayHold cut side (read_through restr c)
-  may-read holder restr c m (inl own) = may-read_own restr c (subst (λ b. MayHold cut b c) own m)
+  pub may-read : (holder : CutSide) (restr : ℕ) (c : Capability) → (holder ≡ side → MayHold cut side c) → (holder ≡ side) ⊎ ((cut.weakly side ≡ true) × (has restr 4 ≡ true)) → MayHold cut side (read_through restr c)
+  may-read holder restr c m (inl own) = may-read_own restr c (m own)
   may-read holder restr c m (inr weak) = may-read_weak restr c weak.0 weak.1

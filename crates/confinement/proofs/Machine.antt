@@ -32,7 +32,7 @@ use Rattle.machine_state.specs.DataAccess.{bytes_of, written}
 use Rattle.machine_state.specs.CapAccess.{cap_found, cap_stored, slot_in}
 use Rattle.machine_state.specs.Operation.{changed_by}
 use Rattle.confinement.specs.declared.cut_side.CutSide.{CutSide}
-use Rattle.confinement.specs.Cut.{Cut, side_of, MayHold, Holds}
+use Rattle.confinement.specs.Cut.{Cut, side_of, MayHold, HoldsFor}
 use Rattle.confinement.specs.Acts.{Acts, ProcessHeld, AllPermitted, MayHoldIf, system_of}
 use Rattle.confinement.specs.Reach.{ReadsWeakly, Reaches, Ends}
 use Rattle.confinement.proofs.Own.{AllMayHold}
@@ -46,77 +46,77 @@ use Rattle.confinement.proofs.Operating.{acts-applied_all}
 
 module _ (cut : Cut) (side : CutSide) where
   -- one change of a state after another
-  pub acts-next : (s t u : State) → Acts cut side (system_of s) (system_of t) → (Holds cut (system_of t) → Acts cut side (system_of t) (system_of u)) → Acts cut side (system_of s) (system_of u)
+  pub acts-next : (s t u : State) → Acts cut side (system_of s) (system_of t) → (HoldsFor cut side (system_of t) → Acts cut side (system_of t) (system_of u)) → Acts cut side (system_of s) (system_of u)
   acts-next s t u first second = acts-then cut side (system_of s) (system_of t) (system_of u) first second
 
   module _ (p : ℕ) (own : side_of cut Process p ≡ side) where
     -- ---- the process
 
-    held-here : (s : State) → Holds cut (system_of s) → ProcessHeld cut side (process s p)
+    held-here : (s : State) → HoldsFor cut side (system_of s) → ProcessHeld cut side (process s p)
     held-here s holds = held-process cut side (system_of s) p own holds
 
     -- its space
-    pub may-space : (s : State) → Holds cut (system_of s) → MayHold cut side (space_of s p)
+    pub may-space : (s : State) → HoldsFor cut side (system_of s) → MayHold cut side (space_of s p)
     may-space s holds = let held = held-here s holds in held.slots 0
 
     -- its capability registers
-    pub may-capreg : (s : State) (i : ℕ) → Holds cut (system_of s) → MayHold cut side (capreg_of (process s p) i)
+    pub may-capreg : (s : State) (i : ℕ) → HoldsFor cut side (system_of s) → MayHold cut side (capreg_of (process s p) i)
     may-capreg s i holds = let held = held-here s holds in held.capregs i
 
-    pub acts-set_pc : (s : State) (pc : ℕ) → Holds cut (system_of s) → Acts cut side (system_of s) (system_of (set_pc s p pc))
+    pub acts-set_pc : (s : State) (pc : ℕ) → HoldsFor cut side (system_of s) → Acts cut side (system_of s) (system_of (set_pc s p pc))
     acts-set_pc s pc holds = let held = held-here s holds in
         acts-process cut side (system_of s) p (with_pc (process s p) pc) own (record { capregs = held.capregs; slots = held.slots }) holds
 
-    pub acts-advance : (s : State) → Holds cut (system_of s) → Acts cut side (system_of s) (system_of (advance s p))
+    pub acts-advance : (s : State) → HoldsFor cut side (system_of s) → Acts cut side (system_of s) (system_of (advance s p))
     acts-advance s holds = acts-set_pc s (next_of (pc_of s p)) holds
 
-    pub acts-set_registers : (s : State) (registers : List ℕ) → Holds cut (system_of s) → Acts cut side (system_of s) (system_of (set_registers s p registers))
+    pub acts-set_registers : (s : State) (registers : List ℕ) → HoldsFor cut side (system_of s) → Acts cut side (system_of s) (system_of (set_registers s p registers))
     acts-set_registers s registers holds = let held = held-here s holds in
         acts-process cut side (system_of s) p (with_regs (process s p) registers) own (record { capregs = held.capregs; slots = held.slots }) holds
 
-    pub acts-set_capreg : (s : State) (i : ℕ) (c : Capability) → MayHold cut side c → Holds cut (system_of s) → Acts cut side (system_of s) (system_of (set_capreg s p i c))
+    pub acts-set_capreg : (s : State) (i : ℕ) (c : Capability) → MayHold cut side c → HoldsFor cut side (system_of s) → Acts cut side (system_of s) (system_of (set_capreg s p i c))
     acts-set_capreg s i c may holds =
         acts-process cut side (system_of s) p (with_capreg (process s p) i c) own (held-capreg cut side (process s p) i c may (held-here s holds)) holds
 
     -- ---- its place
 
-    pub acts-leave : (s : State) → Holds cut (system_of s) → Acts cut side (system_of s) (system_of (leave s p))
+    pub acts-leave : (s : State) → HoldsFor cut side (system_of s) → Acts cut side (system_of s) (system_of (leave s p))
     acts-leave s holds = acts-left cut side (system_of s) p own holds
 
-    pub acts-ready : (s : State) → Holds cut (system_of s) → Acts cut side (system_of s) (system_of (ready s p))
+    pub acts-ready : (s : State) → HoldsFor cut side (system_of s) → Acts cut side (system_of s) (system_of (ready s p))
     acts-ready s holds = acts-readied cut side (system_of s) (schedule_slot s p) p own holds
 
     -- a tick
-    pub acts-ticked : (s : State) → Holds cut (system_of s) → Acts cut side (system_of s) (system_of (ticked s (Some p)))
+    pub acts-ticked : (s : State) → HoldsFor cut side (system_of s) → Acts cut side (system_of s) (system_of (ticked s (Some p)))
     acts-ticked s holds = acts-next s (leave s p) (ready (leave s p) p) (acts-leave s holds) (λ h. acts-ready (leave s p) h)
 
     -- ---- faults, messages, changes
 
-    pub acts-fault_state : (s : State) (code : FaultCode) (address : ℕ) (handler : Option Capability) → MayHoldIf cut side handler → Holds cut (system_of s)
+    pub acts-fault_state : (s : State) (code : FaultCode) (address : ℕ) (handler : Option Capability) → MayHoldIf cut side handler → HoldsFor cut side (system_of s)
         → Acts cut side (system_of s) (system_of (fault_state s p code address handler))
     unfolding fault_state
     acts-fault_state s code address handler may holds = acts-fault cut side Meant (system_of s) p code address handler own may holds
 
-    pub acts-waiting_state : (s : State) (q : ℕ) → side_of cut Process q ≡ side → Holds cut (system_of s) → Acts cut side (system_of s) (system_of (waiting_state s p q))
+    pub acts-waiting_state : (s : State) (q : ℕ) → side_of cut Process q ≡ side → HoldsFor cut side (system_of s) → Acts cut side (system_of s) (system_of (waiting_state s p q))
     unfolding waiting_state
     acts-waiting_state s q on holds = acts-waiting cut side (system_of s) p q own on holds
 
-    pub acts-listening_state : (s : State) (accept : AcceptValue) → Holds cut (system_of s) → Acts cut side (system_of s) (system_of (listening_state s p accept))
+    pub acts-listening_state : (s : State) (accept : AcceptValue) → HoldsFor cut side (system_of s) → Acts cut side (system_of s) (system_of (listening_state s p accept))
     unfolding listening_state
     acts-listening_state s accept holds = acts-listening cut side Meant (system_of s) p accept own holds
 
     -- ---- accesses
 
     -- where its accesses end
-    pub ends-here : (s : State) (kind : Kind) (address : ℕ) → Holds cut (system_of s) → Ends cut side kind (access s.store.items (space_of s p) address kind)
+    pub ends-here : (s : State) (kind : Kind) (address : ℕ) → HoldsFor cut side (system_of s) → Ends cut side kind (access s.store.items (space_of s p) address kind)
     ends-here s kind address holds = access_ends cut side s.store.items holds.each.slots kind (space_of s p) address (may-space s holds)
 
-  pub acts-told_state : (s : State) (e q : ℕ) (message : Message) → side_of cut Endpoint e ≡ side → side_of cut Process q ≡ side → AllMayHold cut side message.caps → Holds cut (system_of s)
+  pub acts-told_state : (s : State) (e q : ℕ) (message : Message) → side_of cut Endpoint e ≡ side → side_of cut Process q ≡ side → AllMayHold cut side message.caps → HoldsFor cut side (system_of s)
       → Acts cut side (system_of s) (system_of (told_state s e q message))
   unfolding told_state
   acts-told_state s e q message endpoint process all holds = acts-told cut side Meant (system_of s) e q message endpoint process all holds
 
-  pub acts-changed_by : (s : State) (changes : List Change) → AllPermitted cut side changes → Holds cut (system_of s) → Acts cut side (system_of s) (system_of (changed_by s changes))
+  pub acts-changed_by : (s : State) (changes : List Change) → AllPermitted cut side changes → HoldsFor cut side (system_of s) → Acts cut side (system_of s) (system_of (changed_by s changes))
   acts-changed_by s changes all holds = acts-applied_all cut side Meant (system_of s) changes all holds
 
   -- a place that is written is of this side
@@ -141,11 +141,11 @@ module _ (cut : Cut) (side : CutSide) where
   ends-hit kind (Err f) ends = ends
 
   -- a page is written
-  pub acts-written : (s : State) (hit : Hit) (size value : ℕ) → side_of cut Page hit.page ≡ side → Holds cut (system_of s) → Acts cut side (system_of s) (system_of (written s hit size value))
+  pub acts-written : (s : State) (hit : Hit) (size value : ℕ) → side_of cut Page hit.page ≡ side → HoldsFor cut side (system_of s) → Acts cut side (system_of s) (system_of (written s hit size value))
   acts-written s hit size value own holds = acts-page cut side (system_of s) hit.page (with_bytes (page_at s.store hit.page) hit.offset (bytes_of size value)) own holds
 
   -- a capability is loaded
-  pub may-found : (s : State) (p : Place) → Reaches cut side CapLoad p → Holds cut (system_of s) → MayHold cut side (cap_found s p)
+  pub may-found : (s : State) (p : Place) → Reaches cut side CapLoad p → HoldsFor cut side (system_of s) → MayHold cut side (cap_found s p)
   may-found s p r holds =
       may-read cut side (side_of cut CapPage p.number) p.restr.0 (cap_at (cappage_at s.store p.number) (slot_in p)) (holds.each.cappages p.number (slot_in p)) (by r.own)
     where
@@ -154,11 +154,11 @@ module _ (cut : Cut) (side : CutSide) where
       by (inr weak) = inr (weak.0, weak.2 r.serves)
 
   -- a capability is stored
-  pub acts-cap_stored : (s : State) (p : Place) (c : Capability) → Reaches cut side CapStore p → MayHold cut side c → Holds cut (system_of s) → Acts cut side (system_of s) (system_of (cap_stored s p c))
+  pub acts-cap_stored : (s : State) (p : Place) (c : Capability) → Reaches cut side CapStore p → MayHold cut side c → HoldsFor cut side (system_of s) → Acts cut side (system_of s) (system_of (cap_stored s p c))
   acts-cap_stored s p c r may holds =
       let own = subst (λ (k : CapKind). side_of cut k p.number ≡ side) r.serves (writes-own p r.allowed r.own) in
       acts-cappage cut side (system_of s) p.number (with_cap (cappage_at s.store p.number) (slot_in p) c) own
-      (each_set (λ j (c : Capability). MayHold cut side c) (cappage_at s.store p.number) (slot_in p) c null may (λ j. subst (λ b. MayHold cut b (cap_at (cappage_at s.store p.number) j)) own (holds.each.cappages p.number j))) holds
+      (each_set (λ j (c : Capability). MayHold cut side c) (cappage_at s.store p.number) (slot_in p) c null may (λ j. holds.each.cappages p.number j own)) holds
 
   -- ---- strings
 
@@ -167,7 +167,7 @@ module _ (cut : Cut) (side : CutSide) where
   PiecesOwn [] = Unit {0}
   PiecesOwn (piece ∷ pieces) = (side_of cut Page piece.page ≡ side) × PiecesOwn pieces
 
-  acts-scattered : (w : System) (pieces : List Piece) (bytes : List ℕ) → PiecesOwn pieces → Holds cut w → Acts cut side w (with_store w (scattered w.store pieces bytes))
+  acts-scattered : (w : System) (pieces : List Piece) (bytes : List ℕ) → PiecesOwn pieces → HoldsFor cut side w → Acts cut side w (with_store w (scattered w.store pieces bytes))
   unfolding scattered
   acts-scattered w [] bytes own holds = acts-same cut side w holds
   acts-scattered w (piece ∷ pieces) bytes own holds =
@@ -177,16 +177,12 @@ module _ (cut : Cut) (side : CutSide) where
       (λ h. acts-scattered v pieces (drop piece.len bytes) own.1 h)
 
   -- bytes are moved to pages of this side
-  pub acts-copied : (s : State) (from to : List Piece) → PiecesOwn to → Holds cut (system_of s) → Acts cut side (system_of s) (system_of (set_store s (copied s.store from to)))
+  pub acts-copied : (s : State) (from to : List Piece) → PiecesOwn to → HoldsFor cut side (system_of s) → Acts cut side (system_of s) (system_of (set_store s (copied s.store from to)))
   unfolding copied
   acts-copied s from to own holds = acts-scattered (system_of s) to (take (size_of_pieces to) (gathered s.store from)) own holds
 
--- a hart takes a process
-pub holds-dispatch : (cut : Cut) (s : State) (hart : ℕ) → Holds cut (system_of s) → Holds cut (system_of (dispatch s hart))
-holds-dispatch cut s hart holds = record { each = holds.each; sleepers = apart-dispatched cut s.queues hart holds.sleepers }
-
--- which is of this side: nobody sleeps elsewhere, and the others stand where they stood
-pub acts-dispatch : (cut : Cut) (side : CutSide) (s : State) (hart p : ℕ) → side_of cut Process p ≡ side → hart_of (dispatch s hart).queues hart ≡ Some p → Holds cut (system_of s)
+-- a hart takes a process of this side: nobody sleeps elsewhere, and the others stand where they stood
+pub acts-dispatch : (cut : Cut) (side : CutSide) (s : State) (hart p : ℕ) → side_of cut Process p ≡ side → hart_of (dispatch s hart).queues hart ≡ Some p → HoldsFor cut side (system_of s)
     → Acts cut side (system_of s) (system_of (dispatch s hart))
 acts-dispatch cut side s hart p own performs holds =
     let same = sleepers-dispatched s.queues hart in

@@ -24,7 +24,7 @@ use Rattle.messages.specs.Strings.{Side, span_side, side}
 use Rattle.messages.specs.Message.{bytes_moved, message_of, sent_off, message_told, delivered}
 use Rattle.messages.specs.Waiting.{wait_on, listening_from, listen}
 use Rattle.confinement.specs.declared.cut_side.CutSide.{CutSide}
-use Rattle.confinement.specs.Cut.{Cut, side_of, Holds}
+use Rattle.confinement.specs.Cut.{Cut, side_of, HoldsFor}
 use Rattle.confinement.specs.Acts.{Acts, MayHoldIf, system_of}
 use Rattle.confinement.proofs.Delivering.{all-sent}
 use Rattle.confinement.proofs.Acting.{acts-same, held-process}
@@ -46,7 +46,7 @@ module _ (cut : Cut) (side_is : CutSide) where
   span-own s q kind span rest (Err f) ends own = record { pieces = λ e. tt; fault = ends }
 
   -- the accesses to the spans of a string of a process of this side
-  pub side-own : (q : ℕ) → side_of cut Process q ≡ side_is → (s : State) (kind : Kind) (spans : List Span) → Holds cut (system_of s) → SideOwn kind (side s q kind spans)
+  pub side-own : (q : ℕ) → side_of cut Process q ≡ side_is → (s : State) (kind : Kind) (spans : List Span) → HoldsFor cut side_is (system_of s) → SideOwn kind (side s q kind spans)
   unfolding side
   side-own q on s kind [] holds = record { pieces = λ e. tt; fault = tt }
   side-own q on s kind (span ∷ spans) holds =
@@ -57,22 +57,22 @@ module _ (cut : Cut) (side_is : CutSide) where
   module _ (p : ℕ) (own : side_of cut Process p ≡ side_is) where
     -- ---- faults
 
-    pub acts-fault_part : (s : State) (code : FaultCode) (address : ℕ) (handler : Option Capability) → MayHoldIf cut side_is handler → Holds cut (system_of s)
+    pub acts-fault_part : (s : State) (code : FaultCode) (address : ℕ) (handler : Option Capability) → MayHoldIf cut side_is handler → HoldsFor cut side_is (system_of s)
         → Acts cut side_is (system_of s) (system_of (fault s p code address handler).state)
     unfolding fault
     acts-fault_part s code address handler may holds = acts-fault_state cut side_is p own s code address handler may holds
 
     -- ---- waiting and listening
 
-    pub acts-wait_on : (s : State) (q : ℕ) → side_of cut Process q ≡ side_is → Holds cut (system_of s) → Acts cut side_is (system_of s) (system_of (wait_on s p q).state)
+    pub acts-wait_on : (s : State) (q : ℕ) → side_of cut Process q ≡ side_is → HoldsFor cut side_is (system_of s) → Acts cut side_is (system_of s) (system_of (wait_on s p q).state)
     unfolding wait_on
     acts-wait_on s q on holds = acts-waiting_state cut side_is p own s q on holds
 
-    acts-from : (s : State) (inv : InvocationValue) → Holds cut (system_of s) → Acts cut side_is (system_of s) (system_of (listening_from s p inv))
+    acts-from : (s : State) (inv : InvocationValue) → HoldsFor cut side_is (system_of s) → Acts cut side_is (system_of s) (system_of (listening_from s p inv))
     acts-from s inv holds =
         cond_both inv.send _ _ (λ (t : State). Acts cut side_is (system_of s) (system_of t)) (λ e. acts-same cut side_is (system_of s) holds) (λ e. acts-advance cut side_is p own s holds)
 
-    pub acts-listen : (s : State) (inv : InvocationValue) → Holds cut (system_of s) → Acts cut side_is (system_of s) (system_of (listen s p inv).state)
+    pub acts-listen : (s : State) (inv : InvocationValue) → HoldsFor cut side_is (system_of s) → Acts cut side_is (system_of s) (system_of (listen s p inv).state)
     unfolding listen
     acts-listen s inv holds =
         let t = listening_from s p inv in
@@ -80,14 +80,14 @@ module _ (cut : Cut) (side_is : CutSide) where
 
     -- ---- sending
 
-    acts-sent_off : (s : State) (b : Bool) → Holds cut (system_of s) → Acts cut side_is (system_of s) (system_of (sent_off s p b))
+    acts-sent_off : (s : State) (b : Bool) → HoldsFor cut side_is (system_of s) → Acts cut side_is (system_of s) (system_of (sent_off s p b))
     acts-sent_off s true holds = acts-advance cut side_is p own s holds
     acts-sent_off s false holds =
         let t = advance s p in
         acts-next cut side_is s t (sent_off s p false) (acts-advance cut side_is p own s holds) (λ h. acts-set_registers cut side_is p own t (slice_set (process t p).regs 10 0) h)
 
     module _ (e q : ℕ) (endpoint : side_of cut Endpoint e ≡ side_is) (recipient : side_of cut Process q ≡ side_is) (inv : InvocationValue) where
-      acts-message_told : (s : State) (length : ℕ) → Holds cut (system_of s) → Acts cut side_is (system_of s) (system_of (message_told s p e q inv length).state)
+      acts-message_told : (s : State) (length : ℕ) → HoldsFor cut side_is (system_of s) → Acts cut side_is (system_of s) (system_of (message_told s p e q inv length).state)
       unfolding message_of
       acts-message_told s length holds =
           let message = message_of s p inv length in
@@ -97,7 +97,7 @@ module _ (cut : Cut) (side_is : CutSide) where
           (λ h. acts-sent_off t inv.receive h)
 
       -- the bytes and the message
-      pub acts-delivered_part : (s : State) (from to : List Piece) → PiecesOwn cut side_is to → Holds cut (system_of s) → Acts cut side_is (system_of s) (system_of (delivered s p e q inv from to).state)
+      pub acts-delivered_part : (s : State) (from to : List Piece) → PiecesOwn cut side_is to → HoldsFor cut side_is (system_of s) → Acts cut side_is (system_of s) (system_of (delivered s p e q inv from to).state)
       acts-delivered_part s from to pieces holds =
           let t = (bytes_moved s from to).state in
           acts-next cut side_is s t (message_told t p e q inv (size_of_pieces to)).state

@@ -28,7 +28,7 @@ use Rattle.operations.specs.Memory.{read_only, opaque, window_of, window_is_loca
 use Rattle.operations.specs.Control as control
 use Rattle.operations.specs.Control.{endpoint_of, process_of, number_in, with_number, tells_state, is_null}
 use Rattle.confinement.specs.declared.cut_side.CutSide.{CutSide}
-use Rattle.confinement.specs.Cut.{Cut, side_of, MayHold, EachMayHold, Holds}
+use Rattle.confinement.specs.Cut.{Cut, side_of, MayHold, EachHeldBy, HoldsFor}
 use Rattle.confinement.specs.Acts.{Acts, ProcessHeld, Permitted, AllPermitted, AnswerPermitted}
 use Rattle.confinement.proofs.Held.{may-null, may-uncounted, may-own, may-reduced, may-with_guard, may-read, side-page, side-cappage, side-gpt, side-process, side-endpoint}
 use Rattle.confinement.proofs.Sleeping.{each_set}
@@ -39,7 +39,7 @@ module _ (cut : Cut) (side : CutSide) where
   -- ---- changes
 
   -- a permitted change stays on its side
-  pub acts-applied : (reading : Reading) (w : System) (change : Change) → Permitted cut side change → Holds cut w → Acts cut side w (applied reading w change)
+  pub acts-applied : (reading : Reading) (w : System) (change : Change) → Permitted cut side change → HoldsFor cut side w → Acts cut side w (applied reading w change)
   acts-applied reading w (PageIs n page) may holds = acts-page cut side w n page may holds
   acts-applied reading w (CapPageIs n page) may holds = acts-cappage cut side w n page may.0 may.1 holds
   acts-applied reading w (SlotIs g i c) may holds = acts-slot cut side w g i c may.0 may.1 holds
@@ -52,7 +52,7 @@ module _ (cut : Cut) (side : CutSide) where
   acts-applied reading w (Destroyed kind n) may holds = absurd may
 
   -- and so do several, one after the other
-  pub acts-applied_all : (reading : Reading) (w : System) (changes : List Change) → AllPermitted cut side changes → Holds cut w → Acts cut side w (applied_all reading w changes)
+  pub acts-applied_all : (reading : Reading) (w : System) (changes : List Change) → AllPermitted cut side changes → HoldsFor cut side w → Acts cut side w (applied_all reading w changes)
   acts-applied_all reading w [] all holds = acts-same cut side w holds
   acts-applied_all reading w (change ∷ changes) all holds =
       acts-then cut side w (applied reading w change) (applied_all reading (applied reading w change) changes)
@@ -106,7 +106,7 @@ module _ (cut : Cut) (side : CutSide) where
   or_false true b e = absurd (cc (e))
   or_false false b e = e
 
-  module _ (s : Store) (each : EachMayHold cut s) (c : Capability) (may : MayHold cut side c) (r : Request) (sent : MayHold cut side r.sent) where
+  module _ (s : Store) (each : EachHeldBy cut side s) (c : Capability) (may : MayHold cut side c) (r : Request) (sent : MayHold cut side r.sent) where
     kind-may : RowMay (memory.kind_row c)
     unfolding memory.kind_row
     kind-may access = tells-may (number_of c.kind) 0 0
@@ -170,7 +170,7 @@ module _ (cut : Cut) (side : CutSide) where
     set-may k access =
         let own = side-cappage cut side c k access may in
         does-may (CapPageIs c.object (with_cap (cappage_at s c.object) (w2 r) r.sent))
-        (own, each_set (λ j (c : Capability). MayHold cut side c) (cappage_at s c.object) (w2 r) r.sent null sent (λ j. subst (λ b. MayHold cut b (cap_at (cappage_at s c.object) j)) own (each.cappages c.object j)))
+        (own, each_set (λ j (c : Capability). MayHold cut side c) (cappage_at s c.object) (w2 r) r.sent null sent (λ j. each.cappages c.object j own))
 
     getslot-may : c.kind ≡ Gpt → RowMay (memory.getslot_row s c r)
     unfolding memory.getslot_row
@@ -196,8 +196,8 @@ module _ (cut : Cut) (side : CutSide) where
     window-held = by (window_is_local r)
       where
         by : (b : Bool) → MayHold cut side (if b then local_window (window_local_slot r) (window_restr r) (guard_of (window_l2g r) (w3 r)) (w4 r) else window (window_restr r) (guard_of (window_l2g r) (w3 r)) (w4 r))
-        by true = may-uncounted cut side _ LocalWindow refl (λ e. cc) refl
-        by false = may-uncounted cut side _ Window refl (λ e. cc) refl
+        by true = may-uncounted cut side _ LocalWindow refl refl refl
+        by false = may-uncounted cut side _ Window refl refl refl
 
     setwindow-may : c.kind ≡ Gpt → RowMay (memory.setwindow_row c r)
     unfolding memory.setwindow_row
@@ -241,7 +241,7 @@ module _ (cut : Cut) (side : CutSide) where
     endpoint-may v k held = does-may (EndpointIs c.object v) (side-endpoint cut side c k may, held)
 
     recipient-held : c.kind ≡ Endpoint → MayHold cut side (endpoint_of s c).recipient
-    recipient-held k = subst (λ b. MayHold cut b (endpoint_of s c).recipient) (side-endpoint cut side c k may) (each.recipients c.object)
+    recipient-held k = each.recipients c.object (side-endpoint cut side c k may)
 
     setrecipient-may : c.kind ≡ Endpoint → RowMay (control.setrecipient_row s c r)
     unfolding control.setrecipient_row
@@ -261,7 +261,7 @@ module _ (cut : Cut) (side : CutSide) where
 
     makeentry-may : c.kind ≡ Endpoint → RowMay (control.makeentry_row c r)
     unfolding control.makeentry_row
-    makeentry-may k access = gives-may (entry c.object c.count (w2 r)) (may-own cut side (entry c.object c.count (w2 r)) (λ e. cc) (side-endpoint cut side c k may))
+    makeentry-may k access = gives-may (entry c.object c.count (w2 r)) (may-own cut side (entry c.object c.count (w2 r)) refl (side-endpoint cut side c k may))
 
     setpayload-may : c.kind ≡ Endpoint → RowMay (control.setpayload_row s c r)
     unfolding control.setpayload_row
@@ -277,8 +277,8 @@ module _ (cut : Cut) (side : CutSide) where
 
     process-held : c.kind ≡ Process → ProcessHeld cut side (process_of s c)
     process-held k = let own = side-process cut side c k may in record {
-      capregs = λ i. subst (λ b. MayHold cut b (capreg_of (process_of s c) i)) own (each.capregs c.object i);
-      slots = λ i. subst (λ b. MayHold cut b (slot_of (process_of s c) i)) own (each.process_slots c.object i);
+      capregs = λ i. each.capregs c.object i own;
+      slots = λ i. each.process_slots c.object i own;
     }
 
     process-may : (v : ProcessValue) → c.kind ≡ Process → ProcessHeld cut side v → AnswerPermitted cut side (does (ProcessIs c.object v ∷ []))
@@ -349,7 +349,7 @@ module _ (cut : Cut) (side : CutSide) where
 
     lower-may : RowMay (control.lower_row c r)
     unfolding control.lower_row
-    lower-may access = gives-may (schedule (w2 r)) (may-uncounted cut side (schedule (w2 r)) Schedule refl (λ e. cc) refl)
+    lower-may access = gives-may (schedule (w2 r)) (may-uncounted cut side (schedule (w2 r)) Schedule refl refl refl)
 
     schedule_table-may : (number : ℕ) → TableMay (control.schedule_table c r number)
     unfolding control.schedule_table

@@ -1,10 +1,11 @@
 -- Who sleeps on whose processes: each on one of his side, and what a process does leaves the sleepers of the other side.
 use Rattle.std.proofs.Common.{◌≡◌, ◌≢◌, ℕ, suc, inl, inr, Bool, true, false, ◌==◌, if◌then◌else◌, List, [], ◌∷◌, ◌++◌, map, length, get_or, set, Option, Some, None, refl, sym, ◌∙◌, ap, subst, eqb-true, get_or-set_other}
 use Rattle.std.proofs.Math.ListN.{get_or-map}
+use Rattle.std.proofs.lemmas.Bool.{or_cases, or_left, or_right, eq-eqb}
 use Rattle.cap_format.specs.declared.kind.CapKind.{CapKind}
 use Rattle.cap_format.specs.declared.kind.CapKind.TheVariants.{Process}
 use Rattle.object_store.proofs.Lists.{get_or-set}
-use Rattle.schedules.specs.Queues.{QueuesValue, priorities, sleepers_of, without, left, asleep, highest_below, taken_from, dispatched_by, dispatched, hart_of}
+use Rattle.schedules.specs.Queues.{QueuesValue, priorities, sleepers_of, without, left, asleep, highest_below, taken_from, dispatched_by, dispatched, hart_of, stands_in}
 use Rattle.schedules.specs.Ready.{readied_queues, unslept}
 use Rattle.schedules.proofs.Waking.{sleepers-readied}
 use Rattle.confinement.specs.declared.cut_side.CutSide.{CutSide}
@@ -88,3 +89,20 @@ module _ (cut : Cut) (side : CutSide) where
   -- one is the last to sleep on a process of this side, or nobody sleeps on it any more
   pub spares-slept : (q : QueuesValue) (on : ℕ) (xs : List ℕ) → side_of cut Process on ≡ side → (n : ℕ) → side_of cut Process n ≢ side → sleepers_of q n ≡ get_or (set q.sleepers on xs) n []
   spares-slept q on xs own n other = sym (get_or-set_other q.sleepers on n xs [] (λ same. other (ap (λ m. side_of cut Process m) same ∙ own)))
+
+module _ (cut : Cut) (side : CutSide) where
+  -- all of a list are of this side where each that stands in it is
+  pub each_on : (xs : List ℕ) → ((x : ℕ) → stands_in xs x ≡ true → side_of cut Process x ≡ side) → AllOn cut side xs
+  each_on [] each = tt
+  each_on (x ∷ xs) each = (
+    each x (or_left (x == x) (stands_in xs x) (eq-eqb x x refl)),
+    each_on xs (λ y there. each y (or_right (x == y) (stands_in xs y) there)),
+  )
+
+  -- and each is where all are
+  pub on_each : (xs : List ℕ) → AllOn cut side xs → (x : ℕ) → stands_in xs x ≡ true → side_of cut Process x ≡ side
+  on_each [] all x there = absurd (cc (there))
+  on_each (y ∷ ys) all x there = elim (or_cases (y == x) (stands_in ys x) there) [
+    | inl here ↦ subst (λ (n : ℕ). side_of cut Process n ≡ side) (eqb-true y x here) all.0
+    | inr later ↦ on_each ys all.1 x later
+  ]

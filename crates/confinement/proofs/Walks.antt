@@ -98,11 +98,11 @@ module _ (cut : Cut) (side : CutSide) where
   background-by true g h on own = own
   background-by false g h on own = on
 
-  module _ (o : Items) (held : (g i : ℕ) → MayHold cut (side_of cut Gpt g) (slot_at o g i)) (kind : Kind) where
+  module _ (o : Items) (held : (g i : ℕ) → side_of cut Gpt g ≡ side → MayHold cut side (slot_at o g i)) (kind : Kind) where
     -- the handler of a GPT of this side may be held
     handler-held : (h : Option ℕ) → OnSide h → MayHoldIf cut side (handler_of o h)
     handler-held None on = tt
-    handler-held (Some g) on = subst (λ b. MayHold cut b (slot_at o g 15)) on (held g 15)
+    handler-held (Some g) on = held g 15 on
 
     -- ---- a step that goes on
 
@@ -112,7 +112,7 @@ module _ (cut : Cut) (side : CutSide) where
       at = elim (past_gpt c w k m) [
         | inl weak ↦ inl weak
         | inr own ↦ inr (record {
-          may = subst (λ b. MayHold cut b (slot_at o c.object i)) own.0 (held c.object i);
+          may = held c.object i own.0;
           holding = own.0;
           background = background-by (header_at o c.object).bg c.object w.background own.1.background own.0;
         })
@@ -128,7 +128,7 @@ module _ (cut : Cut) (side : CutSide) where
       at = elim m.at [
         | inl weak ↦ inl (weakly-more w.restr.0 c.restr weak)
         | inr inside ↦ inr (record {
-          may = subst (λ b. MayHold cut b (slot_at o g i)) (own inside) (held g i);
+          may = held g i (own inside);
           holding = own inside;
           background = inside.background;
         })

@@ -1,4 +1,5 @@
--- What a process of one side may do: the other side's objects stay as they are, and the cut holds afterwards. (Own.)
+-- What a process of one side may do: the other side's objects stay as they are, and the cut holds for this side afterwards.
+-- What the other side holds plays no part. (Own.)
 use Rattle.std.specs.Prelude.{◌≡◌, ◌≢◌, ℕ, not, if◌then◌else◌, List, [], ◌∷◌, length, filter, Option, Some, None}
 use Rattle.cap_format.specs.declared.kind.CapKind.{CapKind}
 use Rattle.cap_format.specs.declared.kind.CapKind.TheVariants.{Page, CapPage, Gpt, Endpoint, Process}
@@ -15,7 +16,7 @@ use Rattle.operations.specs.Change.{Change, PageIs, CapPageIs, SlotIs, HeaderIs,
 use Rattle.operations.specs.Row.{Answer as RowAnswer}
 use Rattle.machine_state.specs.State.{State}
 use Rattle.confinement.specs.declared.cut_side.CutSide.{CutSide}
-use Rattle.confinement.specs.Cut.{Cut, side_of, same_side, MayHold, Holds}
+use Rattle.confinement.specs.Cut.{Cut, side_of, same_side, MayHold, HoldsFor}
 
 -- each object that is not of this side is the same, its age and state included
 abbrev pub Spares : Cut → CutSide → Store → Store → Type 0
@@ -50,13 +51,14 @@ pub record SameSizes (w v : System) : Type 0 where
   pub endpoints : length w.store.contents.endpoints ≡ length v.store.contents.endpoints
   pub sleepers : length w.queues.sleepers ≡ length v.queues.sleepers
 
--- what a process of this side made of a system in which the cut held
+-- what a process of this side made of a system in which the cut held for it; no object's age changed, so none was destroyed
 pub record Acts (cut : Cut) (side : CutSide) (w v : System) : Type 0 where
-  pub holds : Holds cut v
+  pub holds : HoldsFor cut side v
   pub spares : Spares cut side w.store v.store
   pub sleepers : SparesSleepers cut side w.queues v.queues
   pub places : SparesPlaces cut side w.queues v.queues
   pub sizes : SameSizes w v
+  pub ages : w.store.items.counts ≡ v.store.items.counts
 
 -- a process that this side may have: it may hold all of its capabilities
 pub record ProcessHeld (cut : Cut) (side : CutSide) (process : ProcessValue) : Type 0 where

@@ -1,4 +1,4 @@
--- The laws on which the theorem rests, as statements.
+-- The laws on which the theorem rests, as statements. Each is of one side, whatever the other holds.
 use Rattle.std.specs.Prelude.{ℕ}
 use Rattle.cap_format.specs.declared.request.Request.{Request}
 use Rattle.cap_format.specs.Capability.{Capability}
@@ -11,7 +11,7 @@ use Rattle.operations.specs.Change.{Change, applied}
 use Rattle.operations.specs.Memory.{memory_operation}
 use Rattle.operations.specs.Control.{control_operation}
 use Rattle.confinement.specs.declared.cut_side.CutSide.{CutSide}
-use Rattle.confinement.specs.Cut.{Cut, MayHold, EachMayHold, Holds}
+use Rattle.confinement.specs.Cut.{Cut, MayHold, EachHeldBy, HoldsFor}
 use Rattle.confinement.specs.Acts.{Acts, Permitted, CalleeOwn, AnswerPermitted}
 use Rattle.confinement.specs.Reach.{Ends}
 
@@ -19,33 +19,33 @@ use Rattle.confinement.specs.Reach.{Ends}
 -- in a fault whose handler the side may hold.
 abbrev pub AccessLaw : Type 0
 AccessLaw = (cut : Cut) (side : CutSide) (s : Store) (space : Capability) (address : ℕ) (kind : Kind)
-    → EachMayHold cut s
+    → EachHeldBy cut side s
     → MayHold cut side space
     → Ends cut side kind (access s.items space address kind)
 
 -- Who answers what a side may hold is of that side.
 abbrev pub AnswerLaw : Type 0
 AnswerLaw = (cut : Cut) (side : CutSide) (s : Store) (c : Capability)
-    → EachMayHold cut s
+    → EachHeldBy cut side s
     → MayHold cut side c
     → CalleeOwn cut side (callee s c)
 
--- A permitted change leaves the other side's objects as they are, and the cut as it is.
+-- A permitted change leaves the other side's objects as they are, and the cut holding for this side.
 abbrev pub ChangeLaw : Type 0
 ChangeLaw = (cut : Cut) (side : CutSide) (reading : Reading) (w : System) (change : Change)
     → Permitted cut side change
-    → Holds cut w
+    → HoldsFor cut side w
     → Acts cut side w (applied reading w change)
 
 -- What a request does is permitted, and what it gives may be held, where it asks and sends what may be held.
 pub record OperationLaw : Type 0 where
   pub memory : (cut : Cut) (side : CutSide) (s : Store) (c : Capability) (r : Request)
-      → EachMayHold cut s
+      → EachHeldBy cut side s
       → MayHold cut side c
       → MayHold cut side r.sent
       → AnswerPermitted cut side (memory_operation s c r).answer
   pub control : (cut : Cut) (side : CutSide) (reading : Reading) (s : Store) (c : Capability) (r : Request)
-      → EachMayHold cut s
+      → EachHeldBy cut side s
       → MayHold cut side c
       → MayHold cut side r.sent
       → AnswerPermitted cut side (control_operation reading s c r).answer

@@ -1,5 +1,5 @@
 -- Who answers what this side may hold is the same in two systems that agree on it.
-use Rattle.std.proofs.Common.{◌≡◌, ℕ, if◌then◌else◌, Option, Some, None, refl, ◌∙◌, ap, ap₂, subst}
+use Rattle.std.proofs.Common.{◌≡◌, ℕ, if◌then◌else◌, Option, Some, None, refl, ◌∙◌, ap, ap₂}
 use Rattle.cap_format.specs.declared.kind.CapKind.{CapKind}
 use Rattle.cap_format.specs.declared.kind.CapKind.TheVariants.{Endpoint, Entry, Process}
 use Rattle.cap_format.specs.Capability.{Capability}
@@ -13,13 +13,13 @@ use Rattle.invocation.specs.Target.{called_by, called, callee}
 use Rattle.operations.specs.System.{System}
 use Rattle.fault_path.specs.Fault.{is_answer, handler_of}
 use Rattle.confinement.specs.declared.cut_side.CutSide.{CutSide}
-use Rattle.confinement.specs.Cut.{Cut, side_of, MayHold, EachMayHold}
+use Rattle.confinement.specs.Cut.{Cut, side_of, MayHold, EachHeldBy}
 use Rattle.confinement.specs.Acts.{MayHoldIf}
 use Rattle.confinement.proofs.Held.{side-process, side-entry}
 use Rattle.isolation.specs.Agree.{Agree}
 use Rattle.isolation.proofs.Agreeing.{same-endpoint, same-process}
 
-module _ (cut : Cut) (side : CutSide) (w v : System) (each : EachMayHold cut w.store) (agree : Agree cut side w v) where
+module _ (cut : Cut) (side : CutSide) (w v : System) (each : EachHeldBy cut side w.store) (agree : Agree cut side w v) where
   -- ---- who answers
 
   same-asked : (e : ℕ) (k : CapKind) (c : Capability) → c.kind ≡ k → side_of cut Endpoint e ≡ side → MayHold cut side c
@@ -37,7 +37,7 @@ module _ (cut : Cut) (side : CutSide) (w v : System) (each : EachMayHold cut w.s
   same-entered : (e payload : ℕ) → side_of cut Endpoint e ≡ side → entered w.store e payload ≡ entered v.store e payload
   same-entered e payload own =
       let x = endpoint_at w.store e in
-      let may = subst (λ b. MayHold cut b x.recipient) own (each.recipients e) in
+      let may = each.recipients e own in
       ap (λ (a : Answer). if refuses x payload then Dead else a) (same-asked e x.recipient.kind x.recipient refl own may)
       ∙ ap (entered_as v.store e payload) (same-endpoint cut side w v agree e own)
 

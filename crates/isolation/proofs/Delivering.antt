@@ -1,5 +1,5 @@
 -- Messages, waits and faults of this side do the same to two systems that match on it.
-use Rattle.std.proofs.Common.{◌≡◌, ℕ, Option, sym, ◌∙◌, ap, ap₂, subst, subst₂}
+use Rattle.std.proofs.Common.{◌≡◌, ℕ, Option, refl, sym, ◌∙◌, ap, ap₂, subst, subst₂}
 use Rattle.cap_format.specs.declared.fault.FaultCode.{FaultCode}
 use Rattle.cap_format.specs.declared.kind.CapKind.TheVariants.{Endpoint, Process}
 use Rattle.cap_format.specs.Capability.{Capability, to_object}
@@ -38,7 +38,7 @@ module _ (cut : Cut) (side : CutSide) where
   match-passed w v m e own =
       match-endpoint cut side w v m e (passed (endpoint_at w.store e)) (passed (endpoint_at v.store e))
       (ap passed (same-endpoint cut side w v m.agree e own)) own
-      (subst (λ (c : Capability). MayHold cut side c) (sym (passed-recipient cut side (endpoint_at w.store e))) (subst (λ b. MayHold cut b (endpoint_at w.store e).recipient) own (m.holds.each.recipients e)))
+      (subst (λ (c : Capability). MayHold cut side c) (sym (passed-recipient cut side (endpoint_at w.store e))) (m.holds.each.recipients e own))
 
   match-delivered : (w v : System) → Match cut side w v → (e q : ℕ) (message : Message) → side_of cut Endpoint e ≡ side → side_of cut Process q ≡ side
       → AllMayHold cut side message.caps
@@ -108,7 +108,7 @@ module _ (cut : Cut) (side : CutSide) where
       subst (λ (process : ProcessValue). Match cut side (answered Meant w p code address payload (Open e q)) (told Meant (faulted v p code address) e q (fault_message cap process code address payload)))
       (same-process cut side w v m.agree p own)
       (match-told (faulted w p code address) (faulted v p code address) (match-faulted w v m p code address own) e q (fault_message cap (process_at w.store p) code address payload)
-      answers.0 answers.1 (may-own cut side cap (λ k. cc) own, tt))
+      answers.0 answers.1 (may-own cut side cap refl own, tt))
 
   -- who hears a fault is the same
   pub same-heard : (w v : System) → Match cut side w v → (p : ℕ) (handler : Option Capability) → side_of cut Process p ≡ side → MayHoldIf cut side handler

@@ -15,7 +15,7 @@ use Rattle.schedules.specs.Ready.{readied, readied_process, readied_queues, read
 use Rattle.schedules.proofs.Waking.{sleepers-readied}
 use Rattle.operations.specs.System.{System, system, with_store, with_runs}
 use Rattle.confinement.specs.declared.cut_side.CutSide.{CutSide}
-use Rattle.confinement.specs.Cut.{Cut, side_of, MayHold, AllOn, SleepApart, Holds}
+use Rattle.confinement.specs.Cut.{Cut, side_of, MayHold, AllOn, SleepApart, HoldsFor}
 use Rattle.confinement.specs.Acts.{Acts, ProcessHeld}
 use Rattle.confinement.proofs.Sleeping.{length-map_lists, apart-unslept, apart-asleep}
 use Rattle.confinement.proofs.Acting.{acts-process, acts-page, acts-cappage, acts-slot, acts-header, acts-endpoint, acts-left, held-process}
@@ -24,12 +24,12 @@ use Rattle.isolation.proofs.Agreeing.{set_both, set_long, same-gpt, same-process
 
 -- the cut holds in the first, and both agree on this side
 pub record Match (cut : Cut) (side : CutSide) (w v : System) : Type 0 where
-  pub holds : Holds cut w
+  pub holds : HoldsFor cut side w
   pub agree : Agree cut side w v
 
 module _ (cut : Cut) (side : CutSide) where
   -- what a process of this side may do of the first, and what leaves both agreeing
-  pub match-after : (w v x y : System) → Match cut side w v → (Holds cut w → Acts cut side w x) → (Agree cut side w v → Agree cut side x y) → Match cut side x y
+  pub match-after : (w v x y : System) → Match cut side w v → (HoldsFor cut side w → Acts cut side w x) → (Agree cut side w v → Agree cut side x y) → Match cut side x y
   match-after w v x y m acts agrees = let done = acts m.holds in record { holds = done.holds; agree = agrees m.agree }
 
   module _ (w v : System) (m : Match cut side w v) where

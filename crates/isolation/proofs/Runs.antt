@@ -9,7 +9,7 @@ use Rattle.kernel_core.specs.Run.{run_state}
 use Rattle.confinement.specs.declared.cut_side.CutSide.{CutSide}
 use Rattle.confinement.specs.Cut.{Cut, Holds}
 use Rattle.confinement.specs.Acts.{system_of}
-use Rattle.confinement.proofs.Runs.{holds-event}
+use Rattle.confinement.proofs.Runs.{holds-for, holds-event}
 use Rattle.isolation.specs.Agree.{Agree}
 use Rattle.isolation.specs.Turns.{Turn, turn_of, turns, told}
 use Rattle.isolation.specs.Laws.{SameAccess, Unseen, SameTurn}
@@ -125,9 +125,9 @@ module _ (cut : Cut) (side : CutSide) (alone : cut.weakly side ≡ false) where
         let turn : turn_of e m.process ≡ turn_of f n.process = cc (same) in
         let rest : turns cut side (event_of s e).state es ≡ turns cut side (event_of t f).state fs = cc (same) in
         let process = turn-process e f m.process n.process turn in
-        let alike = alike-turn cut side alone m.process m.own s t (record { holds = both.first; agree = both.agree }) e f m.is (n.is ∙ ap Some (sym process)) (turn ∙ ap (turn_of f) (sym process)) in
+        let alike = alike-turn cut side alone m.process m.own s t (record { holds = holds-for cut side (system_of s) both.first; agree = both.agree }) e f m.is (n.is ∙ ap Some (sym process)) (turn ∙ ap (turn_of f) (sym process)) in
         let state = alike.state in
-        let next = shown (event_of s e).state (event_of t f).state (record { first = state.holds; second = holds-event cut t f both.second; agree = state.agree }) fs rest in
+        let next = shown (event_of s e).state (event_of t f).state (record { first = holds-event cut s e both.first; second = holds-event cut t f both.second; agree = state.agree }) fs rest in
         record {
           records = told-mine cut side s e es m ∙
               (ap₂ (λ (rs qs : List Record). rs ++ qs) alike.records next.records ∙ sym (told-mine cut side t f fs n));
@@ -161,7 +161,7 @@ module _ (cut : Cut) (side : CutSide) (alone : cut.weakly side ≡ false) where
 -- the law of accesses
 pub same_access : SameAccess
 same_access cut side s t space address kind apart may =
-    same-access cut side apart.own_alone s.store.items t.store.items (apart.first).each.slots
+    same-access cut side apart.own_alone s.store.items t.store.items (holds-for cut side (system_of s) apart.first).each.slots
     (same-gpt cut side (system_of s) (system_of t) apart.agree) kind space address may
 
 -- the law of what is not seen
@@ -171,7 +171,7 @@ event_unseen cut side s e holds other = unseen cut side s e holds other
 -- the law of turns
 pub same_turn : SameTurn
 same_turn cut side s t e f p apart own first second turn =
-    let alike = alike-turn cut side apart.own_alone p own s t (record { holds = apart.first; agree = apart.agree }) e f first second turn in
+    let alike = alike-turn cut side apart.own_alone p own s t (record { holds = holds-for cut side (system_of s) apart.first; agree = apart.agree }) e f first second turn in
     let state = alike.state in
     record { records = alike.records; agree = state.agree }
 

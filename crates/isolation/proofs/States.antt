@@ -105,7 +105,7 @@ module _ (cut : Cut) (side : CutSide) where
         let page = cappage_at s.store place.number in
         match-cappage cut side (system_of s) (system_of t) m place.number _ _
         (ap (λ (page : List Capability). with_cap page (slot_in place) c) (same-cappage cut side (system_of s) (system_of t) m.agree place.number own)) own
-        (each_set (λ j (c : Capability). MayHold cut side c) page (slot_in place) c null may (λ j. subst (λ b. MayHold cut b (cap_at page j)) own (m.holds.each.cappages place.number j)))
+        (each_set (λ j (c : Capability). MayHold cut side c) page (slot_in place) c null may (λ j. m.holds.each.cappages place.number j own))
 
     -- a message is told
     pub match-told_state : (e q : ℕ) (message : Message) → side_of cut Endpoint e ≡ side → side_of cut Process q ≡ side → AllMayHold cut side message.caps

@@ -54,19 +54,19 @@ module _ (cut : Cut) (side : CutSide) where
   NotMine by = (p : ℕ) → by ≡ Some p → side_of cut Process p ≢ side
 
   unseen-by : (s : State) (by : Option ℕ) (t : State) → Does cut s by t → NotMine by → Agree cut side (system_of s) (system_of t)
-  unseen-by s None t does other = record {
-    same = λ kind n own. ap (λ (o : Store). object_at o kind n) (sym does.1);
-    sleepers = λ p own. ap (λ (xs : List (List ℕ)). get_or xs p []) (sym does.2);
+  unseen-by s None t does other = let idle = does.1 in record {
+    same = λ kind n own. ap (λ (o : Store). object_at o kind n) (sym idle.store);
+    sleepers = λ p own. ap (λ (xs : List (List ℕ)). get_or xs p []) (sym idle.sleepers);
     sizes = record {
-      pages = ap (λ (o : Store). length o.contents.pages) (sym does.1);
-      cappages = ap (λ (o : Store). length o.contents.cappages) (sym does.1);
-      gpts = ap (λ (o : Store). length o.items.gpts) (sym does.1);
-      processes = ap (λ (o : Store). length o.contents.processes) (sym does.1);
-      endpoints = ap (λ (o : Store). length o.contents.endpoints) (sym does.1);
-      sleepers = ap (λ (xs : List (List ℕ)). length xs) (sym does.2);
+      pages = ap (λ (o : Store). length o.contents.pages) (sym idle.store);
+      cappages = ap (λ (o : Store). length o.contents.cappages) (sym idle.store);
+      gpts = ap (λ (o : Store). length o.items.gpts) (sym idle.store);
+      processes = ap (λ (o : Store). length o.contents.processes) (sym idle.store);
+      endpoints = ap (λ (o : Store). length o.contents.endpoints) (sym idle.store);
+      sleepers = ap (λ (xs : List (List ℕ)). length xs) (sym idle.sleepers);
     };
   }
-  unseen-by s (Some p) t acts other = record {
+  unseen-by s (Some p) t does other = let acts = does.1 in record {
     same = λ kind n own. acts.spares kind n (λ e. other p refl (sym e ∙ own));
     sleepers = λ n own. acts.sleepers n (λ e. other p refl (sym e ∙ own));
     sizes = acts.sizes;

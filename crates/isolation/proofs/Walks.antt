@@ -59,9 +59,9 @@ module _ (cut : Cut) (side : CutSide) (alone : cut.weakly side ≡ false) where
   on-some : (h : Option ℕ) (g : ℕ) → h ≡ Some g → OnSide h → side_of cut Gpt g ≡ side
   on-some h g e on = subst OnSide e on
 
-  module _ (o u : Items) (held : (g i : ℕ) → MayHold cut (side_of cut Gpt g) (slot_at o g i)) (same : (g : ℕ) → side_of cut Gpt g ≡ side → gpt_at o g ≡ gpt_at u g) (kind : Kind) where
+  module _ (o u : Items) (held : (g i : ℕ) → side_of cut Gpt g ≡ side → MayHold cut side (slot_at o g i)) (same : (g : ℕ) → side_of cut Gpt g ≡ side → gpt_at o g ≡ gpt_at u g) (kind : Kind) where
     held-own : (g i : ℕ) → side_of cut Gpt g ≡ side → MayHold cut side (slot_at o g i)
-    held-own g i own = subst (λ b. MayHold cut b (slot_at o g i)) own (held g i)
+    held-own g i own = held g i own
 
     handler-on : (c : Capability) (w : At) → c.kind ≡ Gpt → Inside c w → OnSide (handler_from (header_at o c.object) c.object (past c w))
     handler-on c w k inside =

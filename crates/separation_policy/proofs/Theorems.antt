@@ -1,5 +1,5 @@
 -- The theorems: those of confinement and isolation, for the cuts of each domain.
-use Rattle.std.proofs.Common.{◌≡◌, ◌≢◌, ℕ, ◌==◌, Bool, true, false, not, List, refl, ◌∙◌, eqb-true, [], ◌∷◌, filter, ap₂, slice_index_or, if◌then◌else◌, Option, Some, None, ap, sym}
+use Rattle.std.proofs.Common.{◌≡◌, ◌≢◌, ℕ, ◌==◌, Bool, true, not, List, refl, ◌∙◌, eqb-true, [], ◌∷◌, filter, ap₂, slice_index_or, if◌then◌else◌, Option, Some, None, ap, sym}
 use Rattle.std.proofs.lemmas.Bool.{eq-eqb}
 use Rattle.cap_format.specs.declared.kind.CapKind.{CapKind}
 use Rattle.cap_format.specs.declared.kind.CapKind.TheVariants.{Process}
@@ -12,6 +12,7 @@ use Rattle.object_store.specs.Object.{object_at}
 use Rattle.kernel_core.specs.Event.{performer, event_of}
 use Rattle.kernel_core.specs.Run.{run_state}
 use Rattle.confinement.specs.declared.cut_side.CutSide.{CutSide}
+use Rattle.confinement.specs.declared.cut_side.CutSide.TheVariants.{Left}
 use Rattle.confinement.specs.Cut.{side_of, same_side}
 use Rattle.confinement.specs.Acts.{SparesPlaces, others_in, other_on, system_of}
 use Rattle.confinement.specs.Separation.{Kept}
@@ -19,10 +20,10 @@ use Rattle.confinement.proofs.Sides.{same_side-tells, same_side-true}
 use Rattle.confinement.proofs.Runs.{event_kept, holds-run, holds-event}
 use Rattle.isolation.specs.Agree.{Agree}
 use Rattle.isolation.specs.Isolation.{AlikeRuns, Isolation}
-use Rattle.separation_policy.specs.Policy.{PolicyValue, rest_domain, domain_of, PolicyHolds, StandStill, others_than, other_than, WritesAtHome, TakesNoTurn, StaysAsItIs, sees, domain_cut, view_side, view_cut, SameFor, Reads}
+use Rattle.separation_policy.specs.Policy.{PolicyValue, rest_domain, domain_of, PolicyHolds, StandStill, others_than, other_than, WritesAtHome, TakesNoTurn, StaysAsItIs, side_if, domain_cut, view_cut, SameFor, Reads}
 use Rattle.separation_policy.specs.Laws.{IntegrityLaw, OwnChangesLaw, NoninterferenceLaw}
-use Rattle.separation_policy.proofs.Reading.{same_answer, reads-seen, seen-reads, sees-itself}
-use Rattle.separation_policy.proofs.Cuts.{never_across, on-one-side, both-inside, side-inside, cuts_law}
+use Rattle.separation_policy.proofs.Reading.{same_answer, reads-seen, seen-reads}
+use Rattle.separation_policy.proofs.Cuts.{one_side, on-one-side, both-inside, cuts_law}
 
 -- ---- integrity
 
@@ -131,38 +132,31 @@ own_changes_law policy s holds b es none = run_stays policy b s es holds none
 -- ---- noninterference
 
 module _ (policy : PolicyValue) (a : ℕ) where
-  abbrev weak : CutSide → Bool
-  weak side = not (same_side side (view_side policy a))
-
   -- an object is on the side of what a domain reads where the domain reads its domain
-  view-reads : (kind : CapKind) (n : ℕ) → side_of (view_cut policy a) kind n ≡ view_side policy a → Reads policy a (domain_of policy kind n)
-  view-reads kind n same = seen-reads policy a _ ((side-inside policy (sees policy a) weak a kind n (sees-itself policy a)).0 same)
+  view-reads : (kind : CapKind) (n : ℕ) → side_of (view_cut policy a) kind n ≡ Left → Reads policy a (domain_of policy kind n)
+  view-reads kind n same = seen-reads policy a _ (one_side _ _ same)
 
-  reads-view : (kind : CapKind) (n : ℕ) → Reads policy a (domain_of policy kind n) → side_of (view_cut policy a) kind n ≡ view_side policy a
-  reads-view kind n reads = (side-inside policy (sees policy a) weak a kind n (sees-itself policy a)).1 (reads-seen policy a _ reads)
+  reads-view : (kind : CapKind) (n : ℕ) → Reads policy a (domain_of policy kind n) → side_of (view_cut policy a) kind n ≡ Left
+  reads-view kind n reads = ap side_if (reads-seen policy a _ reads)
 
-  same-agree : (w v : System) → SameFor policy a w v → Agree (view_cut policy a) (view_side policy a) w v
+  same-agree : (w v : System) → SameFor policy a w v → Agree (view_cut policy a) Left w v
   same-agree w v same = record {
     same = λ kind n own. same.objects kind n (view-reads kind n own);
     sleepers = λ p own. same.sleepers p (view-reads Process p own);
     sizes = same.sizes;
   }
 
-  agree-same : (w v : System) → Agree (view_cut policy a) (view_side policy a) w v → SameFor policy a w v
+  agree-same : (w v : System) → Agree (view_cut policy a) Left w v → SameFor policy a w v
   agree-same w v agree = record {
     objects = λ kind n reads. agree.same kind n (reads-view kind n reads);
     sleepers = λ p reads. agree.sleepers p (reads-view Process p reads);
     sizes = agree.sizes;
   }
 
-  -- what a domain reads may hold nothing to what it doesn't
-  view-alone : (view_cut policy a).weakly (view_side policy a) ≡ false
-  view-alone = never_across (view_side policy a)
-
 -- nobody sees across, but who reads
 pub noninterference_law : Isolation → NoninterferenceLaw
 noninterference_law isolation policy s holds a t second same es fs turns =
     let cut = view_cut policy a in
-    let alike : AlikeRuns cut (view_side policy a) s t es fs = isolation cut (view_side policy a) s t
-    (record { own_alone = view-alone policy a; first = ((cuts_law policy (system_of s)).0 holds a).1; second = second; agree = same-agree policy a (system_of s) (system_of t) same }) es fs turns in
+    let alike : AlikeRuns cut Left s t es fs = isolation cut Left s t
+    (record { own_alone = refl; first = ((cuts_law policy (system_of s)).0 holds a).1; second = second; agree = same-agree policy a (system_of s) (system_of t) same }) es fs turns in
     record { records = alike.records; ends = agree-same policy a _ _ alike.ends }

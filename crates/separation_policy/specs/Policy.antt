@@ -5,7 +5,7 @@
 -- writing and sending among them, and under a scheduler that gives each domain fixed turns. Here a policy lets domains read
 -- and no more, whether it holds is decided over the objects of a machine, and the turns of domains are a premise in place
 -- of a scheduler. Nothing is said of time, here or there.
-use Rattle.std.specs.Prelude.{◌≡◌, ◌≢◌, ℕ, zero, suc, ◌<◌, ◌==◌, ◌&&◌, ◌||◌, ◌⊎◌, Bool, true, false, not, if◌then◌else◌, List, [], ◌∷◌, map, filter, length, slice_index_or, Option, Some, None, ⊤}
+use Rattle.std.specs.Prelude.{◌≡◌, ◌≢◌, ℕ, zero, suc, ◌<◌, ◌==◌, ◌&&◌, ◌||◌, ◌⊎◌, Bool, true, false, not, if◌then◌else◌, List, [], ◌∷◌, filter, length, slice_index_or, Option, Some, None, ⊤}
 use Rattle.cap_format.specs.declared.kind.CapKind.{CapKind}
 use Rattle.cap_format.specs.declared.kind.CapKind.TheVariants.{Page, CapPage, Gpt, Endpoint, Process, Range}
 use Rattle.cap_format.specs.Kind.{is_counted, object_kind}
@@ -25,7 +25,7 @@ use Rattle.kernel_core.specs.Event.{performer, event_of}
 use Rattle.kernel_core.specs.Run.{run_state}
 use Rattle.confinement.specs.declared.cut_side.CutSide.{CutSide}
 use Rattle.confinement.specs.declared.cut_side.CutSide.TheVariants.{Left, Right}
-use Rattle.confinement.specs.Cut.{Cut, Sides, same_side, Holds}
+use Rattle.confinement.specs.Cut.{Cut, same_side, Holds}
 use Rattle.confinement.specs.Acts.{SameSizes, system_of}
 use Rattle.isolation.specs.Turns.{Turn, turns, told}
 use Rattle.separation_policy.specs.declared.policy.Domain.{Domain}
@@ -175,39 +175,29 @@ sees_below policy (suc k) a b = sees_below policy k a b || (sees_below policy k 
 abbrev pub sees : PolicyValue → ℕ → ℕ → Bool
 sees policy a b = sees_below policy (length policy.domains) a b
 
--- the side of a domain over a cut between some domains and all others, by whether it is one of them and whether `rest` is:
--- the right with `rest`, where all objects stand that a machine hasn't
-abbrev pub side_beside : Bool → Bool → CutSide
-side_beside true true = Right
-side_beside true false = Left
-side_beside false true = Left
-side_beside false false = Right
+-- the side of what is of some domains, and of all else
+abbrev pub side_if : Bool → CutSide
+side_if true = Left
+side_if false = Right
 
--- the same, by the number of the domain
-abbrev pub side_by : (ℕ → Bool) → ℕ → CutSide
-side_by some a = side_beside (some a) (some rest_domain)
-
--- the sides of all objects of such a cut
-abbrev pub sides_by : PolicyValue → (ℕ → Bool) → Sides
-sides_by policy some = record {
-  pages = map (λ assigned. side_by some (domain_or_rest assigned)) policy.assigned.pages;
-  cappages = map (λ assigned. side_by some (domain_or_rest assigned)) policy.assigned.cappages;
-  gpts = map (λ assigned. side_by some (domain_or_rest assigned)) policy.assigned.gpts;
-  processes = map (λ assigned. side_by some (domain_or_rest assigned)) policy.assigned.processes;
-  endpoints = map (λ assigned. side_by some (domain_or_rest assigned)) policy.assigned.endpoints;
+-- the cut between the objects of some domains and all others, with who may hold what is harmless across it. Both sides may
+-- hold SysCtl and KernLog.
+abbrev pub cut_between : PolicyValue → (ℕ → Bool) → (CutSide → Bool) → Cut
+cut_between policy some weakly = record {
+  side = λ kind n. side_if (some (domain_of policy kind n));
+  weakly = weakly;
+  halts = λ side. true;
+  logs = λ side. true;
 }
 
 -- "this domain, and all else": over the cut both may hold what is harmless
 abbrev pub domain_cut : PolicyValue → ℕ → Cut
-domain_cut policy a = record { sides = sides_by policy (λ b. b == a); weakly = λ side. true }
+domain_cut policy a = cut_between policy (λ b. b == a) (λ side. true)
 
--- the side of what a domain reads, itself included
-abbrev pub view_side : PolicyValue → ℕ → CutSide
-view_side policy a = side_by (sees policy a) a
-
--- "what this domain reads, and all else": all else may hold what is harmless to what it reads, and that nothing to all else
+-- "what this domain reads, itself included, and all else": all else may hold what is harmless to what it reads, and that
+-- nothing to all else
 abbrev pub view_cut : PolicyValue → ℕ → Cut
-view_cut policy a = record { sides = sides_by policy (sees policy a); weakly = λ side. not (same_side side (view_side policy a)) }
+view_cut policy a = cut_between policy (sees policy a) (λ side. same_side side Right)
 
 -- Two systems are the same for domain `a`: each object of a domain that it reads is the same, its age and state included;
 -- the same processes sleep on each process of such a domain, in the same order; and there are as many objects of each kind.
@@ -218,11 +208,11 @@ pub record SameFor (policy : PolicyValue) (a : ℕ) (w v : System) : Type 0 wher
 
 -- the turns of the processes of the domains that `a` reads, in a run of these events
 abbrev pub turns_for : PolicyValue → ℕ → State → List Event → List Turn
-turns_for policy a s es = turns (view_cut policy a) (view_side policy a) s es
+turns_for policy a s es = turns (view_cut policy a) Left s es
 
 -- what is told of these processes
 abbrev pub told_for : PolicyValue → ℕ → State → List Event → List Record
-told_for policy a s es = told (view_cut policy a) (view_side policy a) s es
+told_for policy a s es = told (view_cut policy a) Left s es
 
 -- two runs in which the same is told of what domain `a` reads, and which end in states that are the same for it
 pub record AlikeFor (policy : PolicyValue) (a : ℕ) (s t : State) (es fs : List Event) : Type 0 where
