@@ -5,6 +5,8 @@ use Rattle.listing_read.specs.declared.object_fault.CutFault.{CutFault}
 use Rattle.listing_read.specs.declared.object_fault.CutFault.TheVariants as cuts
 use Rattle.listing_read.specs.declared.object_fault.PolicyFault.{PolicyFault}
 use Rattle.listing_read.specs.declared.object_fault.PolicyFault.TheVariants as policies
+use Rattle.listing_read.specs.declared.object_fault.QuestionFault.{QuestionFault}
+use Rattle.listing_read.specs.declared.object_fault.QuestionFault.TheVariants as questions
 
 -- a fault of fields, as one of a line of a cut
 abbrev pub cut_fault : FieldFault → CutFault
@@ -19,3 +21,10 @@ policy_fault fields.BadValue = policies.BadValue
 policy_fault fields.BadNumber = policies.BadNumber
 policy_fault fields.NoObject = policies.NoObject
 policy_fault fields.BadOrder = policies.BadOrder
+
+-- a fault of fields, as one of a line of a question
+abbrev pub question_fault : FieldFault → QuestionFault
+question_fault fields.BadValue = questions.BadValue
+question_fault fields.BadNumber = questions.BadNumber
+question_fault fields.NoObject = questions.NoObject
+question_fault fields.BadOrder = questions.BadOrder

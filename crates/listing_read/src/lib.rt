@@ -23,7 +23,7 @@ mod typed;
 
 pub use fault::{Fault, ListingFault, ScheduleFault};
 pub use listing::{Listing, read_listing};
-pub use object_fault::{CutFault, FieldFault, PolicyFault};
+pub use object_fault::{CutFault, FieldFault, PolicyFault, QuestionFault};
 pub use page_bytes::PageBytes;
 pub use schedule::{Timed, read_event, read_eventless};
 pub use statement::Statement;

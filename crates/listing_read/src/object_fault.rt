@@ -1,4 +1,5 @@
-//! What can be wrong with a line behind a listing that names objects: of a cut, or of a policy.
+//! What can be wrong with a line behind a listing that names objects: of a cut, of a policy, or of a
+//! question.
 
 /// What is wrong with fields that name objects. Where several hold, the first of the line counts.
 #[derive(Clone, Copy)]
@@ -91,6 +92,61 @@ impl From<FieldFault> for PolicyFault {
             FieldFault::BadNumber => PolicyFault::BadNumber,
             FieldFault::NoObject => PolicyFault::NoObject,
             FieldFault::BadOrder => PolicyFault::BadOrder,
+        }
+    }
+}
+
+/// What is wrong with a line of a question. Where several hold, the first of the line counts.
+#[derive(Clone, Copy)]
+pub enum QuestionFault {
+    /// The line has more than 512 bytes.
+    LineTooLong,
+    /// A byte is neither a space nor a visible character of ASCII.
+    BadByte,
+    /// The first word is that of no line of a question.
+    UnknownQuestion,
+    /// What may come is neither `step` nor `tick`.
+    UnknownEvent,
+    /// The first word of an atom is that of none.
+    UnknownAtom,
+    /// The line, or an atom of it, has another number of words.
+    WrongWords,
+    /// A field is no number.
+    BadNumber,
+    /// The machine has no such hart.
+    NoHart,
+    /// The number of steps is not from 1 to 1,000,000.
+    BadRepeat,
+    /// A word is that of no kind of objects.
+    BadValue,
+    /// The machine has no object of this number.
+    NoObject,
+    /// A word is the name of no fault.
+    BadCode,
+    /// The last address stands before the first.
+    BadOrder,
+    /// The number is that of no register.
+    BadRegister,
+    /// The offset is behind the page's last, or no multiple of 4.
+    BadOffset,
+    /// No state would be kept.
+    BadLimit,
+    /// What is wrong with a line of the policy.
+    OfPolicy(PolicyFault),
+}
+
+impl From<FieldFault> for QuestionFault {
+    ghost use Rattle.std.specs.Prelude.{◌≡◌};
+    ghost use Rattle.listing_read.specs.ObjectFaults.{question_fault};
+
+    ghost from_gives = { λ fault e. e ≡ question_fault fault };
+
+    fn from(fault: FieldFault) -> QuestionFault {
+        match fault {
+            FieldFault::BadValue => QuestionFault::BadValue,
+            FieldFault::BadNumber => QuestionFault::BadNumber,
+            FieldFault::NoObject => QuestionFault::NoObject,
+            FieldFault::BadOrder => QuestionFault::BadOrder,
         }
     }
 }

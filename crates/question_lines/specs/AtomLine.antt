@@ -8,8 +8,8 @@ use Rattle.confine_check.specs.Fields.{kind_of}
 use Rattle.question.specs.declared.atom.Atom.{Atom}
 use Rattle.question.specs.declared.atom.Condition.{Condition}
 use Rattle.question.specs.declared.atom.Condition.TheVariants as conditions
-use Rattle.question_lines.specs.declared.fault.QuestionFault.{QuestionFault}
-use Rattle.question_lines.specs.declared.fault.QuestionFault.TheVariants.{UnknownAtom, WrongWords, BadOrder}
+use Rattle.listing_read.specs.declared.object_fault.QuestionFault.{QuestionFault}
+use Rattle.listing_read.specs.declared.object_fault.QuestionFault.TheVariants.{UnknownAtom, WrongWords, BadOrder}
 use Rattle.question_lines.specs.Faults.{as_question}
 use Rattle.question_lines.specs.Fields.{code_from, object_from, offset_from, register_from, value_from}
 

@@ -7,8 +7,8 @@ use Rattle.coy_text.specs.Numeral.{dec_of, hex_of}
 use Rattle.object_store.specs.declared.sizes.Sizes.{Sizes}
 use Rattle.object_store.specs.Sizes.{size_in}
 use Rattle.listing_read.specs.Faults.{◌>>=◌, ensured}
-use Rattle.question_lines.specs.declared.fault.QuestionFault.{QuestionFault}
-use Rattle.question_lines.specs.declared.fault.QuestionFault.TheVariants.{BadNumber, NoHart, BadRepeat, NoObject, BadCode, BadRegister, BadOffset, BadLimit}
+use Rattle.listing_read.specs.declared.object_fault.QuestionFault.{QuestionFault}
+use Rattle.listing_read.specs.declared.object_fault.QuestionFault.TheVariants.{BadNumber, NoHart, BadRepeat, NoObject, BadCode, BadRegister, BadOffset, BadLimit}
 
 -- a decimal number
 abbrev pub number_from : List ℕ → Result ℕ QuestionFault

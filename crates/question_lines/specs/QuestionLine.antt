@@ -15,8 +15,8 @@ use Rattle.question.specs.declared.choice.Choice.{Choice}
 use Rattle.question.specs.declared.choice.Choice.TheVariants.{Steps, Tick}
 use Rattle.question.specs.Choice.{IsChoiceOf}
 use Rattle.question.specs.Question.{IsPropertyOf, QuestionValue, property_of, with_choice, with_depth, with_property, with_states}
-use Rattle.question_lines.specs.declared.fault.QuestionFault.{QuestionFault}
-use Rattle.question_lines.specs.declared.fault.QuestionFault.TheVariants.{LineTooLong, BadByte, UnknownQuestion, UnknownEvent, WrongWords, OfPolicy}
+use Rattle.listing_read.specs.declared.object_fault.QuestionFault.{QuestionFault}
+use Rattle.listing_read.specs.declared.object_fault.QuestionFault.TheVariants.{LineTooLong, BadByte, UnknownQuestion, UnknownEvent, WrongWords, OfPolicy}
 use Rattle.question_lines.specs.declared.fault.Untaken.{Untaken}
 use Rattle.question_lines.specs.declared.fault.Untaken.TheVariants.{Refused, OutOfMemory}
 use Rattle.question_lines.specs.declared.said.Next.{Next}

@@ -8,8 +8,9 @@ ghost use Rattle.question_lines.specs.QuestionLine.{IsUntaken};
 
 use crate::atom_words::AtomWords;
 use crate::conditions::condition;
-use crate::fault::{QuestionFault, Untaken};
+use crate::fault::Untaken;
 use coy_text::{word, word_count, words_from};
+use listing_read::QuestionFault;
 use object_store::Sizes;
 use question::Atom;
 use std::alloc::Global;

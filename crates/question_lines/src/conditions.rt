@@ -4,14 +4,14 @@ ghost use Rattle.object_store.specs.Sizes.{size_in};
 ghost use Rattle.cap_format.specs.declared.kind.CapKind.TheVariants.{Process};
 ghost use Rattle.listing_read.specs.Faults.{ensured};
 ghost use Rattle.question.specs.Atom.{IsConditionOf};
-ghost use Rattle.question_lines.specs.declared.fault.QuestionFault.TheVariants.{WrongWords};
+ghost use Rattle.listing_read.specs.declared.object_fault.QuestionFault.TheVariants.{WrongWords};
 ghost use Rattle.question_lines.specs.AtomLine.{alone, condition_from, faulted_as, faulted_atom, holds_atom, last_from, pc_atom, process_condition, process_from, receiving_atom, reg_atom, running_atom, sleeps_atom, word_atom};
 
 use crate::atom_words::AtomWords;
-use crate::fault::QuestionFault;
 use crate::fields::{code, has_words, object, offset, register, value};
 use cap_format::CapKind;
 use confine_check::read_kind;
+use listing_read::QuestionFault;
 use object_store::Sizes;
 use question::Condition;
 

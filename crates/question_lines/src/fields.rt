@@ -2,13 +2,12 @@
 ghost use Rattle.std.specs.Prelude.{◌≡◌, ◌<◌, ◌≤◌, ◌+◌, ◌==◌, length, IfOk};
 ghost use Rattle.object_store.specs.Sizes.{size_in};
 ghost use Rattle.listing_read.specs.Faults.{ensured};
-ghost use Rattle.question_lines.specs.declared.fault.QuestionFault.TheVariants.{WrongWords};
+ghost use Rattle.listing_read.specs.declared.object_fault.QuestionFault.TheVariants.{WrongWords};
 ghost use Rattle.question_lines.specs.Fields.{code_from, hart_from, limit_from, number_from, object_from, offset_from, register_from, times_from, value_from};
 
-use crate::fault::QuestionFault;
 use cap_format::{CapKind, FaultCode};
 use coy_text::{read_dec, read_hex};
-use listing_read::size_of;
+use listing_read::{QuestionFault, size_of};
 use object_store::Sizes;
 
 /// There are so many words.

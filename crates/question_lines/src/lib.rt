@@ -13,6 +13,7 @@ mod fields;
 mod line;
 mod said;
 
-pub use fault::{QuestionFault, Untaken};
+pub use fault::Untaken;
 pub use line::read_question;
+pub use listing_read::QuestionFault;
 pub use said::Next;

@@ -3,16 +3,17 @@ ghost use Rattle.std.specs.Prelude.{◌≡◌, ◌≢◌, ◌<◌, ◌≤◌, �
 ghost use Rattle.coy_text.specs.Words.{words_of};
 ghost use Rattle.object_store.specs.declared.sizes.Sizes.{Sizes};
 ghost use Rattle.question.specs.Choice.{IsChoiceOf};
-ghost use Rattle.question_lines.specs.declared.fault.QuestionFault.TheVariants.{WrongWords};
+ghost use Rattle.listing_read.specs.declared.object_fault.QuestionFault.TheVariants.{WrongWords};
 ghost use Rattle.question_lines.specs.QuestionLine.{after_said, as_untaken, asks_line, choice_line, depth_line, end_line, is_of_policy, line_answer, line_policy, line_question, may_line, next_of, plain_line, policy_answered, question_line, said_by, states_line, step_line, tick_line, times_of, IsSaid, IsUntaken};
 ghost use Rattle.separation_lines.specs.PolicyLine.{policy_line, after_line as policy_after_line};
 
 use crate::atoms::atoms;
-use crate::fault::{QuestionFault, Untaken};
+use crate::fault::Untaken;
 use crate::fields::{hart, has_words, limit, number, times};
 use crate::said::{Next, Said};
 use coy_io::LINE_LIMIT;
 use coy_text::{is_skipped, is_visible, word, word_count, words_from};
+use listing_read::QuestionFault;
 use object_store::Sizes;
 use question::{Asks, Choice, Property, Question};
 use separation_lines::{Untaken as UntakenPolicy, read_policy};

@@ -2,7 +2,7 @@ use Rattle.std.proofs.Common.{◌≡◌, ◌∙◌, ◌==◌, Bool, true, false,
 use Rattle.std.proofs.lemmas.Bool.{eq-eqb, ne_eqb}
 use Rattle.coy_text.specs.Words.{words_of}
 use Rattle.question.specs.declared.atom.Atom.{Atom}
-use Rattle.question_lines.specs.declared.fault.QuestionFault.{QuestionFault}
+use Rattle.listing_read.specs.declared.object_fault.QuestionFault.{QuestionFault}
 use Rattle.question_lines.specs.AtomLine.{atoms_from}
 use Rattle.question_lines.specs.QuestionLine.{IsUntaken}
 use Rattle.question_lines.proofs.Parting.{atoms-pushed, atoms-untaken, behind}
