@@ -1,5 +1,5 @@
 -- What is written last: its exit, and why a call ends with it.
-use Rattle.std.proofs.Common.{◌≡◌, ◌≢◌, ◌∙◌, [], ℕ, List, Option, sym, ap, subst, true, false, arith}
+use Rattle.std.proofs.Common.{◌≡◌, ◌≢◌, ◌⊎◌, ◌∙◌, [], ℕ, List, Option, inl, inr, refl, sym, ap, subst, true, false, arith}
 use Rattle.std.proofs.lemmas.Option.{none-some}
 use Rattle.coy_io.specs.Causes.{Rose}
 use Rattle.coy_io.specs.Lines.{Part}
@@ -9,14 +9,30 @@ use Rattle.listing_read.specs.Statement.{ListingValue}
 use Rattle.listing_read.specs.declared.place.Place.TheVariants.{Header}
 use Rattle.courses.specs.Listed.{Behind, lines_course, listed_course}
 use Rattle.courses.specs.Course.{ComesTo, HasEntries, ends_in}
-use Rattle.courses.specs.Ending.{Output, Ends, HasCauses, told_end}
+use Rattle.courses.specs.Ending.{Output, Ends, HasCauses, IsGiven, told_end}
 use Rattle.courses.specs.Exit.{is_finished, status_of}
 use Rattle.courses.specs.declared.exit.Exit.{Exit}
-use Rattle.courses.specs.declared.exit.Exit.TheVariants.{ListingRefused, ReadFault, TooLong, WriteFault}
+use Rattle.courses.specs.declared.exit.Exit.TheVariants.{Crossings, Done, ListingRefused, Open, OutOfMemory, ReadFault, TooLong, Usage, Violated, WriteFault}
 
 -- exits with other numbers are others
 pub exits-differ : (a b : Exit) → (status_of a ≡ status_of b → ⊥) → a ≡ b → ⊥
 exits-differ a b other same = other (ap status_of same)
+
+-- an exit of a call that did all was given, and tells no usage
+pub finished-given : (e : Exit) → is_finished e ≡ true → IsGiven e
+finished-given Done done = record { read = λ bad. cc; write = λ bad. cc; memory = λ bad. cc }
+finished-given Crossings done = record { read = λ bad. cc; write = λ bad. cc; memory = λ bad. cc }
+finished-given Violated done = record { read = λ bad. cc; write = λ bad. cc; memory = λ bad. cc }
+finished-given Open done = record { read = λ bad. cc; write = λ bad. cc; memory = λ bad. cc }
+finished-given _ done = cc
+
+pub finished-form : (e : Exit) → is_finished e ≡ true → e ≢ Usage
+finished-form e done usage = let bad : true ≡ false = sym done ∙ ap is_finished usage in cc
+
+-- memory was wanting or not
+pub memory-or : (e : Exit) → (e ≡ OutOfMemory) ⊎ (e ≢ OutOfMemory)
+memory-or OutOfMemory = inl refl
+memory-or _ = inr (λ bad. cc)
 
 -- where reading failed, the source's count rose, and the sink's stayed
 pub read-causes : (unread unread' unwritten unwritten' : ℕ) (exit : Exit) → exit ≡ ReadFault → Rose unread unread' → unwritten' ≡ unwritten → HasCauses unread unread' unwritten unwritten' exit

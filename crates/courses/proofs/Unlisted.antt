@@ -14,7 +14,7 @@ use Rattle.kernel_core.specs.Outcome.{Touch}
 use Rattle.courses.specs.Course.{ComesTo, course_output, ends_in}
 use Rattle.courses.specs.Ending.{Concludes, EndsIn, IsGiven, Output, Outputs, told_end}
 use Rattle.courses.specs.Exit.{is_finished}
-use Rattle.courses.specs.Head.{EndsUnlisted}
+use Rattle.courses.specs.Head.{EndsUnlisted, MakesNone}
 use Rattle.courses.specs.Listed.{Behind, listed_course, lines_course}
 use Rattle.courses.specs.Stopped.{listing_exit}
 use Rattle.courses.specs.declared.exit.Exit.{Exit}
@@ -49,10 +49,16 @@ module _ {S K : Type 0} (held : S → Option (List ℕ)) (source_faults : S → 
       subst (ComesTo (taken out) (taken out') fetches fetches exit count) (sym (ap (listed_course behind) cause ∙ is behind))
       (comes-last (taken out) (taken out') (sink_faults out) (sink_faults out') fetches fetches exit count o e refl none)
 
+  -- known lines make none where the one that they make is none
+  unlisted-at : (listed : Listed) → MakesNone listed → (known : Option (List ℕ)) → IfSome known (λ bytes. listing_of Header 1 (parts_of bytes) ≡ listed)
+      → IfSome known (λ bytes. MakesNone (listing_of Header 1 (parts_of bytes)))
+  unlisted-at listed none None cause = tt
+  unlisted-at listed none (Some bytes) cause = subst MakesNone (sym cause) none
+
   -- a refusal was told
-  told : (listed : Listed) (o : Output) → ((behind : Behind) → listed_course behind listed ≡ ends_in o) → IsGiven o.exit → o.exit ≢ Usage → is_finished o.exit ≡ false
+  told : (listed : Listed) (o : Output) → MakesNone listed → ((behind : Behind) → listed_course behind listed ≡ ends_in o) → IsGiven o.exit → o.exit ≢ Usage → is_finished o.exit ≡ false
       → IfSome (held old) (λ bytes. listing_of Header 1 (parts_of bytes) ≡ listed) → EndsIn taken sink_faults out out' exit o → source_faults new ≡ source_faults old → Ends_here
-  told listed o is given form never cause e quiet =
+  told listed o none is given form never cause e quiet =
       let own : (x : Exit) → x ≢ WriteFault → exit ≡ x → o.exit ≡ x = ends-own _ _ _ _ exit o e in
       record {
         takes = λ behind count none fetches. record {
@@ -65,6 +71,7 @@ module _ {S K : Type 0} (held : S → Option (List ℕ)) (source_faults : S → 
           unspent = λ same. refl;
         };
         unfinished = by (is_finished exit) refl (ends-open _ _ _ _ exit o e never);
+        unlisted = λ read memory. unlisted-at listed none (held old) cause;
       }
     where
       by : (b : Bool) → is_finished exit ≡ b → (is_finished exit ≡ true → ⊥) → is_finished exit ≡ false
@@ -76,14 +83,14 @@ module _ {S K : Type 0} (held : S → Option (List ℕ)) (source_faults : S → 
       → (fault ≡ no_listing.ReadFault → GivesFront first reader (held old) (held new))
       → (fault ≡ no_listing.ReadFault → Rose (source_faults old) (source_faults new)) → (fault ≢ no_listing.ReadFault → source_faults new ≡ source_faults old) → Ends_here
   ends-unlisted (no_listing.Refused line fault) cause e front rose quiet =
-      told (Refused line fault) (told_end (ListingRefused line fault)) (λ behind. refl) (record { read = λ bad. cc; write = λ bad. cc; memory = λ bad. cc }) (λ bad. cc) refl
+      told (Refused line fault) (told_end (ListingRefused line fault)) tt (λ behind. refl) (record { read = λ bad. cc; write = λ bad. cc; memory = λ bad. cc }) (λ bad. cc) refl
       (refused (held old) (subst (λ reader. IsCause (no_listing.Refused line fault) Header (reader.number + 1) (ahead reader (held old))) starts cause)) e (quiet (λ same. cc))
     where
       refused : (known : Option (List ℕ)) → IsCause (no_listing.Refused line fault) Header 1 (ahead new_reader known) → IfSome known (λ bytes. listing_of Header 1 (parts_of bytes) ≡ Refused line fault)
       refused None cause = tt
       refused (Some bytes) cause = cause
   ends-unlisted no_listing.TooLong cause e front rose quiet =
-      told Past (told_end TooLong) (λ behind. refl) (record { read = λ bad. cc; write = λ bad. cc; memory = λ bad. cc }) (λ bad. cc) refl
+      told Past (told_end TooLong) tt (λ behind. refl) (record { read = λ bad. cc; write = λ bad. cc; memory = λ bad. cc }) (λ bad. cc) refl
       (past (held old) (subst (λ reader. IsCause no_listing.TooLong Header (reader.number + 1) (ahead reader (held old))) starts cause)) e (quiet (λ same. cc))
     where
       past : (known : Option (List ℕ)) → IsCause no_listing.TooLong Header 1 (ahead new_reader known) → IfSome known (λ bytes. listing_of Header 1 (parts_of bytes) ≡ Past)
@@ -103,6 +110,7 @@ module _ {S K : Type 0} (held : S → Option (List ℕ)) (source_faults : S → 
           unspent = λ memory. refl;
         };
         unfinished = refl;
+        unlisted = λ read memory. absurd (read refl);
       })
   ends-unlisted no_listing.OutOfMemory cause e front rose quiet =
       subst (λ x. EndsUnlisted held source_faults taken sink_faults old new out out' x) (sym e.0) (record {
@@ -116,4 +124,5 @@ module _ {S K : Type 0} (held : S → Option (List ℕ)) (source_faults : S → 
           unspent = λ memory. refl;
         };
         unfinished = refl;
+        unlisted = λ read memory. absurd (memory refl);
       })

@@ -4,10 +4,10 @@ use Rattle.std.specs.Io.KnownBytes.{Keeps, Appends}
 use Rattle.coy_io.specs.Causes.{Rose}
 use Rattle.coy_io.specs.Pieces.{AppendsSome}
 use Rattle.image_binary.specs.declared.fault.ImageWord.TheVariants.{Cut}
-use Rattle.courses.specs.Names.{fault_name, schedule_fault_name, image_word_name, cut_fault_name, policy_fault_name}
+use Rattle.courses.specs.Names.{fault_name, schedule_fault_name, image_word_name, cut_fault_name, policy_fault_name, question_fault_name}
 use Rattle.courses.specs.Exit.{is_finished}
 use Rattle.courses.specs.declared.exit.Exit.{Exit}
-use Rattle.courses.specs.declared.exit.Exit.TheVariants.{ListingRefused, ScheduleRefused, ReadFault, WriteFault, OutOfMemory, TooLong, ImageRefused, CutRefused, PolicyRefused}
+use Rattle.courses.specs.declared.exit.Exit.TheVariants.{ListingRefused, ScheduleRefused, ReadFault, WriteFault, OutOfMemory, TooLong, ImageRefused, CutRefused, PolicyRefused, QuestionRefused}
 
 -- a text and an exit
 pub record Output : Type 0 where
@@ -33,6 +33,7 @@ end_line (ListingRefused line fault) = refusal_text line (fault_name fault)
 end_line (ScheduleRefused line fault) = refusal_text line (schedule_fault_name fault)
 end_line (CutRefused line fault) = refusal_text line (cut_fault_name fault)
 end_line (PolicyRefused line fault) = refusal_text line (policy_fault_name fault)
+end_line (QuestionRefused line fault) = refusal_text line (question_fault_name fault)
 end_line (ImageRefused offset fault) = offset_text offset (image_word_name fault)
 end_line TooLong = codes "too long" ++ codes "\n"
 end_line _ = []

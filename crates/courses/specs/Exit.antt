@@ -1,7 +1,7 @@
 -- The programs' exits: their numbers, and those of a call that came to its end.
 use Rattle.std.specs.Prelude.{ℕ, Bool, true, false}
 use Rattle.courses.specs.declared.exit.Exit.{Exit}
-use Rattle.courses.specs.declared.exit.Exit.TheVariants.{Done, Usage, ListingRefused, ScheduleRefused, ReadFault, WriteFault, OutOfMemory, TooLong, ImageRefused, CutRefused, PolicyRefused, Crossings}
+use Rattle.courses.specs.declared.exit.Exit.TheVariants.{Done, Usage, ListingRefused, ScheduleRefused, ReadFault, WriteFault, OutOfMemory, TooLong, ImageRefused, CutRefused, PolicyRefused, Crossings, QuestionRefused, Violated, Open}
 
 -- the status with which the program ends
 abbrev pub status_of : Exit → ℕ
@@ -17,9 +17,14 @@ status_of (ImageRefused offset fault) = 8
 status_of (CutRefused line fault) = 9
 status_of (PolicyRefused line fault) = 9
 status_of Crossings = 10
+status_of (QuestionRefused line fault) = 9
+status_of Violated = 10
+status_of Open = 11
 
 -- whether all was done that was asked for, whatever is told of it: then the input was read to its end
 abbrev pub is_finished : Exit → Bool
 is_finished Done = true
 is_finished Crossings = true
+is_finished Violated = true
+is_finished Open = true
 is_finished _ = false

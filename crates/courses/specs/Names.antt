@@ -4,6 +4,8 @@ use Rattle.listing_read.specs.declared.object_fault.CutFault.{CutFault}
 use Rattle.listing_read.specs.declared.object_fault.CutFault.TheVariants as cuts
 use Rattle.listing_read.specs.declared.object_fault.PolicyFault.{PolicyFault}
 use Rattle.listing_read.specs.declared.object_fault.PolicyFault.TheVariants as policies
+use Rattle.listing_read.specs.declared.object_fault.QuestionFault.{QuestionFault}
+use Rattle.listing_read.specs.declared.object_fault.QuestionFault.TheVariants as questions
 use Rattle.image_binary.specs.declared.fault.ImageWord.{ImageWord}
 use Rattle.image_binary.specs.declared.fault.ImageWord.TheVariants as images
 use Rattle.listing_read.specs.declared.fault.Fault.{Fault}
@@ -36,6 +38,26 @@ policy_fault_name policies.NoObject = codes "NoObject"
 policy_fault_name policies.BadOrder = codes "BadOrder"
 policy_fault_name policies.Taken = codes "Taken"
 policy_fault_name policies.NoDomain = codes "NoDomain"
+
+-- a fault of a line of a question
+abbrev pub question_fault_name : QuestionFault → List ℕ
+question_fault_name questions.LineTooLong = codes "LineTooLong"
+question_fault_name questions.BadByte = codes "BadByte"
+question_fault_name questions.UnknownQuestion = codes "UnknownQuestion"
+question_fault_name questions.UnknownEvent = codes "UnknownEvent"
+question_fault_name questions.UnknownAtom = codes "UnknownAtom"
+question_fault_name questions.WrongWords = codes "WrongWords"
+question_fault_name questions.BadNumber = codes "BadNumber"
+question_fault_name questions.NoHart = codes "NoHart"
+question_fault_name questions.BadRepeat = codes "BadRepeat"
+question_fault_name questions.BadValue = codes "BadValue"
+question_fault_name questions.NoObject = codes "NoObject"
+question_fault_name questions.BadCode = codes "BadCode"
+question_fault_name questions.BadOrder = codes "BadOrder"
+question_fault_name questions.BadRegister = codes "BadRegister"
+question_fault_name questions.BadOffset = codes "BadOffset"
+question_fault_name questions.BadLimit = codes "BadLimit"
+question_fault_name (questions.OfPolicy fault) = policy_fault_name fault
 
 -- a fault of a listing
 abbrev pub fault_name : Fault → List ℕ

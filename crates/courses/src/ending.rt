@@ -1,13 +1,13 @@
 //! The last lines of the program.
 ghost use Rattle.std.specs.Prelude.{◌≡◌, ◌≤◌, [], length};
-ghost use Rattle.courses.specs.Names.{fault_name, schedule_fault_name, image_word_name, cut_fault_name, policy_fault_name};
+ghost use Rattle.courses.specs.Names.{fault_name, schedule_fault_name, image_word_name, cut_fault_name, policy_fault_name, question_fault_name};
 ghost use Rattle.courses.specs.Ending.{Concludes, EndsIn, IsGiven, offset_text, refusal_text};
 
 use crate::exit::Exit;
 use coy_io::{Sink, put_all};
 use coy_text::LineBuf;
 use image_binary::ImageWord;
-use listing_read::{CutFault, Fault, PolicyFault, ScheduleFault};
+use listing_read::{CutFault, Fault, PolicyFault, QuestionFault, ScheduleFault};
 
 /// Writes the last bytes of the program.
 pub fn end_with<K: Sink>(bytes: &[u8], exit: Exit, output: &mut K) -> Exit
@@ -32,11 +32,16 @@ pub fn conclude<K: Sink>(exit: Exit, output: &mut K) -> Exit
         }
         Exit::CutRefused { line, fault } => refuse(line, cut_fault_name(fault), exit, output),
         Exit::PolicyRefused { line, fault } => refuse(line, policy_fault_name(fault), exit, output),
+        Exit::QuestionRefused { line, fault } => {
+            refuse(line, question_fault_name(fault), exit, output)
+        }
         Exit::ImageRefused { offset, fault } => {
             refuse_at(offset, image_word_name(fault), exit, output)
         }
         Exit::TooLong => end_with(b"too long\n".as_slice(), exit, output),
-        Exit::Done | Exit::Usage | Exit::Crossings => end_with(b"".as_slice(), exit, output),
+        Exit::Done | Exit::Usage | Exit::Crossings | Exit::Violated | Exit::Open => {
+            end_with(b"".as_slice(), exit, output)
+        }
         Exit::ReadFault | Exit::WriteFault | Exit::OutOfMemory => exit,
     }
 }
@@ -172,5 +177,30 @@ fn policy_fault_name(fault: PolicyFault) -> &'static str
         PolicyFault::BadOrder => "BadOrder",
         PolicyFault::Taken => "Taken",
         PolicyFault::NoDomain => "NoDomain",
+    }
+}
+
+fn question_fault_name(fault: QuestionFault) -> &'static str
+    ensures name { result.now ≡ question_fault_name fault }
+    ensures short { length result.now ≤ 20 }
+{
+    match fault {
+        QuestionFault::LineTooLong => "LineTooLong",
+        QuestionFault::BadByte => "BadByte",
+        QuestionFault::UnknownQuestion => "UnknownQuestion",
+        QuestionFault::UnknownEvent => "UnknownEvent",
+        QuestionFault::UnknownAtom => "UnknownAtom",
+        QuestionFault::WrongWords => "WrongWords",
+        QuestionFault::BadNumber => "BadNumber",
+        QuestionFault::NoHart => "NoHart",
+        QuestionFault::BadRepeat => "BadRepeat",
+        QuestionFault::BadValue => "BadValue",
+        QuestionFault::NoObject => "NoObject",
+        QuestionFault::BadCode => "BadCode",
+        QuestionFault::BadOrder => "BadOrder",
+        QuestionFault::BadRegister => "BadRegister",
+        QuestionFault::BadOffset => "BadOffset",
+        QuestionFault::BadLimit => "BadLimit",
+        QuestionFault::OfPolicy(fault) => policy_fault_name(fault),
     }
 }

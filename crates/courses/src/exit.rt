@@ -4,7 +4,7 @@ ghost use Rattle.std.specs.Process.{exit_status};
 ghost use Rattle.courses.specs.Exit.{status_of};
 
 use image_binary::ImageWord;
-use listing_read::{CutFault, Fault, PolicyFault, ScheduleFault};
+use listing_read::{CutFault, Fault, PolicyFault, QuestionFault, ScheduleFault};
 use std::process::ExitCode;
 
 /// How the program ends.
@@ -34,6 +34,12 @@ pub enum Exit {
     PolicyRefused { line: u32, fault: PolicyFault },
     /// All was done, and crossings were told that the policy doesn't allow. `separation` alone ends so.
     Crossings,
+    /// A line of the question was refused, the first that has a fault. `explore` alone ends so.
+    QuestionRefused { line: u32, fault: QuestionFault },
+    /// All was done, and a state was told that isn't as the question says. `explore` alone ends so.
+    Violated,
+    /// All was done that a limit of the question let be done: states are left. `explore` alone ends so.
+    Open,
 }
 
 impl Exit {
@@ -54,6 +60,9 @@ impl Exit {
             Exit::CutRefused { .. } => 9,
             Exit::PolicyRefused { .. } => 9,
             Exit::Crossings => 10,
+            Exit::QuestionRefused { .. } => 9,
+            Exit::Violated => 10,
+            Exit::Open => 11,
         }
     }
 

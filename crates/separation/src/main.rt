@@ -19,28 +19,32 @@ use std::{env, io};
 use steps::{Permit, Steps};
 
 fn main(rt: HostRuntime) -> ExitCode {
-    let words: Result<Vec<String>, AllocError> = match env::args(&rt) {
+    exit_of(&rt).code()
+}
+
+/// Hands the words, standard input and standard output to the program. Nothing is known of what these give and take.
+fn exit_of(rt: &HostRuntime) -> Exit {
+    let words: Result<Vec<String>, AllocError> = match env::args(rt) {
         Ok(args) => args.skip(1).collect(rt.alloc()),
         Err(error) if error.kind() == ErrorKind::OutOfMemory => Err(AllocError),
         // A word that is not UTF-8 stands in no form, as an empty word does.
         Err(_) => one_word(rt.alloc()),
     };
     let Ok(words) = words else {
-        return Exit::OutOfMemory.code();
+        return Exit::OutOfMemory;
     };
-    let Ok(writer) = BufWriter::new(rt.alloc(), io::writer(&rt)) else {
-        return Exit::OutOfMemory.code();
+    let Ok(writer) = BufWriter::new(rt.alloc(), io::writer(rt)) else {
+        return Exit::OutOfMemory;
     };
     let mut input = ReadSource::new(rt.reader());
     let mut output = WriteSink::new(writer);
-    let exit = run_and_flush::<_, _, Brand>(
+    run_and_flush::<_, _, Brand>(
         rt.alloc(),
         words.as_slice(),
         &mut input,
         &mut output,
-        Permit::new(&rt),
-    );
-    exit.code()
+        Permit::new(rt),
+    )
 }
 
 /// One word, which is empty.

@@ -1,0 +1,5 @@
+pub mod Numbers
+mod Runs
+mod Safe
+mod Answered
+mod EveryEvent

@@ -1,0 +1,5 @@
+mod Stating
+mod Verdicts
+mod Setting
+mod Asking
+pub mod Called

@@ -1,0 +1,60 @@
+use Rattle.std.proofs.Common.{◌∙◌, ap, refl, sym}
+use Rattle.courses.specs.Course.{cached}
+use Rattle.courses.proofs.Taken.{takes-listing, takes-same}
+use Rattle.explore_program.specs.Stated.{first_asked}
+use Rattle.explore_program.specs.Told.{Answers, explore_course}
+use Rattle.explore_program.proofs.Called.{asks-bytes, asks-unlisted, of-listing, takes-none}
+use Rattle.explore_program.proofs.Setting.{nothing_told}
+use Rattle.explore_program.proofs.input.explore_input.Goals as goal
+
+-- there is no listing
+pub returns-in-Err : goal.returns-in-Err
+returns-in-Err g c =
+    let e = c.in-Err.ensures.ended in
+    record {
+      told = nothing_told;
+      finished = refl;
+      answers = λ read memory. asks-unlisted (λ asked s. Answers asked s nothing_told) _ (e.unlisted read memory);
+      so = e.takes (explore_course nothing_told) cached refl 0;
+    }
+
+-- or no memory for the machine or the question
+pub returns-in_default : goal.returns-in_default
+returns-in_default g c = record {
+  told = nothing_told;
+  finished = refl;
+  answers = λ read memory. absurd (memory refl);
+  so = takes-none g.S.Source.held g.S.Source.faults g.K.Sink.taken g.K.Sink.faults _ _ _ _ nothing_told c.in-Ok.ensures.silent c.in-Ok.ensures.quiet;
+}
+
+pub returns-in_default-new : goal.returns-in_default-new
+returns-in_default-new g c = record {
+  told = nothing_told;
+  finished = refl;
+  answers = λ read memory. absurd (memory refl);
+  so = takes-none g.S.Source.held g.S.Source.faults g.K.Sink.taken g.K.Sink.faults _ _ _ _ nothing_told c.in-Ok.ensures.silent c.in-Ok.ensures.quiet;
+}
+
+-- the machine has the sizes of the question
+pub ask_lines-requires-clause-sizes : goal.ask_lines-requires-clause-sizes
+ask_lines-requires-clause-sizes g c =
+    let start = c.in-Ok-new.ensures ∙ ap first_asked c.sizes.ensures.value in
+    ap (λ a. a.question.sizes) start ∙ sym c.in-Ok-boot.ensures.sizes
+
+pub returns : goal.returns
+returns g c =
+    let harts = ap (λ sizes. sizes.harts) c.in-Ok-boot.ensures.sizes in
+    let start = c.in-Ok-new.ensures ∙ ap first_asked c.sizes.ensures.value in
+    let t = c.ask_lines.ensures in
+    record {
+      told = t.told;
+      finished = t.finished;
+      answers = λ read memory.
+          asks-bytes c.in-Ok.listing _ _ _ _ c.in-Ok-boot.ensures.state harts start (λ asked s. Answers asked s t.told) _ _ c.new-lines.result c.read_head.new.lines refl
+          c.new-lines.ensures c.in-Ok.ensures.listed (t.answers read memory);
+      so =
+          takes-listing g.S.Source.held g.S.Source.faults g.K.Sink.taken g.K.Sink.faults c.new-lines.result c.read_head.new.lines _ c.in-Ok.listing _ _ _ _ _ _ 0 0 _ cached (explore_course t.told)
+          c.new-lines.ensures c.in-Ok.ensures.listed c.in-Ok.ensures.given c.in-Ok.ensures.silent c.in-Ok.ensures.quiet
+          (takes-same g.S.Source.held g.S.Source.faults g.K.Sink.taken g.K.Sink.faults _ _ _ _ _ _ 0 0 _ cached _ _
+          (of-listing c.in-Ok.listing _ _ _ _ c.in-Ok-boot.ensures.state harts start t.told) t.so);
+    }

@@ -1,0 +1,52 @@
+use Rattle.std.proofs.Common.{◌∙◌, ap, refl, sym}
+use Rattle.machine_state.specs.State.{state_of}
+use Rattle.courses.specs.Stopped.{replay_exit}
+use Rattle.courses.proofs.Rests.{run-ends}
+use Rattle.explore_program.specs.Told.{Answers}
+use Rattle.explore_program.proofs.Setting.{asks-ended, asks-stopped, from-start, no_write, nothing_told, schedule-ended, schedule-stopped}
+use Rattle.explore_program.proofs.setting_up.set_up.Goals as goal
+
+-- the machine that is explored has the sizes of the question
+pub answer-requires : goal.answer-requires
+answer-requires g c = c.requires.sizes ∙ sym c.replay-replayed.ensures.replays.ran.sizes
+
+pub returns-in-Ok : goal.returns-in-Ok
+returns-in-Ok g c =
+    let e = c.replay-replayed.ensures in
+    let m = c.args.machine in
+    let given = sym c.counts_or_exit.ensures ∙ c.in-Ok.is in
+    let t = c.answer.ensures.tells in
+    record {
+      told = t.told;
+      finished = t.finished;
+      answers = λ read memory.
+          asks-ended g.S.Source.held g.S.Source.faults g.K.Sink.taken g.K.Sink.faults c.args.asked.now (state_of m) m.objects.harts
+          c.args.lines.now c.replay-replayed.new.lines _ _ c.replay-replayed.new.output c.answer.new.output c.answer.result e.replays.events c.replay-replayed.result e.replays.follows
+          (λ asked s. Answers asked s t.told) c.in-Ok._counts given (state_of c.replay-replayed.new.machine) e.replays.ran.state (t.answers read memory);
+      so =
+          from-start g.S.Source.held g.S.Source.faults g.K.Sink.taken g.K.Sink.faults _ _ _ _ _ _ _ _ _ _ (e.silent refl)
+          (schedule-ended g.S.Source.held g.S.Source.faults g.K.Sink.taken g.K.Sink.faults c.args.asked.now (state_of m) m.objects.harts
+          c.args.lines.now c.replay-replayed.new.lines _ _ c.replay-replayed.new.output _ _ e.replays.events c.replay-replayed.result e.replays.follows t.told t.finished c.in-Ok._counts given
+          (e.reasons.read_quiet (λ same. let bad = sym given ∙ ap replay_exit same in cc)) (e.told c.requires.told (e.end c.in-Ok._counts (run-ends c.in-Ok._counts c.replay-replayed.result given)))
+          t.so c.answer.ensures.unwritten);
+    }
+
+pub returns-in-Err : goal.returns-in-Err
+returns-in-Err g c =
+    let e = c.replay-replayed.ensures in
+    let m = c.args.machine in
+    let given = sym c.counts_or_exit.ensures ∙ c.in-Err.is in
+    let whole = no_write (state_of m) _ _ e.replays.events c.replay-replayed.result e.replays.text in
+    record {
+      told = nothing_told;
+      finished = refl;
+      answers = λ read memory.
+          asks-stopped g.S.Source.held g.S.Source.faults g.K.Sink.taken g.K.Sink.faults c.args.asked.now (state_of m) m.objects.harts
+          c.args.lines.now c.replay-replayed.new.lines _ _ c.replay-replayed.new.output c.conclude.new.output c.conclude.result e.replays.events c.replay-replayed.result e.replays.follows
+          (λ asked s. Answers asked s nothing_told) c.in-Err.exit c.replay-replayed.result refl given whole c.conclude.ensures read;
+      so =
+          from-start g.S.Source.held g.S.Source.faults g.K.Sink.taken g.K.Sink.faults _ _ _ _ _ _ _ _ _ _ (e.silent refl)
+          (schedule-stopped g.S.Source.held g.S.Source.faults g.K.Sink.taken g.K.Sink.faults c.args.asked.now (state_of m) m.objects.harts
+          c.args.lines.now c.replay-replayed.new.lines _ _ c.replay-replayed.new.output _ _ e.replays.events c.replay-replayed.result e.replays.follows nothing_told refl c.in-Err.exit c.replay-replayed.result refl given
+          whole e.reasons.read e.reasons.read_quiet c.conclude.ensures);
+    }

@@ -1,0 +1,5 @@
+pub mod Stated
+pub mod Posed
+pub mod Told
+pub mod Program
+pub mod Theorem

@@ -1,0 +1,94 @@
+-- What the lines behind a listing state: a question with its policy, and the lines of a schedule behind it; or the first line
+-- that is refused (this project's own).
+use Rattle.std.specs.Prelude.{◌≡◌, ◌≢◌, ℕ, ◌+◌, false, List, [], ◌∷◌, Option, Some, None, Result, Ok, Err, ⊤}
+use Rattle.coy_io.specs.Lines.{Part, Line, LongLine, PastLimit}
+use Rattle.coy_io.specs.Reader.{Reader, ahead}
+use Rattle.object_store.specs.declared.sizes.Sizes.{Sizes}
+use Rattle.separation_policy.specs.Making.{first_policy}
+use Rattle.question.specs.Question.{nothing_asked}
+use Rattle.question_lines.specs.QuestionLine.{as_untaken, line_answer, line_policy, line_question}
+use Rattle.listing_read.specs.declared.object_fault.QuestionFault.{QuestionFault}
+use Rattle.listing_read.specs.declared.object_fault.QuestionFault.TheVariants.{LineTooLong}
+use Rattle.question_lines.specs.declared.fault.Untaken.{Untaken}
+use Rattle.question_lines.specs.declared.fault.Untaken.TheVariants.{Refused, OutOfMemory}
+use Rattle.question_lines.specs.declared.said.Next.{Next}
+use Rattle.question_lines.specs.declared.said.Next.TheVariants as nexts
+use Rattle.judged_lines.specs.declared.stop.Stop.{Stop}
+use Rattle.judged_lines.specs.declared.stop.Stop.TheVariants as stops
+use Rattle.courses.specs.declared.exit.Exit.{Exit}
+use Rattle.courses.specs.declared.exit.Exit.TheVariants as exits
+use Rattle.courses.specs.declared.exit.Exit.TheVariants.{QuestionRefused}
+use Rattle.schedule_replay.specs.Lines.{FailsOn, ReadsOn}
+use Rattle.schedule_replay.specs.Scheduled.{OnParts}
+use Rattle.explore_program.specs.declared.asked.Asked.{Asked}
+
+-- nothing is asked yet of a machine of these sizes
+abbrev pub first_asked : Sizes → Asked
+first_asked sizes = record { question = nothing_asked sizes; policy = first_policy sizes }
+
+-- what is asked after line `n`, as before where it is refused
+abbrev pub line_asked : Asked → ℕ → List ℕ → Asked
+line_asked asked n line = record { question = line_question asked.question n line; policy = line_policy asked.policy line }
+
+-- what line `n` is answered with
+abbrev pub answer_to : Asked → ℕ → List ℕ → Result Next QuestionFault
+answer_to asked n line = line_answer asked.policy asked.question n line
+
+-- what lines state: this question, with the number of its last line and the lines of the schedule behind it, which are none
+-- where no line `end` stands; or nothing, since a line is refused or the input goes on behind the last byte that is read
+pub data Stated : Type 0 where
+  States : (asked : Asked) (last : ℕ) (rest : List Part) → Stated
+  RefusedAt : (line : ℕ) (fault : QuestionFault) → Stated
+  PastEnd : Stated
+
+-- what line `n`, after which this is asked, states with the lines `rest` behind it: what these state, or where it ends the
+-- question that this is it
+abbrev pub stated_with : Asked → ℕ → List Part → Result Next QuestionFault → Stated → Stated
+stated_with asked n rest (Ok nexts.Question) behind = behind
+stated_with asked n rest (Ok nexts.Schedule) behind = States asked n rest
+stated_with asked n rest (Err fault) behind = RefusedAt n fault
+
+-- what the lines behind line `n` state, where those before asked this
+unfoldable pub stated : Asked → ℕ → List Part → Stated
+stated asked n [] = States asked n []
+stated asked n (LongLine ∷ parts) = RefusedAt (n + 1) LineTooLong
+stated asked n (PastLimit ∷ parts) = PastEnd
+stated asked n (Line line ∷ parts) =
+    stated_with (line_asked asked (n + 1) line) (n + 1) parts (answer_to asked (n + 1) line) (stated (line_asked asked (n + 1) line) (n + 1) parts)
+
+-- how line `n` is judged by itself: what is told of it, and what is asked after it, which is as before where memory is wanting
+pub record JudgesQuestionLine (n : ℕ) (asked : Asked) (line : List ℕ) (told : Result Next Untaken) (asked' : Asked) : Type 0 where
+  pub answer : told ≢ Err OutOfMemory → told ≡ as_untaken (answer_to asked n line)
+  pub after : told ≢ Err OutOfMemory → asked' ≡ line_asked asked n line
+  pub before : told ≡ Err OutOfMemory → asked' ≡ asked
+
+-- ---- lines as they are read
+
+-- the known lines state this question, the last line of it is this one, and these lines are left
+abbrev pub AreStated : Asked → ℕ → Option (List Part) → Asked → ℕ → Option (List Part) → Type 0
+AreStated first n None asked last left = ⊤
+AreStated first n (Some parts) asked last None = ⊥
+AreStated first n (Some parts) asked last (Some rest) = stated first n parts ≡ States asked last rest
+
+-- the question was read: it is stated by the known lines, and where the input goes on behind it, by those that were given,
+-- whatever follows
+pub record IsOver (first asked : Asked) (old new : Reader) (held held' : Option (List ℕ)) : Type 0 where
+  pub known : AreStated first old.number (ahead old held) asked new.number (ahead new held')
+  pub given : new.ended ≡ false → ReadsOn (stated first old.number) (States asked new.number) old new held held'
+
+-- the lines to come state this
+abbrev pub StateAll : Asked → Reader → Option (List ℕ) → Stated → Type 0
+StateAll first old held all = OnParts (ahead old held) (λ parts. stated first old.number parts ≡ all)
+
+-- what reading all lines came to, up to where they end
+abbrev pub StatesRest : Asked → Asked → Reader → Reader → Option (List ℕ) → Option (List ℕ) → Stop Untaken → Type 0
+StatesRest first asked old new held held' stops.End = IsOver first asked old new held held'
+StatesRest first asked old new held held' (stops.Refused line (Refused fault)) = StateAll first old held (RefusedAt line fault)
+StatesRest first asked old new held held' (stops.Refused line OutOfMemory) = ⊤
+StatesRest first asked old new held held' stops.TooLong = StateAll first old held PastEnd
+StatesRest first asked old new held held' stops.ReadFault = FailsOn (stated first old.number) (States asked new.number []) old new held held'
+
+-- the exit where a line of a question is not taken in
+abbrev pub untaken_exit : ℕ → Untaken → Exit
+untaken_exit line (Refused fault) = QuestionRefused line fault
+untaken_exit line OutOfMemory = exits.OutOfMemory

@@ -1,0 +1,98 @@
+//! A machine explored, and its answer told.
+ghost use Rattle.std.specs.Prelude.{◌≡◌, ◌≢◌};
+ghost use Rattle.object_store.specs.Store.{sizes_of};
+ghost use Rattle.machine_state.specs.State.{state_of};
+ghost use Rattle.courses.specs.Ending.{EndsIn};
+ghost use Rattle.explore_program.specs.Told.{Answers, Tells, exit_of, told_by, written_exit};
+
+use crate::asked::Asked;
+use breadth_first::{Explored, Watcher};
+use courses::Exit;
+use coy_io::{Sink, WriteFault};
+use exploration::{asking, explored_laws};
+use explored_text::put_explored;
+use machine_space::explore_machine;
+use machine_state::Machine;
+use question::Asks;
+use std::alloc::Global;
+use std::sync::ledger::Ledger;
+use steps::Steps;
+use walk_engine::Plain;
+
+/// Goes through the states that a machine can come to by the choices of a question, and tells its answer.
+pub(crate) fn answer<K: Sink, W: Watcher, L: Ledger>(
+    alloc: Global,
+    machine: Machine<Plain>,
+    asked: &Asked,
+    output: &mut K,
+    watcher: &mut W,
+    fetches: &mut Steps<L>,
+) -> Exit
+    requires { asked.now.question.sizes ≡ sizes_of machine.objects }
+    ensures tells { Tells result (Answers asked.now (state_of machine)) (λ told.
+        result ≢ Exit.OutOfMemory → EndsIn K.taken K.faults output.old output.new result told) }
+    ensures unwritten { result ≡ Exit.OutOfMemory → output.new ≡ output.old }
+{
+    explored_laws();
+    match explore_machine(
+        alloc,
+        machine,
+        &asked.question,
+        &asked.policy,
+        watcher,
+        fetches,
+    ) {
+        Ok(explored) => tell(alloc, asked, &explored, output),
+        Err(_) => Exit::OutOfMemory,
+    }
+}
+
+/// Tells an answer.
+fn tell<K: Sink>(alloc: Global, asked: &Asked, explored: &Explored, output: &mut K) -> Exit
+    ensures ends { result ≢ Exit.OutOfMemory → EndsIn K.taken K.faults output.old output.new result
+        (told_by asked.now explored.now) }
+    ensures unwritten { result ≡ Exit.OutOfMemory → output.new ≡ output.old }
+{
+    let question = &asked.question;
+    let properties = question.properties();
+    let Ok(choices) = question.choices(alloc) else {
+        return Exit::OutOfMemory;
+    };
+    let Ok(evers) = asking(alloc, properties, Asks::Ever) else {
+        return Exit::OutOfMemory;
+    };
+    let Ok(counted) = asking(alloc, properties, Asks::Count) else {
+        return Exit::OutOfMemory;
+    };
+    let written = put_explored(
+        properties,
+        choices.as_slice(),
+        evers.as_slice(),
+        counted.as_slice(),
+        explored,
+        output,
+    );
+    end_written(written, exit_of(explored))
+}
+
+/// How a call ends that was to end so once its text was written.
+fn end_written(written: Result<(), WriteFault>, exit: Exit) -> Exit
+    ensures { result ≡ written_exit exit written }
+{
+    match written {
+        Ok(()) => exit,
+        Err(_) => Exit::WriteFault,
+    }
+}
+
+/// How the program ends with an answer.
+fn exit_of(explored: &Explored) -> Exit
+    ensures { result ≡ exit_of explored.now }
+{
+    match explored {
+        Explored::Found { .. } => Exit::Violated,
+        Explored::Closed { lost: None, .. } => Exit::Done,
+        Explored::Closed { lost: Some(_), .. } => Exit::Violated,
+        Explored::Open { .. } => Exit::Open,
+    }
+}

@@ -1,0 +1,109 @@
+//! A listing, the lines of a question and a schedule, from the first line to the last.
+ghost use Rattle.std.specs.Prelude.{◌≡◌, false, IfSome};
+ghost use Rattle.coy_io.specs.Reader.{TellsEnd, ahead};
+ghost use Rattle.object_store.specs.Store.{sizes_of};
+ghost use Rattle.machine_state.specs.State.{state_of};
+ghost use Rattle.schedule_replay.specs.Scheduled.{OnParts};
+ghost use Rattle.courses.specs.Course.{cached, ends_in};
+ghost use Rattle.courses.specs.Stopped.{stop_exit};
+ghost use Rattle.courses.specs.Taken.{TakesLines, TakesListing};
+ghost use Rattle.explore_program.specs.Posed.{IfPosed, posed, posed_by};
+ghost use Rattle.explore_program.specs.Stated.{stated, untaken_exit};
+ghost use Rattle.explore_program.specs.Told.{Answers, Tells, explore_course, stated_output};
+
+use crate::asked::Asked;
+use crate::lines::read_questions;
+use crate::setting_up::set_up;
+use breadth_first::Watcher;
+use courses::{Exit, conclude, read_head};
+use coy_io::{LineReader, Sink, Source};
+use image_builder::boot;
+use judged_lines::Stop;
+use machine_state::Machine;
+use question_lines::Untaken;
+use std::alloc::Global;
+use std::sync::ledger::Ledger;
+use steps::Steps;
+use walk_engine::Plain;
+
+/// Reads a listing, the lines of a question and, behind a line `end`, a schedule, which sets the machine up: it is run without
+/// a word. Goes through the states to which the question's choices lead from there, and tells what that comes to.
+pub(crate) fn explore_input<S: Source, K: Sink, W: Watcher, L: Ledger>(
+    alloc: Global,
+    input: &mut S,
+    output: &mut K,
+    watcher: &mut W,
+    fetches: &mut Steps<L>,
+) -> Exit
+    ensures { Tells result
+        (λ told. IfSome (S.held input.old) (λ bytes. IfPosed (λ asked s. Answers asked s told) (posed bytes)))
+        (λ told. TakesListing S.held S.faults K.taken K.faults
+        input.old input.new output.old output.new 0 0 result cached (explore_course told)) }
+{
+    let mut lines = LineReader::new();
+    let listing = match read_head(alloc, &mut lines, input, output) {
+        Ok(listing) => listing,
+        Err(exit) => return exit,
+    };
+    let Ok(machine) = boot(alloc, &listing, Plain::new()) else {
+        return Exit::OutOfMemory;
+    };
+    let Ok(asked) = Asked::new(alloc, listing.sizes()) else {
+        return Exit::OutOfMemory;
+    };
+    ask_lines(
+        alloc, machine, asked, &mut lines, input, output, watcher, fetches,
+    )
+}
+
+/// Reads the lines of a question and of a schedule, and explores the machine behind them, or tells why they ended before.
+fn ask_lines<S: Source, K: Sink, W: Watcher, L: Ledger>(
+    alloc: Global,
+    machine: Machine<Plain>,
+    mut asked: Asked,
+    lines: &mut LineReader,
+    input: &mut S,
+    output: &mut K,
+    watcher: &mut W,
+    fetches: &mut Steps<L>,
+) -> Exit
+    requires reader { lines.old.failed ≡ false }
+    requires told { TellsEnd lines.old (S.held input.old) }
+    requires sizes { asked.question.sizes ≡ sizes_of machine.objects }
+    ensures { Tells result
+        (λ told. OnParts (ahead lines.old (S.held input.old)) (λ parts. IfPosed (λ asked s. Answers asked s told)
+        (posed_by (state_of machine) machine.objects.harts (stated asked lines.old.number parts))))
+        (λ told. TakesLines S.held S.faults K.taken K.faults lines.old lines.new
+        input.old input.new output.old output.new 0 0 result cached (λ parts.
+        ends_in (stated_output told machine.objects.harts (stated asked lines.old.number parts)))) }
+{
+    let stop = read_questions(alloc, lines, input, &mut asked);
+    match question_exit(stop) {
+        None => set_up(
+            alloc, machine, &asked, lines, input, output, watcher, fetches,
+        ),
+        Some(exit) => conclude(exit, output),
+    }
+}
+
+/// The exit of the lines of a question, or `None` where that is over.
+fn question_exit(stop: Stop<Untaken>) -> Option<Exit>
+    ensures { result ≡ stop_exit untaken_exit stop }
+{
+    match stop {
+        Stop::End => None,
+        Stop::Refused { line, fault } => Some(untaken_exit(line, fault)),
+        Stop::TooLong => Some(Exit::TooLong),
+        Stop::ReadFault => Some(Exit::ReadFault),
+    }
+}
+
+/// The exit where a line of a question is not taken in.
+fn untaken_exit(line: u32, fault: Untaken) -> Exit
+    ensures { result ≡ untaken_exit line fault }
+{
+    match fault {
+        Untaken::Refused(fault) => Exit::QuestionRefused { line, fault },
+        Untaken::OutOfMemory => Exit::OutOfMemory,
+    }
+}
