@@ -95,10 +95,10 @@ history-undos (suc n) room s events within =
 remembered-at : (s : State) (events : List Event) → remembered (history_at most_remembered s events) ≡ min most_remembered (length events)
 remembered-at s events = length-take most_remembered (states_before s events) ∙ ap (min most_remembered) (length-states_before s events)
 
--- what is written is the state before the events that are undone
-pub text-at : (number : ℕ) (s : State) (h : History) (events : List Event) → h ≡ history_at most_remembered s events
-    → text_of number h ≡ back_text (undone number events) (run_state s (events_left number events))
-text-at number s h events is =
+-- after as many undos as asked for and remembered, all but the last events are left
+pub undone-at : (number : ℕ) (s : State) (h : History) (events : List Event) → h ≡ history_at most_remembered s events
+    → (undos (min number (remembered h)) h).present ≡ run_state s (events_left number events)
+undone-at number s h events is =
     let n : ℕ = undone number events in
     let some : n ≤ min most_remembered (length events) = min-le_right number (min most_remembered (length events)) in
     let most : min most_remembered (length events) ≤ 256 = min-le_left most_remembered (length events) in
@@ -106,6 +106,17 @@ text-at number s h events is =
     let depth : most_remembered ≡ n + (256 - n) = omega (arith, some, most) in
     let back : undos n (history_at most_remembered s events) ≡ history_at (256 - n) s (events_left number events) =
     ap (λ k. undos n (history_at k s events)) depth ∙ history-undos n (256 - n) s events (omega (arith, some, within)) in
-    ap (text_of number) is
-    ∙ ap (λ k. back_text (min number k) (undos (min number k) (history_at most_remembered s events)).present) (remembered-at s events)
-    ∙ ap (λ (g : History). back_text n g.present) back
+    ap (λ (g : History). (undos (min number (remembered g)) g).present) is
+    ∙ ap (λ k. (undos (min number k) (history_at most_remembered s events)).present) (remembered-at s events)
+    ∙ ap (λ (g : History). g.present) back
+
+-- which are so many
+pub undone-count : (number : ℕ) (s : State) (h : History) (events : List Event) → h ≡ history_at most_remembered s events → min number (remembered h) ≡ undone number events
+undone-count number s h events is = ap (λ (g : History). min number (remembered g)) is ∙ ap (min number) (remembered-at s events)
+
+-- what is written is the state before the events that are undone
+pub text-at : (number : ℕ) (s : State) (h : History) (events : List Event) → h ≡ history_at most_remembered s events
+    → text_of number h ≡ back_text (undone number events) (run_state s (events_left number events))
+text-at number s h events is =
+    ap (λ k. back_text k (undos (min number (remembered h)) h).present) (undone-count number s h events is)
+    ∙ ap (back_text (undone number events)) (undone-at number s h events is)

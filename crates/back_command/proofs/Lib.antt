@@ -2,3 +2,4 @@ mod Histories
 mod Remembering
 mod Concluding
 mod Behind
+pub mod Slots

@@ -1,14 +1,22 @@
 //! A listing and its schedule, from the first line to the last.
-ghost use Rattle.std.specs.Prelude.{◌≡◌, ◌≢◌, [], false};
-ghost use Rattle.coy_io.specs.Reader.{TellsEnd};
+ghost use Rattle.std.specs.Prelude.{◌≡◌, ◌≢◌, ◌*◌, [], false, min, IfSome};
+ghost use Rattle.cap_format.specs.declared.kind.CapKind.TheVariants.{Gpt};
+ghost use Rattle.coy_io.specs.Lines.{parts_of};
+ghost use Rattle.coy_io.specs.Reader.{TellsEnd, ahead};
+ghost use Rattle.object_store.specs.Store.{size_of};
+ghost use Rattle.kernel_core.specs.Outcome.{spent};
+ghost use Rattle.listing_read.specs.Listing.{listing_of};
+ghost use Rattle.listing_read.specs.declared.place.Place.TheVariants.{Header};
 ghost use Rattle.machine_state.specs.State.{state_of};
-ghost use Rattle.reverse_run.specs.History.{history_of};
-ghost use Rattle.schedule_replay.specs.Scheduled.{scheduled};
+ghost use Rattle.reverse_run.specs.History.{history_of, remembered};
+ghost use Rattle.reverse_run.specs.Reads.{an_undo};
+ghost use Rattle.schedule_replay.specs.Scheduled.{OnParts, scheduled};
 ghost use Rattle.courses.specs.Course.{cached};
 ghost use Rattle.courses.specs.Ending.{EndsIn};
 ghost use Rattle.courses.specs.Taken.{TakesLines, TakesListing};
 ghost use Rattle.back_command.specs.Back.{back_course, undoing};
-ghost use Rattle.back_command.specs.Runs.{text_of};
+ghost use Rattle.back_command.specs.Runs.{text_of, undos};
+ghost use Rattle.back_command.specs.Slots.{FetchesBetween, FetchesListed, FetchesUndoing};
 
 use crate::DEPTH;
 use crate::running::run_lines;
@@ -26,8 +34,7 @@ use walk_engine::Translator;
 
 /// Reads a listing and its schedule, runs it without a word, undoes the last events, as many as asked for and no more than
 /// 256, and writes how many these were and the state before them.
-///
-/// Of the slots that it fetches nothing is claimed but where memory was wanting, since each event is walked ahead of as well.
+#[tactic(auto, using(crate::proofs::Slots::slots_wanting))]
 pub fn back<S: Source, K: Sink, L: Ledger>(
     alloc: Global,
     number: u32,
@@ -35,9 +42,11 @@ pub fn back<S: Source, K: Sink, L: Ledger>(
     output: &mut K,
     fetches: &mut Steps<L>,
 ) -> Exit
-    // What is done with the input, its slots left out.
+    // What is done with the input; how many slots are fetched is between bounds, since each event is walked ahead of as well.
     ensures course { TakesListing S.held S.faults K.taken K.faults
         input.old input.new output.old output.new 0 0 result cached (back_course number) }
+    ensures fetched { IfSome (S.held input.old) (λ bytes.
+        FetchesListed cached number fetches.old fetches.new result (listing_of Header 1 (parts_of bytes))) }
     ensures unspent { result ≡ Exit.OutOfMemory → fetches.new ≡ fetches.old }
 {
     let mut lines = LineReader::new();
@@ -75,6 +84,10 @@ fn answer_lines<T: Translator, S: Source, K: Sink, L: Ledger>(
         TakesLines S.held S.faults K.taken K.faults lines.old lines.new
         input.old input.new output.old output.new 0 0 result cached
         (λ parts. undoing number (state_of m) (scheduled m.objects.harts lines.old.number parts)) }
+    ensures fetched { let m = reversible.old.machine in
+        OnParts (ahead lines.old (S.held input.old)) (λ parts.
+        FetchesUndoing (λ touches. spent T.cost T.after T.without (T.kept m.translator) touches)
+        number (state_of m) fetches.old fetches.new result (scheduled m.objects.harts lines.old.number parts)) }
     ensures memory { result ≢ Exit.OutOfMemory }
 {
     let stop = run_lines(reversible, lines, input, fetches);
@@ -91,8 +104,11 @@ fn tell_undone<T: Translator, K: Sink, L: Ledger>(
     output: &mut K,
     fetches: &mut Steps<L>,
 ) -> Exit
-    ensures { EndsIn K.taken K.faults output.old output.new result
+    ensures ends { EndsIn K.taken K.faults output.old output.new result
         (record { text = text_of number (history_of reversible.old); exit = Exit.Done }) }
+    ensures fetched { let n = min number (remembered (history_of reversible.old)) in
+        let all = 16 * size_of (undos n (history_of reversible.old)).present.store.items Gpt in
+        FetchesBetween all (an_undo * n) fetches.old fetches.new result }
 {
     let count = undo_last(reversible, number, fetches);
     tell_state(count, reversible.machine(), output, fetches)

@@ -3,6 +3,7 @@ ghost use Rattle.std.specs.Prelude.{◌≡◌, ◌≢◌, [], true, false};
 ghost use Rattle.coy_io.specs.Causes.{Rose};
 ghost use Rattle.coy_io.specs.Reader.{TellsEnd};
 ghost use Rattle.machine_state.specs.State.{state_of};
+ghost use Rattle.kernel_core.specs.Outcome.{spent};
 ghost use Rattle.reverse_run.specs.History.{history_of};
 ghost use Rattle.judged_lines.specs.declared.stop.Stop.{Stop};
 ghost use Rattle.back_command.specs.Runs.{RunsLines};
@@ -28,8 +29,9 @@ pub(crate) fn run_lines<T: Translator, S: Source, L: Ledger>(
     requires none { (history_of reversible.old).before ≡ [] }
     requires depth { reversible.old.depth ≡ DEPTH }
     ensures runs { let m = reversible.old.machine in
-        RunsLines m.objects.harts (state_of m) (history_of reversible.new)
-        lines.old lines.new (S.held source.old) (S.held source.new) result }
+        RunsLines m.objects.harts (state_of m)
+        (λ touches. spent T.cost T.after T.without (T.kept m.translator) touches) (history_of reversible.new)
+        lines.old lines.new (S.held source.old) (S.held source.new) fetches.old fetches.new result }
     ensures told { TellsEnd lines.old (S.held source.old) → TellsEnd lines.new (S.held source.new) }
     ensures end { result ≡ Stop.End → lines.new.ended ≡ true }
     ensures read { result ≡ Stop.ReadFault → Rose (S.faults source.old) (S.faults source.new) }

@@ -1,8 +1,11 @@
 //! What is written last: how many events were undone, and the state before them.
+ghost use Rattle.std.specs.Prelude.{◌≡◌, ◌≤◌, ◌+◌, ◌*◌, OnOk};
+ghost use Rattle.cap_format.specs.declared.kind.CapKind.TheVariants.{Gpt};
 ghost use Rattle.coy_io.specs.Causes.{HasCause};
+ghost use Rattle.object_store.specs.Store.{size_of};
 ghost use Rattle.kernel_core.specs.State.{state_of};
 ghost use Rattle.coy_io.specs.Written.{Writes};
-ghost use Rattle.courses.specs.Ending.{EndsIn};
+ghost use Rattle.courses.specs.Ending.{EndsIn, Fetches};
 ghost use Rattle.back_command.specs.Back.{back_text, count_text};
 
 use courses::Exit;
@@ -21,8 +24,10 @@ pub(crate) fn tell_state<T: Translator, K: Sink, L: Ledger>(
     output: &mut K,
     fetches: &mut Steps<L>,
 ) -> Exit
-    ensures { let text = back_text count (state_of machine.now) in
+    ensures ends { let text = back_text count (state_of machine.now) in
         EndsIn K.taken K.faults output.old output.new result (record { text = text; exit = Exit.Done }) }
+    ensures fetched { let all = 16 * size_of (state_of machine.now).store.items Gpt in
+        Fetches fetches.old fetches.new result all }
 {
     match put_state(count, machine, output, fetches) {
         Ok(()) => Exit::Done,
@@ -40,6 +45,9 @@ fn put_state<T: Translator, K: Sink, L: Ledger>(
     ensures text { let text = back_text count (state_of machine.now) in
         Writes (K.taken output.old) (K.taken output.new) result text }
     ensures cause { HasCause (K.faults output.old) (K.faults output.new) result }
+    ensures counted { OnOk result
+        (fetches.new ≡ fetches.old + 16 * size_of machine.now.objects.items Gpt) }
+    ensures most { fetches.new ≤ fetches.old + 16 * size_of machine.now.objects.items Gpt }
 {
     put_count(count, output)?;
     dump(machine, output, fetches)

@@ -1,6 +1,7 @@
 //! The last events of a run, undone one after the other.
-ghost use Rattle.std.specs.Prelude.{◌≡◌, min};
+ghost use Rattle.std.specs.Prelude.{◌≡◌, ◌≤◌, ◌+◌, ◌*◌, min};
 ghost use Rattle.reverse_run.specs.History.{history_of, remembered};
+ghost use Rattle.reverse_run.specs.Reads.{an_undo};
 ghost use Rattle.back_command.specs.Runs.{undos};
 
 use reverse_run::Reversible;
@@ -16,6 +17,8 @@ pub(crate) fn undo_last<T: Translator, L: Ledger>(
 ) -> u16
     ensures count { result ≡ min number (remembered (history_of reversible.old)) }
     ensures after { history_of reversible.new ≡ undos result (history_of reversible.old) }
+    ensures least { fetches.old ≤ fetches.new }
+    ensures most { fetches.new ≤ fetches.old + an_undo * result }
 {
     let count = smaller(number, reversible.remembered());
     'each: for n in 0..count {

@@ -1,3 +1,2 @@
 mod Keeping
 pub mod Unwinding
-mod Called

@@ -1,12 +1,8 @@
--- The history of a machine, and what a list of calls makes of it. (This project's.)
-use Rattle.std.specs.Prelude.{ℕ, ◌<◌, Bool, true, false, List, [], ◌∷◌, map, take, length}
+-- The history of a machine, and what an event and an undo make of it. (This project's.)
+use Rattle.std.specs.Prelude.{ℕ, Bool, true, false, List, [], ◌∷◌, map, take, length}
 use Rattle.machine_state.specs.declared.event.Event.{Event}
-use Rattle.machine_state.specs.declared.record.Record.{Record}
-use Rattle.machine_state.specs.Machine.{hart_in}
 use Rattle.machine_state.specs.State.{State, state_of}
 use Rattle.kernel_core.specs.Event.{event_of}
-use Rattle.reverse_run.specs.declared.calls.Call.{Call}
-use Rattle.reverse_run.specs.declared.calls.Call.TheVariants.{Perform, Undo}
 use Rattle.reverse_run.specs.Moments.{ReversibleValue, state_at, moments_of}
 
 -- the present state, and the states before each event that is remembered, the latest first
@@ -39,38 +35,6 @@ after_undo h = back_to h.present h.before
 abbrev pub can_undo : List State → Bool
 can_undo [] = false
 can_undo (t ∷ ts) = true
-
--- ---- calls
-
--- what a call answers: the records of an event, or whether an event was undone
-pub data Answer : Type 0 where
-  Told : List Record → Answer
-  Undone : Bool → Answer
-
--- the history after a call
-abbrev pub after_call : ℕ → History → Call → History
-after_call depth h (Perform e) = after_event depth h e
-after_call depth h Undo = after_undo h
-
--- what a call answers
-abbrev pub answer_of : History → Call → Answer
-answer_of h (Perform e) = Told (event_of h.present e).records
-answer_of h Undo = Undone (can_undo h.before)
-
--- the history after calls, one after the other
-unfoldable pub history_after : ℕ → History → List Call → History
-history_after depth h [] = h
-history_after depth h (call ∷ calls) = history_after depth (after_call depth h call) calls
-
--- what they answer, in their order
-unfoldable pub answers : ℕ → History → List Call → List Answer
-answers depth h [] = []
-answers depth h (call ∷ calls) = answer_of h call ∷ answers depth (after_call depth h call) calls
-
--- the event of a call, if it is one, is of one of so many harts
-abbrev pub IsOfHart : ℕ → Call → Type 0
-IsOfHart harts (Perform e) = hart_in e < harts
-IsOfHart harts Undo = Unit {0}
 
 -- the history of a machine of which pasts are kept
 abbrev pub history_of : {T : Type 0} → ReversibleValue T → History

@@ -1,13 +1,8 @@
 -- How many slots of GPTs are read at most to remember an event, and to undo it. (This project's.)
-use Rattle.std.specs.Prelude.{ℕ, ◌+◌, ◌≤◌, List, []}
+use Rattle.std.specs.Prelude.{ℕ, ◌+◌, ◌≤◌}
 use Rattle.cap_format.specs.declared.kind.CapKind.TheVariants.{Gpt}
 use Rattle.object_store.specs.Saved.{slots_copied}
-use Rattle.machine_state.specs.Outcome.{Touch}
-use Rattle.machine_state.specs.State.{State}
-use Rattle.kernel_core.specs.Event.{event_of}
 use Rattle.event_reach.specs.Reads.{an_instruction, a_plain_look}
-use Rattle.reverse_run.specs.declared.calls.Call.{Call}
-use Rattle.reverse_run.specs.declared.calls.Call.TheVariants.{Perform, Undo}
 
 -- by a copy of a GPT; a copy of any other object reads none
 abbrev pub a_copy : ℕ
@@ -29,15 +24,3 @@ an_undo = a_copy
 pub record FetchesWithin (own beside fetches fetches' : ℕ) : Type 0 where
   pub least : fetches + own ≤ fetches'
   pub most : fetches' ≤ fetches + own + beside
-
--- ---- calls
-
--- for a call, besides what its event fetches
-abbrev pub reads_of : Call → ℕ
-reads_of (Perform e) = a_memento
-reads_of Undo = an_undo
-
--- the touches of a call's event
-abbrev pub touches_of : State → Call → List Touch
-touches_of s (Perform e) = (event_of s e).touches
-touches_of s Undo = []

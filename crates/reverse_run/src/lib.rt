@@ -4,14 +4,10 @@
 //! events. Nothing here knows of texts, or of how an event finds what it changes.
 #![tactic(auto)]
 
-mod calls;
 mod memento;
 mod pasts;
 mod remembering;
 mod reversible;
-mod runs;
 
-pub use calls::Call;
 pub use remembering::remember;
 pub use reversible::Reversible;
-pub use runs::{Listener, run};

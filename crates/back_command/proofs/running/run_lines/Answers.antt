@@ -6,7 +6,7 @@ use Rattle.back_command.proofs.running.run_lines.Goals as goal
 
 pub each-init : goal.each-init
 each-init g c = record {
-  so_far = so_far-start _ _ _ _ _ refl c.requires.none;
+  so_far = so_far-start g.T.Translator.cost g.T.Translator.after g.T.Translator.without _ _ _ _ _ _ _ refl c.requires.none;
   harts = ap (λ sizes. sizes.harts) c.sizes-harts.ensures.value ∙ ap (λ objects. objects.harts) c.objects.ensures ∙ ap (λ machine. machine.objects.harts) c.machine.ensures;
   same = refl;
   depth = c.requires.depth;
@@ -24,7 +24,7 @@ each-preserved-in-Some g c =
     let few = i.few in
     let size = ap length split in
     record {
-      so_far = so_far-event _ _ _ _ _ _ _ _ _ c.in-Some.event _ _ i.depth split i.so_far c.event_into.ensures.history;
+      so_far = so_far-event g.T.Translator.cost g.T.Translator.after g.T.Translator.without _ _ _ _ _ _ _ _ _ _ _ _ _ c.in-Some.event _ _ _ _ _ i.depth split i.so_far c.event_into.ensures.history refl c.event_into.ensures.kept c.event_into.ensures.fetched;
       harts = i.harts;
       same = c.event_into.ensures.harts ∙ i.same;
       depth = c.event_into.ensures.depth ∙ i.depth;
@@ -41,7 +41,7 @@ each-preserved g c =
     let e = c.in-Ok.ensures in
     let same = c.new-left.ensures.value in
     record {
-      so_far = so_far-read _ _ _ _ _ _ _ _ _ c.sizes-harts.result.harts _ _ _ c.in-None.ensures.0 i.harts i.so_far e.next same;
+      so_far = so_far-read g.T.Translator.cost g.T.Translator.after g.T.Translator.without _ _ _ _ _ _ _ _ _ _ _ _ _ c.sizes-harts.result.harts _ _ _ c.in-None.ensures.0 i.harts i.so_far e.next same;
       harts = i.harts;
       same = i.same;
       depth = i.depth;
@@ -54,4 +54,4 @@ each-preserved g c =
 
 pub returns-in-Err-clause-runs : goal.returns-in-Err-clause-runs
 returns-in-Err-clause-runs g c =
-    runs-stop _ _ _ _ _ _ _ _ _ c.sizes-harts.result.harts c.in-Err.stop _ c.in-None.ensures.0 c.each.invariant.harts c.each.invariant.so_far c.in-Err.ensures.next
+    runs-stop g.T.Translator.cost g.T.Translator.after g.T.Translator.without _ _ _ _ _ _ _ _ _ _ _ _ _ c.sizes-harts.result.harts c.in-Err.stop _ c.in-None.ensures.0 c.each.invariant.harts c.each.invariant.so_far c.in-Err.ensures.next

@@ -9,8 +9,9 @@ use Rattle.back_command.proofs.running.run_lines.Given as goal
 
 abbrev pub invariant-each : goal.invariant-each
 invariant-each g l = record {
-  so_far : SoFar l.fn.reversible.machine.objects.harts (state_of l.fn.reversible.machine) l.fn.lines (g.S.Source.held l.fn.source)
-      (history_of l.reversible) l.lines (g.S.Source.held l.source) (left l.left);
+  so_far : SoFar g.T.Translator.cost g.T.Translator.after g.T.Translator.without (g.T.Translator.kept l.fn.reversible.machine.translator)
+      l.fn.reversible.machine.objects.harts (state_of l.fn.reversible.machine) l.fn.lines (g.S.Source.held l.fn.source) l.fn.fetches
+      (history_of l.reversible) l.lines (g.S.Source.held l.source) (left l.left) (g.T.Translator.kept l.reversible.machine.translator) l.fetches;
   harts : l.harts ≡ l.fn.reversible.machine.objects.harts;
   same : l.reversible.machine.objects.harts ≡ l.fn.reversible.machine.objects.harts;
   depth : l.reversible.depth ≡ most_remembered;
