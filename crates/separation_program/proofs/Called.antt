@@ -30,7 +30,7 @@ use Rattle.separation_program.specs.declared.words.Asked.{Asked}
 use Rattle.separation_program.specs.Stated.{PastEnd, RefusedAt, Stated, States, stated}
 use Rattle.separation_program.specs.Theorem.{IsExact, IsSeparated, IsViolated, TellsOf}
 use Rattle.separation_program.specs.declared.words.Asked.TheVariants.{Help, Judge}
-use Rattle.separation_program.proofs.Verdicts.{told-finished}
+use Rattle.separation_program.proofs.Verdicts.{told-finished, told-verdict}
 
 module _ (listing : ListingValue) (last : ℕ) (s : State) (harts : ℕ) (policy : PolicyValue)
     (state : s ≡ booted listing) (sizes : harts ≡ listing.sizes.harts) (start : policy ≡ first_policy listing.sizes) where
@@ -59,15 +59,29 @@ told-of : (P : PolicyValue → State → Type 0) (exit : Exit) (o : Option Judge
 told-of P exit None follows t = t
 told-of P exit (Some j) follows t = follows j.policy j.state t
 
--- a call that did all ended as done or told crossings
-finished-or : (exit : Exit) → is_finished exit ≡ true → (exit ≡ Done) ⊎ (exit ≡ Crossings)
-finished-or Done done = inl refl
-finished-or Crossings done = inr refl
-finished-or _ done = cc
+-- what is written where all was done tells that the policy holds, or crossings
+abbrev IsVerdict : Exit → Type 0
+IsVerdict exit = (exit ≡ Done) ⊎ (exit ≡ Crossings)
 
-exact-told : (exit : Exit) (o : Option Judged) → is_finished exit ≡ true → HasJudged (TellsOf exit) o → IsExact exit o
-exact-told exit None done t = tt
-exact-told exit (Some j) done t = (λ is. (t.separated is).holds, λ holds. by (finished-or exit done) holds)
+verdict-ended : (policy : PolicyValue) (s : State) (ending : Ending) → is_finished (ended_output policy s ending).exit ≡ true → IsVerdict (ended_output policy s ending).exit
+verdict-ended policy s AtEnd done = told-verdict policy s
+verdict-ended policy s (AtFault line fault) done = cc
+verdict-ended policy s AtLimit done = cc
+
+verdict-stated : (s : State) (harts : ℕ) (all : Stated) → is_finished (stated_output s harts all).exit ≡ true → IsVerdict (stated_output s harts all).exit
+verdict-stated s harts (States policy last rest) done =
+    let all : Scheduled = scheduled harts last rest in verdict-ended policy (run_state s all.events) all.ending done
+verdict-stated s harts (RefusedAt line fault) done = cc
+verdict-stated s harts PastEnd done = cc
+
+verdict-listed : (listed : Listed) → is_finished (listed_course separation_course listed).last.exit ≡ true → IsVerdict (listed_course separation_course listed).last.exit
+verdict-listed (Good listing last rest) done = verdict-stated (booted listing) listing.sizes.harts (stated (first_policy listing.sizes) last rest) done
+verdict-listed (Refused line fault) done = cc
+verdict-listed Past done = cc
+
+exact-told : (exit : Exit) (o : Option Judged) → IsVerdict exit → HasJudged (TellsOf exit) o → IsExact exit o
+exact-told exit None verdict t = tt
+exact-told exit (Some j) verdict t = (λ is. (t.separated is).holds, λ holds. by verdict holds)
   where
     by : (exit ≡ Done) ⊎ (exit ≡ Crossings) → PolicyHolds j.policy (system_of j.state) → exit ≡ Done
     by (inl is) holds = is
@@ -102,7 +116,10 @@ judges-call words (Some bytes) taken taken' exit comes tells = record {
 }
   where
     by : IsGiven exit → (b : Bool) → is_finished exit ≡ b → IsExact exit (judged bytes)
-    by given true is = exact-told exit (judged bytes) is (tells is)
+    by given true is =
+        let own = (comes.output.whole given).0 in
+        exact-told exit (judged bytes)
+        (subst IsVerdict (sym own) (verdict-listed (listing_of Header 1 (parts_of bytes)) (ap is_finished (sym own) ∙ is))) (tells is)
     by given false is =
         let own = (comes.output.whole given).0 in
         exact-listed exit (listing_of Header 1 (parts_of bytes)) (ap is_finished (sym own) ∙ is)

@@ -32,7 +32,8 @@ use Rattle.courses.proofs.Concluding.{Did, takes-wanting}
 use Rattle.courses.proofs.Rests.{TellsAlone, at, follows-rest, run-ends, stop-ended, stop-stopped}
 use Rattle.separation_program.specs.Judged.{HasJudged, judged_at, judged_of, judging}
 use Rattle.separation_program.specs.Text.{told}
-use Rattle.separation_program.proofs.Verdicts.{finished-form, finished-given, memory-or, told-finished}
+use Rattle.courses.proofs.Lasts.{finished-form, finished-given, memory-or}
+use Rattle.separation_program.proofs.Verdicts.{told-finished}
 
 -- where lines of a schedule are not all read, no more is told than why
 tells : (policy : PolicyValue) (start : State) (events : List Event)

@@ -8,26 +8,11 @@ use Rattle.separation_check.specs.Marks.{marks_in}
 use Rattle.separation_check.specs.declared.marks.Marks.{Marks}
 use Rattle.separation_check.specs.declared.crossing.Crossing.{Crossing}
 use Rattle.separation_check.specs.declared.crossing.Crossing.TheVariants as crossings
-use Rattle.courses.specs.Ending.{IsGiven}
 use Rattle.courses.specs.Exit.{is_finished}
 use Rattle.courses.specs.declared.exit.Exit.{Exit}
-use Rattle.courses.specs.declared.exit.Exit.TheVariants.{Done, Crossings, OutOfMemory, Usage}
+use Rattle.courses.specs.declared.exit.Exit.TheVariants.{Done, Crossings, OutOfMemory}
 use Rattle.courses.proofs.Lasts.{exits-differ}
 use Rattle.separation_program.specs.Text.{crossing_text, crossings_text, head_text, told, told_by, total_text}
-
--- an exit of a call that did all was given, and tells no usage
-pub finished-given : (e : Exit) → is_finished e ≡ true → IsGiven e
-finished-given Done done = record { read = λ bad. cc; write = λ bad. cc; memory = λ bad. cc }
-finished-given Crossings done = record { read = λ bad. cc; write = λ bad. cc; memory = λ bad. cc }
-finished-given _ done = cc
-
-pub finished-form : (e : Exit) → is_finished e ≡ true → e ≢ Usage
-finished-form e done usage = let bad : true ≡ false = sym done ∙ ap is_finished usage in cc
-
--- memory was wanting or not
-pub memory-or : (e : Exit) → (e ≡ OutOfMemory) ⊎ (e ≢ OutOfMemory)
-memory-or OutOfMemory = inl refl
-memory-or _ = inr (λ bad. cc)
 
 module _ (policy : PolicyValue) (s : State) where
   -- what is told of a state that was judged is of a call that did all
@@ -37,6 +22,14 @@ module _ (policy : PolicyValue) (s : State) where
       by : (found : List Crossing) → is_finished (told_by policy (marks_in policy s) found).exit ≡ true
       by [] = refl
       by (first ∷ rest) = refl
+
+  -- and it is that the policy holds, or crossings
+  pub told-verdict : ((told policy s).exit ≡ Done) ⊎ ((told policy s).exit ≡ Crossings)
+  told-verdict = by (crossings_in policy s)
+    where
+      by : (found : List Crossing) → ((told_by policy (marks_in policy s) found).exit ≡ Done) ⊎ ((told_by policy (marks_in policy s) found).exit ≡ Crossings)
+      by [] = inl refl
+      by (first ∷ rest) = inr refl
 
   -- the same is told of a crossing and of what it means
   text-meant : (crossing : Crossing) → crossing_text policy crossing ≡ crossing_text policy (meant_crossing crossing)

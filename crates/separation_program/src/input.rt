@@ -17,13 +17,14 @@ use courses::{Exit, conclude, read_head};
 use coy_io::{LineReader, Sink, Source};
 use image_builder::boot;
 use judged_lines::Stop;
+use kept_pages::PageTranslator;
 use kernel_core::Machine;
 use separation_lines::Untaken;
 use separation_policy::Policy;
 use std::alloc::Global;
 use std::sync::ledger::Ledger;
 use steps::Steps;
-use walk_engine::{Plain, Translator};
+use walk_engine::Plain;
 
 /// Reads a listing, the lines of a policy and, behind a line `end`, a schedule, which sets the system up: it is run without
 /// a word, each access walked afresh. Tells of the state behind it that the policy holds, or every crossing.
@@ -64,7 +65,7 @@ pub(crate) fn separate<S: Source, K: Sink, L: Ledger>(
 }
 
 /// Reads the lines of a policy and of a schedule, and judges the machine behind them, or tells why they ended before.
-fn judge_lines<T: Translator, S: Source, K: Sink, L: Ledger>(
+fn judge_lines<T: PageTranslator, S: Source, K: Sink, L: Ledger>(
     alloc: Global,
     machine: &mut Machine<T>,
     policy: &mut Policy,

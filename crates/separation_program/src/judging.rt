@@ -16,6 +16,7 @@ use crate::crossing::put_crossings;
 use crate::telling::put_separated;
 use courses::{Exit, conclude, counts_or_exit};
 use coy_io::{LineReader, Sink, Source};
+use kept_pages::PageTranslator;
 use kernel_core::Machine;
 use schedule_replay::{Mode, replay};
 use separation_check::{Crossing, Marks, crossings};
@@ -27,7 +28,7 @@ use walk_engine::Translator;
 
 /// Runs the lines of a schedule without a word, and tells whether the policy holds of the state behind them, or why they ended
 /// before.
-pub(crate) fn judge<T: Translator, S: Source, K: Sink, L: Ledger>(
+pub(crate) fn judge<T: PageTranslator, S: Source, K: Sink, L: Ledger>(
     alloc: Global,
     machine: &mut Machine<T>,
     policy: &Policy,
