@@ -7,6 +7,8 @@
 #[cfg(test)]
 mod command_rows;
 #[cfg(test)]
+mod explore_rows;
+#[cfg(test)]
 mod failures;
 #[cfg(test)]
 mod kernel_rows;

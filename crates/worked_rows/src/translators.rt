@@ -7,6 +7,7 @@ use crate::rows::{Row, WHOLE, check, sink_of, source_of};
 use coy_io::{LineReader, MemSink, MemSource};
 use coyotos_cli::{Mode, Replayed, replay};
 use image_builder::boot;
+use kept_pages::PageTranslator;
 use kernel_core::Machine;
 use listing_read::read_listing;
 use run_text::dump;
@@ -15,11 +16,11 @@ use std::alloc::Global;
 use std::process::Abort;
 use std::sync::ledger::Ledger;
 use steps::Steps;
-use walk_engine::{Plain, Translator};
+use walk_engine::Plain;
 
 /// Writes what comes of the lines behind a listing on its machine: the records, and the last state. It tells whether all
 /// lines were run and all was written.
-fn run_on<T: Translator, L: Ledger>(
+fn run_on<T: PageTranslator, L: Ledger>(
     machine: &mut Machine<T>,
     lines: &mut LineReader,
     source: &mut MemSource,
@@ -34,7 +35,7 @@ fn run_on<T: Translator, L: Ledger>(
 }
 
 /// What is written of the row's input over a machine with this translator.
-fn run_listing<T: Translator, L: Ledger>(
+fn run_listing<T: PageTranslator, L: Ledger>(
     rt: &impl Abort,
     alloc: Global,
     row: Row<'_>,
@@ -64,7 +65,7 @@ fn run_listing<T: Translator, L: Ledger>(
 }
 
 /// Whether what has to hold of a row's output does over a machine with this translator.
-fn holds_over<T: Translator, L: Ledger>(
+fn holds_over<T: PageTranslator, L: Ledger>(
     rt: &impl Abort,
     alloc: Global,
     row: Row<'_>,

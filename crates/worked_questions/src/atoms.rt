@@ -1,0 +1,154 @@
+//! The atoms of a machine, worked out by hand.
+ghost use Rattle.std.specs.Prelude.{◌≡◌};
+ghost use Rattle.steps.specs.Permit.{permit_for};
+
+use crate::starts::{barred, machine_of};
+use kernel_core::{Event, Machine, event};
+use question::{Question, holds};
+use question_lines::read_question;
+use separation_policy::{Closure, Policy};
+use std::alloc::Global;
+use std::marker::Brand;
+use std::process::Abort;
+use std::sync::ledger::Ledger;
+use std::test::Fail;
+use steps::{Permit, Steps};
+use walk_engine::Plain;
+
+/// Process 0 sends to process 1, which is stopped; process 2 receives; process 3 is at a breakpoint; process 4, of a lower
+/// priority, makes a call that is malformed.
+const MACHINE: &str = "\
+coyotos 1
+machine 1 2 1 1 5 1
+code 0 000 ecall
+code 0 004 ebreak
+page 1 008 78563412
+slot 0 0 page:0@12/0
+cap 0 7 page:1@12/0+r
+endpoint 0 process:1 00000000 00000000 plain
+process 0 0 gpt:0@16/0 schedule:5 null run
+reg 0 10 00000021
+capreg 0 1 entry:0:00000000
+process 2 0 gpt:0@16/0 schedule:5 null run
+reg 2 10 00000040
+process 3 4 gpt:0@16/0 schedule:5 null run
+process 4 0 gpt:0@16/0 schedule:3 null run
+end
+";
+
+/// Whether all of these atoms hold, y or n, behind three steps.
+const ATOMS: &str = "\
+n |stuck|
+y |not stuck|
+n |halted|
+y |running 0|
+y |sleeps 0|
+y |running 4 and not sleeps 4|
+n |running 1|
+n |running 2|
+y |receiving 2|
+n |receiving 0|
+y |faulted 3|
+n |faulted 1|
+y |not running 1 and not receiving 1 and not faulted 1|
+y |faulted 3 Breakpoint|
+n |faulted 3 BadOpcode|
+n |faulted 2 Breakpoint|
+y |pc 3 4|
+y |pc 3 0 4|
+y |pc 3 4 ffffffff|
+n |pc 3 0 3|
+n |pc 3 5 8|
+y |reg 0 10 21|
+n |reg 0 10 22|
+y |reg 0 0 0|
+y |word 1 8 12345678|
+n |word 1 8 78563412|
+y |word 1 4 0 and word 0 0 73|
+y |holds process 0 endpoint 0|
+y |holds process 0 gpt 0|
+n |holds process 0 page 0|
+y |holds endpoint 0 process 1|
+n |holds endpoint 0 process 0|
+y |holds gpt 0 page 0|
+n |holds gpt 0 page 1|
+y |holds cappage 0 page 1|
+n |holds cappage 0 cappage 0|
+n |holds page 0 page 0|
+n |crossing|
+y |not crossing and not stuck|
+n |not crossing and stuck|";
+
+/// The same, where process 0 is of a domain of its own.
+const APART: &str = "\
+y |crossing|
+n |not crossing|";
+
+/// The same, behind one step more.
+const STUCK: &str = "\
+y |stuck|
+y |faulted 4 MalformedSyscall|";
+
+/// Asks whether the atoms of each row hold.
+fn check_rows<L: Ledger>(
+    rt: &impl Abort,
+    alloc: Global,
+    machine: &Machine<Plain>,
+    policy: &mut Policy,
+    rows: &str,
+    fetches: &mut Steps<L>,
+) {
+    for row in rows.lines() {
+        check_row(rt, alloc, machine, policy, row, fetches);
+    }
+}
+
+fn check_row<L: Ledger>(
+    rt: &impl Abort,
+    alloc: Global,
+    machine: &Machine<Plain>,
+    policy: &mut Policy,
+    row: &str,
+    fetches: &mut Steps<L>,
+) {
+    let (wanted, atoms) = barred(rt, row);
+    let mut question = Question::new(alloc, machine.objects().sizes());
+    let line = format!(in alloc; "count {atoms}").expect(rt, row);
+    let read = read_question(alloc, line.as_bytes(), 1, &mut question, policy);
+    assert!(rt; read.is_ok(), "{row}");
+    assert!(rt; question.properties().len() == 1, "{row}");
+    let closure = Closure::new(alloc, policy).expect(rt, row);
+    let holds = holds(&question, policy, &closure, machine, 0, fetches);
+    assert!(rt; holds == (wanted == "y"), "{row}");
+}
+
+/// Lets the hart make so many steps.
+fn step<L: Ledger>(machine: &mut Machine<Plain>, times: u8, fetches: &mut Steps<L>) {
+    for _ in 0..times {
+        if machine.objects().sizes().harts == 1 {
+            let _records = event(machine, Event::Step(0), fetches);
+        }
+    }
+}
+
+fn check_all<L: Ledger>(rt: &impl Abort, alloc: Global, permit: Permit)
+    requires { permit ≡ permit_for L.name L.parts }
+{
+    let mut fetches = Steps::<L>::new(permit);
+    let mut machine = machine_of(rt, alloc, MACHINE);
+    step(&mut machine, 3, &mut fetches);
+    let mut policy = Policy::new(alloc, machine.objects().sizes()).expect(rt, MACHINE);
+    check_rows(rt, alloc, &machine, &mut policy, ATOMS, &mut fetches);
+    let mut question = Question::new(alloc, machine.objects().sizes());
+    let apart = read_question(alloc, b"domain a process 0", 1, &mut question, &mut policy);
+    assert!(rt; apart.is_ok(), "domain");
+    check_rows(rt, alloc, &machine, &mut policy, APART, &mut fetches);
+    step(&mut machine, 1, &mut fetches);
+    check_rows(rt, alloc, &machine, &mut policy, STUCK, &mut fetches);
+}
+
+#[test]
+fn atoms_hold_where_they_say(rt: HostRuntime) -> Result<(), Fail> {
+    check_all::<Brand>(&rt, rt.alloc(), Permit::new(&rt));
+    Ok(())
+}

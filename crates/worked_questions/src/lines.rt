@@ -1,0 +1,171 @@
+//! Lines of a question, and their faults.
+
+use crate::starts::barred;
+use listing_read::PolicyFault;
+use object_store::Sizes;
+use question::Question;
+use question_lines::{Next, QuestionFault, Untaken, read_question};
+use separation_policy::Policy;
+use std::alloc::Global;
+use std::process::Abort;
+use std::test::Fail;
+
+/// Three of each kind of object.
+const SIZES: Sizes = Sizes {
+    harts: 2,
+    pages: 3,
+    cappages: 3,
+    gpts: 3,
+    processes: 3,
+    endpoints: 3,
+};
+
+/// What the next line belongs to, or the fault, and the line in bars.
+const LINES: &str = "\
+question ||
+question |  # never x|
+BadByte |# never\tstuck|
+UnknownQuestion |always stuck|
+UnknownQuestion |Never stuck|
+question |may step 1|
+question |may step 1 1000000|
+question |may tick 0|
+UnknownEvent |may|
+UnknownEvent |may round 1|
+WrongWords |may step|
+WrongWords |may step 0 1 1|
+WrongWords |may tick 0 1|
+BadNumber |may step x 0|
+NoHart |may step 2 0|
+BadNumber |may step 1 x|
+BadRepeat |may step 1 0|
+BadRepeat |may step 1 1000001|
+NoHart |may tick 2|
+question |depth 0|
+WrongWords |depth|
+BadNumber |depth 0x1|
+question |states 1|
+WrongWords |states 1 1|
+BadNumber |states x|
+BadLimit |states 0|
+question |never stuck|
+question |ever not stuck and halted and not crossing|
+UnknownAtom |never|
+UnknownAtom |count stuck and|
+UnknownAtom |count and stuck|
+UnknownAtom |never stuck and not|
+UnknownAtom |never not not stuck|
+UnknownAtom |never Stuck|
+UnknownAtom |never stuck and halt x|
+WrongWords |never stuck 0|
+WrongWords |never crossing and halted now and running x|
+question |never running 2 and receiving 1 and sleeps 0|
+WrongWords |never running|
+WrongWords |never receiving 0 1|
+WrongWords |never sleeps|
+BadNumber |never running p|
+NoObject |never receiving 3|
+NoObject |never sleeps 9 and x|
+question |never faulted 0 and not faulted 1 BadAlign|
+question |never faulted 0 Breakpoint and faulted 0 InvalidDataReference and faulted 0 NoSchedule|
+WrongWords |never faulted|
+NoObject |never faulted 3 x|
+BadCode |never faulted 0 Stopped|
+BadCode |never faulted 0 breakpoint|
+question |never pc 0 4|
+question |never pc 0 4 fffffffc|
+WrongWords |never pc 0|
+NoObject |never pc 3 x|
+BadNumber |never pc 0 g|
+BadNumber |never pc 0 4 123456789|
+BadOrder |never pc 0 8 4|
+question |never reg 0 31 ffffffff|
+WrongWords |never reg 0 1|
+NoObject |never reg 3 x x|
+BadNumber |never reg 0 a 0|
+BadRegister |never reg 0 32 x|
+BadNumber |never reg 0 0 x|
+question |never word 2 ffc 0|
+WrongWords |never word 2 0|
+NoObject |never word 3 x x|
+BadNumber |never word 2 x x|
+BadOffset |never word 2 1000 x|
+BadOffset |never word 2 2 x|
+BadNumber |never word 2 4 x|
+question |never holds process 2 endpoint 1|
+WrongWords |never holds process 2 endpoint|
+BadValue |never holds entry 2 endpoint 1|
+BadNumber |never holds gpt x endpoint 1|
+NoObject |never holds gpt 3 thing 1|
+BadValue |never holds gpt 2 schedule 3|
+NoObject |never holds gpt 2 page 3|
+question |domain a process 0 1|
+Taken |domain b process 1|
+BadName |domain A page 0|
+WrongWords |reads a|
+NoDomain |reads a b|
+question |reads rest a|
+WrongWords |end 1|
+schedule |end|";
+
+/// The name of what a line came to.
+fn name_of(answer: Result<Next, Untaken>) -> &'static str {
+    match answer {
+        Ok(Next::Question) => "question",
+        Ok(Next::Schedule) => "schedule",
+        Err(Untaken::Refused(fault)) => fault_name(fault),
+        Err(Untaken::OutOfMemory) => "OutOfMemory",
+    }
+}
+
+fn fault_name(fault: QuestionFault) -> &'static str {
+    match fault {
+        QuestionFault::LineTooLong => "LineTooLong",
+        QuestionFault::BadByte => "BadByte",
+        QuestionFault::UnknownQuestion => "UnknownQuestion",
+        QuestionFault::UnknownEvent => "UnknownEvent",
+        QuestionFault::UnknownAtom => "UnknownAtom",
+        QuestionFault::WrongWords => "WrongWords",
+        QuestionFault::BadNumber => "BadNumber",
+        QuestionFault::NoHart => "NoHart",
+        QuestionFault::BadRepeat => "BadRepeat",
+        QuestionFault::BadValue => "BadValue",
+        QuestionFault::NoObject => "NoObject",
+        QuestionFault::BadCode => "BadCode",
+        QuestionFault::BadOrder => "BadOrder",
+        QuestionFault::BadRegister => "BadRegister",
+        QuestionFault::BadOffset => "BadOffset",
+        QuestionFault::BadLimit => "BadLimit",
+        QuestionFault::OfPolicy(PolicyFault::WrongWords) => "WrongWords",
+        QuestionFault::OfPolicy(PolicyFault::BadName) => "BadName",
+        QuestionFault::OfPolicy(PolicyFault::Taken) => "Taken",
+        QuestionFault::OfPolicy(PolicyFault::NoDomain) => "NoDomain",
+        QuestionFault::OfPolicy(_) => "OfPolicy",
+    }
+}
+
+/// Reads a row's line behind those before it.
+fn check_row(
+    rt: &impl Abort,
+    alloc: Global,
+    row: &str,
+    question: &mut Question,
+    policy: &mut Policy,
+) {
+    let (wanted, line) = barred(rt, row);
+    let name = name_of(read_question(alloc, line.as_bytes(), 1, question, policy));
+    assert!(rt; name == wanted, "{row}: {name}");
+}
+
+#[test]
+fn the_first_fault_of_a_line_is_told(rt: HostRuntime) -> Result<(), Fail> {
+    let alloc = rt.alloc();
+    let mut question = Question::new(alloc, SIZES);
+    let mut policy = Policy::new(alloc, SIZES)?;
+    for row in LINES.lines() {
+        check_row(&rt, alloc, row, &mut question, &mut policy);
+    }
+    assert_eq!(rt; question.depth(), Some(0));
+    assert_eq!(rt; question.states(), Some(1));
+    Ok(())
+}

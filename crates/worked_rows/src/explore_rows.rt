@@ -1,0 +1,632 @@
+//! Rows of the program `explore`.
+ghost use Rattle.std.specs.Prelude.{◌≡◌};
+ghost use Rattle.steps.specs.Permit.{permit_for};
+
+use crate::rows::{Calls, WHOLE, check, row_of, sink_of, source_of, words_of};
+use breadth_first::Watcher;
+use explore_program::explore;
+use std::alloc::Global;
+use std::marker::Brand;
+use std::process::Abort;
+use std::sync::ledger::Ledger;
+use steps::{Permit, Steps};
+
+/// The rows, whose expected outputs and numbers of states are worked out by hand; in the place of no words stands `none`.
+const EXPLORE_ROWS: &str = "\
+0 none: nothing is asked of a machine that does nothing
+coyotos 1
+machine 1 2 0 0 1 0
+end
+=>
+holds states=1 tried=2 depth=0
+==
+0 none: two instructions, three states
+coyotos 1
+machine 1 1 0 1 1 0
+code 0 000 addi x1 x0 5
+code 0 004 ebreak
+slot 0 0 page:0@12/0
+process 0 0 gpt:0@16/0 schedule:3 null run
+end
+may step 0
+never halted
+=>
+holds states=3 tried=3 depth=2
+==
+0 none: a tick in between is one more
+coyotos 1
+machine 1 1 0 1 1 0
+code 0 000 addi x1 x0 5
+code 0 004 ebreak
+slot 0 0 page:0@12/0
+process 0 0 gpt:0@16/0 schedule:3 null run
+end
+never halted
+=>
+holds states=4 tried=8 depth=2
+==
+0 none: two steps are one choice
+coyotos 1
+machine 1 1 0 1 1 0
+code 0 000 addi x1 x0 5
+code 0 004 ebreak
+slot 0 0 page:0@12/0
+process 0 0 gpt:0@16/0 schedule:3 null run
+end
+may step 0 2
+never pc 0 4 and not faulted 0
+=>
+holds states=2 tried=2 depth=1
+==
+0 none: two processes on two harts
+coyotos 1
+machine 2 1 0 1 2 0
+code 0 000 addi x1 x0 1
+code 0 004 ebreak
+slot 0 0 page:0@12/0
+process 0 0 gpt:0@16/0 schedule:3 null run
+process 1 0 gpt:0@16/0 schedule:3 null run
+end
+may step 0
+may step 1
+count faulted 0 and faulted 1
+count running 0 and running 1
+count halted
+ever faulted 0 and faulted 1
+never faulted 0 BadOpcode
+=>
+count 11 states=1 depth=4
+count 12 states=5 depth=0
+count 13 states=0
+holds states=11 tried=22 depth=4
+==
+10 none: after one choice
+coyotos 1
+machine 1 1 0 1 1 0
+code 0 000 addi x1 x0 5
+code 0 004 ebreak
+slot 0 0 page:0@12/0
+process 0 0 gpt:0@16/0 schedule:3 null run
+end
+may step 0
+never halted
+never pc 0 4
+=>
+found 10 depth=1
+step 0 1
+==
+10 none: after two, the last line that may fails
+coyotos 1
+machine 1 1 0 1 1 0
+code 0 000 addi x1 x0 5
+code 0 004 ebreak
+slot 0 0 page:0@12/0
+process 0 0 gpt:0@16/0 schedule:3 null run
+end
+count halted
+never faulted 0 Breakpoint
+=>
+found 9 depth=2
+step 0 1
+step 0 1
+==
+10 none: the first line of two that fail together
+coyotos 1
+machine 1 1 0 1 1 0
+code 0 000 addi x1 x0 5
+code 0 004 ebreak
+slot 0 0 page:0@12/0
+process 0 0 gpt:0@16/0 schedule:3 null run
+end
+may step 0
+never pc 0 4 and reg 0 1 5
+never pc 0 4
+=>
+found 9 depth=1
+step 0 1
+==
+10 none: at the start
+coyotos 1
+machine 1 1 0 1 1 0
+code 0 000 addi x1 x0 5
+code 0 004 ebreak
+slot 0 0 page:0@12/0
+process 0 0 gpt:0@16/0 schedule:3 null run
+end
+never not halted
+=>
+found 8 depth=0
+==
+10 none: a tick lets the other run
+coyotos 1
+machine 1 1 0 1 2 0
+code 0 000 addi x1 x0 1
+code 0 004 ebreak
+slot 0 0 page:0@12/0
+process 0 0 gpt:0@16/0 schedule:3 null run
+process 1 0 gpt:0@16/0 schedule:3 null run
+end
+never pc 0 4 and pc 1 4 and not faulted 0 and not faulted 1
+=>
+found 9 depth=3
+step 0 1
+tick 0
+step 0 1
+==
+10 none: a choice of two steps as it is told
+coyotos 1
+machine 1 1 0 1 1 0
+code 0 000 addi x1 x0 5
+code 0 004 ebreak
+slot 0 0 page:0@12/0
+process 0 0 gpt:0@16/0 schedule:3 null run
+end
+may step 0 2
+never faulted 0
+=>
+found 9 depth=1
+step 0 2
+==
+10 none: a register that never is 0 again
+coyotos 1
+machine 1 1 0 1 1 0
+code 0 000 addi x1 x0 5
+code 0 004 ebreak
+slot 0 0 page:0@12/0
+process 0 0 gpt:0@16/0 schedule:3 null run
+end
+may tick 0
+may step 0
+count stuck
+ever faulted 0
+ever reg 0 1 0
+=>
+count 10 states=1 depth=2
+lost 12 depth=1
+step 0 1
+==
+10 none: what can't come at all
+coyotos 1
+machine 1 1 0 1 1 0
+code 0 000 addi x1 x0 5
+code 0 004 ebreak
+slot 0 0 page:0@12/0
+process 0 0 gpt:0@16/0 schedule:3 null run
+end
+ever halted
+=>
+lost 8 depth=0
+==
+10 none: the policy doesn't hold
+coyotos 1
+machine 1 1 0 1 1 0
+code 0 000 addi x1 x0 5
+code 0 004 ebreak
+slot 0 0 page:0@12/0
+process 0 0 gpt:0@16/0 schedule:3 null run
+end
+domain a process 0
+never crossing
+=>
+found 9 depth=0
+==
+0 none: the policy holds
+coyotos 1
+machine 1 1 0 1 1 0
+code 0 000 addi x1 x0 5
+code 0 004 ebreak
+slot 0 0 page:0@12/0
+process 0 0 gpt:0@16/0 schedule:3 null run
+end
+domain a process 0
+domain a page 0
+domain a gpt 0
+never crossing
+may step 0
+=>
+holds states=3 tried=3 depth=2
+==
+11 none: no further than one choice
+coyotos 1
+machine 1 1 0 1 1 0
+code 0 000 addi x1 x0 5
+code 0 004 ebreak
+slot 0 0 page:0@12/0
+process 0 0 gpt:0@16/0 schedule:3 null run
+end
+may step 0
+depth 1
+never faulted 0
+count pc 0 4
+=>
+count 11 states=1 depth=1
+open states=2 tried=1 depth=1
+==
+11 none: as far as there are states is not known to be all
+coyotos 1
+machine 1 1 0 1 1 0
+code 0 000 addi x1 x0 5
+code 0 004 ebreak
+slot 0 0 page:0@12/0
+process 0 0 gpt:0@16/0 schedule:3 null run
+end
+may step 0
+depth 2
+=>
+open states=3 tried=2 depth=2
+==
+0 none: one choice farther it is
+coyotos 1
+machine 1 1 0 1 1 0
+code 0 000 addi x1 x0 5
+code 0 004 ebreak
+slot 0 0 page:0@12/0
+process 0 0 gpt:0@16/0 schedule:3 null run
+end
+may step 0
+depth 3
+=>
+holds states=3 tried=3 depth=2
+==
+11 none: no choice at all
+coyotos 1
+machine 1 1 0 1 1 0
+code 0 000 addi x1 x0 5
+code 0 004 ebreak
+slot 0 0 page:0@12/0
+process 0 0 gpt:0@16/0 schedule:3 null run
+end
+depth 0
+ever halted
+=>
+open states=1 tried=0 depth=0
+==
+11 none: no room for a third state
+coyotos 1
+machine 1 1 0 1 1 0
+code 0 000 addi x1 x0 5
+code 0 004 ebreak
+slot 0 0 page:0@12/0
+process 0 0 gpt:0@16/0 schedule:3 null run
+end
+may step 0
+states 2
+=>
+open states=2 tried=2 depth=1
+==
+0 none: room for the third and none more
+coyotos 1
+machine 1 1 0 1 1 0
+code 0 000 addi x1 x0 5
+code 0 004 ebreak
+slot 0 0 page:0@12/0
+process 0 0 gpt:0@16/0 schedule:3 null run
+end
+may step 0
+states 3
+=>
+holds states=3 tried=3 depth=2
+==
+10 none: found within the limit of states
+coyotos 1
+machine 1 1 0 1 1 0
+code 0 000 addi x1 x0 5
+code 0 004 ebreak
+slot 0 0 page:0@12/0
+process 0 0 gpt:0@16/0 schedule:3 null run
+end
+may step 0
+states 2
+never pc 0 4
+=>
+found 10 depth=1
+step 0 1
+==
+0 none: the last of several limits counts
+coyotos 1
+machine 1 1 0 1 1 0
+code 0 000 addi x1 x0 5
+code 0 004 ebreak
+slot 0 0 page:0@12/0
+process 0 0 gpt:0@16/0 schedule:3 null run
+end
+may step 0
+depth 0
+depth 9
+states 1
+states 9
+=>
+holds states=3 tried=3 depth=2
+==
+0 none: a schedule in front
+coyotos 1
+machine 1 1 0 1 1 0
+code 0 000 addi x1 x0 5
+code 0 004 ebreak
+slot 0 0 page:0@12/0
+process 0 0 gpt:0@16/0 schedule:3 null run
+end
+may step 0
+never pc 0 0
+end
+step 0 1
+=>
+holds states=2 tried=2 depth=1
+==
+10 none: without it
+coyotos 1
+machine 1 1 0 1 1 0
+code 0 000 addi x1 x0 5
+code 0 004 ebreak
+slot 0 0 page:0@12/0
+process 0 0 gpt:0@16/0 schedule:3 null run
+end
+may step 0
+never pc 0 0
+end
+=>
+found 9 depth=0
+==
+0 none: lines that say nothing
+coyotos 1
+machine 1 1 0 1 1 0
+code 0 000 addi x1 x0 5
+code 0 004 ebreak
+slot 0 0 page:0@12/0
+process 0 0 gpt:0@16/0 schedule:3 null run
+end
+
+# never
+  may   step 0
+=>
+holds states=3 tried=3 depth=2
+==
+9 none
+coyotos 1
+machine 1 2 0 0 1 0
+end
+never\tstuck
+=>
+refused 4 BadByte
+==
+9 none
+coyotos 1
+machine 1 2 0 0 1 0
+end
+always stuck
+=>
+refused 4 UnknownQuestion
+==
+9 none
+coyotos 1
+machine 1 2 0 0 1 0
+end
+may round 1
+=>
+refused 4 UnknownEvent
+==
+9 none
+coyotos 1
+machine 1 2 0 0 1 0
+end
+never stuck and
+=>
+refused 4 UnknownAtom
+==
+9 none
+coyotos 1
+machine 1 2 0 0 1 0
+end
+depth
+=>
+refused 4 WrongWords
+==
+9 none
+coyotos 1
+machine 1 2 0 0 1 0
+end
+depth x
+=>
+refused 4 BadNumber
+==
+9 none
+coyotos 1
+machine 1 2 0 0 1 0
+end
+may step 1
+=>
+refused 4 NoHart
+==
+9 none
+coyotos 1
+machine 1 2 0 0 1 0
+end
+may step 0 0
+=>
+refused 4 BadRepeat
+==
+9 none
+coyotos 1
+machine 1 2 0 0 1 0
+end
+never holds entry 0 page 0
+=>
+refused 4 BadValue
+==
+9 none
+coyotos 1
+machine 1 2 0 0 1 0
+end
+never running 1
+=>
+refused 4 NoObject
+==
+9 none
+coyotos 1
+machine 1 2 0 0 1 0
+end
+never faulted 0 Stopped
+=>
+refused 4 BadCode
+==
+9 none
+coyotos 1
+machine 1 2 0 0 1 0
+end
+never pc 0 8 4
+=>
+refused 4 BadOrder
+==
+9 none
+coyotos 1
+machine 1 2 0 0 1 0
+end
+never reg 0 32 0
+=>
+refused 4 BadRegister
+==
+9 none
+coyotos 1
+machine 1 2 0 0 1 0
+end
+never word 0 2 0
+=>
+refused 4 BadOffset
+==
+9 none
+coyotos 1
+machine 1 2 0 0 1 0
+end
+states 0
+=>
+refused 4 BadLimit
+==
+9 none
+coyotos 1
+machine 1 2 0 0 1 0
+end
+domain A page 0
+=>
+refused 4 BadName
+==
+9 none
+coyotos 1
+machine 1 2 0 0 1 0
+end
+reads rest b
+=>
+refused 4 NoDomain
+==
+9 none
+coyotos 1
+machine 1 2 0 0 1 0
+end
+#xxxxxxxxxxxxxxxxxxxxxxxxxxxxxxxxxxxxxxxxxxxxxxxxxxxxxxxxxxxxxxxxxxxxxxxxxxxxxxxx\
+xxxxxxxxxxxxxxxxxxxxxxxxxxxxxxxxxxxxxxxxxxxxxxxxxxxxxxxxxxxxxxxxxxxxxxxxxxxxxxxx\
+xxxxxxxxxxxxxxxxxxxxxxxxxxxxxxxxxxxxxxxxxxxxxxxxxxxxxxxxxxxxxxxxxxxxxxxxxxxxxxxx\
+xxxxxxxxxxxxxxxxxxxxxxxxxxxxxxxxxxxxxxxxxxxxxxxxxxxxxxxxxxxxxxxxxxxxxxxxxxxxxxxx\
+xxxxxxxxxxxxxxxxxxxxxxxxxxxxxxxxxxxxxxxxxxxxxxxxxxxxxxxxxxxxxxxxxxxxxxxxxxxxxxxx\
+xxxxxxxxxxxxxxxxxxxxxxxxxxxxxxxxxxxxxxxxxxxxxxxxxxxxxxxxxxxxxxxxxxxxxxxxxxxxxxxx\
+xxxxxxxxxxxxxxxxxxxxxxxxxxxxxxxx
+=>
+refused 4 LineTooLong
+==
+9 none: the first of two lines
+coyotos 1
+machine 1 2 0 0 1 0
+end
+domain a page 0
+domain b page 0
+never x
+=>
+refused 5 Taken
+==
+2 none
+coyotos 3
+=>
+refused 1 BadHeader
+==
+3 none
+coyotos 1
+machine 1 2 0 0 1 0
+end
+never halted
+end
+step 1 1
+=>
+refused 6 NoHart
+==
+0 --help
+=>
+usage: explore
+==
+1 now
+=>
+usage: explore
+==
+1 --help --help
+=>
+usage: explore
+";
+
+/// Who is told how far a search is, and doesn't listen.
+#[derive(Drop)]
+struct Unwatched;
+
+impl Watcher for Unwatched {
+    fn watch(&mut self, _states: usize, _depth: usize, _tried: u64) {}
+}
+
+/// The words of a row.
+fn asked(rt: &impl Abort, alloc: Global, words: &str) -> Vec<String> {
+    match words {
+        "none" => Vec::new(alloc),
+        line => words_of(rt, alloc, line),
+    }
+}
+
+/// The program answers what the row of a block says, where a source and a sink answer their calls so.
+fn check_row<L: Ledger>(
+    rt: &impl Abort,
+    alloc: Global,
+    block: &str,
+    calls: Calls,
+    fetches: &mut Steps<L>,
+) {
+    let row = row_of(block).expect(rt, block);
+    let words = asked(rt, alloc, row.words);
+    let mut source = source_of(rt, alloc, row.input.as_bytes(), calls, block);
+    let mut sink = sink_of(rt, alloc, calls, block);
+    let exit = explore(
+        alloc,
+        words.as_slice(),
+        &mut source,
+        &mut sink,
+        &mut Unwatched,
+        fetches,
+    );
+    check(rt, exit.status() == row.status, block);
+    check(rt, sink.bytes.as_slice() == row.output.as_bytes(), block);
+}
+
+/// Tries the rows in pieces of several sizes.
+fn try_in_pieces<L: Ledger>(rt: &impl Abort, alloc: Global, permit: Permit)
+    requires ledger { permit ≡ permit_for L.name L.parts }
+{
+    let mut fetches = Steps::<L>::new(permit);
+    for piece in [1, 513, 65536] {
+        let calls = Calls {
+            piece,
+            put_piece: piece,
+            ..WHOLE
+        };
+        for block in EXPLORE_ROWS.split("==\n") {
+            check_row(rt, alloc, block, calls, &mut fetches);
+        }
+    }
+}
+
+#[test]
+fn rows_of_explore_give_what_is_written_down_for_them(rt: HostRuntime) {
+    try_in_pieces::<Brand>(&rt, rt.alloc(), Permit::new(&rt));
+}
