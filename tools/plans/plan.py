@@ -2,6 +2,7 @@
 import re
 
 from plans.program import MOST_PAGES, Program
+from plans.question import ASKING, question_line
 from plans.words import (AREA, PAGE, TOP, Wrong, is_domain_name, is_name, letters, need, number, page_address,
                          pages_for, restricted)
 
@@ -40,6 +41,7 @@ class Plan:
         self.folder, self.directory = folder, directory
         self.at, self.harts, self.gpts, self.cappages = 0, 1, 0, 0
         self.things, self.lines, self.domains, self.reads = {}, {}, {}, []
+        self.question = []
         self.pages, self.named_pages, self.schedule, self.mapped = [], [], [], []
         self.page_count = 0
         self.waiting = {turn: [] for turn in self.TURNS}
@@ -277,6 +279,13 @@ class Plan:
             self.reads.append(words)
         self.wait("names", name)
 
+    # -- what is asked of all its runs
+
+    def ask(self, words):
+        def name():
+            self.question.append((" ".join(words), question_line(self, words)))
+        self.wait("names", name)
+
     # -- the machine and its schedule
 
     def harts_line(self, words):
@@ -317,6 +326,9 @@ class Plan:
 
     def read(self, data):
         for words in self.lines_of(data):
+            if words[0] in ASKING:
+                self.ask(words)
+                continue
             method = getattr(self, words[0] + "_line", None) if re.fullmatch("[a-z]+", words[0]) else None
             need(method, f"no line of a plan begins with {words[0]}")
             method(words[1:])

@@ -31,14 +31,19 @@ def lines_of(plan, domain, words):
             yield f"{words} {kind} {first}" + (f" {last}" if last > first else "")
 
 
-def policy_lines(plan, name):
-    """The policy of a plan."""
-    need(plan.domains, "the plan has no line `domain`")
-    yield remark(f"The domains of {name}, made by tools/listing-of.")
+def named_lines(plan):
+    """The lines of all domains, and of who reads whom."""
     for domain in plan.domains.values():
         yield from lines_of(plan, domain, f"domain {domain.name}")
     for one, other in plan.reads:
         yield f"reads {one} {other}"
+
+
+def policy_lines(plan, name):
+    """The policy of a plan."""
+    need(plan.domains, "the plan has no line `domain`")
+    yield remark(f"The domains of {name}, made by tools/listing-of.")
+    yield from named_lines(plan)
 
 
 def cut_lines(plan, name, domain):

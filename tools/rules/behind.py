@@ -1,5 +1,5 @@
 """The lines behind a listing: a schedule, a cut, or a policy with a schedule behind it. docs/formats.md and
-docs/separation.md have their rules."""
+docs/separation.md have their rules. (A question has question.py.)"""
 import difflib
 
 from rules.statement import FORMS as STATEMENTS
@@ -20,6 +20,8 @@ def unknown(fault, word, forms, what):
             "a line of a schedule stands in no cut"
     elif word in ("left", "domain", "reads"):
         seen = "a cut is for `confine`, and a policy for `separation`"
+    elif word in ("may", "never", "ever", "depth", "states"):
+        seen = "a question is for `explore`"
     else:
         found = difflib.get_close_matches(word, forms, 1)
         seen = f"there is {found[0]}" if found else ""

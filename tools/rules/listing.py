@@ -1,5 +1,7 @@
 """An input of the program, line by line, up to the first that is refused: docs/formats.md."""
 from rules.behind import Policy, cut, event
+from rules.question import FORMS as QUESTION
+from rules.question import Question
 from rules.statement import Terms, count_words, statement
 from rules.words import Refused, Word, decimal_seen, words_of
 
@@ -88,7 +90,7 @@ class Reader:
     """Judges lines one after the other; `place` says what the next one has to be."""
 
     def __init__(self, behind):
-        self.place, self.behind, self.version, self.terms, self.policy = "header", behind, None, None, None
+        self.place, self.behind, self.version, self.terms, self.asked = "header", behind, None, None, None
 
     def line(self, words, number):
         if self.place == "header":
@@ -97,14 +99,14 @@ class Reader:
             self.terms, self.place = machine(words, self.version), "statements"
         elif self.place == "statements":
             if statement(words, self.terms, number):
-                self.place, self.policy = self.behind, Policy(self.terms)
+                self.place, self.asked = self.behind, (Question if self.behind == "question" else Policy)(self.terms)
         elif self.place == "cut":
             cut(words, self.terms)
         elif self.place == "nothing":
             raise Refused("EventInPack", words[0], "nothing behind `end`: an image has no schedule",
                           "take the lines behind `end` away")
-        elif self.place == "policy":
-            if self.policy.line(words, number):
+        elif self.place in ("policy", "question"):
+            if self.asked.line(words, number):
                 self.place = "schedule"
         else:
             event(words, self.terms)
@@ -125,8 +127,8 @@ def lines_of(data):
 
 
 def first_refused(data, behind):
-    """The first line that is refused, or None. What stands behind the listing is a schedule, a cut, a policy or
-    nothing."""
+    """The first line that is refused, or None. What stands behind the listing is a schedule, a cut, a policy, a question
+    or nothing."""
     reader, lines = Reader(behind), lines_of(data)
     for number, line in enumerate(lines, 1):
         try:
@@ -140,10 +142,13 @@ def first_refused(data, behind):
 
 
 def behind_of(data):
-    """What seems to stand behind the listing, by its first line there."""
+    """What seems to stand behind the listing, by the first words of its lines there."""
     lines = iter(lines_of(data))
     for line in lines:
         if line.split() == [b"end"]:
             break
-    first = next((line.split()[0] for line in lines if line.split() and not line.strip().startswith(b"#")), b"")
-    return "cut" if first == b"left" else "policy" if first in (b"domain", b"reads") else "schedule"
+    firsts = [line.split()[0].decode("latin-1") for line in lines if line.split() and not line.strip().startswith(b"#")]
+    if any(first in QUESTION and first not in Policy.FORMS for first in firsts):
+        return "question"
+    first = firsts[0] if firsts else ""
+    return "cut" if first == "left" else "policy" if first in ("domain", "reads") else "schedule"

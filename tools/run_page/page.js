@@ -145,6 +145,7 @@ function begin() {
     return part;
   }), made('span', !run.lanes ? 'no lanes of harts: they need what trace writes'
     : run.unknown === null ? '' : 'on which hart it ran is not known where the lane says so', 'remark'));
+  document.getElementById('answer').textContent = run.answer;
   if (run.refusal) document.getElementById('refusal').textContent = `The run ended where a line was refused: ${run.refusal}`;
   const cards = Object.entries(run.state.processes);
   document.getElementById('processes').append(

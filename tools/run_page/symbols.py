@@ -16,21 +16,26 @@ def sections_of(data):
     return [(section[1], section[4], section[5], section[6], section[9]) for section in sections]
 
 
-def symbols_of(data):
-    """Address, size and name of each function and datum, by address; one name for an address."""
+def entries_of(data):
+    """Address, size, form and name of each entry for a function or a datum, as they stand in the file."""
     if data[:6] != b"\x7fELF\x01\x01":
         raise ValueError
-    sections, found = sections_of(data), {}
+    sections = sections_of(data)
     for kind, offset, size, link, entry in sections:
         if kind != TABLE:
             continue
         for at in range(offset, offset + size, entry):
             name, value, length, info, _, place = struct.unpack_from("<IIIBBH", data, at)
-            told = text_at(data, sections[link][1] + name)
-            form = info & 15
-            if place in (0, ABSOLUTE) or form not in (NOTHING, DATA, FUNCTION) or not told or told[0] in "$.":
-                continue
-            found[value] = max(found.get(value, (0, 0, "")), (form, length, told))
+            told, form = text_at(data, sections[link][1] + name), info & 15
+            if place not in (0, ABSOLUTE) and form in (NOTHING, DATA, FUNCTION) and told and told[0] not in "$.":
+                yield value, length, form, told
+
+
+def symbols_of(data):
+    """Address, size and name of each function and datum, by address; one name for an address."""
+    found = {}
+    for value, length, form, told in entries_of(data):
+        found[value] = max(found.get(value, (0, 0, "")), (form, length, told))
     return [(value, length, told) for value, (_, length, told) in sorted(found.items())]
 
 

@@ -1,0 +1,91 @@
+"""States of a machine that can be gone on from: processes of `coyotos trace` that wait for more of their schedule.
+
+A process that waits for input has performed all events that it has (debugger/places.c), so a copy of it can be given
+any choice more. What is told of a state is what the program writes where its input ends there.
+"""
+import os
+import socket
+import subprocess
+import tempfile
+
+from debugger.places import Process, Trouble, compile_places, place_of_state
+from exploring.question import Wrong
+
+WAIT = 600  # seconds for a process to answer
+
+
+class Places:
+    """The states that were found, by their numbers, each with the process that stands there, or how it was found."""
+
+    def __init__(self, program, question, most):
+        self.program, self.choices, self.most = program, question.choices, most
+        self.origins, self.kept = [None], {}
+        self.room = tempfile.TemporaryDirectory(prefix="coyotos-explore-")
+        compile_places(f"{self.room.name}/places.so")
+        self.listener = socket.socket(socket.AF_UNIX, socket.SOCK_STREAM)
+        self.listener.bind(f"{self.room.name}/line")
+        self.listener.listen(16)
+        self.listener.settimeout(WAIT)
+        self.begin("".join(f"{line}\n" for line in question.listing + question.setup).encode())
+
+    def begin(self, text):
+        self.child = subprocess.Popen(
+            [self.program, "trace"], stdin=subprocess.DEVNULL, stdout=subprocess.DEVNULL,
+            env={**os.environ, "LD_PRELOAD": f"{self.room.name}/places.so", "COYOTOS_PLACES": f"{self.room.name}/line"})
+        self.first = Process(self, 0)
+        self.first.socket.settimeout(WAIT)
+        self.first.feed(text)
+
+    def close(self):
+        for process in [*self.kept.values(), self.first]:
+            process.close()
+        self.child.wait()
+        self.listener.close()
+        self.room.cleanup()
+
+    def text_of(self, process):
+        """The state in which a process stands, as it is printed."""
+        data = process.end()
+        at = place_of_state(data)
+        if at is None:
+            raise Wrong(f"the program says {data.decode(errors='replace').splitlines()[-1:] or 'nothing'}")
+        return data[at:]
+
+    def first_text(self):
+        return self.text_of(self.first.copy())
+
+    def chosen(self, process, choice):
+        """A copy of a process, one choice further."""
+        made = process.copy()
+        made.feed(f"{self.choices[choice]}\n".encode())
+        return made
+
+    def text_after(self, process, choice):
+        return self.text_of(self.chosen(process, choice))
+
+    def add(self, parent, process, choice):
+        """Puts down where the next state comes from; its process is kept if there is room."""
+        self.origins.append((parent, choice))
+        if len(self.kept) < self.most:
+            self.kept[len(self.origins) - 1] = self.chosen(process, choice)
+
+    def path(self, state):
+        """The choices that lead to a state."""
+        found = []
+        while self.origins[state]:
+            state, choice = self.origins[state]
+            found.append(choice)
+        return found[::-1]
+
+    def take(self, state):
+        """The process at a state, which is let go: one that wasn't kept goes all the way."""
+        if state in self.kept:
+            return self.kept.pop(state)
+        process = self.first.copy()
+        lines = "".join(f"{self.choices[choice]}\n" for choice in self.path(state))
+        if lines:
+            process.feed(lines.encode())
+        return process
+
+
+__all__ = ["Places", "Trouble"]

@@ -1,0 +1,101 @@
+"""All states that a question's choices lead to, breadth first, and what is told of them."""
+import sys
+import time
+
+from exploring.state import State
+
+SECONDS = 10  # between two lines that say how far it is
+
+
+class Search:
+    """States by their texts, in breadth-first order."""
+
+    def __init__(self, question, places):
+        self.question, self.places = question, places
+        self.numbers, self.depths, self.next = {}, [], []
+        self.tried, self.found = 0, None
+        self.holding = {line.number: [] for line in question.lines}  # the states of which its atoms hold
+        self.said = time.monotonic()
+
+    def judge(self, text, depth):
+        """Puts a new state down; whether a `never` fails in it."""
+        number = self.numbers[text] = len(self.depths)
+        self.depths.append(depth)
+        state = State(text)
+        for line in self.question.lines:
+            if state.holds_all(line.atoms, self.question.policy):
+                self.holding[line.number].append(number)
+                if line.asks == "never" and self.found is None:
+                    self.found = line.number
+        return self.found is not None
+
+    def open(self, number):
+        """Tries all choices of a state. Whether the search goes on."""
+        process, reached = self.places.take(number), []
+        for choice in range(len(self.question.choices)):
+            text = self.places.text_after(process, choice)
+            self.tried += 1
+            if text not in self.numbers:
+                if len(self.depths) == self.question.states:
+                    return False
+                self.places.add(number, process, choice)
+                if self.judge(text, self.depths[number] + 1):
+                    return False
+            reached.append(self.numbers[text])
+        process.close()
+        self.next.append(reached)
+        return True
+
+    def say(self, number):
+        if time.monotonic() - self.said > SECONDS:
+            self.said = time.monotonic()
+            print(f"{len(self.depths)} states, {number} opened, depth {self.depths[number]}", file=sys.stderr, flush=True)
+
+    def lines(self):
+        """What is told."""
+        number = 0
+        if self.judge(self.places.first_text(), 0):
+            return self.led("found", self.found, 0)
+        while number < len(self.depths):
+            if self.depths[number] == self.question.depth or not self.open(number):
+                break
+            number += 1
+            self.say(min(number, len(self.depths) - 1))
+        if self.found is not None:
+            return self.led("found", self.found, len(self.depths) - 1)
+        if number < len(self.depths):
+            return [*self.counts(), self.size("open", self.depths[number])]
+        return [*self.counts(), *self.closed()]
+
+    def size(self, word, depth):
+        return f"{word} states={len(self.depths)} tried={self.tried} depth={depth}"
+
+    def led(self, word, line, state):
+        path = self.places.path(state)
+        return [f"{word} {line} depth={len(path)}", *(self.question.choices[choice] for choice in path)]
+
+    def counts(self):
+        for line in self.question.asking("count"):
+            held = self.holding[line.number]
+            yield f"count {line.number} states={len(held)}" + (f" depth={self.depths[held[0]]}" if held else "")
+
+    def closed(self):
+        """What is told where all states were seen: the first `ever` that fails, and of it the first state."""
+        for line in self.question.asking("ever"):
+            lost = self.lost(self.holding[line.number])
+            if lost is not None:
+                return self.led("lost", line.number, lost)
+        return [self.size("holds", self.depths[-1])]
+
+    def lost(self, held):
+        """The first state from which no choices lead to one of these."""
+        before = [[] for _ in self.depths]
+        for number, reached in enumerate(self.next):
+            for other in reached:
+                before[other].append(number)
+        seen, left = set(held), list(held)
+        while left:
+            new = [number for number in before[left.pop()] if number not in seen]
+            seen.update(new)
+            left.extend(new)
+        return next((number for number in range(len(self.depths)) if number not in seen), None)

@@ -1,0 +1,154 @@
+"""What a plan asks of all runs of its system, as lines for `explore`: names are replaced by numbers."""
+import struct
+
+from plans.listing import remark
+from plans.policy import named_lines
+from plans.words import AREA, PAGE, TOP, Wrong, need, number, page_address
+from run_page.symbols import FUNCTION, entries_of
+
+ASKING = ("may", "never", "ever", "count", "depth", "states")
+FAULTS = ("InvalidDataReference", "InvalidCapReference", "DataAccessTypeError", "CapAccessTypeError", "AccessViolation",
+          "MalformedSpace", "NoSchedule", "MalformedSyscall", "BadAlign", "BadOpcode", "Breakpoint")
+
+
+def question_lines(plan, name):
+    """The question of a plan, each line behind the plan's own words; with the policy where it asks for crossings."""
+    need(any(told.startswith(("never ", "ever ", "count ")) for _, told in plan.question),
+         "the plan has no line `never`, `ever` or `count`")
+    yield remark(f"The question of {name}, made by tools/listing-of.")
+    if any("crossing" in told.split() for _, told in plan.question):
+        yield from named_lines(plan)
+    for said, told in plan.question:
+        if said != told:
+            yield remark(said)
+        yield told
+
+
+def question_line(plan, words):
+    """A line of the question, with numbers."""
+    if words[0] == "may":
+        return choice(plan, words[1:])
+    if words[0] in ("depth", "states"):
+        need(len(words) == 2, f"{words[0]} N")
+        most = number(words[1], f"the number behind {words[0]}", TOP - 1)
+        need(most > 0 or words[0] == "depth", "at least one state is kept")
+        return f"{words[0]} {most}"
+    return f"{words[0]} {' and '.join(atoms(plan, words))}"
+
+
+def choice(plan, words):
+    """A choice behind `may`."""
+    need(words and (words[0] == "step" and len(words) in (2, 3) or words[0] == "tick" and len(words) == 2),
+         "may step H [N], or may tick H")
+    hart = number(words[1], "a hart", TOP - 1)
+    need(hart < plan.harts, f"there is no hart {hart}: the machine has {plan.harts}, from 0 on")
+    if not words[2:]:
+        return f"may {words[0]} {hart}"
+    times = number(words[2], "the steps of a choice", 1_000_000)
+    need(times > 0, "a choice has at least one step")
+    return f"may step {hart} {times}"
+
+
+# -- atoms
+
+def atoms(plan, words):
+    """The atoms behind the first word, which stand between words `and`."""
+    groups = [[]]
+    for word in words[1:]:
+        if word == "and":
+            groups.append([])
+        else:
+            groups[-1].append(word)
+    for group in groups:
+        negated = group[:1] == ["not"]
+        group = group[negated:]
+        need(group, f"{words[0]} [not] ATOM [and [not] ATOM ..]")
+        need(group[0] in ATOMS, f"no atom is called {group[0]}: there are {', '.join(ATOMS)}")
+        yield "not " * negated + ATOMS[group[0]](plan, group)
+
+
+def alone(_plan, words):
+    need(len(words) == 1, f"nothing stands behind {words[0]}")
+    return words[0]
+
+
+def of_process(plan, words):
+    need(len(words) == 2, f"{words[0]} PROGRAM")
+    return f"{words[0]} {plan.program(words[1]).number}"
+
+
+def faulted(plan, words):
+    need(len(words) in (2, 3), "faulted PROGRAM [CODE]")
+    need(all(word in FAULTS for word in words[2:]), f"no fault is called {words[-1]}: there are {', '.join(FAULTS)}")
+    return " ".join(["faulted", str(plan.program(words[1]).number), *words[2:]])
+
+
+def pc(plan, words):
+    need(len(words) in (3, 4), "pc PROGRAM in FUNCTION, or pc PROGRAM FIRST [LAST]")
+    made = plan.program(words[1])
+    if words[2] == "in":
+        need(len(words) == 4, "pc PROGRAM in FUNCTION")
+        first, last = function(plan.directory / made.file, words[3])
+    else:
+        first, last = (number(word, "an address", TOP - 1, 16) for word in (words[2], words[-1]))
+        need(first <= last, f"the last address is below the first: {words[-1]}")
+    return f"pc {made.number} {first:08x}" + (f" {last:08x}" if last > first else "")
+
+
+def function(path, name):
+    """The first and the last instruction of a function of an ELF file."""
+    try:
+        found = {(value, length) for value, length, form, told in entries_of(path.read_bytes())
+                 if form == FUNCTION and told == name}
+    except (ValueError, IndexError, struct.error):
+        raise Wrong(f"{path} is no ELF file that can be read")
+    need(found, f"{path} has no function {name}: one that the compiler put into others has no place of its own")
+    need(len(found) == 1, f"{path} has {len(found)} functions {name}")
+    (value, length), = found
+    need(length >= 4, f"{path} doesn't say how long {name} is")
+    return value, value + length - 4
+
+
+def reg(plan, words):
+    need(len(words) == 4, "reg PROGRAM N VALUE")
+    register = number(words[2], "a register", 31)
+    return f"reg {plan.program(words[1]).number} {register} {number(words[3], 'a value', TOP - 1, 16):08x}"
+
+
+def word(plan, words):
+    need(len(words) == 4, "word PAGE OFFSET VALUE")
+    page = plan.memory(words[1], ("page",), alone=True).first
+    offset = number(words[2], "an offset", PAGE - 1, 16)
+    need(offset % 4 == 0, f"an offset is a multiple of 4: {words[2]}")
+    return f"word {page} {offset:03x} {number(words[3], 'a value', TOP - 1, 16):08x}"
+
+
+def holds(plan, words):
+    one, rest = thing(plan, words[1:])
+    other, rest = thing(plan, rest)
+    need(not rest, "holds THING THING")
+    return f"holds {one} {other}"
+
+
+def thing(plan, words):
+    """An object by its kind and number, and the words behind it."""
+    need(len(words) >= 2, "holds THING THING: each is process PROGRAM, space PROGRAM, area PROGRAM ADDRESS, endpoint NAME, "
+         "page NAME or cappage NAME")
+    kind, name, rest = words[0], words[1], words[2:]
+    if kind == "process":
+        return f"process {plan.program(name).number}", rest
+    if kind == "endpoint":
+        return f"endpoint {plan.thing(name, 'endpoint').number}", rest
+    if kind in ("page", "cappage"):
+        return f"{kind} {plan.memory(name, (kind,), alone=True).first}", rest
+    if kind == "space":
+        return f"gpt {plan.program(name).space.root}", rest
+    need(kind == "area", f"no thing is called {kind}: process, space, area, endpoint, page or cappage")
+    need(rest, "area PROGRAM ADDRESS")
+    areas, place = plan.program(name).space.areas, page_address(rest[0]) // AREA
+    need(place in areas, f"{name} has no area at {rest[0]}")
+    return f"gpt {areas[place].gpt}", rest[1:]
+
+
+ATOMS = {"stuck": alone, "halted": alone, "running": of_process, "receiving": of_process, "faulted": faulted,
+         "sleeps": of_process, "pc": pc, "reg": reg, "word": word, "holds": holds, "crossing": alone}
