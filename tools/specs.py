@@ -19,19 +19,25 @@ class Missing(Exception):
 def crates():
     """The crates in the order of crates.txt, lowest first."""
     for line in (TOP / "crates.txt").read_text().splitlines():
-        name = line.split("#")[0].split(":")[0].strip()
-        if name:
-            yield name
+        words = line.split("#")[0].split(":")[0].split()
+        if words:
+            yield words[0]
 
 
 def spec_files(crate):
     """The files of specs/ in their reading order, which is that of Lib.antt."""
-    library = CRATES / crate / "specs" / "Lib.antt"
-    if library.is_file():
-        for module in re.findall(r"^pub mod (\w+)", library.read_text(), re.M):
-            file = library.with_name(f"{module}.antt")
-            if file.is_file():
-                yield file
+    folder = CRATES / crate / "specs"
+    yield from listed_files(folder / "Lib.antt", folder)
+
+
+def listed_files(list_file, folder):
+    """The files that a list of modules names, and of a module that is a list itself those of its folder."""
+    for module in re.findall(r"^pub mod (\w+)", list_file.read_text(), re.M) if list_file.is_file() else ():
+        file = folder / f"{module}.antt"
+        if (folder / module).is_dir():
+            yield from listed_files(file, folder / module)
+        elif file.is_file():
+            yield file
 
 
 def heading(text):

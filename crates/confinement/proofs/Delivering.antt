@@ -17,7 +17,7 @@ use Rattle.invocation.specs.Answerer.{Answer, answerer}
 use Rattle.invocation.specs.Answerer.Answer.{Dead, Open, Busy}
 use Rattle.invocation.specs.Delivery.{passed, passed_at, accepted, accepting, number_given, told as told_process, given, received, delivered}
 use Rattle.operations.specs.System.{System, Reading, system, with_store, with_runs, schedule_by, count_in}
-use Rattle.message_path.specs.Messages.{told, waiting, receiving, listening}
+use Rattle.fault_path.specs.message_path.Messages.{told, waiting, receiving, listening}
 use Rattle.fault_path.specs.Fault.{is_answer, handler_of, fault_message, faulted, answered, heard_by, fault_of}
 use Rattle.confinement.specs.declared.cut_side.CutSide.{CutSide}
 use Rattle.confinement.specs.Cut.{Cut, side_of, MayHold, EachHeldBy, HoldsFor}

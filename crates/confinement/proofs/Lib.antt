@@ -12,3 +12,7 @@ pub mod Machine
 pub mod Messaging
 pub mod Events
 pub mod Runs
+pub mod OneSide
+pub mod Bounding
+pub mod Families
+pub mod Isolating

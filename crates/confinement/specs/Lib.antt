@@ -3,3 +3,5 @@ pub mod Acts
 pub mod Reach
 pub mod Laws
 pub mod Separation
+pub mod authority
+pub mod isolation

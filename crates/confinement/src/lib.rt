@@ -12,7 +12,9 @@
 ghost use Rattle.confinement.specs.Laws.{AccessLaw, AnswerLaw, ChangeLaw, OperationLaw};
 ghost use Rattle.confinement.specs.Separation.{Separation};
 
+pub mod authority;
 mod cut_side;
+pub mod isolation;
 
 pub use cut_side::CutSide;
 

@@ -20,7 +20,7 @@ use Rattle.breadth_first.specs.declared.answer.Explored.TheVariants.{Found, Clos
 use Rattle.breadth_first.specs.declared.answer.Limits.{Limits}
 use Rattle.breadth_first.specs.declared.answer.Lost.{Lost}
 use Rattle.breadth_first.specs.declared.answer.Size.{Size}
-use Rattle.question.specs.Question.{QuestionValue, first_failing, holds, is_count, is_ever}
+use Rattle.exploration.specs.question.Question.{QuestionValue, first_failing, holds, is_count, is_ever}
 use Rattle.exploration.specs.Asking.{asking}
 use Rattle.exploration.specs.Explored.{AllCanCome, AllSeen, AreCounted, AreDistinct, AreOf, CanCome, FailsAt, IsExact, IsFirst, IsLimited, IsReached, IsSafe, LostAt, NoneFails, NoneFailsWithin, Says, SomeAt, SomeSeen, come_to, limits_of, system_of}
 use Rattle.exploration.specs.Laws.{ExactLaw, IsAnswerTo, OneAnswerLaw, SaysLaw}

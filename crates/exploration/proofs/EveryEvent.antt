@@ -11,10 +11,10 @@ use Rattle.machine_state.specs.Machine.{hart_in}
 use Rattle.machine_state.specs.State.{State}
 use Rattle.kernel_core.specs.Run.{run_state}
 use Rattle.separation_policy.specs.Policy.{PolicyValue}
-use Rattle.question.specs.declared.choice.Choice.{Choice}
-use Rattle.question.specs.declared.choice.Choice.TheVariants.{Steps, Tick as TimerTick}
-use Rattle.question.specs.Choice.{AreChoices, all_choices, choice_at, choice_events, path_events, step_below, tick_below}
-use Rattle.question.specs.Question.{QuestionValue, choices_by, choices_of}
+use Rattle.exploration.specs.declared.question.choice.Choice.{Choice}
+use Rattle.exploration.specs.declared.question.choice.Choice.TheVariants.{Steps, Tick as TimerTick}
+use Rattle.exploration.specs.question.Choice.{AreChoices, all_choices, choice_at, choice_events, path_events, step_below, tick_below}
+use Rattle.exploration.specs.question.Question.{QuestionValue, choices_by, choices_of}
 use Rattle.exploration.specs.Explored.{IsSafe, NoneFails}
 use Rattle.exploration.specs.Laws.{EveryEventLaw}
 

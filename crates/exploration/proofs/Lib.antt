@@ -3,3 +3,10 @@ mod Runs
 mod Safe
 mod Answered
 mod EveryEvent
+pub mod Reading
+pub mod Choices
+pub mod Some
+pub mod Any
+pub mod First
+pub mod About
+mod Spaces

@@ -6,8 +6,8 @@ use Rattle.std.proofs.Math.Seq.{get_or-append_seam}
 use Rattle.std.proofs.lemmas.List.{get_or_append_left}
 use Rattle.std.proofs.lemmas.List.Elements.{Contains-append_cases, Contains-append_left, Contains-append_right, Contains-get_or, Contains-push}
 use Rattle.std.proofs.lemmas.Option.{get_or_from_slice_get, slice_get-get_or, slice_get_within}
-use Rattle.question.specs.declared.asks.Asks.{Asks}
-use Rattle.question.specs.Question.{PropertyValue}
+use Rattle.exploration.specs.declared.question.asks.Asks.{Asks}
+use Rattle.exploration.specs.question.Question.{PropertyValue}
 use Rattle.exploration.specs.Asking.{asking, asking_below, property_at}
 
 module _ (asks : Asks → Bool) (properties : List PropertyValue) where

@@ -6,8 +6,8 @@ use Rattle.kernel_core.specs.Run.{run_state}
 use Rattle.kernel_core.proofs.Ran.{run_state-append, run_state-nil}
 use Rattle.separation_policy.specs.Policy.{PolicyValue}
 use Rattle.breadth_first.specs.Paths.{after as after_in}
-use Rattle.question.specs.Choice.{after, choice_at, choice_events, path_events}
-use Rattle.question.specs.Question.{QuestionValue, choices_of}
+use Rattle.exploration.specs.question.Choice.{after, choice_at, choice_events, path_events}
+use Rattle.exploration.specs.question.Question.{QuestionValue, choices_of}
 use Rattle.exploration.specs.Explored.{system_of}
 
 module _ (question : QuestionValue) (policy : PolicyValue) (same : State → State → Bool) (s : State) where

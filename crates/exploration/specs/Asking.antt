@@ -1,8 +1,8 @@
 -- Properties by their numbers. (Own.)
 use Rattle.std.specs.Prelude.{ℕ, zero, suc, Bool, if◌then◌else◌, List, [], ◌∷◌, ◌++◌, length, slice_index_or}
-use Rattle.question.specs.declared.asks.Asks.{Asks}
-use Rattle.question.specs.declared.asks.Asks.TheVariants.{Never, Ever, Count}
-use Rattle.question.specs.Question.{PropertyValue, is_count, is_ever, is_never, property_of}
+use Rattle.exploration.specs.declared.question.asks.Asks.{Asks}
+use Rattle.exploration.specs.declared.question.asks.Asks.TheVariants.{Never, Ever, Count}
+use Rattle.exploration.specs.question.Question.{PropertyValue, is_count, is_ever, is_never, property_of}
 
 -- property `n`
 abbrev pub property_at : List PropertyValue → ℕ → PropertyValue

@@ -13,8 +13,8 @@ use Rattle.breadth_first.specs.declared.answer.Count.{Count}
 use Rattle.breadth_first.specs.declared.answer.Explored.{Explored}
 use Rattle.breadth_first.specs.declared.answer.Explored.TheVariants.{Found, Closed, Open}
 use Rattle.breadth_first.specs.declared.answer.Lost.{Lost}
-use Rattle.question.specs.Choice.{AreChoices, after, after_choice, choice_at}
-use Rattle.question.specs.Question.{QuestionValue, choices_of, first_failing, holds, is_count, is_ever, is_never}
+use Rattle.exploration.specs.question.Choice.{AreChoices, after, after_choice, choice_at}
+use Rattle.exploration.specs.question.Question.{QuestionValue, choices_of, first_failing, holds, is_count, is_ever, is_never}
 use Rattle.exploration.specs.Asking.{asking, property_at}
 
 -- what is searched for a question: the states of the abstract machine from this one on, where `same` compares two

@@ -4,7 +4,9 @@
 #![tactic(auto)]
 
 mod laws;
+pub mod machine_space;
 mod properties;
+pub mod question;
 
 pub use laws::explored_laws;
 pub use properties::{asking, line_of};

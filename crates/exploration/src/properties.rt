@@ -3,7 +3,7 @@ ghost use Rattle.std.specs.Prelude.{◌≡◌, IfOk};
 ghost use Rattle.exploration.specs.Asking.{asking, asks_this, property_at};
 
 use cap_format::OutOfMemory;
-use question::{Asks, Property};
+use crate::question::{Asks, Property};
 use std::alloc::Global;
 
 /// The numbers of the properties that ask this, in their order.

@@ -7,10 +7,10 @@ use Rattle.breadth_first.specs.Told.{LostValue, Told, TellsFound, TellsClosed, T
 use Rattle.breadth_first.specs.declared.answer.Explored.{Explored}
 use Rattle.breadth_first.specs.declared.answer.Explored.TheVariants as answers
 use Rattle.breadth_first.specs.declared.answer.Size.{Size}
-use Rattle.question.specs.Question.{choices_of, is_ever}
+use Rattle.exploration.specs.question.Question.{choices_of, is_ever}
 use Rattle.exploration.specs.Asking.{asking, property_at}
 use Rattle.exploration.specs.Explored.{IsExact}
-use Rattle.explored_text.specs.Text.{counts_text, explored_text, led_to, size_text}
+use Rattle.explore_program.specs.explored_text.Text.{counts_text, explored_text, led_to, size_text}
 use Rattle.courses.specs.Ending.{Ends, Output}
 use Rattle.courses.specs.Exit.{is_finished}
 use Rattle.courses.proofs.Lasts.{finished-given}

@@ -3,3 +3,4 @@ pub mod Posed
 pub mod Told
 pub mod Program
 pub mod Theorem
+pub mod explored_text

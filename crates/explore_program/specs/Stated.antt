@@ -5,7 +5,7 @@ use Rattle.coy_io.specs.Lines.{Part, Line, LongLine, PastLimit}
 use Rattle.coy_io.specs.Reader.{Reader, ahead}
 use Rattle.object_store.specs.declared.sizes.Sizes.{Sizes}
 use Rattle.separation_policy.specs.Making.{first_policy}
-use Rattle.question.specs.Question.{nothing_asked}
+use Rattle.exploration.specs.question.Question.{nothing_asked}
 use Rattle.question_lines.specs.QuestionLine.{as_untaken, line_answer, line_policy, line_question}
 use Rattle.listing_read.specs.declared.object_fault.QuestionFault.{QuestionFault}
 use Rattle.listing_read.specs.declared.object_fault.QuestionFault.TheVariants.{LineTooLong}

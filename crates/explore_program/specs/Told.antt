@@ -9,10 +9,10 @@ use Rattle.kernel_core.specs.Run.{run_state}
 use Rattle.kernel_core.specs.State.{State}
 use Rattle.breadth_first.specs.declared.answer.Explored.{Explored}
 use Rattle.breadth_first.specs.declared.answer.Explored.TheVariants as answers
-use Rattle.question.specs.Question.{choices_of}
+use Rattle.exploration.specs.question.Question.{choices_of}
 use Rattle.exploration.specs.Explored.{IsExact, IsSafe, Says}
 use Rattle.exploration.specs.Laws.{IsAnswerTo}
-use Rattle.explored_text.specs.Text.{explored_text}
+use Rattle.explore_program.specs.explored_text.Text.{explored_text}
 use Rattle.schedule_replay.specs.Scheduled.{Ending, AtEnd, AtFault, AtLimit, scheduled}
 use Rattle.courses.specs.Course.{ends_in}
 use Rattle.courses.specs.Ending.{Output, told_end}

@@ -4,7 +4,7 @@ ghost use Rattle.explore_program.specs.Stated.{first_asked};
 
 use cap_format::OutOfMemory;
 use object_store::Sizes;
-use question::Question;
+use exploration::question::Question;
 use separation_policy::Policy;
 use std::alloc::Global;
 

@@ -6,6 +6,7 @@
 
 mod answering;
 mod asked;
+pub mod explored_text;
 mod input;
 mod laws;
 mod lines;

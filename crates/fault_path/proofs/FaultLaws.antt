@@ -21,7 +21,7 @@ use Rattle.invocation.specs.Answerer.{Answer}
 use Rattle.invocation.specs.Answerer.Answer.{Open}
 use Rattle.invocation.specs.Target.{is_receiving}
 use Rattle.invocation.specs.Delivery.{message_map, changed_by_message}
-use Rattle.message_path.specs.Messages.{told}
+use Rattle.fault_path.specs.message_path.Messages.{told}
 use Rattle.operations.specs.System.{System, Reading, system, count_in}
 use Rattle.fault_path.specs.Fault.{faulted, answered, handler_of, heard_by, fault_of, fault_message, fault_names}
 

@@ -1,1 +1,3 @@
 mod FaultLaws
+mod Receiver
+mod Sleepers

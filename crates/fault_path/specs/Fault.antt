@@ -14,7 +14,7 @@ use Rattle.invocation.specs.declared.message.Message.{Message}
 use Rattle.invocation.specs.Answerer.{Answer, answerer}
 use Rattle.invocation.specs.Answerer.Answer.{Dead, Open, Busy}
 use Rattle.operations.specs.System.{System, system, Reading, count_in}
-use Rattle.message_path.specs.Messages.{told, waiting}
+use Rattle.fault_path.specs.message_path.Messages.{told, waiting}
 use Rattle.fault_path.specs.declared.outcome.Outcome.{Outcome}
 use Rattle.fault_path.specs.declared.outcome.Outcome.TheVariants.{Delivered, MustWait, Unheard}
 

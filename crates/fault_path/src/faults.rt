@@ -19,7 +19,7 @@ use crate::handlers::handler;
 use crate::outcome::Outcome;
 use cap_format::{Cap, CapKind, FaultCode};
 use invocation::{Callee, CapList, Message, target};
-use message_path::{tell, wait};
+use crate::message_path::{tell, wait};
 use object_store::Objects;
 use process_objects::State;
 use schedules::Queues;

@@ -5,6 +5,7 @@
 
 mod faults;
 mod handlers;
+pub mod message_path;
 mod outcome;
 
 pub use faults::deliver_fault;

@@ -3,7 +3,7 @@ use Rattle.std.specs.Prelude.{ℕ}
 use Rattle.process_objects.specs.Accept.{AcceptValue}
 use Rattle.invocation.specs.declared.message.Message.{Message}
 use Rattle.operations.specs.System.{Meant, system}
-use Rattle.message_path.specs.Messages.{told, waiting, listening}
+use Rattle.fault_path.specs.message_path.Messages.{told, waiting, listening}
 use Rattle.machine_state.specs.State.{State}
 use Rattle.machine_state.specs.Setters.{set_system}
 

@@ -7,7 +7,7 @@ ghost use Rattle.object_store.specs.Meaning.{meaning};
 ghost use Rattle.object_store.specs.Ahead.{IsBehind};
 ghost use Rattle.invocation.specs.Target.{is_receiving};
 ghost use Rattle.invocation.specs.Delivery.{message_map, sent_by, accepted, changed_by_message};
-ghost use Rattle.message_path.specs.Messages.{listening_names};
+ghost use Rattle.fault_path.specs.message_path.Messages.{listening_names};
 ghost use Rattle.machine_state.specs.State.{state_of, process, IsOnHart};
 ghost use Rattle.machine_state.specs.Outcome.{process_name};
 ghost use Rattle.machine_state.specs.Came.{Leaves};
@@ -53,7 +53,7 @@ impl<T: Translator> Machine<T> {
         ensures leaves { Leaves (changed_by_message endpoint to) self.old self.new }
         ensures translator { self.new.translator ≡ self.old.translator }
     {
-        message_path::tell(&mut self.objects, &mut self.queues, endpoint, to, message);
+        fault_path::message_path::tell(&mut self.objects, &mut self.queues, endpoint, to, message);
     }
 
     /// A process on a hart leaves it and is the last sleeper of another, to do its instruction again later.
@@ -67,7 +67,7 @@ impl<T: Translator> Machine<T> {
         ensures leaves { Leaves (process_name p ∷ []) self.old self.new }
         ensures translator { self.new.translator ≡ self.old.translator }
     {
-        message_path::wait(&self.objects, &mut self.queues, p, on);
+        fault_path::message_path::wait(&self.objects, &mut self.queues, p, on);
     }
 
     /// A process leaves its place and receives, and all that slept on it are made ready.
@@ -78,6 +78,6 @@ impl<T: Translator> Machine<T> {
         ensures leaves { Leaves (listening_names (state_of self.old).queues p) self.old self.new }
         ensures translator { self.new.translator ≡ self.old.translator }
     {
-        message_path::listen(&mut self.objects, &mut self.queues, p, accept);
+        fault_path::message_path::listen(&mut self.objects, &mut self.queues, p, accept);
     }
 }

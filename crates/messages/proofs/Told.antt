@@ -5,7 +5,7 @@ use Rattle.cap_format.specs.declared.kind.CapKind.TheVariants.{Schedule}
 use Rattle.schedules.specs.Queues.{QueuesValue}
 use Rattle.schedules.specs.Ready.{readied_queues}
 use Rattle.invocation.specs.declared.message.Message.{Message}
-use Rattle.message_path.specs.Messages.{told}
+use Rattle.fault_path.specs.message_path.Messages.{told}
 use Rattle.machine_state.specs.State.{State, IsOnHart}
 use Rattle.machine_state.specs.Messaging.{told_state}
 

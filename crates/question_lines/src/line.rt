@@ -2,7 +2,7 @@
 ghost use Rattle.std.specs.Prelude.{◌≡◌, ◌≢◌, ◌<◌, ◌≤◌, ◌==◌, ◌||◌, length, IfOk, IfErr, OnOk, OnErr};
 ghost use Rattle.coy_text.specs.Words.{words_of};
 ghost use Rattle.object_store.specs.declared.sizes.Sizes.{Sizes};
-ghost use Rattle.question.specs.Choice.{IsChoiceOf};
+ghost use Rattle.exploration.specs.question.Choice.{IsChoiceOf};
 ghost use Rattle.listing_read.specs.declared.object_fault.QuestionFault.TheVariants.{WrongWords};
 ghost use Rattle.question_lines.specs.QuestionLine.{after_said, as_untaken, asks_line, choice_line, depth_line, end_line, is_of_policy, line_answer, line_policy, line_question, may_line, next_of, plain_line, policy_answered, question_line, said_by, states_line, step_line, tick_line, times_of, IsSaid, IsUntaken};
 ghost use Rattle.separation_lines.specs.PolicyLine.{policy_line, after_line as policy_after_line};
@@ -15,7 +15,7 @@ use coy_io::LINE_LIMIT;
 use coy_text::{is_skipped, is_visible, word, word_count, words_from};
 use listing_read::QuestionFault;
 use object_store::Sizes;
-use question::{Asks, Choice, Property, Question};
+use exploration::question::{Asks, Choice, Property, Question};
 use separation_lines::{Untaken as UntakenPolicy, read_policy};
 use separation_policy::Policy;
 use std::alloc::Global;

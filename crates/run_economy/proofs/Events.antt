@@ -18,7 +18,7 @@ use Rattle.string_move.specs.declared.piece.Piece.{Piece}
 use Rattle.string_move.specs.declared.span.Span.{Span}
 use Rattle.string_move.specs.Spans.{spans}
 use Rattle.string_move.specs.Move.{size_of_pieces, gathered, with_piece, scattered, copied as bytes_copied}
-use Rattle.message_path.specs.Messages.{told, waiting, listening}
+use Rattle.fault_path.specs.message_path.Messages.{told, waiting, listening}
 use Rattle.fault_path.specs.Fault.{answered as fault_answered, faulted as fault_faulted, handler_of, heard_by}
 use Rattle.walk_meaning.specs.declared.kind.Kind.{Kind}
 use Rattle.walk_meaning.specs.declared.kind.Kind.TheVariants.{Load, Store as Put}

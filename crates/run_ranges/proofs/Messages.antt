@@ -23,7 +23,7 @@ use Rattle.invocation.specs.Answerer.{Answer, answerer}
 use Rattle.invocation.specs.Answerer.Answer.{Dead, Open, Busy}
 use Rattle.invocation.specs.Delivery.{passed, passed_at, accepted, accepting, number_given, status_of, told as told_process, given, received, delivered}
 use Rattle.operations.specs.System.{System, Meant, system, schedule_by}
-use Rattle.message_path.specs.Messages.{told, waiting, receiving, listening}
+use Rattle.fault_path.specs.message_path.Messages.{told, waiting, receiving, listening}
 use Rattle.fault_path.specs.Fault.{is_answer, handler_of, heard_by, fault_message, faulted, answered}
 use Rattle.walk_meaning.specs.declared.at.At.{At}
 use Rattle.walk_meaning.specs.declared.kind.Kind.{Kind}

@@ -18,8 +18,8 @@ use Rattle.confinement.specs.Acts.{SparesPlaces, others_in, other_on, system_of}
 use Rattle.confinement.specs.Separation.{Kept}
 use Rattle.confinement.proofs.Sides.{same_side-tells, same_side-true}
 use Rattle.confinement.proofs.Runs.{event_kept, holds-run, holds-event}
-use Rattle.isolation.specs.Agree.{Agree}
-use Rattle.isolation.specs.Isolation.{AlikeRuns, Isolation}
+use Rattle.confinement.specs.isolation.Agree.{Agree}
+use Rattle.confinement.specs.isolation.Isolation.{AlikeRuns, Isolation}
 use Rattle.separation_policy.specs.Policy.{PolicyValue, rest_domain, domain_of, PolicyHolds, StandStill, others_than, other_than, WritesAtHome, TakesNoTurn, StaysAsItIs, side_if, domain_cut, view_cut, SameFor, Reads}
 use Rattle.separation_policy.specs.Laws.{IntegrityLaw, OwnChangesLaw, NoninterferenceLaw}
 use Rattle.separation_policy.proofs.Reading.{same_answer, reads-seen, seen-reads}

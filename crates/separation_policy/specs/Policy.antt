@@ -27,7 +27,7 @@ use Rattle.confinement.specs.declared.cut_side.CutSide.{CutSide}
 use Rattle.confinement.specs.declared.cut_side.CutSide.TheVariants.{Left, Right}
 use Rattle.confinement.specs.Cut.{Cut, same_side, Holds}
 use Rattle.confinement.specs.Acts.{SameSizes, system_of}
-use Rattle.isolation.specs.Turns.{Turn, turns, told}
+use Rattle.confinement.specs.isolation.Turns.{Turn, turns, told}
 use Rattle.separation_policy.specs.declared.policy.Domain.{Domain}
 use Rattle.separation_policy.specs.DomainSet.{no_domains, has_domain}
 

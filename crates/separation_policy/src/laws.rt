@@ -1,7 +1,7 @@
 //! The laws of policies. The calls change nothing: what they say holds for all policies and states.
 ghost use Rattle.separation_policy.specs.Laws.{ReadsLaw, CutsLaw, IntegrityLaw, OwnChangesLaw, NoninterferenceLaw};
 
-use isolation::isolation;
+use confinement::isolation::isolation;
 
 /// Who reads whom is decided.
 pub fn reads_law()

@@ -4,7 +4,7 @@ ghost use Rattle.steps.specs.Permit.{permit_for};
 
 use crate::starts::{barred, machine_of};
 use kernel_core::{Event, Machine, event};
-use question::{Question, holds};
+use exploration::question::{Question, holds};
 use question_lines::read_question;
 use separation_policy::{Closure, Policy};
 use std::alloc::Global;

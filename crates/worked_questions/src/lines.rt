@@ -3,7 +3,7 @@
 use crate::starts::barred;
 use listing_read::PolicyFault;
 use object_store::Sizes;
-use question::Question;
+use exploration::question::Question;
 use question_lines::{Next, QuestionFault, Untaken, read_question};
 use separation_policy::Policy;
 use std::alloc::Global;

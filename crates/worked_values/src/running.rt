@@ -13,7 +13,7 @@ use cap_format::{Cap, CapKind, FaultCode, Reply, Request};
 use control_caps::invoke;
 use fault_path::{Outcome, deliver_fault};
 use invocation::{Callee, CapList, Message, target};
-use message_path::{listen, tell, wait};
+use fault_path::message_path::{listen, tell, wait};
 use object_store::{Objects, Sizes};
 use process_objects::{Accept, Process, State, Wait};
 use schedules::{Queues, Spot};

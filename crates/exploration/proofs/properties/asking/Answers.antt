@@ -1,7 +1,7 @@
 use Rattle.std.proofs.Common.{◌≡◌, ◌∙◌, ◌<◌, ◌++◌, ◌∷◌, [], ℕ, Bool, List, true, false, length, sym, ap, arith, append-nil}
 use Rattle.std.proofs.lemmas.List.{get_or_read}
-use Rattle.question.specs.declared.asks.Asks.TheVariants.{Never}
-use Rattle.question.specs.Question.{PropertyValue, property_of}
+use Rattle.exploration.specs.declared.question.asks.Asks.TheVariants.{Never}
+use Rattle.exploration.specs.question.Question.{PropertyValue, property_of}
 use Rattle.exploration.specs.Asking.{asking_below, asks_this, property_at}
 use Rattle.exploration.proofs.Numbers.{asking-more, asking-zero}
 use Rattle.exploration.proofs.properties.asking.Goals as goal

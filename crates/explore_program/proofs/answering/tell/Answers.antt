@@ -2,9 +2,9 @@ use Rattle.std.proofs.Common.{◌∙◌, ℕ, List, ap, ap₂, subst, sym}
 use Rattle.coy_io.specs.Written.{Wrote}
 use Rattle.courses.specs.Ending.{Ends}
 use Rattle.courses.specs.declared.exit.Exit.{Exit}
-use Rattle.explored_text.specs.Text.{explored_text}
-use Rattle.question.specs.Question.{PropertyValue, choices_of}
-use Rattle.question.specs.declared.choice.Choice.{Choice}
+use Rattle.explore_program.specs.explored_text.Text.{explored_text}
+use Rattle.exploration.specs.question.Question.{PropertyValue, choices_of}
+use Rattle.exploration.specs.declared.question.choice.Choice.{Choice}
 use Rattle.explore_program.specs.Told.{exit_of, told_by, written_exit}
 use Rattle.explore_program.proofs.Verdicts.{answer-finished, ends-written}
 use Rattle.explore_program.proofs.answering.tell.Goals as goal

@@ -1,3 +1,0 @@
-pub mod Sides
-pub mod Bounding
-pub mod Families

@@ -1,0 +1,54 @@
+-- What is not about the policy is judged alike whether or not it holds.
+use Rattle.std.proofs.Common.{◌≡◌, ℕ, ◌+◌, ◌||◌, ◌&&◌, Bool, true, false, not, cond, if◌then◌else◌, nat_lt, List, [], ◌∷◌, length, Some, None, refl, ap, ap₂}
+use Rattle.std.specs.List.{list_any, position, position_or_len}
+use Rattle.machine_state.specs.State.{State}
+use Rattle.exploration.specs.declared.question.atom.Atom.{Atom}
+use Rattle.exploration.specs.declared.question.atom.Condition.{Condition}
+use Rattle.exploration.specs.declared.question.atom.Condition.TheVariants as conditions
+use Rattle.exploration.specs.question.Atom.{all_hold, atom_holds, condition_holds, is_crossing, is_of_policy}
+use Rattle.exploration.specs.question.Question.{PropertyValue, fails, is_about_policy, is_never}
+
+or_first : (a b : Bool) → (a || b) ≡ false → a ≡ false
+or_first true b none = none
+or_first false b none = refl
+
+or_second : (a b : Bool) → (a || b) ≡ false → b ≡ false
+or_second true b none = absurd (cc (none))
+or_second false b none = none
+
+module _ (c d : Bool) (s : State) where
+  condition-alike : (condition : Condition) → is_crossing condition ≡ false → condition_holds c condition s ≡ condition_holds d condition s
+  condition-alike conditions.Stuck none = refl
+  condition-alike conditions.Halted none = refl
+  condition-alike (conditions.Running p) none = refl
+  condition-alike (conditions.Receiving p) none = refl
+  condition-alike (conditions.Faulted p) none = refl
+  condition-alike (conditions.FaultedBy p code) none = refl
+  condition-alike (conditions.Sleeps p) none = refl
+  condition-alike (conditions.Pc p first last) none = refl
+  condition-alike (conditions.Register p i value) none = refl
+  condition-alike (conditions.Word page offset value) none = refl
+  condition-alike (conditions.Holds kind n of named) none = refl
+  condition-alike conditions.Crossing none = absurd (cc (none))
+
+  atom-alike : (atom : Atom) → is_of_policy atom ≡ false → atom_holds c s atom ≡ atom_holds d s atom
+  atom-alike atom none = ap (λ (b : Bool). if atom.negated then not b else b) (condition-alike atom.condition none)
+
+  pub all-alike : (atoms : List Atom) → list_any is_of_policy atoms ≡ false → all_hold c s atoms ≡ all_hold d s atoms
+  all-alike [] none = refl
+  all-alike (atom ∷ atoms) none =
+      ap₂ (λ (a b : Bool). a && b) (atom-alike atom (or_first (is_of_policy atom) _ none)) (all-alike atoms (or_second (is_of_policy atom) _ none))
+
+  fails-alike : (property : PropertyValue) → is_about_policy property ≡ false → fails c s property ≡ fails d s property
+  fails-alike property none = ap (λ (b : Bool). is_never property.asks && b) (all-alike property.atoms none)
+
+  front-alike : (properties : List PropertyValue) → list_any is_about_policy properties ≡ false
+      → position_or_len (fails c s) properties ≡ position_or_len (fails d s) properties
+  front-alike [] none = refl
+  front-alike (property ∷ properties) none =
+      ap₂ (λ (b : Bool) (n : ℕ). cond (not b) (1 + n) 0) (fails-alike property (or_first (is_about_policy property) _ none))
+      (front-alike properties (or_second (is_about_policy property) _ none))
+
+  -- the first that fails
+  pub first-alike : (properties : List PropertyValue) → list_any is_about_policy properties ≡ false → position (fails c s) properties ≡ position (fails d s) properties
+  first-alike properties none = ap (λ n. cond (nat_lt n (length properties)) (Some n) None) (front-alike properties none)

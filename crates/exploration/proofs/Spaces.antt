@@ -1,0 +1,114 @@
+-- A space whose tables grow stays the same space.
+use Rattle.std.proofs.Common.{◌≡◌, ℕ, suc, [], ◌∷◌, ◌+◌, ◌-◌, ◌<◌, Bool, true, List, length, get_or, replicate, All, slice_get, Some, Result, Ok, Err, OnOk, refl, sym, ap, ◌∙◌, subst, arith}
+use Rattle.object_store.specs.declared.sizes.Sizes.{Sizes}
+use Rattle.machine_state.specs.declared.event.Event.{Event}
+use Rattle.machine_state.specs.declared.event.Event.TheVariants.{Step}
+use Rattle.machine_state.specs.State.{State}
+use Rattle.kernel_core.specs.Event.{event_of}
+use Rattle.kernel_core.specs.Run.{run_state}
+use Rattle.kernel_core.proofs.Ran.{run_state-cons, run_state-nil}
+use Rattle.separation_policy.specs.declared.domain_set.DomainSet.{DomainSet}
+use Rattle.separation_policy.specs.Policy.{PolicyValue}
+use Rattle.breadth_first.specs.declared.answer.Explored.{Explored}
+use Rattle.breadth_first.specs.declared.answer.Limits.{Limits}
+use Rattle.breadth_first.specs.Answer.{IsAnswer}
+use Rattle.breadth_first.specs.Kept.{Keeps}
+use Rattle.breadth_first.specs.System.{System}
+use Rattle.exploration.specs.declared.question.choice.Choice.{Choice}
+use Rattle.exploration.specs.declared.question.asks.Asks.{Asks}
+use Rattle.exploration.specs.question.Question.{PropertyValue, QuestionValue, is_count, is_ever}
+use Rattle.exploration.specs.Asking.{asking}
+use Rattle.exploration.specs.Explored.{limits_of, system_of}
+use Rattle.exploration.specs.Laws.{IsAnswerTo}
+use Rattle.exploration.proofs.Numbers.{asking-there}
+use Rattle.state_parts.specs.declared.key.Key.{Key}
+use Rattle.state_parts.specs.Key.{KeyValue}
+use Rattle.state_parts.specs.KeyLaws.{key_in, key_decides}
+use Rattle.state_parts.specs.Keys.{objects_of, values_of, Reads, store_by}
+use Rattle.state_parts.specs.Same.{same_state}
+use Rattle.state_parts.specs.SameLaws.{state_decides}
+use Rattle.state_parts.specs.Standing.{nowhere}
+use Rattle.state_parts.specs.Space.{TablesValue, Held, IsKept, state_in}
+use Rattle.state_parts.specs.States.{GrowTables}
+use Rattle.state_parts.proofs.Alike.{held_grown, keys_alike, state_grown}
+use Rattle.exploration.specs.machine_space.Space.{IsSpace, after_steps, searched_of}
+
+module _ (question : QuestionValue) (policy : PolicyValue) where
+  -- nothing was added
+  pub keeps_all : (t : TablesValue) (start : Key)
+      → Keeps (searched_of question policy (state_in t start)) (λ (key : Key). Held t key) (λ (key : Key). state_in t key)
+      (searched_of question policy (state_in t start)) (λ (key : Key). Held t key) (λ (key : Key). state_in t key)
+  keeps_all t start = record { system = refl; still = λ key held. held; stays = λ key held. refl }
+
+  -- tables grew
+  pub keeps_grown : (old new : TablesValue) (start : Key) → GrowTables old new → Held old start
+      → Keeps (searched_of question policy (state_in old start)) (λ (key : Key). Held old key) (λ (key : Key). state_in old key)
+      (searched_of question policy (state_in new start)) (λ (key : Key). Held new key) (λ (key : Key). state_in new key)
+  keeps_grown old new start grows held = record {
+    system = ap (system_of question policy same_state) (state_grown old new start grows held);
+    still = λ key is. held_grown old new key grows is;
+    stays = λ key is. state_grown old new key grows is;
+  }
+
+  -- and so does what it keeps
+  pub space_grown : (closure : List DomainSet) (choices : List Choice) (old new : TablesValue) (start : Key) → GrowTables old new → IsSpace question policy closure choices old start → IsSpace question policy closure choices new start
+  space_grown closure choices old new start grows is = record {
+    given = is.given;
+    range = is.range;
+    few = is.few;
+    closes = is.closes;
+    sizes = grows.sizes ∙ is.sizes;
+    held = held_grown old new start grows is.held;
+  }
+
+-- a copy of a key stands for the same state
+module _ (t : TablesValue) (a b : Key) (same : key_in b ≡ key_in a) (held : Held t a) where
+  pub held_copy : Held t b
+  held_copy = record {
+    tables = held.tables;
+    reads = subst (λ (k : KeyValue). Reads t.objects k.parts (objects_of t.names (store_by t.sizes t.names (values_of t.objects k.parts)))) (sym same) held.reads;
+    standing = subst (λ (k : KeyValue). k.standing < length t.standings) (sym same) held.standing;
+    kept = subst (λ (k : KeyValue). IsKept t.sizes (store_by t.sizes t.names (values_of t.objects k.parts)) (get_or t.standings k.standing nowhere)) (sym same) held.kept;
+  }
+
+  pub state_copy : state_in t b ≡ state_in t a
+  state_copy = (state_decides (state_in t b) (state_in t a)).0 (sym (keys_alike t b a held_copy held) ∙ (key_decides (key_in b) (key_in a)).1 same)
+
+-- where a call went well, what follows from what it leaves
+pub on-ok : {X E : Type 0} (r : Result X E) {P Q : Type 0} → OnOk r P → (P → Q) → OnOk r Q
+on-ok (Ok x) p f = f p
+on-ok (Err e) p f = p
+
+-- ---- steps
+
+-- one step more, before the others
+pub steps-more : (hart n : ℕ) (s t : State) → t ≡ (event_of s (Step hart)).state → after_steps hart n t ≡ after_steps hart (suc n) s
+steps-more hart n s t is = ap (after_steps hart n) is ∙ sym (run_state-cons s (Step hart) (replicate n (Step hart)))
+
+-- none
+pub steps-none : (hart : ℕ) (s : State) → after_steps hart 0 s ≡ s
+steps-none hart s = run_state-nil s
+
+-- one event alone
+pub event-alone : (e : Event) (s t : State) → t ≡ (event_of s e).state → t ≡ run_state s (e ∷ [])
+event-alone e s t is = is ∙ sym (run_state-nil (event_of s e).state) ∙ sym (run_state-cons s e [])
+
+-- ---- what is asked
+
+-- the properties that ask something are there
+pub asked-there : (asks : Asks → Bool) (qs properties : List PropertyValue) (numbers : List ℕ) → numbers ≡ asking asks qs → qs ≡ properties → All (λ n. n < length properties) numbers
+asked-there asks qs properties numbers are same =
+    subst (λ (ps : List PropertyValue). All (λ n. n < length ps) numbers) same
+    (subst (λ (ns : List ℕ). All (λ n. n < length qs) ns) (sym are) (asking-there asks qs))
+
+-- an answer of the search is one to the question, from the state that the start means
+pub answered : (question : QuestionValue) (policy : PolicyValue) (s t : State) (limits : Limits) (evers counts : List ℕ) (answer : Explored) → s ≡ t → limits ≡ limits_of question → evers ≡ asking is_ever question.properties → counts ≡ asking is_count question.properties → IsAnswer (searched_of question policy s) limits evers counts answer → IsAnswerTo question policy t answer
+answered question policy s t limits evers counts answer here far first second is = record {
+  same = same_state;
+  decides = state_decides;
+  searched =
+      subst (λ (x : State). IsAnswer (searched_of question policy x) (limits_of question) (asking is_ever question.properties) (asking is_count question.properties) answer) here
+      (subst (λ (l : Limits). IsAnswer (searched_of question policy s) l (asking is_ever question.properties) (asking is_count question.properties) answer) far
+      (subst (λ (ns : List ℕ). IsAnswer (searched_of question policy s) limits ns (asking is_count question.properties) answer) first
+      (subst (λ (ns : List ℕ). IsAnswer (searched_of question policy s) limits evers ns answer) second is)));
+}

@@ -1,0 +1,43 @@
+-- What a space of a machine's states keeps. (Own.)
+use Rattle.std.specs.Prelude.{◌≡◌, ℕ, ◌<◌, ◌^◌, List, length, replicate}
+use Rattle.std.specs.List.{All}
+use Rattle.machine_state.specs.declared.event.Event.TheVariants.{Step}
+use Rattle.machine_state.specs.State.{State}
+use Rattle.kernel_core.specs.Run.{run_state}
+use Rattle.separation_policy.specs.declared.domain_set.DomainSet.{DomainSet}
+use Rattle.separation_policy.specs.Policy.{PolicyValue}
+use Rattle.separation_policy.specs.Closure.{IsClosure}
+use Rattle.breadth_first.specs.System.{System}
+use Rattle.exploration.specs.declared.question.choice.Choice.{Choice}
+use Rattle.exploration.specs.question.Choice.{IsChoiceOf}
+use Rattle.exploration.specs.question.Question.{QuestionValue, choices_of}
+use Rattle.exploration.specs.Explored.{system_of}
+use Rattle.state_parts.specs.declared.key.Key.{Key}
+use Rattle.state_parts.specs.Same.{same_state}
+use Rattle.state_parts.specs.Space.{TablesValue, Held}
+use Rattle.state_parts.specs.States.{StatesValue}
+
+-- the state after so many steps of a hart
+abbrev pub after_steps : ℕ → ℕ → State → State
+after_steps hart times s = run_state s (replicate times (Step hart))
+
+-- a space: what is asked, the states that were seen with the machine, and the state from which the choices start
+pub record SpaceValue : Type 0 where
+  pub question : QuestionValue
+  pub policy : PolicyValue
+  pub states : StatesValue
+  pub start : State
+
+-- what is searched: the states from this one on
+abbrev pub searched_of : QuestionValue → PolicyValue → State → System State
+searched_of question policy start = system_of question policy same_state start
+
+-- the choices are the question's, and few enough to have numbers; the closure is the policy's; tables are those of a machine
+-- that the question is about, and the start is a state in them
+pub record IsSpace (question : QuestionValue) (policy : PolicyValue) (closure : List DomainSet) (choices : List Choice) (tables : TablesValue) (start : Key) : Type 0 where
+  pub given : choices ≡ choices_of question
+  pub range : All (IsChoiceOf question.sizes.harts) choices
+  pub few : length choices < 2 ^ 32
+  pub closes : IsClosure policy closure
+  pub sizes : tables.sizes ≡ question.sizes
+  pub held : Held tables start

@@ -1,0 +1,115 @@
+//! The states of a machine as a space.
+use crate::machine_space::choosing::chosen;
+use breadth_first::Space;
+use machine_state::Records;
+use crate::question::{Choice, Question, first_failing, holds};
+use separation_policy::{Closure, Policy};
+use state_parts::{Key, States};
+use std::alloc::{AllocError, Global};
+use std::marker::Model;
+use std::sync::ledger::Ledger;
+use steps::Steps;
+
+/// The states that a machine can come to by the choices of a question.
+#[derive(Drop)]
+pub(crate) struct MachineSpace<'a, L: Ledger> {
+    pub(crate) alloc: Global,
+    pub(crate) question: &'a Question,
+    pub(crate) policy: &'a Policy,
+    pub(crate) closure: Closure,
+    pub(crate) choices: Vec<Choice>,
+    pub(crate) states: States,
+    /// The key of the state from which the choices start.
+    pub(crate) start: Key,
+    /// What the last event told.
+    pub(crate) records: Records,
+    pub(crate) fetches: &'a mut Steps<L>,
+}
+
+impl<'a, L: Ledger> Model for MachineSpace<'a, L> {
+    ghost use Rattle.state_parts.specs.Space.{state_in};
+    ghost use Rattle.exploration.specs.machine_space.Space.{IsSpace, SpaceValue};
+
+    ghost Value = { SpaceValue };
+
+    ghost view = { λ s. record { question = s.question.now; policy = s.policy.now; states = s.states; start = state_in s.states.tables s.start } };
+
+    ghost invariant = { λ s. IsSpace s.question.now s.policy.now s.closure s.choices.items s.states.tables s.start };
+}
+
+impl<'a, L: Ledger> Space for MachineSpace<'a, L> {
+    ghost use Rattle.std.specs.Prelude.{◌≡◌};
+    ghost use Rattle.machine_state.specs.State.{State, state_of};
+    ghost use Rattle.state_parts.specs.Space.{Held, state_in};
+    ghost use Rattle.state_parts.specs.SameLaws.{state_decides};
+    ghost use Rattle.state_parts.proofs.Alike.{keys_alike};
+    ghost use Rattle.exploration.specs.machine_space.Space.{searched_of};
+
+    type Key = Key;
+
+    ghost State = { State };
+
+    ghost system = { λ space. searched_of space.question space.policy space.start };
+
+    ghost held = { λ space key. Held space.states.tables key };
+
+    ghost means = { λ space key. state_in space.states.tables key };
+
+    ghost stands = { λ space s. state_of space.states.machine ≡ s };
+
+    ghost alike = { λ space a b held held_too. keys_alike space.states.tables a b held held_too };
+
+    ghost decides = { λ space. state_decides };
+
+    fn choices(&self) -> u32 {
+        self.choices.len() as u32
+    }
+
+    fn start(&mut self) -> Result<Key, AllocError> {
+        let Ok(()) = self.states.go(&self.start, self.fetches) else {
+            return Err(AllocError);
+        };
+        let Ok(key) = self.start.copy(self.alloc) else {
+            return Err(AllocError);
+        };
+        Ok(key)
+    }
+
+    fn successor(&mut self, from: &Key, choice: u32) -> Result<Key, AllocError> {
+        let choice = self.choices[choice as usize];
+        let Ok(key) = chosen(
+            &mut self.states,
+            from,
+            choice,
+            &mut self.records,
+            self.fetches,
+        ) else {
+            return Err(AllocError);
+        };
+        Ok(key)
+    }
+
+    fn violated(&mut self, _key: &Key) -> Result<Option<usize>, AllocError> {
+        Ok(first_failing(
+            self.question,
+            self.policy,
+            &self.closure,
+            self.states.machine(),
+            self.fetches,
+        ))
+    }
+
+    fn passes(&mut self, key: &Key, test: usize) -> Result<bool, AllocError> {
+        let Ok(()) = self.states.go(key, self.fetches) else {
+            return Err(AllocError);
+        };
+        Ok(holds(
+            self.question,
+            self.policy,
+            &self.closure,
+            self.states.machine(),
+            test,
+            self.fetches,
+        ))
+    }
+}

@@ -1,2 +1,0 @@
-mod Receiver
-mod Sleepers

@@ -1,6 +1,0 @@
-use Rattle.message_path.proofs.Sleepers.{listening_means}
-use Rattle.message_path.proofs.listening.listen.Goals as goal
-
-pub returns-clause-means : goal.returns-clause-means
-returns-clause-means c =
-    listening_means c.args.objects.now c.args.queues.now c.args.p c.args.accept c.receive.new.objects c.receive.new.queues _ _ c.receive.ensures.objects c.receive.ensures.queues c.wake.ensures.means c.wake.ensures.queues_mean

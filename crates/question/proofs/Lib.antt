@@ -1,6 +1,0 @@
-pub mod Reading
-pub mod Choices
-pub mod Some
-pub mod Any
-pub mod First
-pub mod About

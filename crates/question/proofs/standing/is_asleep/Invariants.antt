@@ -1,7 +1,0 @@
-use Rattle.std.proofs.Common.{◌≡◌, false}
-use Rattle.schedules.specs.Queues.{sleepers_of, stands_in}
-use Rattle.question.specs.Atom.{some_below}
-use Rattle.question.proofs.standing.is_asleep.Given as goal
-
-abbrev pub invariant-each : goal.invariant-each
-invariant-each l = some_below (λ on. stands_in (sleepers_of l.queues on) l.p) l.on ≡ false

@@ -1,7 +1,0 @@
-use Rattle.std.proofs.Common.{◌≡◌, false, is_some}
-use Rattle.schedules.specs.Queues.{hart_of}
-use Rattle.question.specs.Atom.{some_below}
-use Rattle.question.proofs.standing.some_on_hart.Given as goal
-
-abbrev pub invariant-each : goal.invariant-each
-invariant-each l = some_below (λ hart. is_some (hart_of l.queues hart)) l.hart ≡ false

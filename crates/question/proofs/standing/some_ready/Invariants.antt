@@ -1,7 +1,0 @@
-use Rattle.std.proofs.Common.{◌≡◌, ◌==◌, false, not, length}
-use Rattle.schedules.specs.Queues.{ready_queue}
-use Rattle.question.specs.Atom.{some_below}
-use Rattle.question.proofs.standing.some_ready.Given as goal
-
-abbrev pub invariant-each : goal.invariant-each
-invariant-each l = some_below (λ priority. not (length (ready_queue l.queues priority) == 0)) l.priority ≡ false
