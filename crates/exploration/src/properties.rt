@@ -2,8 +2,8 @@
 ghost use Rattle.std.specs.Prelude.{◌≡◌, IfOk};
 ghost use Rattle.exploration.specs.Asking.{asking, asks_this, property_at};
 
-use cap_format::OutOfMemory;
 use crate::question::{Asks, Property};
+use cap_format::OutOfMemory;
 use std::alloc::Global;
 
 /// The numbers of the properties that ask this, in their order.

@@ -6,14 +6,14 @@ ghost use Rattle.courses.specs.Ending.{EndsIn};
 ghost use Rattle.explore_program.specs.Told.{Answers, Tells, exit_of, told_by, written_exit};
 
 use crate::asked::Asked;
+use crate::explored_text::put_explored;
 use breadth_first::{Explored, Watcher};
 use courses::Exit;
 use coy_io::{Sink, WriteFault};
-use exploration::{asking, explored_laws};
-use crate::explored_text::put_explored;
 use exploration::machine_space::explore_machine;
-use machine_state::Machine;
 use exploration::question::Asks;
+use exploration::{asking, explored_laws};
+use machine_state::Machine;
 use std::alloc::Global;
 use std::sync::ledger::Ledger;
 use steps::Steps;

@@ -16,10 +16,10 @@ ghost use Rattle.operations.specs.Meaning.{cap_map};
 ghost use Rattle.fault_path.specs.Fault.{faulted, answered, fault_message, outcome_of, heard_by, fault_of, fault_names};
 
 use crate::handlers::handler;
+use crate::message_path::{tell, wait};
 use crate::outcome::Outcome;
 use cap_format::{Cap, CapKind, FaultCode};
 use invocation::{Callee, CapList, Message, target};
-use crate::message_path::{tell, wait};
 use object_store::Objects;
 use process_objects::State;
 use schedules::Queues;

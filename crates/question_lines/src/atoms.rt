@@ -10,9 +10,9 @@ use crate::atom_words::AtomWords;
 use crate::conditions::condition;
 use crate::fault::Untaken;
 use coy_text::{word, word_count, words_from};
+use exploration::question::Atom;
 use listing_read::QuestionFault;
 use object_store::Sizes;
-use exploration::question::Atom;
 use std::alloc::Global;
 
 /// The atoms of a text, with `and` between them.

@@ -11,9 +11,9 @@ use crate::atom_words::AtomWords;
 use crate::fields::{code, has_words, object, offset, register, value};
 use cap_format::CapKind;
 use confine_check::read_kind;
+use exploration::question::Condition;
 use listing_read::QuestionFault;
 use object_store::Sizes;
-use exploration::question::Condition;
 
 /// The condition that some words are.
 #[tactic(auto, unfolding(crate::specs::AtomLine::condition_from))]

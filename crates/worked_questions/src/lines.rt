@@ -1,9 +1,9 @@
 //! Lines of a question, and their faults.
 
 use crate::starts::barred;
+use exploration::question::Question;
 use listing_read::PolicyFault;
 use object_store::Sizes;
-use exploration::question::Question;
 use question_lines::{Next, QuestionFault, Untaken, read_question};
 use separation_policy::Policy;
 use std::alloc::Global;

@@ -7,9 +7,9 @@ ghost use Rattle.state_parts.specs.Space.{Held, state_in};
 ghost use Rattle.state_parts.specs.States.{GrowTables};
 ghost use Rattle.exploration.specs.machine_space.Space.{after_steps};
 
+use crate::question::Choice;
 use cap_format::OutOfMemory;
 use machine_state::{Event, Records};
-use crate::question::Choice;
 use state_parts::{Key, States};
 use std::sync::ledger::Ledger;
 use steps::Steps;

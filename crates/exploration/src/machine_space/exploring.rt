@@ -4,13 +4,13 @@ ghost use Rattle.object_store.specs.Store.{sizes_of};
 ghost use Rattle.machine_state.specs.State.{state_of};
 ghost use Rattle.exploration.specs.Laws.{IsAnswerTo};
 
+use crate::asking;
 use crate::machine_space::limits::limits_of;
 use crate::machine_space::space::MachineSpace;
+use crate::question::{Asks, Question};
 use breadth_first::{Explored, Watcher, explore};
 use cap_format::OutOfMemory;
-use crate::asking;
 use machine_state::{Machine, Records};
-use crate::question::{Asks, Question};
 use separation_policy::{Closure, Policy};
 use state_parts::States;
 use std::alloc::Global;

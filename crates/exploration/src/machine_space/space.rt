@@ -1,8 +1,8 @@
 //! The states of a machine as a space.
 use crate::machine_space::choosing::chosen;
+use crate::question::{Choice, Question, first_failing, holds};
 use breadth_first::Space;
 use machine_state::Records;
-use crate::question::{Choice, Question, first_failing, holds};
 use separation_policy::{Closure, Policy};
 use state_parts::{Key, States};
 use std::alloc::{AllocError, Global};
