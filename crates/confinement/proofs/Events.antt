@@ -112,6 +112,7 @@ module _ (cut : Cut) (side : CutSide) where
     holds = λ s. HoldsFor cut side (system_of s);
     by = λ p. side_of cut Process p ≡ side;
     over = λ e. side_of cut Endpoint e ≡ side;
+    awaited = λ q. side_of cut Process q ≡ side;
     word = λ number. Unit {0};
     regs = λ registers. Unit {0};
     has = λ c. MayHold cut side c;

@@ -44,12 +44,14 @@ use Rattle.kernel_core.specs.KernelOperation.{kind_table, memory_op, control_op}
 use Rattle.kernel_core.specs.Event.{instruction}
 use Rattle.kernel_core.specs.Run.{run_of}
 
--- what a law wants of a state, of a process that takes part in an event, of an endpoint through which one does, and of what
--- the process that performs it reads: numbers, registers, capabilities, the handler of a fault, replies, effects, invocations
+-- what a law wants of a state, of a process that takes part in an event, of an endpoint through which one does, of a process
+-- that is busy and waited for, and of what the process that performs it reads: numbers, registers, capabilities, the handler of
+-- a fault, replies, effects, invocations
 pub record Notions : Type 1 where
   pub holds : State → Type 0
   pub by : ℕ → Type 0
   pub over : ℕ → Type 0
+  pub awaited : ℕ → Type 0
   pub word : ℕ → Type 0
   pub regs : List ℕ → Type 0
   pub has : Capability → Type 0
@@ -64,6 +66,7 @@ wants_nothing = record {
   holds = λ s. Unit {0};
   by = λ p. Unit {0};
   over = λ e. Unit {0};
+  awaited = λ q. Unit {0};
   word = λ number. Unit {0};
   regs = λ registers. Unit {0};
   has = λ c. Unit {0};
@@ -112,7 +115,7 @@ pub record Origins (n : Notions) : Type 0 where
   pub asked : (s : State) (p : ℕ) (inv : InvocationValue) → n.holds s → n.by p → parsed (process s p).regs ≡ Ok inv
       → n.asks inv
   pub kernel : (s : State) (c cap : Capability) → n.holds s → n.has c → callee s.store c ≡ Kernel cap → n.has cap
-  pub busy : (s : State) (c : Capability) (q : ℕ) → n.holds s → n.has c → callee s.store c ≡ Busy q → n.by q
+  pub busy : (s : State) (c : Capability) (q : ℕ) → n.holds s → n.has c → callee s.store c ≡ Busy q → n.awaited q
   pub open_by : (s : State) (c : Capability) (e q : ℕ) → n.holds s → n.has c → callee s.store c ≡ Open e q → n.by q
   pub open_over : (s : State) (c : Capability) (e q : ℕ) → n.holds s → n.has c → callee s.store c ≡ Open e q → n.over e
   pub sent_at : (s : State) (p : ℕ) (inv : InvocationValue) (f : StringFault) → n.holds s → n.by p → n.asks inv
@@ -172,7 +175,7 @@ pub record Cases (I : Type 0) (n : Notions) (m : Together I n) : Type 0 where
   pub halts : (s : I → State) → m.kept s → m.makes s (λ i. done (halted (s i)))
   pub faults : (s : I → State) (p : ℕ) (code : FaultCode) (address : ℕ) (handler : Option Capability) → m.kept s → n.by p
       → n.word address → n.handler (s m.first) p handler → m.makes s (λ i. fault (s i) p code address handler)
-  pub waits : (s : I → State) (p q : ℕ) → m.kept s → n.by p → n.by q → m.makes s (λ i. wait_on (s i) p q)
+  pub waits : (s : I → State) (p q : ℕ) → m.kept s → n.by p → n.awaited q → m.makes s (λ i. wait_on (s i) p q)
   pub listens : (s : I → State) (p : ℕ) (inv : InvocationValue) → m.kept s → n.by p → n.asks inv
       → m.makes s (λ i. listen (s i) p inv)
   pub sends : (s : I → State) (p : ℕ) (inv : InvocationValue) → m.kept s → n.by p → n.asks inv

@@ -256,6 +256,7 @@ ranged = record {
   holds = λ s. AreInRanges s.store;
   by = λ p. Unit {0};
   over = λ e. Unit {0};
+  awaited = λ q. Unit {0};
   word = λ number. IsWord number;
   regs = λ registers. All IsWord registers;
   has = λ c. IsModelCap c;
