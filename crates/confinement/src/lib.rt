@@ -6,7 +6,11 @@
 //! of one side performs leaves every object of the other side as it is, who sleeps on its processes, in which order they
 //! stand in each ready queue, and on which harts they are; and the cut holds again.
 //!
+//! `authority` has what of this is so of any set of objects, whatever all others hold, and `isolation` the theorem that one
+//! side doesn't see the other.
+//!
 //! There is no code here but the type of a side. Each function has a law as its contract; the definitions are in `specs/`.
+//! Nothing here knows how a cut or a set is written or looked at, or who goes next.
 #![tactic(auto)]
 
 ghost use Rattle.confinement.specs.Laws.{AccessLaw, AnswerLaw, ChangeLaw, OperationLaw};

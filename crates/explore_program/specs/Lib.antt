@@ -1,6 +1,6 @@
 pub mod Stated
 pub mod Posed
+pub mod explored_text
 pub mod Told
 pub mod Program
 pub mod Theorem
-pub mod explored_text

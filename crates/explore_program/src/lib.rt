@@ -1,7 +1,7 @@
 //! The program `explore` as one call, over any source, any sink and any counter: whether all states that the machine of a
 //! listing can come to are as a question says.
 //!
-//! Nothing here knows of files, or how states are kept and gone through.
+//! `explored_text` has what is told of an answer. Nothing here knows of files, or how states are kept and gone through.
 #![tactic(auto)]
 
 mod answering;

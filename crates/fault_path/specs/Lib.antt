@@ -1,2 +1,2 @@
-pub mod Fault
 pub mod message_path
+pub mod Fault
