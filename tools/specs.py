@@ -30,14 +30,19 @@ def spec_files(crate):
     yield from listed_files(folder / "Lib.antt", folder)
 
 
-def listed_files(list_file, folder):
-    """The files that a list of modules names, and of a module that is a list itself those of its folder."""
-    for module in re.findall(r"^pub mod (\w+)", list_file.read_text(), re.M) if list_file.is_file() else ():
+def listed_files(listing, folder):
+    """The files of a folder in the order in which a file lists their modules, each with those that it lists itself, which
+    stand in the folder of its name."""
+    for module in re.findall(r"^pub mod (\w+)", listing.read_text(), re.M) if listing.is_file() else ():
         file = folder / f"{module}.antt"
-        if (folder / module).is_dir():
-            yield from listed_files(file, folder / module)
-        elif file.is_file():
+        if file.is_file():
             yield file
+            yield from listed_files(file, folder / module)
+
+
+def spec_name(crate, file):
+    """A file of specs/ as a reader names it: `Cut`, or of a module `isolation/Agree`."""
+    return file.relative_to(CRATES / crate / "specs").with_suffix("").as_posix()
 
 
 def heading(text):
@@ -179,6 +184,12 @@ def items(text):
 def sources(crate):
     """The files of a crate's code, in the order of their names."""
     return sorted((CRATES / crate / "src").rglob("*.rt"))
+
+
+def module_sources(crate, module):
+    """Those of one of its modules: the module's own file, and what stands in the folder of its name."""
+    folder = CRATES / crate / "src"
+    return [file for file in sources(crate) if file == folder / f"{module}.rt" or folder / module in file.parents]
 
 
 def lines_of(files, sign):
