@@ -1,13 +1,13 @@
 mod Agreeing
-mod Walks
+pub mod Walks
 mod Answering
 mod Matching
 mod Delivering
-mod Operating
-mod States
-mod Messaging
+pub mod Operating
+pub mod States
+pub mod Messaging
 mod Kernel
-mod Events
+pub mod Events
 mod Turns
-mod Runs
-mod Told
+pub mod Runs
+pub mod Told
