@@ -30,6 +30,7 @@ apart e = cc
 
 -- ---- capabilities
 
+-- lists of numbers are the same where each number is
 pub numbers_decide : (a b : List ℕ) → Decides (same_numbers a b) (a ≡ b)
 numbers_decide a b = pointwise_decides unsigned_Decides a b
 

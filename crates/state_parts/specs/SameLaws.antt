@@ -12,6 +12,7 @@ use Rattle.object_parts.specs.Same.{same_numbers, same_caps, same_gpt, same_proc
 use Rattle.object_parts.specs.SameLaws.{numbers_decide, caps_decide, gpt_decides, process_decides, endpoint_decides}
 use Rattle.state_parts.specs.Same.{same_lists, same_counts, same_contents, same_store, same_harts, same_queues, same_state}
 
+-- lists of lists are the same where each is
 pub lists_decide : (a b : List (List ℕ)) → Decides (same_lists a b) (a ≡ b)
 lists_decide a b = pointwise_decides numbers_decide a b
 
