@@ -38,7 +38,7 @@ use Rattle.confinement.proofs.Held.{may-null}
 use Rattle.confinement.proofs.Acting.{acts-same, acts-process, held-process}
 use Rattle.confinement.proofs.Answering.{callee-own}
 use Rattle.confinement.proofs.Delivering.{held-capreg}
-use Rattle.confinement.proofs.Operating.{memory_operation-may, control_operation-may}
+use Rattle.confinement.proofs.Operating.{finds, memory_operation-may, control_operation-may}
 use Rattle.confinement.proofs.Machine.{acts-next, may-capreg, acts-set_pc, acts-set_registers, acts-set_capreg, acts-ticked, acts-changed_by, ends-here, ends-hit, EndsHit, acts-written, may-found, acts-cap_stored}
 use Rattle.confinement.proofs.Messaging.{StringFaultOwn, side-own, acts-fault_part, acts-wait_on, acts-listen, acts-delivered_part}
 
@@ -68,7 +68,8 @@ module _ (cut : Cut) (side : CutSide) (p : ℕ) (own : side_of cut Process p ≡
 
   -- ---- operations
 
-  may-sent : (v : ProcessValue) (i : Option ℕ) → ProcessHeld cut side v → MayHold cut side (first_sent v i)
+  -- what is sent may be held
+  pub may-sent : (v : ProcessValue) (i : Option ℕ) → ProcessHeld cut side v → MayHold cut side (first_sent v i)
   may-sent v None held = may-null cut side
   may-sent v (Some i) held = held.capregs i
 
@@ -85,7 +86,7 @@ module _ (cut : Cut) (side : CutSide) (p : ℕ) (own : side_of cut Process p ≡
   leaves-memory_op : (s : State) (inv : InvocationValue) (cap : Capability) → MayHold cut side cap → HoldsFor cut side (system_of s) → Moves s (memory_op s p inv cap).state
   leaves-memory_op s inv cap may holds =
       let request = request_of (process s p) inv in
-      leaves-memory_answered s inv cap request (memory_operation s.store cap request) (memory_operation-may cut side s.store holds.each cap may request (may-request s inv holds)) holds
+      leaves-memory_answered s inv cap request (memory_operation s.store cap request) (memory_operation-may cut side s.store cap may (finds cut side s.store holds.each cap may) request (may-request s inv holds)) holds
 
   moves-unless : (destroyed : Option ObjectName) (s : State) (accept : AcceptValue) (reply : Reply) → MayHoldIf cut side reply.cap → HoldsFor cut side (system_of s) → Moves s (replied_unless destroyed s p accept reply)
   moves-unless destroyed s accept reply may holds =
@@ -101,7 +102,7 @@ module _ (cut : Cut) (side : CutSide) (p : ℕ) (own : side_of cut Process p ≡
   leaves-control_op s inv cap may holds =
       let request = request_of (process s p) inv in
       let settled = control_operation Meant s.store cap request in
-      leaves-control_answered s inv settled (destroyed_by settled.answer.changes) (control_operation-may cut side s.store holds.each cap may request (may-request s inv holds) Meant) holds
+      leaves-control_answered s inv settled (destroyed_by settled.answer.changes) (control_operation-may cut side s.store cap may (finds cut side s.store holds.each cap may) request (may-request s inv holds) Meant) holds
 
 -- ---- every part
 

@@ -106,7 +106,27 @@ module _ (cut : Cut) (side : CutSide) where
   or_false true b e = absurd (cc (e))
   or_false false b e = e
 
-  module _ (s : Store) (each : EachHeldBy cut side s) (c : Capability) (may : MayHold cut side c) (r : Request) (sent : MayHold cut side r.sent) where
+  -- what stands in the object that a capability of this side names may be held by this side: in a GPT or a capability page where
+  -- it is of this side, and in a process or an endpoint
+  pub record Finds (s : Store) (c : Capability) : Type 0 where
+    pub slots : (i : ℕ) → side_of cut Gpt c.object ≡ side → MayHold cut side (slot_at s.items c.object i)
+    pub cappages : (i : ℕ) → side_of cut CapPage c.object ≡ side → MayHold cut side (cap_at (cappage_at s c.object) i)
+    pub process : c.kind ≡ Process → ProcessHeld cut side (process_of s c)
+    pub recipient : c.kind ≡ Endpoint → MayHold cut side (endpoint_of s c).recipient
+
+  -- where each object of this side holds what it may
+  pub finds : (s : Store) → EachHeldBy cut side s → (c : Capability) → MayHold cut side c → Finds s c
+  finds s each c may = record {
+    slots = λ i own. each.slots c.object i own;
+    cappages = λ i own. each.cappages c.object i own;
+    process = λ k. let own = side-process cut side c k may in record {
+      capregs = λ i. each.capregs c.object i own;
+      slots = λ i. each.process_slots c.object i own;
+    };
+    recipient = λ k. each.recipients c.object (side-endpoint cut side c k may);
+  }
+
+  module _ (s : Store) (c : Capability) (may : MayHold cut side c) (held : Finds s c) (r : Request) (sent : MayHold cut side r.sent) where
     kind-may : RowMay (memory.kind_row c)
     unfolding memory.kind_row
     kind-may access = tells-may (number_of c.kind) 0 0
@@ -163,21 +183,21 @@ module _ (cut : Cut) (side : CutSide) where
     get-may k access =
         let found = cap_at (cappage_at s c.object) (w2 r) in
         gives-may (read_through c.restr found)
-        (may-read cut side (side_of cut CapPage c.object) c.restr found (each.cappages c.object (w2 r)) (reads-weak CapPage k refl (λ h. let p = and_parts _ _ h in p.1)))
+        (may-read cut side (side_of cut CapPage c.object) c.restr found (held.cappages (w2 r)) (reads-weak CapPage k refl (λ h. let p = and_parts _ _ h in p.1)))
 
     set-may : c.kind ≡ CapPage → RowMay (memory.set_row s c r)
     unfolding memory.set_row
     set-may k access =
         let own = side-cappage cut side c k access may in
         does-may (CapPageIs c.object (with_cap (cappage_at s c.object) (w2 r) r.sent))
-        (own, each_set (λ j (c : Capability). MayHold cut side c) (cappage_at s c.object) (w2 r) r.sent null sent (λ j. each.cappages c.object j own))
+        (own, each_set (λ j (c : Capability). MayHold cut side c) (cappage_at s c.object) (w2 r) r.sent null sent (λ j. held.cappages j own))
 
     getslot-may : c.kind ≡ Gpt → RowMay (memory.getslot_row s c r)
     unfolding memory.getslot_row
     getslot-may k access =
         let found = slot_at s.items c.object (w2 r) in
         gives-may (read_through c.restr found)
-        (may-read cut side (side_of cut Gpt c.object) c.restr found (each.slots c.object (w2 r)) (reads-weak Gpt k refl (λ h. let p = and_parts _ _ h in let q = and_parts _ _ p.0 in q.1)))
+        (may-read cut side (side_of cut Gpt c.object) c.restr found (held.slots (w2 r)) (reads-weak Gpt k refl (λ h. let p = and_parts _ _ h in let q = and_parts _ _ p.0 in q.1)))
 
     setslot-may : c.kind ≡ Gpt → RowMay (memory.setslot_row c r)
     unfolding memory.setslot_row
@@ -240,9 +260,6 @@ module _ (cut : Cut) (side : CutSide) where
     endpoint-may : (v : EndpointValue) → c.kind ≡ Endpoint → MayHold cut side v.recipient → AnswerPermitted cut side (does (EndpointIs c.object v ∷ []))
     endpoint-may v k held = does-may (EndpointIs c.object v) (side-endpoint cut side c k may, held)
 
-    recipient-held : c.kind ≡ Endpoint → MayHold cut side (endpoint_of s c).recipient
-    recipient-held k = each.recipients c.object (side-endpoint cut side c k may)
-
     setrecipient-may : c.kind ≡ Endpoint → RowMay (control.setrecipient_row s c r)
     unfolding control.setrecipient_row
     setrecipient-may k access = endpoint-may _ k sent
@@ -253,11 +270,11 @@ module _ (cut : Cut) (side : CutSide) where
 
     setid-may : c.kind ≡ Endpoint → RowMay (control.setid_row s c r)
     unfolding control.setid_row
-    setid-may k access = endpoint-may _ k (recipient-held k)
+    setid-may k access = endpoint-may _ k (held.recipient k)
 
     setmatch-may : c.kind ≡ Endpoint → RowMay (control.setmatch_row s c r)
     unfolding control.setmatch_row
-    setmatch-may k access = endpoint-may _ k (recipient-held k)
+    setmatch-may k access = endpoint-may _ k (held.recipient k)
 
     makeentry-may : c.kind ≡ Endpoint → RowMay (control.makeentry_row c r)
     unfolding control.makeentry_row
@@ -265,7 +282,7 @@ module _ (cut : Cut) (side : CutSide) where
 
     setpayload-may : c.kind ≡ Endpoint → RowMay (control.setpayload_row s c r)
     unfolding control.setpayload_row
-    setpayload-may k access = endpoint-may _ k (recipient-held k)
+    setpayload-may k access = endpoint-may _ k (held.recipient k)
 
     endpoint_table-may : (number : ℕ) → c.kind ≡ Endpoint → TableMay (control.endpoint_table s c r number)
     unfolding control.endpoint_table
@@ -274,12 +291,6 @@ module _ (cut : Cut) (side : CutSide) where
         (if_row (number == 11) _ _ (setmatch-may k) (if_row (number == 12) _ _ (makeentry-may k) (if_row (number == 13) _ _ (setpayload-may k) tt)))))
 
     -- ---- processes
-
-    process-held : c.kind ≡ Process → ProcessHeld cut side (process_of s c)
-    process-held k = let own = side-process cut side c k may in record {
-      capregs = λ i. each.capregs c.object i own;
-      slots = λ i. each.process_slots c.object i own;
-    }
 
     process-may : (v : ProcessValue) → c.kind ≡ Process → ProcessHeld cut side v → AnswerPermitted cut side (does (ProcessIs c.object v ∷ []))
     process-may v k held = does-may (ProcessIs c.object v) (side-process cut side c k may, held)
@@ -298,23 +309,23 @@ module _ (cut : Cut) (side : CutSide) where
 
     setreg-may : c.kind ≡ Process → RowMay (control.setreg_row s c r)
     unfolding control.setreg_row
-    setreg-may k access = process-may _ k (number-held (process_of s c) (w2 r) (w3 r) (process-held k))
+    setreg-may k access = process-may _ k (number-held (process_of s c) (w2 r) (w3 r) (held.process k))
 
     getcapreg-may : c.kind ≡ Process → RowMay (control.getcapreg_row s c r)
     unfolding control.getcapreg_row
-    getcapreg-may k access = let held = process-held k in gives-may (capreg_of (process_of s c) (w2 r)) (held.capregs (w2 r))
+    getcapreg-may k access = let own = held.process k in gives-may (capreg_of (process_of s c) (w2 r)) (own.capregs (w2 r))
 
     setcapreg-may : c.kind ≡ Process → RowMay (control.setcapreg_row s c r)
     unfolding control.setcapreg_row
-    setcapreg-may k access = process-may _ k (held-capreg cut side (process_of s c) (w2 r) r.sent sent (process-held k))
+    setcapreg-may k access = process-may _ k (held-capreg cut side (process_of s c) (w2 r) r.sent sent (held.process k))
 
     process_getslot-may : c.kind ≡ Process → RowMay (control.getslot_row s c r)
     unfolding control.getslot_row
-    process_getslot-may k access = let held = process-held k in gives-may (slot_of (process_of s c) (w2 r)) (held.slots (w2 r))
+    process_getslot-may k access = let own = held.process k in gives-may (slot_of (process_of s c) (w2 r)) (own.slots (w2 r))
 
     process_setslot-may : c.kind ≡ Process → RowMay (control.setslot_row s c r)
     unfolding control.setslot_row
-    process_setslot-may k access = process-may _ k (held-slot cut side (process_of s c) (w2 r) r.sent sent (process-held k))
+    process_setslot-may k access = process-may _ k (held-slot cut side (process_of s c) (w2 r) r.sent sent (held.process k))
 
     tells_state-may : (state : RunState) → AnswerPermitted cut side (tells_state state)
     tells_state-may Running = record { changes = tt; cap = tt }
@@ -332,7 +343,7 @@ module _ (cut : Cut) (side : CutSide) where
     stop-may : c.kind ≡ Process → RowMay (control.stop_row s c)
     unfolding control.stop_row
     stop-may k access = let own = side-process cut side c k may in
-        record { changes = (own, ((own, held-state cut side (process_of s c) stopped (process-held k)), tt)); cap = tt }
+        record { changes = (own, ((own, held-state cut side (process_of s c) stopped (held.process k)), tt)); cap = tt }
 
     process_table-may : (number : ℕ) → c.kind ≡ Process → TableMay (control.process_table s c r number)
     unfolding control.process_table

@@ -37,7 +37,8 @@ length-map_lists f [] = refl
 length-map_lists f (xs ∷ xss) = ap suc (length-map_lists f xss)
 
 module _ (cut : Cut) where
-  all_without : (side : CutSide) (p : ℕ) (xs : List ℕ) → AllOn cut side xs → AllOn cut side (without p xs)
+  -- all of a list are of this side, also without one of them
+  pub all_without : (side : CutSide) (p : ℕ) (xs : List ℕ) → AllOn cut side xs → AllOn cut side (without p xs)
   all_without side p [] all = tt
   all_without side p (x ∷ xs) all = by (x == p) (all_without side p xs all.1)
     where
@@ -45,7 +46,8 @@ module _ (cut : Cut) where
       by true rest = all.1
       by false rest = (all.0, rest)
 
-  all_last : (side : CutSide) (p : ℕ) (xs : List ℕ) → AllOn cut side xs → side_of cut Process p ≡ side → AllOn cut side (xs ++ p ∷ [])
+  -- and with one more of it at the end
+  pub all_last : (side : CutSide) (p : ℕ) (xs : List ℕ) → AllOn cut side xs → side_of cut Process p ≡ side → AllOn cut side (xs ++ p ∷ [])
   all_last side p [] all own = (own, tt)
   all_last side p (x ∷ xs) all own = (all.0, all_last side p xs all.1 own)
 

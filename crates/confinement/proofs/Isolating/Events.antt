@@ -36,11 +36,12 @@ beside a b true = a
 beside a b false = b
 
 -- what is the same in the second is so in each
-in-both : {A : Type 0} (f : Bool → A) → f true ≡ f false → (i : Bool) → f true ≡ f i
+pub in-both : {A : Type 0} (f : Bool → A) → f true ≡ f false → (i : Bool) → f true ≡ f i
 in-both f e true = refl
 in-both f e false = e
 
-serves-page : (kind : Kind) → is_data kind ≡ true → serving kind ≡ Page
+-- a page serves accesses of data
+pub serves-page : (kind : Kind) → is_data kind ≡ true → serving kind ≡ Page
 serves-page Fetch e = refl
 serves-page Load e = refl
 serves-page Put e = refl

@@ -20,7 +20,7 @@ use Rattle.kernel_core.specs.KernelOperation.{memory_answered, memory_op, destro
 use Rattle.confinement.specs.declared.cut_side.CutSide.{CutSide}
 use Rattle.confinement.specs.Cut.{Cut, side_of, MayHold}
 use Rattle.confinement.specs.Acts.{MayHoldIf, AnswerPermitted, system_of}
-use Rattle.confinement.proofs.Operating.{memory_operation-may, control_operation-may}
+use Rattle.confinement.proofs.Operating.{finds, memory_operation-may, control_operation-may}
 use Rattle.confinement.proofs.Events.{held-replied_with, may-request}
 use Rattle.confinement.proofs.Isolating.Matching.{match-process}
 use Rattle.confinement.proofs.Isolating.Operating.{same-memory, same-control}
@@ -78,7 +78,7 @@ module _ (cut : Cut) (on : CutSide) (alone : cut.weakly on ≡ false) (p : ℕ) 
       subst (λ (r : Request). Alike cut on (memory_op s p inv cap) (memory_answered t p inv cap r (memory_operation t.store cap r)))
       (same-request cut on p own s t m inv)
       (subst (λ (settled : Settled). Alike cut on (memory_op s p inv cap) (memory_answered t p inv cap request settled)) (same-memory cut on alone (system_of s) (system_of t) m.agree cap may request sent)
-      (alike-memory_answered cut on p own s t m inv cap request (memory_operation s.store cap request) (memory_operation-may cut on s.store m.holds.each cap may request sent)))
+      (alike-memory_answered cut on p own s t m inv cap request (memory_operation s.store cap request) (memory_operation-may cut on s.store cap may (finds cut on s.store m.holds.each cap may) request sent)))
 
   -- and on one of another
   pub alike-control_op : (s t : State) → Matches cut on s t → (inv : InvocationValue) (cap : Capability) → MayHold cut on cap
@@ -89,4 +89,4 @@ module _ (cut : Cut) (on : CutSide) (alone : cut.weakly on ≡ false) (p : ℕ) 
       let same = same-control cut on alone (system_of s) (system_of t) m.agree cap may request sent ∙ ap (control_operation Meant t.store cap) (same-request cut on p own s t m inv) in
       let settled = control_operation Meant s.store cap request in
       subst (λ (settled : Settled). Alike cut on (control_op s p inv cap) (control_answered t p inv settled (destroyed_by settled.answer.changes))) same
-      (alike-control_answered cut on p own s t m inv settled (destroyed_by settled.answer.changes) (control_operation-may cut on s.store m.holds.each cap may request sent Meant))
+      (alike-control_answered cut on p own s t m inv settled (destroyed_by settled.answer.changes) (control_operation-may cut on s.store cap may (finds cut on s.store m.holds.each cap may) request sent Meant))

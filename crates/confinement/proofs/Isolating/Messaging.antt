@@ -151,7 +151,8 @@ module _ (cut : Cut) (on : CutSide) where
 module _ (cut : Cut) (on : CutSide) (alone : cut.weakly on ≡ false) where
   -- ---- strings
 
-  same-span : (s t : State) (q : ℕ) (kind : Kind) (span : Span) (x y : Side) (r : Result Hit WalkFault) → HitOwn cut on r → SameString cut on x y
+  -- one span in front of two strings
+  pub same-span : (s t : State) (q : ℕ) (kind : Kind) (span : Span) (x y : Side) (r : Result Hit WalkFault) → HitOwn cut on r → SameString cut on x y
       → SameString cut on (span_side s q kind span x r) (span_side t q kind span y r)
   same-span s t q kind span x y (Ok hit) ends same = record {
     pieces = ap (λ (ps : List Piece). record { page = hit.page; at = hit.offset; len = span.size } ∷ ps) same.pieces;

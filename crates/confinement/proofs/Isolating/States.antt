@@ -217,7 +217,8 @@ module _ (cut : Cut) (side : CutSide) where
 -- ---- accesses of the process
 
 module _ (cut : Cut) (side : CutSide) (alone : cut.weakly side ≡ false) where
-  ends-own : (kind : Kind) (r : Result Place WalkFault) → Ends cut side kind r → EndsOwn cut side (serving kind) r
+  -- where an access ends that may end on this side alone
+  pub ends-own : (kind : Kind) (r : Result Place WalkFault) → Ends cut side kind r → EndsOwn cut side (serving kind) r
   ends-own kind (Err f) ends = ends
   ends-own kind (Ok p) r = elim r.own [
     | inl own ↦ subst (λ (k : CapKind). side_of cut k p.number ≡ side) r.serves own
