@@ -1,0 +1,4 @@
+pub mod Seclusion
+pub mod Rewrite
+pub mod Quiet
+pub mod Laws
