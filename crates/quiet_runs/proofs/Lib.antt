@@ -1,0 +1,3 @@
+mod Steps
+mod Lags
+mod Simulating

@@ -1,0 +1,60 @@
+-- The laws of quiet runs, as statements.
+use Rattle.std.specs.Prelude.{◌≡◌, ◌<◌, ◌≤◌, ◌⊎◌, ℕ, Bool, true, false, List, length}
+use Rattle.std.specs.List.{AllByRecursion as Each}
+use Rattle.machine_state.specs.State.{State}
+use Rattle.quiet_runs.specs.Runs.{Watch, RunsAreQuiet, SameFor, SeesOnly, after_steps, after_runs}
+
+-- a list of harts of a machine that has so many
+abbrev pub AreHarts : ℕ → List ℕ → Type 0
+AreHarts count harts = Each (λ (hart : ℕ). hart < count) harts
+
+-- steps of these harts that lead from one state to another
+pub record Leads (count : ℕ) (s t : State) : Type 0 where
+  pub harts : List ℕ
+  pub of : AreHarts count harts
+  pub there : after_steps s harts ≡ t
+
+-- A state is behind another: the same for one who looks at these, and either steps of these harts lead on to the other, or the
+-- machine is halted in both.
+pub record IsBehind (count : ℕ) (watch : Watch) (s t : State) : Type 0 where
+  pub same : SameFor watch s t
+  pub leads : (s.halted ≡ true) ⊎ Leads count s t
+
+-- runs of these harts that take the place of steps: no more than there are steps, and the state after the steps is behind that
+-- after the runs
+pub record Simulated (count : ℕ) (watch : Watch) (more : State → ℕ → ℕ) (s : State) (harts : List ℕ) : Type 0 where
+  pub runs : List ℕ
+  pub of : AreHarts count runs
+  pub few : length runs ≤ length harts
+  pub behind : IsBehind count watch (after_steps s harts) (after_runs more s runs)
+
+-- Each list of steps of a machine's harts has such runs.
+abbrev pub SimulationLaw : Type 0
+SimulationLaw = (count : ℕ) (watch : Watch) (more : State → ℕ → ℕ) → RunsAreQuiet watch more
+    → (s : State) (harts : List ℕ) → AreHarts count harts → Simulated count watch more s harts
+
+-- What holds after no runs of a machine's harts holds after no steps of them.
+abbrev pub NeverLaw : Type 0
+NeverLaw = (count : ℕ) (watch : Watch) (more : State → ℕ → ℕ) (test : State → Bool) (s : State)
+    → RunsAreQuiet watch more → SeesOnly watch test
+    → ((runs : List ℕ) → AreHarts count runs → test (after_runs more s runs) ≡ false)
+    → (harts : List ℕ) → AreHarts count harts → test (after_steps s harts) ≡ false
+
+-- some steps of these harts lead from a state to one of which the test holds
+pub record CanCome (count : ℕ) (test : State → Bool) (s : State) : Type 0 where
+  pub harts : List ℕ
+  pub of : AreHarts count harts
+  pub holds : test (after_steps s harts) ≡ true
+
+-- some runs do
+pub record CanRun (count : ℕ) (more : State → ℕ → ℕ) (test : State → Bool) (s : State) : Type 0 where
+  pub runs : List ℕ
+  pub of : AreHarts count runs
+  pub holds : test (after_runs more s runs) ≡ true
+
+-- What can come to hold after all runs of a machine's harts can come to hold after all steps of them.
+abbrev pub EverLaw : Type 0
+EverLaw = (count : ℕ) (watch : Watch) (more : State → ℕ → ℕ) (test : State → Bool) (s : State)
+    → RunsAreQuiet watch more → SeesOnly watch test
+    → ((runs : List ℕ) → AreHarts count runs → CanRun count more test (after_runs more s runs))
+    → (harts : List ℕ) → AreHarts count harts → CanCome count test (after_steps s harts)

@@ -1,0 +1,29 @@
+//! Quiet runs: a step of a hart with its quiet steps after it, and the law that nothing is lost where harts are run so.
+//!
+//! Who goes over all interleavings of several programs may let each hart go on over its quiet steps at once. Whatever steps of
+//! harts lead from a state, runs of harts lead to a state in which the same holds of all that a quiet step can't change. The
+//! number of quiet steps of a run may be any, and may depend on the state.
+//!
+//! Nothing is said of ticks. A process that is ahead by its quiet steps may stand in front of one that isn't quiet. Where a tick
+//! takes it off its hart, the run would have to put it back and leave that step undone; but who is dispatched performs a step in
+//! the same event.
+//!
+//! There is no code here. Each function has a law as its contract; the definitions are in `specs/`.
+#![tactic(auto)]
+
+ghost use Rattle.quiet_runs.specs.Laws.{SimulationLaw, NeverLaw, EverLaw};
+
+/// Each list of steps has a list of runs that leads to the same, but for quiet steps that are missing.
+pub fn simulation_law()
+    ensures { SimulationLaw }
+{}
+
+/// What holds after no list of runs holds after no list of steps.
+pub fn never_law()
+    ensures { NeverLaw }
+{}
+
+/// What can come to hold after each list of runs can come to hold after each list of steps.
+pub fn ever_law()
+    ensures { EverLaw }
+{}
