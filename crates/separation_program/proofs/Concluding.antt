@@ -1,5 +1,5 @@
 -- From the answer of the lines of a schedule, to what a part of a call did with them and what it told.
-use Rattle.std.proofs.Common.{◌≡◌, ◌≢◌, ◌∙◌, ◌++◌, [], ℕ, List, length, Option, Some, Ok, Err, refl, sym, ap, ap₂, subst, append-nil, inl, inr, arith, true, false, ◌⊎◌}
+use Rattle.std.proofs.Common.{◌≡◌, ◌≢◌, ◌∙◌, ℕ, List, length, Option, Some, Ok, Err, refl, sym, ap, subst, inl, inr, arith, false, ◌⊎◌}
 use Rattle.std.specs.Io.KnownBytes.{IsAtEnd}
 use Rattle.coy_io.specs.Causes.{Rose}
 use Rattle.coy_io.specs.Lines.{Part}
@@ -7,13 +7,11 @@ use Rattle.coy_io.specs.Reader.{Reader, ahead}
 use Rattle.machine_state.specs.declared.event.Event.{Event}
 use Rattle.kernel_core.specs.Run.{run_records, run_state}
 use Rattle.kernel_core.specs.State.{State}
-use Rattle.listing_read.specs.declared.fault.ScheduleFault.{ScheduleFault}
-use Rattle.judged_lines.specs.declared.stop.Stop.{Stop}
 use Rattle.judged_lines.specs.declared.stop.Stop.TheVariants as stops
 use Rattle.separation_policy.specs.Policy.{PolicyValue}
 use Rattle.schedule_replay.specs.Counts.{counts_of, events_alone}
-use Rattle.schedule_replay.specs.Replay.{Accords, Follows, HasReasons, WritesRun, run_answer}
-use Rattle.schedule_replay.specs.Scheduled.{AtEnd, AtFault, AtLimit, Ending, OnParts, Scheduled, scheduled}
+use Rattle.schedule_replay.specs.Replay.{Accords, Follows, WritesRun, run_answer}
+use Rattle.schedule_replay.specs.Scheduled.{AtEnd, AtFault, AtLimit, OnParts, Scheduled, scheduled}
 use Rattle.schedule_replay.specs.Told.{told as told_of}
 use Rattle.schedule_replay.specs.declared.counts.Counts.{Counts}
 use Rattle.schedule_replay.specs.declared.mode.Mode.TheVariants.{Silent}
@@ -22,8 +20,8 @@ use Rattle.schedule_replay.specs.declared.replayed.Replayed.TheVariants as answe
 use Rattle.schedule_replay.proofs.Ended.{ended-at}
 use Rattle.schedule_replay.proofs.Reading.{on_all}
 use Rattle.schedule_replay.proofs.Told.{silent_untold}
-use Rattle.courses.specs.Course.{Course, cached, ends_in}
-use Rattle.courses.specs.Ending.{Concludes, EndsIn, IsGiven}
+use Rattle.courses.specs.Course.{cached, ends_in}
+use Rattle.courses.specs.Ending.{Concludes, EndsIn}
 use Rattle.courses.specs.Exit.{is_finished}
 use Rattle.courses.specs.Stopped.{replay_exit}
 use Rattle.courses.specs.declared.exit.Exit.{Exit}

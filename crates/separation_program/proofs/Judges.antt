@@ -1,13 +1,11 @@
 -- From the lines of a policy and of a schedule, to what a part of a call did with them.
-use Rattle.std.proofs.Common.{◌≡◌, ◌≢◌, ◌∙◌, ◌++◌, [], ℕ, List, Option, Some, None, true, false, refl, sym, ap, subst, arith}
-use Rattle.std.specs.Io.KnownBytes.{Appends}
+use Rattle.std.proofs.Common.{◌≡◌, ◌≢◌, ◌++◌, [], ℕ, List, Option, Some, None, true, false, refl, sym, ap, subst}
 use Rattle.coy_io.specs.Causes.{Rose}
 use Rattle.coy_io.specs.Lines.{Part}
 use Rattle.coy_io.specs.Reader.{Reader, ahead, bytes_ahead}
 use Rattle.coy_io.proofs.GivenLaws.{GivesLines-trans}
 use Rattle.kernel_core.specs.Run.{run_state}
 use Rattle.kernel_core.specs.State.{State}
-use Rattle.listing_read.specs.declared.object_fault.PolicyFault.{PolicyFault}
 use Rattle.judged_lines.specs.declared.stop.Stop.{Stop}
 use Rattle.judged_lines.specs.declared.stop.Stop.TheVariants as stops
 use Rattle.separation_lines.specs.declared.fault.Untaken.{Untaken}
@@ -24,7 +22,7 @@ use Rattle.courses.specs.Taken.{TakesLines}
 use Rattle.courses.specs.declared.exit.Exit.{Exit}
 use Rattle.courses.specs.declared.exit.Exit.TheVariants as exits
 use Rattle.courses.specs.declared.exit.Exit.TheVariants.{PolicyRefused, ReadFault, TooLong}
-use Rattle.courses.proofs.Concluding.{Did, came-wanting, takes-concluded}
+use Rattle.courses.proofs.Concluding.{came-wanting, takes-concluded}
 use Rattle.courses.proofs.Rests.{TellsAlone, stop-stopped}
 use Rattle.separation_program.specs.Judged.{judging, stated_output}
 use Rattle.separation_program.specs.Stated.{AreStated, IsOver, PastEnd, RefusedAt, Stated, States, StatesRest, stated, untaken_exit}

@@ -2,5 +2,6 @@ mod Stating
 mod Verdicts
 mod Concluding
 mod Judges
+mod Slots
 pub mod Called
 mod ReadBelow

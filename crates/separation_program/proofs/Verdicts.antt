@@ -1,5 +1,5 @@
 -- What is told of a state, by what was found.
-use Rattle.std.proofs.Common.{◌≡◌, ◌≢◌, ◌⊎◌, ◌++◌, ◌∙◌, ◌∷◌, [], ℕ, List, map, flat_map, true, false, inl, inr, refl, ap, ap₂, arith, sym}
+use Rattle.std.proofs.Common.{◌≡◌, ◌≢◌, ◌⊎◌, ◌++◌, ◌∙◌, ◌∷◌, [], ℕ, List, map, flat_map, true, inl, inr, refl, ap, ap₂, arith, sym}
 use Rattle.std.proofs.lemmas.List.{length-map}
 use Rattle.kernel_core.specs.State.{State}
 use Rattle.separation_policy.specs.Policy.{PolicyValue}
@@ -9,7 +9,6 @@ use Rattle.separation_check.specs.declared.marks.Marks.{Marks}
 use Rattle.separation_check.specs.declared.crossing.Crossing.{Crossing}
 use Rattle.separation_check.specs.declared.crossing.Crossing.TheVariants as crossings
 use Rattle.courses.specs.Exit.{is_finished}
-use Rattle.courses.specs.declared.exit.Exit.{Exit}
 use Rattle.courses.specs.declared.exit.Exit.TheVariants.{Done, Crossings, OutOfMemory}
 use Rattle.courses.proofs.Lasts.{exits-differ}
 use Rattle.separation_program.specs.Text.{crossing_text, crossings_text, head_text, told, told_by, total_text}

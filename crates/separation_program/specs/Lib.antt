@@ -1,5 +1,6 @@
 pub mod Stated
 pub mod Text
 pub mod Judged
+pub mod Slots
 pub mod Theorem
 pub mod Program

@@ -3,11 +3,12 @@ use Rattle.std.specs.Prelude.{◌≡◌, ℕ, Bool, true, false, if◌then◌els
 use Rattle.coy_io.specs.Lines.{Part, parts_of, whole_lines}
 use Rattle.courses.specs.Course.{Course, ends_in}
 use Rattle.courses.specs.Listed.{lines_course}
-use Rattle.courses.specs.Program.{Program}
-use Rattle.courses.specs.Ending.{IsGiven}
+use Rattle.courses.specs.Program.{Program, reads_for}
+use Rattle.courses.specs.Ending.{Fetches, IsGiven}
 use Rattle.courses.specs.declared.exit.Exit.{Exit}
 use Rattle.courses.specs.declared.exit.Exit.TheVariants.{Done, Crossings}
 use Rattle.separation_program.specs.Judged.{HasJudged, judged, separation_course}
+use Rattle.separation_program.specs.Slots.{input_slots}
 use Rattle.separation_program.specs.Theorem.{IsExact, IsSeparated, IsViolated}
 use Rattle.separation_program.specs.declared.words.Asked.{Asked}
 use Rattle.separation_program.specs.declared.words.Asked.TheVariants.{Help, Judge}
@@ -56,3 +57,9 @@ pub record Judges (words : List (List ℕ)) (held : Option (List ℕ)) (exit : E
   pub separated : asked_by words ≡ Some Judge → exit ≡ Done → IfSome held (λ bytes. HasJudged IsSeparated (judged bytes))
   pub violated : exit ≡ Crossings → IfSome held (λ bytes. HasJudged IsViolated (judged bytes))
   pub exactly : asked_by words ≡ Some Judge → IsGiven exit → IfSome held (λ bytes. IsExact exit (judged bytes))
+
+-- how many slots of GPTs are read: those of the input where it is judged, fewer where a fault or want of memory ended the call,
+-- and none where the input isn't read
+pub record FetchesFor (words : List (List ℕ)) (held : Option (List ℕ)) (fetches fetches' : ℕ) (exit : Exit) : Type 0 where
+  pub counted : asked_by words ≡ Some Judge → IfSome held (λ bytes. Fetches fetches fetches' exit (input_slots bytes))
+  pub unread : reads_for separation (asked_by words) ≡ false → fetches' ≡ fetches

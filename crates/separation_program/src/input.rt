@@ -1,13 +1,16 @@
 //! A listing, the lines of a policy and a schedule, from the first line to the last.
 ghost use Rattle.std.specs.Prelude.{◌≡◌, true, false, IfSome};
 ghost use Rattle.coy_io.specs.Reader.{TellsEnd, ahead};
+ghost use Rattle.kernel_core.specs.Outcome.{spent};
 ghost use Rattle.kernel_core.specs.State.{state_of};
 ghost use Rattle.schedule_replay.specs.Scheduled.{OnParts};
 ghost use Rattle.courses.specs.Course.{cached, ends_in};
+ghost use Rattle.courses.specs.Ending.{Fetches};
 ghost use Rattle.courses.specs.Exit.{is_finished};
 ghost use Rattle.courses.specs.Stopped.{stop_exit};
 ghost use Rattle.courses.specs.Taken.{TakesLines, TakesListing};
 ghost use Rattle.separation_program.specs.Judged.{HasJudged, judged, judged_by, separation_course, stated_output};
+ghost use Rattle.separation_program.specs.Slots.{input_slots, stated_slots};
 ghost use Rattle.separation_program.specs.Stated.{stated, untaken_exit};
 ghost use Rattle.separation_program.specs.Theorem.{TellsOf};
 
@@ -28,19 +31,24 @@ use walk_engine::Plain;
 
 /// Reads a listing, the lines of a policy and, behind a line `end`, a schedule, which sets the system up: it is run without
 /// a word, each access walked afresh. Tells of the state behind it that the policy holds, or every crossing.
+#[tactic(auto, using(crate::proofs::Slots::slots_wanting))]
 pub(crate) fn separate<S: Source, K: Sink, L: Ledger>(
     alloc: Global,
     input: &mut S,
     output: &mut K,
     fetches: &mut Steps<L>,
 ) -> Exit
-    // What is done with the input, its slots left out.
+    // What is done with the input; how many slots are read is a clause by itself.
     ensures course { TakesListing S.held S.faults K.taken K.faults
         input.old input.new output.old output.new 0 0 result cached separation_course }
 
     // What is so of the state that was judged.
     ensures judged { is_finished result ≡ true → IfSome (S.held input.old) (λ bytes.
         HasJudged (TellsOf result) (judged bytes)) }
+
+    // How many slots are read.
+    ensures fetched { IfSome (S.held input.old) (λ bytes.
+        Fetches fetches.old fetches.new result (input_slots bytes)) }
 {
     let mut lines = LineReader::new();
     let listing = match read_head(alloc, &mut lines, input, output) {
@@ -83,6 +91,10 @@ fn judge_lines<T: PageTranslator, S: Source, K: Sink, L: Ledger>(
     ensures judged { let m = machine.old in is_finished result ≡ true →
         OnParts (ahead lines.old (S.held input.old)) (λ parts. HasJudged (TellsOf result)
         (judged_by (state_of m) m.objects.harts (stated policy.old lines.old.number parts))) }
+    ensures fetched { let m = machine.old in
+        OnParts (ahead lines.old (S.held input.old)) (λ parts. Fetches fetches.old fetches.new result
+        (stated_slots (λ touches. spent T.cost T.after T.without (T.kept m.translator) touches)
+        (state_of m) m.objects.harts (stated policy.old lines.old.number parts))) }
 {
     let stop = read_policies(lines, input, policy);
     match policy_exit(stop) {

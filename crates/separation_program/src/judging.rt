@@ -1,14 +1,16 @@
 //! A machine set up by its schedule, and judged.
-ghost use Rattle.std.specs.Prelude.{◌≡◌, ◌≢◌, false, true};
+ghost use Rattle.std.specs.Prelude.{◌≡◌, ◌≢◌, ◌*◌, false, true};
 ghost use Rattle.coy_io.specs.Reader.{TellsEnd, ahead};
+ghost use Rattle.kernel_core.specs.Outcome.{spent};
 ghost use Rattle.kernel_core.specs.State.{state_of};
 ghost use Rattle.separation_policy.specs.Closure.{IsClosure};
 ghost use Rattle.schedule_replay.specs.Scheduled.{OnParts, scheduled};
 ghost use Rattle.courses.specs.Course.{cached, ends_in};
-ghost use Rattle.courses.specs.Ending.{EndsIn};
+ghost use Rattle.courses.specs.Ending.{EndsIn, Fetches};
 ghost use Rattle.courses.specs.Exit.{is_finished};
 ghost use Rattle.courses.specs.Taken.{TakesLines};
 ghost use Rattle.separation_program.specs.Judged.{HasJudged, judged_of, judging};
+ghost use Rattle.separation_program.specs.Slots.{gpts_of, judging_slots};
 ghost use Rattle.separation_program.specs.Text.{crossings_text, separated_by, told, told_by};
 ghost use Rattle.separation_program.specs.Theorem.{TellsOf};
 
@@ -46,6 +48,10 @@ pub(crate) fn judge<T: PageTranslator, S: Source, K: Sink, L: Ledger>(
     ensures judged { let m = machine.old in is_finished result ≡ true →
         OnParts (ahead lines.old (S.held input.old)) (λ parts. HasJudged (TellsOf result)
         (judged_of policy.now (state_of m) (scheduled m.objects.harts lines.old.number parts))) }
+    ensures fetched { let m = machine.old in
+        OnParts (ahead lines.old (S.held input.old)) (λ parts. Fetches fetches.old fetches.new result
+        (judging_slots (λ touches. spent T.cost T.after T.without (T.kept m.translator) touches)
+        (state_of m) (scheduled m.objects.harts lines.old.number parts))) }
 {
     let replayed = replay(machine, lines, input, Mode::Silent, output, fetches);
     match counts_or_exit(replayed) {
@@ -66,6 +72,8 @@ fn tell<T: Translator, K: Sink, L: Ledger>(
         (told policy.now (state_of machine.now)) }
     ensures unwritten { result ≡ Exit.OutOfMemory → output.new ≡ output.old }
     ensures tells { TellsOf result policy.now (state_of machine.now) }
+    ensures fetched { let all = 16 * gpts_of (state_of machine.now) in
+        Fetches fetches.old fetches.new result all }
 {
     let Ok(found) = crossings(alloc, machine, policy, fetches) else {
         return Exit::OutOfMemory;

@@ -4,7 +4,7 @@ ghost use Rattle.coy_io.specs.Causes.{Rose};
 ghost use Rattle.courses.specs.Ending.{Completes, EndsIn, HasCauses, IsGiven, Outputs};
 ghost use Rattle.courses.specs.Program.{bytes_for, out, sure, HasForm, ReadsInput};
 ghost use Rattle.courses.specs.Sure.{WritesSure};
-ghost use Rattle.separation_program.specs.Program.{asked_by, separation, usage_text, Judges};
+ghost use Rattle.separation_program.specs.Program.{asked_by, separation, usage_text, FetchesFor, Judges};
 
 use crate::input::separate;
 use crate::words::{Asked, read_words};
@@ -45,8 +45,9 @@ pub fn separation<S: Source, K: Sink, L: Ledger>(
         WritesSure (S.held input.old) (S.held input.new)
         (K.taken output.old) (K.taken output.new) (sure separation words) }
 
-    // How much of the input is read.
+    // How much of the input is read, and how many slots of GPTs.
     ensures reads { ReadsInput separation S.held (map string_bytes words.now) input.old input.new result }
+    ensures fetches { FetchesFor (map string_bytes words.now) (S.held input.old) fetches.old fetches.new result }
 
     // Why it ends as it does.
     ensures form { HasForm separation (map string_bytes words.now) result }

@@ -1,4 +1,5 @@
 use Rattle.std.proofs.Common.{◌∙◌, sym}
+use Rattle.kernel_core.specs.Outcome.{spent}
 use Rattle.kernel_core.specs.State.{state_of}
 use Rattle.courses.proofs.Concluding.{concludes-open}
 use Rattle.courses.proofs.Rests.{stop-end}
@@ -6,6 +7,7 @@ use Rattle.separation_program.specs.Judged.{HasJudged, judged_by}
 use Rattle.separation_program.specs.Stated.{Stated, untaken_exit}
 use Rattle.separation_program.specs.Theorem.{TellsOf}
 use Rattle.separation_program.proofs.Judges.{on_stated, over-at, policy-open, policy-over, policy-stopped}
+use Rattle.separation_program.proofs.Slots.{slots-over, slots-unstated}
 use Rattle.separation_program.proofs.input.judge_lines.Goals as goal
 
 -- the policy is over
@@ -26,6 +28,15 @@ returns-in-None-clause-judged g c = λ done.
     on_stated c.args.policy.now c.read_policies-stop.new.policy c.args.lines.now.number c.read_policies-stop.new.lines.number _ _
     (λ (st : Stated). HasJudged (TellsOf c.judge.result) (judged_by (state_of m) m.objects.harts st)) over.known (c.judge.ensures.judged done)
 
+pub returns-in-None-clause-fetched : goal.returns-in-None-clause-fetched
+returns-in-None-clause-fetched g c =
+    let e = c.read_policies-stop.ensures in
+    let m = c.args.machine.now in
+    let is = stop-end untaken_exit c.read_policies-stop.result (sym c.policy_exit.ensures ∙ c.in-None.is) in
+    let over = over-at c.args.policy.now c.read_policies-stop.new.policy c.args.lines.now c.read_policies-stop.new.lines _ _ c.read_policies-stop.result is e.states in
+    slots-over (λ touches. spent g.T.Translator.cost g.T.Translator.after g.T.Translator.without (g.T.Translator.kept m.translator) touches) c.args.policy.now c.read_policies-stop.new.policy (state_of m) m.objects.harts
+    c.args.lines.now.number c.read_policies-stop.new.lines.number _ _ _ _ c.judge.result over.known c.judge.ensures.fetched
+
 -- or it was not read to its end
 pub returns-in-Some-clause-course : goal.returns-in-Some-clause-course
 returns-in-Some-clause-course g c =
@@ -36,3 +47,10 @@ returns-in-Some-clause-course g c =
 pub returns-in-Some-clause-judged : goal.returns-in-Some-clause-judged
 returns-in-Some-clause-judged g c = λ done.
     absurd (concludes-open g.K.Sink.taken g.K.Sink.faults _ _ _ c.in-Some.exit (policy-open c.in-Some.exit c.read_policies-stop.result (sym c.policy_exit.ensures ∙ c.in-Some.is)) c.conclude.ensures done)
+
+pub returns-in-Some-clause-fetched : goal.returns-in-Some-clause-fetched
+returns-in-Some-clause-fetched g c =
+    let m = c.args.machine.now in
+    slots-unstated (λ touches. spent g.T.Translator.cost g.T.Translator.after g.T.Translator.without (g.T.Translator.kept m.translator) touches) g.K.Sink.taken g.K.Sink.faults
+    c.args.policy.now c.read_policies-stop.new.policy (state_of m) m.objects.harts c.args.lines.now c.read_policies-stop.new.lines _ _ _ _ _ c.in-Some.exit _ c.read_policies-stop.result
+    c.read_policies-stop.ensures.states (sym c.policy_exit.ensures ∙ c.in-Some.is) c.conclude.ensures

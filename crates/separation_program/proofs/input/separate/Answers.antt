@@ -5,6 +5,7 @@ use Rattle.separation_policy.specs.Making.{first_policy}
 use Rattle.separation_program.specs.Judged.{separation_course}
 use Rattle.separation_program.specs.Theorem.{TellsOf}
 use Rattle.separation_program.proofs.Called.{judged-bytes, of-listing}
+use Rattle.separation_program.proofs.Slots.{slots-behind, slots-unlisted, slots_course}
 use Rattle.separation_program.proofs.input.separate.Goals as goal
 
 pub returns-in-Err-clause-course : goal.returns-in-Err-clause-course
@@ -28,3 +29,12 @@ returns-clause-judged g c = λ done.
     let start = c.in-Ok-new.ensures ∙ ap first_policy c.sizes.ensures.value in
     judged-bytes c.in-Ok.listing _ _ _ _ c.in-Ok-boot.ensures.state harts start (TellsOf c.judge_lines.result) _ _ c.new-lines.result c.read_head.new.lines refl
     c.new-lines.ensures c.in-Ok.ensures.listed (c.judge_lines.ensures.judged done)
+
+pub returns-in-Err-clause-fetched : goal.returns-in-Err-clause-fetched
+returns-in-Err-clause-fetched g c = slots-unlisted _ _ _ _ _ (c.in-Err.ensures.ended.takes slots_course cached refl _).comes
+
+pub returns-clause-fetched : goal.returns-clause-fetched
+returns-clause-fetched g c =
+    let harts = ap (λ sizes. sizes.harts) c.in-Ok-boot.ensures.sizes in
+    let start = c.in-Ok-new.ensures ∙ ap first_policy c.sizes.ensures.value in
+    slots-behind c.in-Ok.listing _ _ _ _ c.in-Ok-boot.ensures.state harts start _ _ c.new-lines.result c.read_head.new.lines refl c.new-lines.ensures c.in-Ok.ensures.listed _ _ c.judge_lines.result c.judge_lines.ensures.fetched

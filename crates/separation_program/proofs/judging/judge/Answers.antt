@@ -1,4 +1,4 @@
-use Rattle.std.proofs.Common.{◌∙◌, ap, refl, sym, subst}
+use Rattle.std.proofs.Common.{◌∙◌, ap, refl, sym}
 use Rattle.kernel_core.specs.State.{state_of}
 use Rattle.courses.specs.Stopped.{replay_exit}
 use Rattle.courses.proofs.Concluding.{concludes-open}
@@ -6,6 +6,7 @@ use Rattle.courses.proofs.Rests.{run-ends}
 use Rattle.separation_program.specs.Theorem.{TellsOf}
 use Rattle.separation_program.proofs.Concluding.{judge-ended, judge-stopped, judged-run, no_write, unfinished}
 use Rattle.separation_program.proofs.Judges.{from-start}
+use Rattle.separation_program.proofs.Slots.{slots-ended, slots-stopped}
 use Rattle.separation_program.proofs.judging.judge.Goals as goal
 
 pub returns-in-Ok-clause-course : goal.returns-in-Ok-clause-course
@@ -37,3 +38,18 @@ returns-in-Ok-clause-judged g c = λ done.
 pub returns-in-Err-clause-judged : goal.returns-in-Err-clause-judged
 returns-in-Err-clause-judged g c = λ done.
     absurd (concludes-open g.K.Sink.taken g.K.Sink.faults _ _ _ c.in-Err.exit (unfinished c.in-Err.exit c.replay-replayed.result (sym c.counts_or_exit.ensures ∙ c.in-Err.is)) c.conclude.ensures done)
+
+pub returns-in-Ok-clause-fetched : goal.returns-in-Ok-clause-fetched
+returns-in-Ok-clause-fetched g c =
+    let e = c.replay-replayed.ensures in
+    let given = sym c.counts_or_exit.ensures ∙ c.in-Ok.is in
+    slots-ended g.T.Translator c.args.machine.now c.replay-replayed.new.machine c.args.machine.now.objects.harts
+    c.args.lines.now c.replay-replayed.new.lines _ _ e.replays.events _ _ c.replay-replayed.result e.replays.ran e.replays.follows _ c.tell.result c.in-Ok._counts given c.tell.ensures.fetched
+
+pub returns-in-Err-clause-fetched : goal.returns-in-Err-clause-fetched
+returns-in-Err-clause-fetched g c =
+    let e = c.replay-replayed.ensures in
+    let given = sym c.counts_or_exit.ensures ∙ c.in-Err.is in
+    slots-stopped g.T.Translator c.args.machine.now c.replay-replayed.new.machine c.args.machine.now.objects.harts
+    c.args.lines.now c.replay-replayed.new.lines _ _ e.replays.events _ _ c.replay-replayed.result e.replays.ran e.replays.follows g.K.Sink.taken g.K.Sink.faults _ _ _ c.in-Err.exit c.replay-replayed.result refl
+    (no_write (state_of c.args.machine.now) _ _ e.replays.events c.replay-replayed.result e.replays.text) given c.conclude.ensures

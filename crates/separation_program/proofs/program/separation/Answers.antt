@@ -1,9 +1,9 @@
-use Rattle.std.proofs.Common.{◌≡◌, ◌≢◌, ◌∙◌, Some, None, map, string_bytes, ap, sym}
+use Rattle.std.proofs.Common.{◌≡◌, ◌∙◌, Some, None, map, string_bytes, ap, sym}
 use Rattle.courses.specs.Course.{cached, course_output}
 use Rattle.courses.specs.Ending.{Outputs}
 use Rattle.courses.specs.Program.{whole_course}
 use Rattle.courses.proofs.Bytes.{known-output}
-use Rattle.courses.proofs.Lasts.{ends-causes, ends-own}
+use Rattle.courses.proofs.Lasts.{ends-own}
 use Rattle.courses.specs.declared.exit.Exit.TheVariants.{Crossings}
 use Rattle.separation_program.specs.Program.{asked_by, separation}
 use Rattle.separation_program.specs.declared.words.Asked.TheVariants.{Help, Judge}

@@ -1,0 +1,49 @@
+-- How many slots of GPTs the program reads for its input (this project's own).
+use Rattle.std.specs.Prelude.{ℕ, ◌+◌, ◌*◌, List, length}
+use Rattle.coy_io.specs.Lines.{parts_of}
+use Rattle.machine_state.specs.declared.event.Event.{Event}
+use Rattle.machine_state.specs.Outcome.{Touch, spent, spent_at}
+use Rattle.machine_state.specs.Outcome.Touch.{CapAccess}
+use Rattle.kernel_core.specs.Run.{run_state, run_touches}
+use Rattle.kernel_core.specs.State.{State}
+use Rattle.image_builder.specs.Boot.{booted}
+use Rattle.listing_read.specs.Listing.{Listed, Good, listing_of}
+use Rattle.listing_read.specs.declared.place.Place.TheVariants.{Header}
+use Rattle.separation_policy.specs.Making.{first_policy}
+use Rattle.schedule_replay.specs.Scheduled.{Ending, AtEnd, Scheduled, scheduled}
+use Rattle.separation_program.specs.Stated.{Stated, States, stated}
+
+-- How many slots touches read where nothing is kept: each access of data is walked afresh, and reads what one of a capability
+-- does, which is always walked.
+abbrev pub walked : List Touch → ℕ
+walked touches =
+    spent {K = Unit {0}} (λ k o space address kind. spent_at {K = Unit {0}} (λ k o space address kind. 0) (λ k o space address kind. k) (λ k item. k) k (CapAccess o space address kind))
+    (λ k o space address kind. k) (λ k item. k) tt touches
+
+-- the number of GPTs of a state
+abbrev pub gpts_of : State → ℕ
+gpts_of s = length s.store.items.counts.gpts
+
+module _ (count : List Touch → ℕ) where
+  -- those of the events of a schedule, and where no line of it is refused, all slots of the GPTs of the state that they lead to
+  abbrev pub ended_slots : State → List Event → Ending → ℕ
+  ended_slots s events AtEnd = count (run_touches s events) + 16 * gpts_of (run_state s events)
+  ended_slots s events _ = count (run_touches s events)
+
+  -- those of what the lines of a schedule ask for, from this state on
+  abbrev pub judging_slots : State → Scheduled → ℕ
+  judging_slots s all = ended_slots s all.events all.ending
+
+  -- those of a machine and what lines state: none where a line of the policy is refused
+  abbrev pub stated_slots : State → ℕ → Stated → ℕ
+  stated_slots s harts (States policy last rest) = judging_slots s (scheduled harts last rest)
+  stated_slots s harts _ = 0
+
+  -- those of a listing and the lines behind it
+  abbrev pub listed_slots : Listed → ℕ
+  listed_slots (Good listing last rest) = stated_slots (booted listing) listing.sizes.harts (stated (first_policy listing.sizes) last rest)
+  listed_slots _ = 0
+
+-- those of all bytes of an input, of which each access is walked afresh
+abbrev pub input_slots : List ℕ → ℕ
+input_slots bytes = listed_slots walked (listing_of Header 1 (parts_of bytes))
