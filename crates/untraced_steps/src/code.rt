@@ -1,5 +1,5 @@
 //! Steps of one process in one page of its code, which is held as long as it is kept.
-ghost use Rattle.std.specs.Prelude.{◌≡◌, ◌<◌, ◌≤◌, ◌/◌, ℕ, [], false, Some, IfSome, replicate};
+ghost use Rattle.std.specs.Prelude.{◌≡◌, ◌≢◌, ◌<◌, ◌≤◌, ◌/◌, ℕ, [], false, Some, IfSome, replicate};
 ghost use Rattle.cap_format.specs.declared.kind.CapKind.TheVariants.{Process};
 ghost use Rattle.object_store.specs.Store.{size_of};
 ghost use Rattle.schedules.specs.Queues.{hart_of};
@@ -30,6 +30,7 @@ pub(crate) fn run_kept<T: PageTranslator>(machine: &mut Machine<T>, hart: u8, li
     ensures most { result ≤ limit }
     ensures ran { (fetches : ℕ) → RanUntraced T.kept T.cost T.after T.without (replicate result (Step hart))
         machine.old fetches machine.new [] fetches }
+    ensures caches { (k : ℕ) → k ≢ hart → T.cache machine.new.translator k ≡ T.cache machine.old.translator k }
 {
     if machine.halted() {
         return 0;
@@ -51,6 +52,7 @@ fn find_code<T: PageTranslator>(machine: &mut Machine<T>, hart: u8, p: u16) -> O
         IfSome result (λ code. IsCode T.cost T.after (T.kept machine.old.translator) s.store.items (space_of s p) code.page code.frame) }
     ensures state { state_of machine.new ≡ state_of machine.old }
     ensures kept { T.kept machine.new.translator ≡ T.kept machine.old.translator }
+    ensures caches { (k : ℕ) → k ≢ hart → T.cache machine.new.translator k ≡ T.cache machine.old.translator k }
 {
     page_law();
     machine.objects().in_ranges();
@@ -80,6 +82,7 @@ fn run_page<T: PageTranslator>(
     ensures most { result ≤ limit }
     ensures ran { (fetches : ℕ) → RanUntraced T.kept T.cost T.after T.without (replicate result (Step hart))
         machine.old fetches machine.new [] fetches }
+    ensures caches { (k : ℕ) → k ≢ hart → T.cache machine.new.translator k ≡ T.cache machine.old.translator k }
 {
     let mut done = 0;
     'steps: while done < limit {
@@ -101,7 +104,8 @@ fn step_kept<T: PageTranslator>(machine: &mut Machine<T>, hart: u8, p: u16, code
     requires running { machine.old.halted ≡ false }
     requires code { let s = state_of machine.old in
         IsCode T.cost T.after (T.kept machine.old.translator) s.store.items (space_of s p) code.page code.frame }
-    ensures { CameIf T.kept T.cost T.after T.without result p (event_of (state_of machine.old) (Step hart)) machine.old machine.new }
+    ensures came { CameIf T.kept T.cost T.after T.without result p (event_of (state_of machine.old) (Step hart)) machine.old machine.new }
+    ensures caches { (k : ℕ) → k ≢ hart → T.cache machine.new.translator k ≡ T.cache machine.old.translator k }
 {
     let pc = machine.pc(p);
     if pc / 4096 != code.page {

@@ -1,5 +1,5 @@
 //! Instructions that access what is kept, and of which nothing is told.
-ghost use Rattle.std.specs.Prelude.{◌≡◌, ◌<◌, ◌≤◌, ◌*◌, ◌^◌, ◌%◌, ◌==◌, true, Some};
+ghost use Rattle.std.specs.Prelude.{◌≡◌, ◌≢◌, ℕ, ◌<◌, ◌≤◌, ◌*◌, ◌^◌, ◌%◌, ◌==◌, true, Some};
 ghost use Rattle.cap_format.specs.declared.kind.CapKind.TheVariants.{Process};
 ghost use Rattle.object_store.specs.Store.{size_of};
 ghost use Rattle.schedules.specs.Queues.{hart_of};
@@ -28,7 +28,8 @@ pub(crate) fn perform_kept<T: PageTranslator>(
     requires there { p < size_of machine.old.objects.items Process }
     requires hart { hart < machine.old.objects.harts }
     requires insn { InRange insn }
-    ensures { CameIf T.kept T.cost T.after T.without result p (perform (state_of machine.old) p insn) machine.old machine.new }
+    ensures came { CameIf T.kept T.cost T.after T.without result p (perform (state_of machine.old) p insn) machine.old machine.new }
+    ensures caches { (k : ℕ) → k ≢ hart → T.cache machine.new.translator k ≡ T.cache machine.old.translator k }
 {
     let pc = machine.pc(p);
     let outcome = evaluate(machine.registers(p), pc, insn);
@@ -65,7 +66,8 @@ fn load_kept<T: PageTranslator>(
     requires hart { hart < machine.old.objects.harts }
     requires size { IsSize size }
     requires register { rd < 32 }
-    ensures { CameIf T.kept T.cost T.after T.without result p (load (state_of machine.old) p at size signed rd) machine.old machine.new }
+    ensures came { CameIf T.kept T.cost T.after T.without result p (load (state_of machine.old) p at size signed rd) machine.old machine.new }
+    ensures caches { (k : ℕ) → k ≢ hart → T.cache machine.new.translator k ≡ T.cache machine.old.translator k }
 {
     if !is_aligned(at, size) {
         return false;
@@ -94,7 +96,8 @@ fn store_kept<T: PageTranslator>(
     requires hart { hart < machine.old.objects.harts }
     requires size { IsSize size }
     requires fits { value < 2 ^ (8 * size) }
-    ensures { CameIf T.kept T.cost T.after T.without result p (store (state_of machine.old) p at size value) machine.old machine.new }
+    ensures came { CameIf T.kept T.cost T.after T.without result p (store (state_of machine.old) p at size value) machine.old machine.new }
+    ensures caches { (k : ℕ) → k ≢ hart → T.cache machine.new.translator k ≡ T.cache machine.old.translator k }
 {
     if !is_aligned(at, size) {
         return false;

@@ -1,4 +1,4 @@
-use Rattle.std.proofs.Common.{◌<◌, ◌∙◌, Bool, replicate, sym, ap, subst, arith}
+use Rattle.std.proofs.Common.{◌<◌, ◌∙◌, Bool, replicate, refl, sym, ap, subst, arith}
 use Rattle.cap_format.specs.declared.kind.CapKind.TheVariants.{Process}
 use Rattle.object_store.specs.Store.{Items, size_of}
 use Rattle.schedules.specs.Queues.{QueuesValue, hart_of}
@@ -15,6 +15,7 @@ steps-init g c =
     let t = g.T.Translator in
     record {
       ran = λ fetches. ran-none t.kept t.cost t.after t.without c.args.machine.now fetches;
+      caches = λ k other. refl;
       most = omega arith;
       there = c.requires.there;
       hart = c.requires.hart;
@@ -27,7 +28,7 @@ pub returns-then-not-is_kept-clause-ran : goal.returns-then-not-is_kept-clause-r
 returns-then-not-is_kept-clause-ran g c =
     let t = g.T.Translator in
     let left : IsLeft t.kept t.cost t.after t.without c.steps.machine c.step_kept-is_kept.new.machine =
-    subst (λ (b : Bool). CameIf t.kept t.cost t.after t.without b c.args.p (event_of (state_of c.steps.machine) (Step c.args.hart)) c.steps.machine c.step_kept-is_kept.new.machine) c.if-not-is_kept.true c.step_kept-is_kept.ensures in
+    subst (λ (b : Bool). CameIf t.kept t.cost t.after t.without b c.args.p (event_of (state_of c.steps.machine) (Step c.args.hart)) c.steps.machine c.step_kept-is_kept.new.machine) c.if-not-is_kept.true c.step_kept-is_kept.ensures.came in
     λ fetches. ran-left t.kept t.cost t.after t.without (replicate c.steps.done (Step c.args.hart)) fetches fetches c.args.machine.now c.steps.machine c.step_kept-is_kept.new.machine _ (c.steps.invariant.ran fetches) left
 
 pub steps-preserved : goal.steps-preserved
@@ -35,11 +36,12 @@ steps-preserved g c =
     let t = g.T.Translator in
     let i = c.steps.invariant in
     let came : CameKept t.kept t.cost t.after t.without c.args.p (event_of (state_of c.steps.machine) (Step c.args.hart)) c.steps.machine c.step_kept-is_kept.new.machine =
-    subst (λ (b : Bool). CameIf t.kept t.cost t.after t.without b c.args.p (event_of (state_of c.steps.machine) (Step c.args.hart)) c.steps.machine c.step_kept-is_kept.new.machine) c.if-not-is_kept.false c.step_kept-is_kept.ensures in
+    subst (λ (b : Bool). CameIf t.kept t.cost t.after t.without b c.args.p (event_of (state_of c.steps.machine) (Step c.args.hart)) c.steps.machine c.step_kept-is_kept.new.machine) c.if-not-is_kept.false c.step_kept-is_kept.ensures.came in
     let alike = came.alike in
     let less = c.steps-test.true in
     record {
       ran = λ fetches. ran-kept t.kept t.cost t.after t.without c.args.hart c.args.p c.steps.done fetches c.args.machine.now c.steps.machine c.step_kept-is_kept.new.machine (i.ran fetches) came;
+      caches = λ k other. c.step_kept-is_kept.ensures.caches k other ∙ i.caches k other;
       most = omega (arith, less);
       there = subst (λ (o : Items). c.args.p < size_of o Process) (sym alike.items) i.there;
       hart = subst (λ harts. c.args.hart < harts) (sym alike.harts) i.hart;
