@@ -25,6 +25,9 @@ struct Code {
 }
 
 /// Performs steps of a hart whose accesses are all kept, at most so many, and answers how many.
+///
+/// It is not inlined, so that its loop and that of its caller each have the registers of the processor to themselves.
+#[inline(never)]
 pub(crate) fn run_kept<T: PageTranslator>(machine: &mut Machine<T>, hart: u8, limit: u32) -> u32
     requires hart { hart < machine.old.objects.harts }
     ensures most { result ≤ limit }
