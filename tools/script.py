@@ -1,10 +1,17 @@
-"""What the scripts of this folder have in common: the answer to --help, and what is said where the output can't be
-written."""
+"""What the scripts of this folder have in common: the answer to --help, what is said where the output can't be written,
+and which program they call where none is named."""
 import os
 import pathlib
 import sys
 
+BUILT = pathlib.Path(__file__).resolve().parent.parent / "crates" / "coyotos" / "out"
+NOT_BUILT = "coyotos isn't built: ./coyotos or ./try builds it, and --program names another"
 GONE = 141  # the status of a shell where a reader has gone away
+
+
+def built_program():
+    """The program of this repository as it was built, proved or not, if it was."""
+    return next((path for path in (BUILT / "coyotos", BUILT / "coyotos-unproved") if path.is_file()), None)
 
 
 def fail(sentence, status=2):

@@ -17,6 +17,7 @@ break 15
 continue
 print sum
 info locals
+delete 1
 watch *(unsigned *)0x30004
 continue
 reverse-continue

@@ -21,17 +21,22 @@ def line_at(text, feed):
 
 
 class Arrivals:
-    """A process is about to perform an instruction at one of these addresses."""
+    """A process is about to perform an instruction at one of these addresses; for the process `leaving`, behind its next
+    instruction."""
 
-    def __init__(self, addresses, is_meant):
+    def __init__(self, addresses, is_meant, leaving=None):
         self.needles, self.is_meant = [b" %08x page " % address for address in addresses], is_meant
+        self.leaving, self.left = leaving, -1
 
     def process_at(self, text, place):
         """The process of the record that a needle was found in, if it is a fetch of one that is meant."""
-        words = line_at(text, text.rfind(b"\n", 0, place)).split()
-        return int(words[1]) if words[0] == "fetch" and self.is_meant(int(words[1])) else None
+        feed = text.rfind(b"\n", 0, place)
+        words = line_at(text, feed).split()
+        return int(words[1]) if words[0] == "fetch" and feed != self.left and self.is_meant(int(words[1])) else None
 
     def first(self, stretch):
+        self.left = -1 if self.leaving is None else stretch.text.find(b"\nfetch %d " % self.leaving)
+        self.leaving = None if self.left >= 0 else self.leaving
         return min(filter(None, (self.one(stretch.text, needle, False) for needle in self.needles)), default=None)
 
     def last(self, stretch):
@@ -54,10 +59,10 @@ class Arrivals:
 
 
 class Faults:
-    """A process faults, in a way that isn't passed over."""
+    """A process, or one alone, faults in a way that isn't passed over."""
 
-    def __init__(self, is_passed):
-        self.is_passed = is_passed
+    def __init__(self, is_passed, alone=None):
+        self.is_passed, self.alone = is_passed, alone
 
     def first(self, stretch):
         return self.one(stretch.text, stretch.text.find, lambda text, place: text.find(b"\nfault ", place + 1))
@@ -69,7 +74,7 @@ class Faults:
         place = begin(b"\nfault ")
         while place >= 0:
             words = line_at(text, place).split()
-            if not self.is_passed(words[2]):
+            if not self.is_passed(words[2]) and self.alone in (None, int(words[1])):
                 return place, int(words[1])
             place = go_on(text, place)
         return None

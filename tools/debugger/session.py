@@ -24,7 +24,7 @@ def target_description():
     registers = "".join(f'<reg name="{name}" bitsize="32" type="{POINTERS.get(name, "int")}" regnum="{i}"/>'
                         for i, name in enumerate(REGISTERS))
     return ('<?xml version="1.0"?><!DOCTYPE target SYSTEM "gdb-target.dtd"><target version="1.0">'
-            '<architecture>riscv:rv32</architecture>'
+            '<architecture>riscv:rv32</architecture><osabi>none</osabi>'
             f'<feature name="org.gnu.gdb.riscv.cpu">{registers}</feature></target>')
 
 
@@ -69,6 +69,9 @@ class Session:
         self.going = self.selected  # who steps
         self.breakpoints, self.watches, self.passed = set(), {}, set()
         self.set_before, self.bound = set(), {}  # breakpoints and watches when gdb last went on
+        self.watched = None  # the process that was just told of watched bytes
+        self.late = None  # what another process came to while one went on alone, until all go on
+        self.leaving = None  # a process that gdb took past a breakpoint, and the event of that instruction
         self.monitor, self.ended = Monitor(self), False
         line.while_idle = run.look_ahead
         self.why = f"T05thread:{self.selected + 1:x};"
@@ -123,6 +126,7 @@ class Session:
         if words[:3] == ["features", "read", "target.xml"]:
             return part(target_description(), words[3])
         if words[:2] == ["threads", "read"]:
+            self.forget_late()
             return part(self.threads(), words[3])
         return ""
 
@@ -136,7 +140,12 @@ class Session:
                         f'{escape(standing(self.state, self.names, number))}</thread>')
         return "".join([*made, "</threads>"])
 
+    def forget_late(self):
+        """gdb lists the threads where it stops for its user, who has read what came late."""
+        self.watched = self.late = None
+
     def take_qfThreadInfo(self, _rest):
+        self.forget_late()
         return "m" + ",".join(f"{number + 1:x}" for number in self.processes())
 
     def take_qsThreadInfo(self, _rest):
@@ -209,7 +218,7 @@ class Session:
         if kind in ("0", "1"):
             self.breakpoints.add(address)
         elif kind in WATCHES:
-            key = kind, address, count
+            self.watched, key = None, (kind, address, count)
             self.watches[key] = self.bound.setdefault(key, Watch(self.selected, address, count, WATCHES[kind]))
         else:
             return ""
@@ -236,14 +245,16 @@ class Session:
         if rest == "?":
             return "vCont;c;C;s;S;r"
         action, _, thread = rest[1:].split(";")[0].partition(":")
-        process = thread_of(thread) - 1 if thread_of(thread) else self.going
+        process, want = thread_of(thread) - 1 if thread_of(thread) else self.going, None
         if action[0] in "sS":
-            return self.step(Steps(process))
+            want = Steps(process)
         if action[0] == "r":
             first, behind = (int(word, 16) for word in action[1:].split(","))
             stands = self.state.process(process).pc
-            return self.step(Leaves(process, first, behind) if first <= stands < behind else Steps(process))
-        return self.go_on(False)
+            want = Leaves(process, first, behind) if first <= stands < behind else Steps(process)
+        if thread_of(thread) and ";" not in rest[1:]:
+            return self.go_alone(process, want)
+        return self.go_on(False) if want is None else self.step(want)
 
     def take_step(self, _rest):
         return self.step(Steps(self.going))
@@ -252,16 +263,48 @@ class Session:
         return self.go_on(False)
 
     def take_back(self, rest):
-        if rest == "s":
-            search = self.search([Steps(self.going)], self.breakpoints, self.is_meant)
-            return self.stop(search.backwards(self.at))
-        return self.go_on(True) if rest == "c" else ""
+        if rest not in ("s", "c"):
+            return ""
+        watched, self.watched, self.late, self.leaving = self.watched, None, None, None
+        if rest == "c":
+            return self.go_on(True)
+        if watched == self.going:
+            return self.stopped(self.going, TRAP)
+        search = self.search([Steps(self.going)], self.breakpoints, self.is_meant)
+        return self.stop(search.backwards(self.at))
+
+    def go_alone(self, process, want):
+        """Goes on for one process alone; without a want, up to one of its breakpoints.
+
+        So gdb takes a process past a breakpoint, and past an instruction that touched watched bytes. Here the others
+        take their turns all the same, but gdb can't bear to be told of them then: what they came to is said, and is a
+        stop as soon as all go on. That instruction was performed already when its watch was told, so nothing is left
+        to do for it.
+        """
+        watched, self.watched = self.watched, None
+        if self.goal is not None:
+            self.at = self.goal
+        if self.goal is not None or watched == process:
+            return self.stopped(process, TRAP)
+        wants = [want or Arrivals(self.breakpoints, lambda other: other == process)]
+        others = self.breakpoints | self.set_before
+        hit = self.search([*wants, Faults(self.is_passed)], others,
+                          lambda other: other != process and self.is_meant(other)).forwards(self.at)
+        if hit.process not in (process, None):
+            self.late = hit
+            self.say(self.words_of(hit))
+            own = [*wants, Faults(self.is_passed, process), *(one for one in self.watches.values() if one.process == process)]
+            hit = Search(self.run, own, self.line.is_interrupted).forwards(self.at)
+            self.leaving = (process, hit.at - 1) if isinstance(want, Steps) else None
+        return self.stop(hit._replace(process=process))
 
     def step(self, want):
         """Goes on until a process did something, if nothing else happens before.
 
         gdb takes out a breakpoint where a process steps over it; for other processes it stays.
         """
+        if self.late:
+            return self.stop_late()
         search = self.search([want, Faults(self.is_passed)], self.breakpoints | self.set_before,
                              lambda process: process != want.process and self.is_meant(process))
         return self.stop(search.forwards(self.at))
@@ -269,8 +312,10 @@ class Session:
     def go_on(self, backwards):
         """Goes on to where something happens, or to an event that was asked for."""
         if self.goal is not None:
-            self.at, self.goal = self.goal, None
+            self.at, self.goal, self.late, self.leaving = self.goal, None, None, None
             return self.stopped(self.selected, INTERRUPTED)
+        if self.late:
+            return self.stop_late()
         search = self.search([Faults(self.is_passed)], self.breakpoints, self.is_meant)
         return self.stop(search.backwards(self.at) if backwards else search.forwards(self.at))
 
@@ -278,7 +323,8 @@ class Session:
         """What to look for, with all that gdb has set. It takes out all at each stop and sets it again to go on; a watch
         that is set again is of the same process."""
         self.set_before, self.bound = set(self.breakpoints), dict(self.watches)
-        wants = wants + [Arrivals(breakpoints, is_meant)] + list(self.watches.values())
+        leaving = self.leaving[0] if self.leaving and self.at <= self.leaving[1] else None
+        wants = wants + [Arrivals(breakpoints, is_meant, leaving)] + list(self.watches.values())
         return Search(self.run, wants, self.line.is_interrupted)
 
     def is_meant(self, process):
@@ -291,15 +337,29 @@ class Session:
 
     def stop(self, hit):
         """Stands where something happened, and says what."""
+        self.say(self.words_of(hit))
+        return self.stand(hit)
+
+    def stop_late(self):
+        """Stands where something happened that was said before."""
+        late, self.late = self.late, None
+        return self.stand(late)
+
+    def words_of(self, hit):
+        """What there is to say of a stop beyond what gdb says."""
+        if hit.why[0] == "fault":
+            return [self.fault_in_words(hit.at, hit.more)]
+        return self.writer_in_words(hit.why[1], hit.more) if hit.why[0] == "watch" else []
+
+    def stand(self, hit):
+        """Stands where something happened."""
         self.at = hit.at
         process = self.going if hit.process is None else hit.process
         if hit.why[0] == "fault":
-            self.say([self.fault_in_words(hit.at, hit.more)])
             return self.stopped(process, SIGNALS.get(hit.why[1], SEGMENTATION))
         if hit.why[0] == "watch":
-            watch = hit.why[1]
-            self.say(self.writer_in_words(watch, hit.more))
-            return self.stopped(process, TRAP, f"{WORDS[watch.how]}:{watch.address:x};")
+            self.watched = process
+            return self.stopped(process, TRAP, f"{WORDS[hit.why[1].how]}:{hit.why[1].address:x};")
         if hit.why[0] == "interrupt":
             return self.stopped(process, INTERRUPTED)
         more = {"break": "swbreak:;", "end": "replaylog:end;", "begin": "replaylog:begin;"}.get(hit.why[0], "")

@@ -2,6 +2,8 @@
 import re
 import subprocess
 
+import script
+
 ASKING = ("may", "never", "ever", "count", "domain", "reads", "depth", "states", "end")
 CHOICE = re.compile(r"step \d+ \d+|tick \d+")
 FORMS = {
@@ -58,7 +60,7 @@ def run_of(text, text_name, answer, answer_name):
 def traced(program, listing):
     """What the program writes for a listing."""
     if program is None:
-        raise NoRun("coyotos isn't built: ./coyotos or ./try builds it, and --program names another")
+        raise NoRun(script.NOT_BUILT)
     try:
         return subprocess.run([program, "trace"], input=listing, capture_output=True, text=True).stdout
     except OSError as error:
