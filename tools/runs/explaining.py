@@ -7,7 +7,7 @@ from runs.counting import Counts
 from runs.ends import ends
 from runs.harts import Harts
 from runs.programs import Programs
-from runs.records import text_of, told
+from runs.records import message, text_of, told
 from runs.schedule import Schedule
 from runs.state import State
 from runs.steps import steps_of
@@ -83,6 +83,7 @@ class Explainer:
         kinds = options.only.split(",") if options.only else () if self.counts else MARKS
         self.wanted = {kind.encode() for kind in kinds}
         self.calls, self.open, self.rest, self.refusal, self.known = Calls(self.programs), {}, [], "", {}
+        self.fronts = {}
         self.width = max((len(self.programs.process(first)) for first, _, _ in self.programs.names["process"]), default=9)
 
     # -- what is read
@@ -112,7 +113,7 @@ class Explainer:
         return self.end()
 
     def pieces(self, output):
-        """The records, as pieces of whole lines; what stands behind them is kept."""
+        """The records, as pieces of whole lines; what stands behind them is kept. A line that is cut is none."""
         left = b""
         while data := output.read(PIECE):
             data = left + data
@@ -124,7 +125,8 @@ class Explainer:
                 self.rest = (data[at:] + left + output.read()).decode().splitlines()[1:]
                 return
             yield from self.records(data)
-        yield from self.records(left and left + b"\n")
+        if REFUSAL.fullmatch(left.decode("ascii", "replace")):
+            self.refusal = left.decode()
 
     def records(self, data):
         """A piece, if it has lines; a refusal at the end is none."""
@@ -227,14 +229,17 @@ class Explainer:
         owner = process if kind == b"destroy" else int(words[1])
         if self.who and not self.is_asked_for(kind, words, owner):
             return
-        behind = (f"{hart:>4}  " if hart is not None else "") \
-            + (self.programs.process(owner) if owner is not None else "").ljust(self.width + 2)
-        text = text_of(words[2]) if kind == b"log" else ""
-        if kind == b"log" and (len(words[2]) == LOG_PIECE or owner in self.open or "\n" in text[:-1]):
-            self.log(f"{number + 1:>9}  {behind}", owner, text, len(words[2]) == LOG_PIECE)
-            return
-        behind += 'log "{}"\n'.format(text.rstrip("\n")) if kind == b"log" else \
-            f'{told(line, self.programs, b"" if pc and insn is None else insn)}\n'
+        behind = self.front(hart, owner)
+        if kind == b"log":
+            text, is_full = text_of(words[2]), len(words[2]) == LOG_PIECE
+            if is_full or owner in self.open or "\n" in text[:-1]:
+                self.log(f"{number + 1:>9}  {behind}", owner, text, is_full)
+                return
+            behind = '{}log "{}"\n'.format(behind, text.rstrip("\n"))
+        elif kind == b"msg":
+            behind = f"{behind}{message(line, self.programs)}\n"
+        else:
+            behind += f'{told(line, self.programs, b"" if pc and insn is None else insn)}\n'
         self.has_told = True
         self.lines.append(f"{number + 1:>9}  {behind}")
         if kind == b"fault" and pc is not None:
@@ -242,6 +247,13 @@ class Explainer:
             self.tell_calls(owner, self.calls.of(owner))
         elif self.harts is None and kind in (b"msg", b"log"):
             self.keep(line, behind)
+
+    def front(self, hart, owner):
+        """The hart and the program of a record, as they stand in front of it."""
+        if (hart, owner) not in self.fronts:
+            self.fronts[hart, owner] = (f"{hart:>4}  " if hart is not None else "") \
+                + (self.programs.process(owner) if owner is not None else "").ljust(self.width + 2)
+        return self.fronts[hart, owner]
 
     def keep(self, line, told_line):
         """Keeps how a record was told that is told the same wherever it stands, for the first of them."""
@@ -285,8 +297,8 @@ class Explainer:
             self.say_all(self.counts.coverage())
         if self.refusal:
             self.say(f"The run ended where the program said: {self.refusal} (tools/why says why)")
-        elif not self.rest:
-            self.say("The output ends before the last state.")
+        elif self.rest[-1:] != ["end"]:
+            self.say("The output ends before the end of the last state.")
         else:
             self.tell_state(State(self.rest))
         self.flush()

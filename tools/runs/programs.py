@@ -18,7 +18,7 @@ class Programs:
 
     def __init__(self, listing, directory=None):
         self.names = names_of(listing)
-        self.files, self.symbols, self.starts, self.known, self.given = {}, {}, {}, {}, {}
+        self.files, self.symbols, self.starts, self.known, self.given, self.ways = {}, {}, {}, {}, {}, {}
         self.reader = first_there(READERS)
         self.entries = {int(number): int(pc, 16) for number, pc
                         in re.findall(r"^process +(\d+) +([0-9a-fA-F]+)", listing, re.M)}
@@ -44,6 +44,13 @@ class Programs:
     def called(self, kind, number):
         name = self.name_of(kind, number)
         return f"{KINDS[kind]} {number}" + (f" ({name})" if name else "")
+
+    def message_to(self, process, endpoint):
+        """To whom a message goes, and by which endpoint; both as a record has them."""
+        if (process, endpoint) not in self.ways:
+            self.ways[process, endpoint] = f"message to {self.process(int(process))} by " \
+                f"{self.called('endpoint', int(endpoint))}"
+        return self.ways[process, endpoint]
 
     def numbers_of(self, word):
         """The processes that a name or a number means."""

@@ -26,7 +26,7 @@ def text_of(digits):
         text = data.decode()
     except UnicodeDecodeError:
         return "".join(LETTERS[byte] for byte in data)
-    if text.isprintable():
+    if text.replace("\n", "").isprintable():
         return text
     return "".join(letter if letter == "\n" or letter.isprintable() else f"\\x{ord(letter):02x}" for letter in text)
 
@@ -34,8 +34,7 @@ def text_of(digits):
 def message(line, programs):
     """`msg FROM TO endpoint=E payload=X words=X,X,X,X len=L caps=C`."""
     to, endpoint, payload, one, two, three, four, length, caps = MESSAGE.fullmatch(line.decode()).groups()
-    told = f"message to {programs.process(int(to))} by {programs.called('endpoint', int(endpoint))}, payload " \
-        f"{payload}: {one} {two} {three} {four}"
+    told = f"{programs.message_to(to, endpoint)}, payload {payload}: {one} {two} {three} {four}"
     if length != "0":
         told += f", {count(int(length), 'byte')}"
     return told if caps == "0" else f"{told}, {count(int(caps), 'capability', 'capabilities')}"
