@@ -176,11 +176,12 @@ class Search:
 
     def __init__(self, run, wants, is_interrupted):
         self.run, self.wants, self.is_interrupted = run, wants, is_interrupted
-        self.watches = [want for want in wants if isinstance(want, Watch) and want.how != "read"]
+        watches = [want for want in wants if isinstance(want, Watch)]
+        self.needs_before, self.watches = bool(watches), [want for want in watches if want.how != "read"]
 
     def look(self, first, behind):
         stretch = self.run.stretch(first, behind)
-        if self.watches:
+        if self.needs_before:
             stretch.before = self.run.state(first)
         return stretch
 
