@@ -1,4 +1,5 @@
-/* Feeds `coyotos trace` its input piece by piece, and copies the running process wherever it waits for more.
+/* Feeds `coyotos trace`, or `coyotos run`, its input piece by piece, and copies the running process wherever it waits
+   for more.
 
    The program reads its input when it has performed all lines that it has, so a process that waits for input stands at
    a place of the run, and a copy of it (fork) stands at the same place. tools/debugger/places.py makes a library of this
@@ -104,7 +105,7 @@ static void obey(void) {
 }
 
 __attribute__((constructor)) static void begin(int count, char **words) {
-    if (getenv("COYOTOS_PLACES") && count == 2 && strcmp(words[1], "trace") == 0) {
+    if (getenv("COYOTOS_PLACES") && count == 2 && (strcmp(words[1], "trace") == 0 || strcmp(words[1], "run") == 0)) {
         signal(SIGCHLD, SIG_IGN);
         meet();
     }

@@ -2,7 +2,8 @@
 
 A run is a process of `coyotos trace` that waits for more of its schedule (places.c). Such a process stands at an event
 and can be copied, so one that is kept at every so many events makes each event near. All that is told of the machine is
-what the program writes: its records, and the state that it writes at the end of its input.
+what the program writes: its records, and the state that it writes at the end of its input. The state at an event to which
+none has come yet is that of a process of `coyotos run`, which writes no steps, and so is there sooner.
 """
 import bisect
 import collections
@@ -19,6 +20,7 @@ from debugger.state import State
 HERE = pathlib.Path(__file__).resolve().parent
 APART, MOST_KEPT = 100_000, 128  # events between two that are kept at first, and how many
 MOST_NEAR, STATES = 48, 64
+FAR = 1_000_000  # events behind the last one that is kept, from which on a state is asked for at a run without steps
 MOST_AHEAD = 20_000_000  # how many events are gone through while gdb asks nothing
 STEPS_BACK = (4096, 256)  # where a way of more events leaves a process too
 COMPILERS = ("cc", "gcc", "clang")
@@ -154,22 +156,24 @@ class Run:
         self.listener.bind(f"{self.room.name}/line")
         self.listener.listen(16)
         self.listener.settimeout(WAIT)
-        self.begin(library, listing)
-
-    def begin(self, library, listing):
-        """Starts the program, and gives it the listing."""
-        self.child = subprocess.Popen(
-            [self.program, "trace"], stdin=subprocess.DEVNULL, stdout=subprocess.DEVNULL,
-            env={**os.environ, "LD_PRELOAD": library, "COYOTOS_PLACES": f"{self.room.name}/line"})
-        first = Process(self, 0)
-        first.feed(listing)
-        self.kept, self.apart = [first], APART
+        self.library, self.listing, self.children = library, listing, []
+        self.kept, self.apart, self.quick = [self.begun("trace")], APART, []
         self.near, self.states = collections.OrderedDict(), collections.OrderedDict()
 
+    def begun(self, word):
+        """Starts the program, and gives it the listing: a process at the first event."""
+        self.children.append(subprocess.Popen(
+            [self.program, word], stdin=subprocess.DEVNULL, stdout=subprocess.DEVNULL,
+            env={**os.environ, "LD_PRELOAD": self.library, "COYOTOS_PLACES": f"{self.room.name}/line"}))
+        first = Process(self, 0)
+        first.feed(self.listing)
+        return first
+
     def close(self):
-        for process in [*self.kept, *self.near.values()]:
+        for process in [*self.kept, *self.near.values(), *self.quick]:
             process.close()
-        self.child.wait()
+        for child in self.children:
+            child.wait()
         self.listener.close()
         self.room.cleanup()
 
@@ -222,12 +226,26 @@ class Run:
             self.near.move_to_end(at)
         return process
 
+    def quick_at(self, at):
+        """A process without steps at this event, of which the state alone can be asked for. The first one is kept, and the
+        last that was asked for."""
+        if not self.quick:
+            self.quick = [self.begun("run")]
+        last = self.quick[-1]
+        process = (last if last.at <= at else self.quick[0]).copy()
+        process.go(at)
+        for other in self.quick[1:]:
+            other.close()
+        self.quick[1:] = [process]
+        return process
+
     # -- what is told
 
     def state(self, at):
         """The state before an event."""
         if at not in self.states:
-            data = self.at(at).copy().end()
+            is_far = at - self.kept[-1].at > FAR
+            data = (self.quick_at(at) if is_far else self.at(at)).copy().end()
             self.hold_state(at, State(data[place_of_state(data):]))
         self.states.move_to_end(at)
         return self.states[at]
