@@ -222,7 +222,7 @@ class Explainer:
 
     def record(self, line, number, hart, process=None, pc=None, insn=None):
         """Tells a record, if it is wanted, with what is known of its step."""
-        words = line.split(b" ")
+        words = line.split(b" ") if self.who else line.split(b" ", 2)
         kind = words[0]
         if kind not in self.wanted:
             return
