@@ -227,16 +227,16 @@ class Run:
         return process
 
     def quick_at(self, at):
-        """A process without steps at this event, of which the state alone can be asked for. The first one is kept, and the
-        last that was asked for."""
-        if not self.quick:
-            self.quick = [self.begun("run")]
-        last = self.quick[-1]
-        process = (last if last.at <= at else self.quick[0]).copy()
+        """A process without steps at this event, of which the state alone can be asked for. One is kept at every so many
+        events up to here."""
+        self.quick = self.quick or [self.begun("run")]
+        apart = max(FAR, self.schedule.count // MOST_KEPT)
+        while self.quick[-1].at + apart <= at:
+            made = self.quick[-1].copy()
+            made.go(made.at + apart)
+            self.quick.append(made)
+        process = self.quick[min(at // apart, len(self.quick) - 1)].copy()
         process.go(at)
-        for other in self.quick[1:]:
-            other.close()
-        self.quick[1:] = [process]
         return process
 
     # -- what is told
@@ -245,7 +245,7 @@ class Run:
         """The state before an event."""
         if at not in self.states:
             is_far = at - self.kept[-1].at > FAR
-            data = (self.quick_at(at) if is_far else self.at(at)).copy().end()
+            data = (self.quick_at(at) if is_far else self.at(at).copy()).end()
             self.hold_state(at, State(data[place_of_state(data):]))
         self.states.move_to_end(at)
         return self.states[at]

@@ -293,8 +293,9 @@ class Session:
         if hit.process not in (process, None):
             self.late = hit
             self.say(self.words_of(hit))
-            own = [*wants, Faults(self.is_passed, process), *(one for one in self.watches.values() if one.process == process)]
-            hit = Search(self.run, own, self.line.is_interrupted).forwards(self.at)
+            own = [one for one in self.watches.values() if one.process == process]
+            hit = Search(self.run, [*wants, Faults(self.is_passed, process), *own],
+                         self.line.is_interrupted).forwards(self.at)
             self.leaving = (process, hit.at - 1) if isinstance(want, Steps) else None
         return self.stop(hit._replace(process=process))
 
