@@ -59,7 +59,7 @@ impl HartSteps {
     pub fn alone(&self, hart: u8) -> u32
         ensures { 1 ≤ result → steps_left self.now ≡ replicate result (Step hart) }
     {
-        if self.first == self.last && self.first == self.hart && self.hart == hart {
+        if self.hart == hart && self.first == self.last && self.first == hart {
             self.times
         } else {
             0
