@@ -1,3 +1,10 @@
 mod Steps
 mod Lags
-mod Simulating
+pub mod Simulating
+mod Below
+mod Growing
+mod Reached
+mod Cutting
+mod Staying
+pub mod Found
+pub mod Held

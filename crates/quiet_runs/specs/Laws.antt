@@ -1,8 +1,13 @@
 -- The laws of quiet runs, as statements.
 use Rattle.std.specs.Prelude.{◌≡◌, ◌<◌, ◌≤◌, ◌⊎◌, ℕ, Bool, true, false, List, length}
 use Rattle.std.specs.List.{AllByRecursion as Each}
+use Rattle.cap_format.specs.declared.kind.CapKind.{CapKind}
+use Rattle.cap_format.specs.Capability.{Capability}
+use Rattle.object_store.specs.Store.{Store}
 use Rattle.machine_state.specs.State.{State}
-use Rattle.quiet_runs.specs.Runs.{Watch, RunsAreQuiet, SameFor, SeesOnly, after_steps, after_runs}
+use Rattle.quiet_runs.specs.Runs.{Watch, RunsAreQuiet, SameFor, SeesOnly, after_step, after_steps, after_runs}
+use Rattle.quiet_runs.specs.Reaching.{reached_by}
+use Rattle.quiet_runs.specs.Finding.{is_quiet, quiet_steps, some_held}
 
 -- a list of harts of a machine that has so many
 abbrev pub AreHarts : ℕ → List ℕ → Type 0
@@ -58,3 +63,16 @@ EverLaw = (count : ℕ) (watch : Watch) (more : State → ℕ → ℕ) (test : S
     → RunsAreQuiet watch more → SeesOnly watch test
     → ((runs : List ℕ) → AreHarts count runs → CanRun count more test (after_runs more s runs))
     → (harts : List ℕ) → AreHarts count harts → CanCome count test (after_steps s harts)
+
+-- The steps that are found are quiet.
+abbrev pub FoundLaw : Type 0
+FoundLaw = (watch : Watch) → RunsAreQuiet watch (quiet_steps watch)
+
+-- The same capabilities are held in both, and the same come to each object.
+pub record HoldAlike (s t : Store) : Type 0 where
+  pub held : (test : Capability → Bool) → some_held test t ≡ some_held test s
+  pub reached : (kind : CapKind) (n : ℕ) → reached_by t kind n ≡ reached_by s kind n
+
+-- A quiet step moves no capability.
+abbrev pub HeldLaw : Type 0
+HeldLaw = (watch : Watch) (s : State) (hart : ℕ) → is_quiet watch s hart ≡ true → HoldAlike s.store (after_step s hart).store

@@ -1,2 +1,4 @@
 pub mod Runs
+pub mod Reaching
+pub mod Finding
 pub mod Laws

@@ -2,6 +2,7 @@
 use Rattle.std.specs.Prelude.{◌≡◌, ℕ, zero, suc, Bool, true, false, List, [], ◌∷◌, replicate}
 use Rattle.cap_format.specs.declared.kind.CapKind.TheVariants.{Page}
 use Rattle.object_store.specs.Store.{page_at}
+use Rattle.schedules.specs.Queues.{stands_in}
 use Rattle.machine_state.specs.declared.event.Event.TheVariants.{Step}
 use Rattle.machine_state.specs.State.{State, process}
 use Rattle.kernel_core.specs.Event.{event_of}
@@ -23,6 +24,10 @@ after_steps s (hart ∷ harts) = after_steps (after_step s hart) harts
 pub record Watch : Type 0 where
   pub processes : ℕ → Bool
   pub pages : ℕ → Bool
+
+-- these processes and these pages
+abbrev pub watch_by : List ℕ → List ℕ → Watch
+watch_by processes pages = record { processes = λ p. stands_in processes p; pages = λ n. stands_in pages n }
 
 -- a step is quiet for one who looks at these: it is quiet, and nothing of it is on the left
 pub record IsQuietFor (watch : Watch) (s : State) (hart : ℕ) : Type 0 where

@@ -8,10 +8,18 @@
 //! takes it off its hart, the run would have to put it back and leave that step undone; but who is dispatched performs a step in
 //! the same event.
 //!
+//! Which steps are quiet is found by who comes to an object by capabilities (`reached_by`): a process that nobody else names has to
+//! itself what nobody else comes to. Where anybody holds a Range, or a window that leads to a background, none is found: by these
+//! one comes to objects that no chain of capabilities names.
+//!
 //! There is no code here. Each function has a law as its contract; the definitions are in `specs/`.
 #![tactic(auto)]
 
-ghost use Rattle.quiet_runs.specs.Laws.{SimulationLaw, NeverLaw, EverLaw};
+ghost use Rattle.quiet_runs.specs.Laws.{SimulationLaw, NeverLaw, EverLaw, FoundLaw, HeldLaw};
+
+mod reached_by;
+
+pub use reached_by::ReachedBy;
 
 /// Each list of steps has a list of runs that leads to the same, but for quiet steps that are missing.
 pub fn simulation_law()
@@ -26,4 +34,14 @@ pub fn never_law()
 /// What can come to hold after each list of runs can come to hold after each list of steps.
 pub fn ever_law()
     ensures { EverLaw }
+{}
+
+/// The steps that are found to be quiet are.
+pub fn found_law()
+    ensures { FoundLaw }
+{}
+
+/// A quiet step moves no capability.
+pub fn held_law()
+    ensures { HeldLaw }
 {}
