@@ -1,0 +1,7 @@
+mod Joining
+mod Folding
+mod After
+mod Places
+mod Rounds
+mod Secluded
+pub mod Kept
