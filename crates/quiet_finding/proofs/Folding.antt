@@ -1,11 +1,11 @@
 -- Those who come to an object by several, from the first on.
-use Rattle.std.proofs.Common.{◌≡◌, ℕ, zero, suc, ◌<◌, Bool, true, false, ◌||◌, if◌then◌else◌, List, [], ◌∷◌, length, get_or, refl, sym, ◌∙◌, ap, ap₂, arith}
+use Rattle.std.proofs.Common.{◌≡◌, ℕ, zero, suc, ◌<◌, Bool, false, ◌||◌, List, [], ◌∷◌, length, get_or, refl, sym, ◌∙◌, ap, ap₂, arith}
 use Rattle.std.specs.List.{list_any}
 use Rattle.cap_format.specs.declared.kind.CapKind.{CapKind}
 use Rattle.cap_format.specs.Capability.{Capability, null}
 use Rattle.quiet_runs.specs.declared.reached_by.ReachedBy.{ReachedBy}
 use Rattle.quiet_runs.specs.declared.reached_by.ReachedBy.TheVariants.{Nobody}
-use Rattle.quiet_runs.specs.Reaching.{joined, joined_below, names, through}
+use Rattle.quiet_runs.specs.Reaching.{joined, joined_below, through}
 use Rattle.quiet_runs.specs.Finding.{is_below}
 use Rattle.quiet_finding.specs.Passing.{by_cap}
 use Rattle.quiet_finding.proofs.Joining.{joined-nobody, joined-assoc, or-false, or-assoc}

@@ -1,7 +1,7 @@
 -- The capabilities of an object by their places, in the model's map.
-use Rattle.std.proofs.Common.{◌≡◌, ℕ, ◌+◌, ◌-◌, ◌*◌, ◌<◌, ◌≤◌, Bool, true, false, nat_lt, ◌==◌, ◌&&◌, if◌then◌else◌, List, ◌++◌, length, map, get_or, slice_index, refl, sym, ◌∙◌, ap, ap₂, subst, arith, length-append}
+use Rattle.std.proofs.Common.{◌≡◌, ℕ, ◌-◌, ◌*◌, ◌<◌, ◌≤◌, Bool, true, false, nat_lt, ◌==◌, ◌&&◌, if◌then◌else◌, List, length, get_or, slice_index, refl, sym, ◌∙◌, ap, arith, length-append}
 use Rattle.std.specs.List.{list_any}
-use Rattle.std.proofs.lemmas.Bool.{ltb-true, ltb-false, eqb-true, and_parts, lt-ltb}
+use Rattle.std.proofs.lemmas.Bool.{ltb-true, ltb-false, eqb-true, and_parts}
 use Rattle.std.proofs.lemmas.List.{length-map, get_or_append_left, get_or-append_right}
 use Rattle.cap_format.specs.declared.kind.CapKind.{CapKind}
 use Rattle.cap_format.specs.declared.kind.CapKind.TheVariants.{CapPage, Gpt, Process}
@@ -11,7 +11,7 @@ use Rattle.cap_format.proofs.KindNumbers.{kind_of_number}
 use Rattle.gpt_objects.specs.Gpt.{GptValue, empty_gpt}
 use Rattle.process_objects.specs.Process.{ProcessValue}
 use Rattle.object_store.specs.Store.{Items, Store, size_of, counts_of, gpt_at, cappage_at, process_at}
-use Rattle.object_store.specs.Meaning.{is_current, is_live, meaning, map_of, state_map}
+use Rattle.object_store.specs.Meaning.{is_current, is_live, meaning, state_map}
 use Rattle.object_store.proofs.Means.{gpt_at-items_map, cappage_at-state_map, process_at-state_map}
 use Rattle.confine_check.specs.Breach.{cap_in, places_in, reads_in, object_reads}
 use Rattle.confine_check.specs.Full.{AreFull}

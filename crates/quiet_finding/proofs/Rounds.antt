@@ -1,5 +1,5 @@
 -- Rounds: who comes to an object through one GPT more.
-use Rattle.std.proofs.Common.{◌≡◌, ℕ, zero, suc, ◌+◌, ◌-◌, ◌<◌, ◌≤◌, ◌⊎◌, inl, inr, Bool, true, false, ◌||◌, if◌then◌else◌, List, length, get_or, map, replicate, refl, sym, ◌∙◌, ap, ap₂, subst, arith}
+use Rattle.std.proofs.Common.{◌≡◌, ℕ, zero, suc, ◌+◌, ◌-◌, ◌<◌, ◌≤◌, inl, inr, Bool, true, false, ◌||◌, if◌then◌else◌, List, length, get_or, map, replicate, refl, sym, ◌∙◌, ap, ap₂, subst, arith}
 use Rattle.std.specs.List.{list_any}
 use Rattle.std.proofs.lemmas.Bool.{cases_lt}
 use Rattle.std.proofs.lemmas.List.{get_or-replicate, get_or_past, length-map, length-replicate}
@@ -13,9 +13,9 @@ use Rattle.confine_check.specs.Breach.{places_in}
 use Rattle.confine_check.specs.Full.{AreFull}
 use Rattle.quiet_runs.specs.declared.reached_by.ReachedBy.{ReachedBy}
 use Rattle.quiet_runs.specs.declared.reached_by.ReachedBy.TheVariants.{Nobody, Alone, Several}
-use Rattle.quiet_runs.specs.Reaching.{caps_of, held_by, joined, joined_below, names, reached_by, reached_within, through}
+use Rattle.quiet_runs.specs.Reaching.{caps_of, held_by, joined, joined_below, names, reached_within, through}
 use Rattle.quiet_runs.specs.Finding.{is_below, is_far_reaching, some_held}
-use Rattle.quiet_finding.specs.Reaching.{IsReaching, ReachingValue, to_gpt, to_page, names_process}
+use Rattle.quiet_finding.specs.Reaching.{IsReaching, ReachingValue, to_gpt}
 use Rattle.quiet_finding.specs.Passing.{IsAfter, IsOfHolders, IsWithin, by_objects, by_places, held_outside, holder_of, in_objects, in_places, nothing_reached}
 use Rattle.quiet_finding.proofs.Joining.{joined-nobody, or-assoc}
 use Rattle.quiet_finding.proofs.Folding.{is_below-false, is_below-same, joined_below-nobody, joined_below-same, through-places}

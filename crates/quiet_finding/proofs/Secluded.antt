@@ -1,5 +1,5 @@
 -- What of a quiet step follows from what a machine keeps, and what is looked up in the tables.
-use Rattle.std.proofs.Common.{◌≡◌, ◌≢◌, ℕ, zero, suc, ◌+◌, ◌<◌, ◌≤◌, ◌==◌, ◌⊎◌, inl, inr, Bool, true, false, not, ◌&&◌, ◌||◌, nat_lt, List, [], ◌∷◌, length, Option, Some, None, refl, sym, ◌∙◌, ap, ap₂, subst, arith, eq-eqb, eqb-true}
+use Rattle.std.proofs.Common.{◌≡◌, ◌≢◌, ℕ, zero, suc, ◌+◌, ◌<◌, ◌≤◌, ◌==◌, inl, inr, Bool, true, false, not, ◌&&◌, ◌||◌, nat_lt, List, [], ◌∷◌, length, Option, Some, None, refl, sym, ◌∙◌, ap, ap₂, subst, arith, eq-eqb, eqb-true}
 use Rattle.std.specs.List.{list_any, sum_by}
 use Rattle.std.proofs.lemmas.Bool.{and_from, and_parts, or_cases, or_left, or_right, ltb-true}
 use Rattle.std.proofs.lemmas.Bool.Decides.{eqb_tells}
@@ -13,10 +13,9 @@ use Rattle.object_store.specs.Meaning.{state_map}
 use Rattle.object_store.proofs.Means.{process_at-state_map}
 use Rattle.schedules.specs.Queues.{QueuesValue, hart_of, stands_in}
 use Rattle.schedules.specs.Ready.{Agrees, runs_of, places_due}
-use Rattle.schedules.specs.Standing.{standing, times_in}
+use Rattle.schedules.specs.Standing.{times_in}
 use Rattle.schedules.proofs.OnHart.{in-list, on_hart}
 use Rattle.machine_state.specs.State.{State, process}
-use Rattle.quiet_runs.specs.Runs.{Watch}
 use Rattle.quiet_runs.specs.Reaching.{is_alone, names, reached_by}
 use Rattle.quiet_runs.specs.Finding.{has_process, is_below, is_far_reaching, is_only_on, is_own, is_secluded, is_watched, runs, some_held}
 use Rattle.quiet_finding.specs.Reaching.{IsReaching, ReachingValue, names_process, to_page}

@@ -1,5 +1,5 @@
 -- What is watched, as it is listed. (Own.)
-use Rattle.std.specs.Prelude.{ℕ, List, []}
+use Rattle.std.specs.Prelude.{ℕ, List}
 use Rattle.quiet_runs.specs.Runs.{Watch, watch_by}
 
 -- the processes whose registers are watched, and the pages whose bytes are

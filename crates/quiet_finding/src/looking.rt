@@ -1,5 +1,5 @@
 //! Whether a step is quiet.
-ghost use Rattle.std.specs.Prelude.{◌≡◌, ◌<◌, ◌≤◌, ◌+◌, true, Some};
+ghost use Rattle.std.specs.Prelude.{◌≡◌, ◌<◌, ◌≤◌, ◌+◌, ◌%◌, ◌==◌, true, Some};
 ghost use Rattle.std.specs.List.{list_any};
 ghost use Rattle.cap_format.specs.declared.kind.CapKind.TheVariants.{Process};
 ghost use Rattle.object_store.specs.Store.{size_of};
@@ -11,14 +11,14 @@ ghost use Rattle.rv32_user.specs.Step.{effect_of};
 ghost use Rattle.walk_meaning.specs.Walk.{is_data};
 ghost use Rattle.machine_state.specs.State.{state_of, process, pc_of};
 ghost use Rattle.machine_state.specs.DataAccess.{data_access};
-ghost use Rattle.quiet_runs.specs.Finding.{is_own, is_quiet, is_quiet_effect, is_quiet_next, is_quiet_on, is_quiet_word, is_secluded, is_watched, reaches_own};
+ghost use Rattle.quiet_runs.specs.Finding.{is_own, is_quiet, is_quiet_effect, is_quiet_next, is_quiet_word, is_secluded, is_watched, reaches_own};
 ghost use Rattle.quiet_finding.specs.Reaching.{IsReaching};
 ghost use Rattle.quiet_finding.specs.Watched.{watch_of};
 
 use crate::reaching::Reaching;
 use crate::watched::Watched;
 use machine_state::Machine;
-use rv32_decode::Insn;
+use rv32_decode::{Insn, decode};
 use rv32_user::{Effect, evaluate};
 use std::sync::ledger::Ledger;
 use steps::Steps;
@@ -27,19 +27,18 @@ use walk_meaning::Kind;
 
 /// Whether the next step of a hart is quiet, for one who watches this: nobody else can tell it from no step at all.
 ///
-/// The machine stays as it is. No translator is asked: the walks of the step are made afresh.
+/// No translator is asked: the walks of the step are made afresh.
 #[tactic(auto, unfolding(quiet_runs::specs::Finding::is_quiet))]
 pub fn is_quiet<T: Translator, L: Ledger>(
-    machine: &mut Machine<T>,
+    machine: &Machine<T>,
     hart: u8,
     reaching: &Reaching,
     watched: &Watched,
     fetches: &mut Steps<L>,
 ) -> bool
-    requires hart { hart < machine.old.objects.harts }
-    requires reaching { IsReaching (state_of machine.old).store reaching.now }
-    ensures value { result ≡ is_quiet (watch_of watched.now) (state_of machine.old) hart }
-    ensures machine { machine.new ≡ machine.old }
+    requires hart { hart < machine.now.objects.harts }
+    requires reaching { IsReaching (state_of machine.now).store reaching.now }
+    ensures value { result ≡ is_quiet (watch_of watched.now) (state_of machine.now) hart }
     ensures least { fetches.old ≤ fetches.new }
     ensures most { fetches.new ≤ fetches.old + 64 }
 {
@@ -109,15 +108,14 @@ fn is_watched<T: Translator>(
 /// Whether the instruction that a process performs next is quiet: its fetch, then what the word says.
 #[tactic(auto, using(walk_meaning::proofs::SlotsLaw::slots_law))]
 fn is_quiet_next<T: Translator, L: Ledger>(
-    machine: &mut Machine<T>,
+    machine: &Machine<T>,
     p: u16,
     reaching: &Reaching,
     fetches: &mut Steps<L>,
 ) -> bool
-    requires there { p < size_of machine.old.objects.items Process }
-    requires reaching { IsReaching (state_of machine.old).store reaching.now }
-    ensures value { result ≡ is_quiet_next (state_of machine.old) p }
-    ensures machine { machine.new ≡ machine.old }
+    requires there { p < size_of machine.now.objects.items Process }
+    requires reaching { IsReaching (state_of machine.now).store reaching.now }
+    ensures value { result ≡ is_quiet_next (state_of machine.now) p }
     ensures least { fetches.old ≤ fetches.new }
     ensures most { fetches.new ≤ fetches.old + 64 }
 {
@@ -133,20 +131,19 @@ fn is_quiet_next<T: Translator, L: Ledger>(
 
 /// The same of the word that was fetched.
 fn is_quiet_word<T: Translator, L: Ledger>(
-    machine: &mut Machine<T>,
+    machine: &Machine<T>,
     p: u16,
     word: u32,
     reaching: &Reaching,
     fetches: &mut Steps<L>,
 ) -> bool
-    requires there { p < size_of machine.old.objects.items Process }
-    requires reaching { IsReaching (state_of machine.old).store reaching.now }
-    ensures value { result ≡ is_quiet_word (state_of machine.old) p (insn_at word) }
-    ensures machine { machine.new ≡ machine.old }
+    requires there { p < size_of machine.now.objects.items Process }
+    requires reaching { IsReaching (state_of machine.now).store reaching.now }
+    ensures value { result ≡ is_quiet_word (state_of machine.now) p (insn_at word) }
     ensures least { fetches.old ≤ fetches.new }
     ensures most { fetches.new ≤ fetches.old + 32 }
 {
-    match machine.decode(word) {
+    match decode(word) {
         Ok(insn) => is_quiet_insn(machine, p, insn, reaching, fetches),
         Err(_) => false,
     }
@@ -172,13 +169,20 @@ fn is_quiet_insn<T: Translator, L: Ledger>(
     match outcome.effect {
         Effect::Next(_) => true,
         Effect::Load { at, size, .. } => {
-            at % u32::from(size) == 0 && reaches_own(machine, p, at, Kind::Load, reaching, fetches)
+            is_aligned(at, size) && reaches_own(machine, p, at, Kind::Load, reaching, fetches)
         }
         Effect::Store { at, size, .. } => {
-            at % u32::from(size) == 0 && reaches_own(machine, p, at, Kind::Store, reaching, fetches)
+            is_aligned(at, size) && reaches_own(machine, p, at, Kind::Store, reaching, fetches)
         }
         _ => false,
     }
+}
+
+fn is_aligned(at: u32, size: u8) -> bool
+    requires { IsSize size }
+    ensures { result ≡ (at % size == 0) }
+{
+    at % u32::from(size) == 0
 }
 
 /// Whether an access of a process reaches a page of its own.

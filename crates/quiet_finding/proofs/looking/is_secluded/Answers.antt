@@ -1,4 +1,4 @@
-use Rattle.std.proofs.Common.{◌≡◌, ◌<◌, Bool, not, ◌&&◌, length, ap, ap₂, sym, ◌∙◌, arith}
+use Rattle.std.proofs.Common.{◌<◌, Bool, not, ◌&&◌, length, ap, ap₂, sym, ◌∙◌, arith}
 use Rattle.cap_format.specs.declared.kind.CapKind.TheVariants.{Process}
 use Rattle.object_store.specs.Store.{Store, size_of}
 use Rattle.machine_state.specs.State.{state_of}

@@ -1,4 +1,4 @@
-use Rattle.std.proofs.Common.{◌≡◌, ℕ, suc, ◌+◌, ◌*◌, ◌<◌, ◌≤◌, refl, sym, ◌∙◌, ap, subst, arith}
+use Rattle.std.proofs.Common.{◌≡◌, ℕ, suc, ◌+◌, ◌<◌, refl, ◌∙◌, ap, subst, arith}
 use Rattle.cap_format.specs.declared.kind.CapKind.TheVariants.{Gpt}
 use Rattle.object_store.specs.declared.sizes.Sizes.{Sizes}
 use Rattle.object_store.specs.Store.{size_of}

@@ -1,4 +1,4 @@
-use Rattle.std.proofs.Common.{ap, subst, sym, ◌∙◌}
+use Rattle.std.proofs.Common.{ap, subst, ◌∙◌}
 use Rattle.cap_format.specs.declared.kind.CapKind.TheVariants.{Process}
 use Rattle.object_store.specs.Store.{size_of}
 use Rattle.object_store.specs.Meaning.{state_map}
