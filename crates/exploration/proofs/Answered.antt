@@ -1,5 +1,5 @@
 -- From the answer of a search to what it says of the machine.
-use Rattle.std.proofs.Common.{◌≡◌, ◌≢◌, ◌∙◌, ℕ, suc, ◌<◌, ◌≤◌, ◌⊎◌, inl, inr, ◌++◌, Bool, true, false, List, [], ◌∷◌, length, slice_get, slice_index, Option, Some, None, MatchOption, AllPairs, Decides, refl, sym, ap, subst, arith, length-append, true≢false}
+use Rattle.std.proofs.Common.{◌≡◌, ◌≢◌, ◌∙◌, ℕ, suc, ◌<◌, ◌≤◌, ◌⊎◌, inl, inr, ◌++◌, Bool, true, false, List, [], ◌∷◌, length, slice_get, slice_index, Option, Some, None, MatchOption, AllPairs, refl, sym, ap, subst, arith, length-append, true≢false}
 use Rattle.std.proofs.Math.Path.{fun_ext}
 use Rattle.std.specs.List.{All, Contains, IsDistinct}
 use Rattle.std.proofs.lemmas.Bool.{cases_lt}
@@ -9,21 +9,19 @@ use Rattle.std.proofs.lemmas.Map.Made.{AllPairs-from_IsDistinct}
 use Rattle.std.proofs.lemmas.Option.{get_or_from_slice_get, slice_get-get_or, slice_get_within}
 use Rattle.machine_state.specs.State.{State}
 use Rattle.separation_policy.specs.Policy.{PolicyValue}
-use Rattle.breadth_first.specs.Answer.{AreCounts, CanAlwaysCome, EndsByDepth, EndsByStates, IsAnswer, IsAsFar, IsClosed, IsEver, IsFirst as IsFirstIn, IsFound, IsLost, IsOpen, IsSeen, seen}
+use Rattle.breadth_first.specs.Answer.{AreCounts, CanAlwaysCome, EndsByDepth, EndsByStates, IsAnswer, IsAsFar, IsClosed, IsFirst as IsFirstIn, IsFound, IsLost, IsOpen, IsSeen, seen}
 use Rattle.breadth_first.specs.Paths.{after, CanCome as CanComeIn}
 use Rattle.breadth_first.specs.System.{System, IsEquality}
-use Rattle.breadth_first.specs.Told.{told as what_is_told}
 use Rattle.breadth_first.proofs.One.{one_answer}
 use Rattle.breadth_first.specs.declared.answer.Count.{Count}
 use Rattle.breadth_first.specs.declared.answer.Explored.{Explored}
 use Rattle.breadth_first.specs.declared.answer.Explored.TheVariants.{Found, Closed, Open}
 use Rattle.breadth_first.specs.declared.answer.Limits.{Limits}
-use Rattle.breadth_first.specs.declared.answer.Lost.{Lost}
 use Rattle.breadth_first.specs.declared.answer.Size.{Size}
 use Rattle.exploration.specs.question.Question.{QuestionValue, first_failing, holds, is_count, is_ever}
 use Rattle.exploration.specs.Asking.{asking}
-use Rattle.exploration.specs.Explored.{AllCanCome, AllSeen, AreCounted, AreDistinct, AreOf, CanCome, FailsAt, IsExact, IsFirst, IsLimited, IsReached, IsSafe, LostAt, NoneFails, NoneFailsWithin, Says, SomeAt, SomeSeen, come_to, limits_of, system_of}
-use Rattle.exploration.specs.Laws.{ExactLaw, IsAnswerTo, OneAnswerLaw, SaysLaw}
+use Rattle.exploration.specs.Explored.{AllCanCome, AllSeen, AreCounted, AreDistinct, CanCome, FailsAt, IsExact, IsFirst, IsLimited, IsReached, IsSafe, LostAt, NoneFails, Says, SomeAt, SomeSeen, come_to, limits_of, system_of}
+use Rattle.exploration.specs.Laws.{ExactLaw, OneAnswerLaw, SaysLaw}
 use Rattle.exploration.proofs.Numbers.{asking-earlier, asking-has, asking-is}
 use Rattle.exploration.proofs.Runs.{after-is, after-on}
 use Rattle.exploration.proofs.Safe.{fails-some, safe-none}

@@ -1,5 +1,5 @@
 -- Each list of events of harts that there are is one of choices, where all events are choices.
-use Rattle.std.proofs.Common.{◌≡◌, ◌∙◌, ℕ, zero, suc, ◌+◌, ◌<◌, ◌≤◌, ◌++◌, ◌∷◌, [], List, length, map, get_or, flat_map, refl, sym, ap, ap₂, subst, inl, inr, arith, length-append}
+use Rattle.std.proofs.Common.{◌≡◌, ◌∙◌, ℕ, zero, suc, ◌+◌, ◌<◌, ◌++◌, ◌∷◌, [], List, length, map, get_or, refl, sym, ap, subst, inl, inr, arith, length-append}
 use Rattle.std.specs.List.{All}
 use Rattle.std.proofs.Math.Seq.{get_or-append_seam}
 use Rattle.std.proofs.lemmas.Bool.{cases_lt}
@@ -9,13 +9,15 @@ use Rattle.machine_state.specs.declared.event.Event.{Event}
 use Rattle.machine_state.specs.declared.event.Event.TheVariants.{Step, Tick}
 use Rattle.machine_state.specs.Machine.{hart_in}
 use Rattle.machine_state.specs.State.{State}
+use Rattle.kernel_core.specs.Event.{event_of}
 use Rattle.kernel_core.specs.Run.{run_state}
-use Rattle.separation_policy.specs.Policy.{PolicyValue}
+use Rattle.kernel_core.proofs.Ran.{run_state-cons, run_state-nil}
+use Rattle.quiet_runs.specs.Runs.{Watch}
 use Rattle.exploration.specs.declared.question.choice.Choice.{Choice}
 use Rattle.exploration.specs.declared.question.choice.Choice.TheVariants.{Steps, Tick as TimerTick}
-use Rattle.exploration.specs.question.Choice.{AreChoices, all_choices, choice_at, choice_events, path_events, step_below, tick_below}
-use Rattle.exploration.specs.question.Question.{QuestionValue, choices_by, choices_of}
-use Rattle.exploration.specs.Explored.{IsSafe, NoneFails}
+use Rattle.exploration.specs.question.Choice.{AreChoices, after, all_choices, choice_at, choice_events, step_below, tick_below}
+use Rattle.exploration.specs.question.Question.{choices_by, choices_of, watch_for}
+use Rattle.exploration.specs.Explored.{IsSafe}
 use Rattle.exploration.specs.Laws.{EveryEventLaw}
 
 -- ---- choices hart by hart
@@ -62,16 +64,16 @@ module _ (harts : ℕ) where
   number (Step hart) = hart
   number (Tick hart) = harts + hart
 
-  abbrev of_event : Event → List Event
-  of_event e = choice_events (choice_at (all_choices harts) (number e))
+  abbrev of_event : Watch → State → Event → List Event
+  of_event watch s e = choice_events watch s (choice_at (all_choices harts) (number e))
 
-  one-event : (e : Event) → hart_in e < harts → of_event e ≡ e ∷ []
+  one-event : (watch : Watch) (s : State) (e : Event) → hart_in e < harts → of_event watch s e ≡ e ∷ []
   unfolding number
-  one-event (Step hart) below =
-      ap choice_events
+  one-event watch s (Step hart) below =
+      ap (choice_events watch s)
       (get_or_append_left (step_below harts) (tick_below harts) (TimerTick 0) hart (omega (arith, below, length-steps harts)) ∙ step-at harts hart (TimerTick 0) below)
-  one-event (Tick hart) below =
-      ap choice_events
+  one-event watch s (Tick hart) below =
+      ap (choice_events watch s)
       (ap (λ n. get_or (step_below harts ++ tick_below harts) (n + hart) (TimerTick 0)) (sym (length-steps harts))
       ∙ get_or-append-add (step_below harts) (tick_below harts) hart (TimerTick 0) ∙ tick-at harts hart (TimerTick 0) below)
 
@@ -83,10 +85,13 @@ module _ (harts : ℕ) where
   abbrev AllThere : List Event → Type 0
   AllThere es = All (λ e. hart_in e < harts) es
 
-  numbers-events : (es : List Event) → AllThere es → path_events (all_choices harts) (map number es) ≡ es
-  numbers-events [] all = refl
-  numbers-events (e ∷ es) all =
-      ap₂ (λ (first rest : List Event). first ++ rest) (one-event e (All-head (λ e. hart_in e < harts) e es all)) (numbers-events es (All-tail (λ e. hart_in e < harts) e es all))
+  numbers-after : (watch : Watch) (s : State) (es : List Event) → AllThere es → after watch (all_choices harts) s (map number es) ≡ run_state s es
+  unfolding after
+  numbers-after watch s [] all = sym (run_state-nil s)
+  numbers-after watch s (e ∷ es) all =
+      let first = ap (run_state s) (one-event watch s e (All-head (λ e. hart_in e < harts) e es all)) ∙ run_state-cons s e [] ∙ run_state-nil (event_of s e).state in
+      ap (λ (t : State). after watch (all_choices harts) t (map number es)) first
+      ∙ numbers-after watch (event_of s e).state es (All-tail (λ e. hart_in e < harts) e es all) ∙ sym (run_state-cons s e es)
 
   numbers-choices : (es : List Event) → AllThere es → AreChoices (all_choices harts) (map number es)
   numbers-choices [] all = All-nil (λ i. i < length (all_choices harts))
@@ -99,6 +104,7 @@ every_event_law question policy s none safe es all =
     let harts = question.sizes.harts in
     let path = map (number harts) es in
     let same : choices_of question ≡ all_choices harts = ap (choices_by harts) none in
-    subst (λ (events : List Event). IsSafe question policy (run_state s events))
-    (ap (λ (cs : List Choice). path_events cs path) same ∙ numbers-events harts es all)
+    let watch = watch_for question.properties in
+    subst (λ (t : State). IsSafe question policy t)
+    (ap (λ (cs : List Choice). after watch cs s path) same ∙ numbers-after harts watch s es all)
     (safe path (subst (λ (cs : List Choice). AreChoices cs path) (sym same) (numbers-choices harts es all)))

@@ -1,5 +1,5 @@
 pub mod Numbers
-mod Runs
+pub mod Runs
 mod Safe
 mod Answered
 mod EveryEvent
@@ -10,3 +10,6 @@ pub mod Any
 pub mod First
 pub mod About
 mod Spaces
+mod Quiet
+mod Shown
+mod Watching

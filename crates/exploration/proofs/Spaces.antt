@@ -1,22 +1,25 @@
 -- A space whose tables grow stays the same space.
-use Rattle.std.proofs.Common.{◌≡◌, ℕ, suc, [], ◌∷◌, ◌+◌, ◌-◌, ◌<◌, Bool, true, List, length, get_or, replicate, All, slice_get, Some, Result, Ok, Err, OnOk, refl, sym, ap, ◌∙◌, subst, arith}
-use Rattle.object_store.specs.declared.sizes.Sizes.{Sizes}
+use Rattle.std.proofs.Common.{◌≡◌, ℕ, suc, [], ◌∷◌, ◌<◌, Bool, List, length, get_or, replicate, All, refl, sym, ap, ◌∙◌, subst}
+use Rattle.std.proofs.lemmas.List.{get_or_default}
 use Rattle.machine_state.specs.declared.event.Event.{Event}
-use Rattle.machine_state.specs.declared.event.Event.TheVariants.{Step}
+use Rattle.machine_state.specs.declared.event.Event.TheVariants.{Step, Tick}
 use Rattle.machine_state.specs.State.{State}
 use Rattle.kernel_core.specs.Event.{event_of}
 use Rattle.kernel_core.specs.Run.{run_state}
 use Rattle.kernel_core.proofs.Ran.{run_state-cons, run_state-nil}
+use Rattle.quiet_runs.specs.Runs.{Watch}
+use Rattle.quiet_finding.specs.Watched.{WatchedValue}
 use Rattle.separation_policy.specs.declared.domain_set.DomainSet.{DomainSet}
 use Rattle.separation_policy.specs.Policy.{PolicyValue}
 use Rattle.breadth_first.specs.declared.answer.Explored.{Explored}
 use Rattle.breadth_first.specs.declared.answer.Limits.{Limits}
 use Rattle.breadth_first.specs.Answer.{IsAnswer}
 use Rattle.breadth_first.specs.Kept.{Keeps}
-use Rattle.breadth_first.specs.System.{System}
 use Rattle.exploration.specs.declared.question.choice.Choice.{Choice}
+use Rattle.exploration.specs.declared.question.choice.Choice.TheVariants.{Tick as TimerTick}
 use Rattle.exploration.specs.declared.question.asks.Asks.{Asks}
-use Rattle.exploration.specs.question.Question.{PropertyValue, QuestionValue, is_count, is_ever}
+use Rattle.exploration.specs.question.Choice.{after_choice, choice_at}
+use Rattle.exploration.specs.question.Question.{PropertyValue, QuestionValue, choices_of, watch_for, is_count, is_ever}
 use Rattle.exploration.specs.Asking.{asking}
 use Rattle.exploration.specs.Explored.{limits_of, system_of}
 use Rattle.exploration.specs.Laws.{IsAnswerTo}
@@ -51,12 +54,13 @@ module _ (question : QuestionValue) (policy : PolicyValue) where
   }
 
   -- and so does what it keeps
-  pub space_grown : (closure : List DomainSet) (choices : List Choice) (old new : TablesValue) (start : Key) → GrowTables old new → IsSpace question policy closure choices old start → IsSpace question policy closure choices new start
-  space_grown closure choices old new start grows is = record {
+  pub space_grown : (closure : List DomainSet) (choices : List Choice) (watched : WatchedValue) (old new : TablesValue) (start : Key) → GrowTables old new → IsSpace question policy closure choices watched old start → IsSpace question policy closure choices watched new start
+  space_grown closure choices watched old new start grows is = record {
     given = is.given;
     range = is.range;
     few = is.few;
     closes = is.closes;
+    watches = is.watches;
     sizes = grows.sizes ∙ is.sizes;
     held = held_grown old new start grows is.held;
   }
@@ -74,11 +78,6 @@ module _ (t : TablesValue) (a b : Key) (same : key_in b ≡ key_in a) (held : He
   pub state_copy : state_in t b ≡ state_in t a
   state_copy = (state_decides (state_in t b) (state_in t a)).0 (sym (keys_alike t b a held_copy held) ∙ (key_decides (key_in b) (key_in a)).1 same)
 
--- where a call went well, what follows from what it leaves
-pub on-ok : {X E : Type 0} (r : Result X E) {P Q : Type 0} → OnOk r P → (P → Q) → OnOk r Q
-on-ok (Ok x) p f = f p
-on-ok (Err e) p f = p
-
 -- ---- steps
 
 -- one step more, before the others
@@ -92,6 +91,17 @@ steps-none hart s = run_state-nil s
 -- one event alone
 pub event-alone : (e : Event) (s t : State) → t ≡ (event_of s e).state → t ≡ run_state s (e ∷ [])
 event-alone e s t is = is ∙ sym (run_state-nil (event_of s e).state) ∙ sym (run_state-cons s e [])
+
+-- a tick of a hart's timer
+pub tick-chosen : (watch : Watch) (choice : Choice) (hart : ℕ) (s t : State) → choice ≡ TimerTick hart → t ≡ (event_of s (Tick hart)).state → t ≡ after_choice watch s choice
+tick-chosen watch choice hart s t is led = subst (λ (c : Choice). t ≡ after_choice watch s c) (sym is) (event-alone (Tick hart) s t led)
+
+-- a choice of the question by its number, where what is watched is what the question looks at
+pub next-means : (question : QuestionValue) (watch : Watch) (choices : List Choice) (n : ℕ) (choice d : Choice) (s t : State) → watch ≡ watch_for question.properties → choices ≡ choices_of question → n < length choices
+    → choice ≡ get_or choices n d → t ≡ after_choice watch s choice → t ≡ after_choice (watch_for question.properties) s (choice_at (choices_of question) n)
+next-means question watch choices n choice d s t watches given within is led =
+    led ∙ ap (λ (w : Watch). after_choice w s choice) watches
+    ∙ ap (after_choice (watch_for question.properties) s) (is ∙ get_or_default choices n d (TimerTick 0) within ∙ ap (λ (cs : List Choice). choice_at cs n) given)
 
 -- ---- what is asked
 

@@ -1,7 +1,7 @@
 -- Explorations: what is searched for a question, and what is so of the machine. (Own.)
 --
 -- All is said of the abstract machine: of the states to which lists of the question's choices lead from a state.
-use Rattle.std.specs.Prelude.{◌≡◌, ◌≢◌, ℕ, suc, ◌*◌, ◌<◌, ◌≤◌, ◌⊎◌, Bool, true, false, List, [], ◌++◌, length, map, slice_get, slice_index, Option, Some, None, MatchOption, count_by, ⊤}
+use Rattle.std.specs.Prelude.{◌≡◌, ◌≢◌, ℕ, suc, ◌*◌, ◌<◌, ◌≤◌, ◌⊎◌, Bool, true, false, List, ◌++◌, length, slice_get, slice_index, Some, None, MatchOption, count_by, ⊤}
 use Rattle.std.specs.List.{All, Contains}
 use Rattle.machine_state.specs.State.{State}
 use Rattle.separation_policy.specs.Policy.{PolicyValue}
@@ -12,9 +12,8 @@ use Rattle.breadth_first.specs.declared.answer.Size.{Size}
 use Rattle.breadth_first.specs.declared.answer.Count.{Count}
 use Rattle.breadth_first.specs.declared.answer.Explored.{Explored}
 use Rattle.breadth_first.specs.declared.answer.Explored.TheVariants.{Found, Closed, Open}
-use Rattle.breadth_first.specs.declared.answer.Lost.{Lost}
 use Rattle.exploration.specs.question.Choice.{AreChoices, after, after_choice, choice_at}
-use Rattle.exploration.specs.question.Question.{QuestionValue, choices_of, first_failing, holds, is_count, is_ever, is_never}
+use Rattle.exploration.specs.question.Question.{QuestionValue, choices_of, first_failing, holds, is_count, is_ever, is_never, watch_for}
 use Rattle.exploration.specs.Asking.{asking, property_at}
 
 -- what is searched for a question: the states of the abstract machine from this one on, where `same` compares two
@@ -22,7 +21,7 @@ abbrev pub system_of : QuestionValue → PolicyValue → (State → State → Bo
 system_of question policy same s = record {
   start = s;
   choices = length (choices_of question);
-  next = λ t i. after_choice t (choice_at (choices_of question) i);
+  next = λ t i. after_choice (watch_for question.properties) t (choice_at (choices_of question) i);
   same = same;
   violated = first_failing question policy;
   tests = length question.properties;
@@ -53,7 +52,7 @@ IsSafe question policy t = (n : ℕ) → AsksNever question n → holds question
 module _ (question : QuestionValue) (policy : PolicyValue) (s : State) where
   -- the state to which a list of the question's choices leads
   abbrev pub come_to : List ℕ → State
-  come_to path = after (choices_of question) s path
+  come_to path = after (watch_for question.properties) (choices_of question) s path
 
   -- a list of the question's choices
   abbrev pub AreOf : List ℕ → Type 0

@@ -1,5 +1,5 @@
 -- The theorem of explorations: what the answer of a search says of the machine. (Own.)
-use Rattle.std.specs.Prelude.{◌≡◌, ◌<◌, ℕ, Bool, List, []}
+use Rattle.std.specs.Prelude.{◌≡◌, ◌<◌, Bool, List, []}
 use Rattle.std.specs.List.{All}
 use Rattle.machine_state.specs.declared.event.Event.{Event}
 use Rattle.machine_state.specs.Machine.{hart_in}

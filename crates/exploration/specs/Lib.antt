@@ -1,5 +1,6 @@
 pub mod question
 pub mod Asking
 pub mod Explored
+pub mod Shown
 pub mod Laws
 pub mod machine_space

@@ -6,4 +6,6 @@ mod atoms;
 #[cfg(test)]
 mod lines;
 #[cfg(test)]
+mod runs;
+#[cfg(test)]
 mod starts;

@@ -8,9 +8,10 @@ use Rattle.separation_policy.specs.declared.domain_set.DomainSet.{DomainSet}
 use Rattle.separation_policy.specs.Policy.{PolicyValue}
 use Rattle.separation_policy.specs.Closure.{IsClosure}
 use Rattle.breadth_first.specs.System.{System}
+use Rattle.quiet_finding.specs.Watched.{WatchedValue, watch_of}
 use Rattle.exploration.specs.declared.question.choice.Choice.{Choice}
 use Rattle.exploration.specs.question.Choice.{IsChoiceOf}
-use Rattle.exploration.specs.question.Question.{QuestionValue, choices_of}
+use Rattle.exploration.specs.question.Question.{QuestionValue, choices_of, watch_for}
 use Rattle.exploration.specs.Explored.{system_of}
 use Rattle.state_parts.specs.declared.key.Key.{Key}
 use Rattle.state_parts.specs.Same.{same_state}
@@ -32,12 +33,13 @@ pub record SpaceValue : Type 0 where
 abbrev pub searched_of : QuestionValue → PolicyValue → State → System State
 searched_of question policy start = system_of question policy same_state start
 
--- the choices are the question's, and few enough to have numbers; the closure is the policy's; tables are those of a machine
--- that the question is about, and the start is a state in them
-pub record IsSpace (question : QuestionValue) (policy : PolicyValue) (closure : List DomainSet) (choices : List Choice) (tables : TablesValue) (start : Key) : Type 0 where
+-- the choices are the question's, and few enough to have numbers; the closure is the policy's; what is watched is what the
+-- question looks at; tables are those of a machine that the question is about, and the start is a state in them
+pub record IsSpace (question : QuestionValue) (policy : PolicyValue) (closure : List DomainSet) (choices : List Choice) (watched : WatchedValue) (tables : TablesValue) (start : Key) : Type 0 where
   pub given : choices ≡ choices_of question
   pub range : All (IsChoiceOf question.sizes.harts) choices
   pub few : length choices < 2 ^ 32
   pub closes : IsClosure policy closure
+  pub watches : watch_of watched ≡ watch_for question.properties
   pub sizes : tables.sizes ≡ question.sizes
   pub held : Held tables start

@@ -1,26 +1,40 @@
 -- Choices: what may come next, and the states to which lists of them lead. (Own.)
-use Rattle.std.specs.Prelude.{ℕ, zero, suc, ◌<◌, ◌≤◌, List, [], ◌∷◌, ◌++◌, length, replicate, flat_map, slice_index_or}
+use Rattle.std.specs.Prelude.{ℕ, zero, suc, ◌<◌, ◌≤◌, List, [], ◌∷◌, ◌++◌, length, replicate, slice_index_or}
 use Rattle.std.specs.List.{All}
 use Rattle.machine_state.specs.declared.event.Event.{Event}
 use Rattle.machine_state.specs.declared.event.Event.TheVariants.{Step, Tick}
 use Rattle.machine_state.specs.State.{State}
 use Rattle.kernel_core.specs.Run.{run_state}
+use Rattle.quiet_runs.specs.Runs.{Watch, after_step}
+use Rattle.quiet_runs.specs.Finding.{quiet_steps}
 use Rattle.exploration.specs.declared.question.choice.Choice.{Choice}
-use Rattle.exploration.specs.declared.question.choice.Choice.TheVariants.{Steps, Tick as TimerTick}
+use Rattle.exploration.specs.declared.question.choice.Choice.TheVariants.{Steps, Run, Tick as TimerTick}
 
 -- a choice on a machine with so many harts: its hart is one of them, and it has 1 to 1,000,000 steps
 abbrev pub IsChoiceOf : ℕ → Choice → Type 0
 IsChoiceOf harts (Steps hart times) = (hart < harts) × (1 ≤ times) × (times ≤ 1000000)
+IsChoiceOf harts (Run hart) = hart < harts
 IsChoiceOf harts (TimerTick hart) = hart < harts
 
--- the events of a choice
-abbrev pub choice_events : Choice → List Event
-choice_events (Steps hart times) = replicate times (Step hart)
-choice_events (TimerTick hart) = Tick hart ∷ []
+-- the choice with its steps counted: a run of a hart is one step of it, and then those that are quiet
+abbrev pub counted_choice : Watch → State → Choice → Choice
+counted_choice watch s (Steps hart times) = Steps hart times
+counted_choice watch s (Run hart) = Steps hart (suc (quiet_steps watch (after_step s hart) hart))
+counted_choice watch s (TimerTick hart) = TimerTick hart
+
+-- the events of a choice whose steps are counted
+abbrev pub counted_events : Choice → List Event
+counted_events (Steps hart times) = replicate times (Step hart)
+counted_events (Run hart) = Step hart ∷ []
+counted_events (TimerTick hart) = Tick hart ∷ []
+
+-- the events of a choice in a state
+abbrev pub choice_events : Watch → State → Choice → List Event
+choice_events watch s choice = counted_events (counted_choice watch s choice)
 
 -- the state after a choice
-abbrev pub after_choice : State → Choice → State
-after_choice s choice = run_state s (choice_events choice)
+abbrev pub after_choice : Watch → State → Choice → State
+after_choice watch s choice = run_state s (choice_events watch s choice)
 
 -- one step of each hart below `n`
 unfoldable pub step_below : ℕ → List Choice
@@ -40,13 +54,16 @@ all_choices harts = step_below harts ++ tick_below harts
 abbrev pub choice_at : List Choice → ℕ → Choice
 choice_at choices i = slice_index_or choices i (TimerTick 0)
 
--- the events of a list of choices, each by its number
-abbrev pub path_events : List Choice → List ℕ → List Event
-path_events choices path = flat_map (λ i. choice_events (choice_at choices i)) path
+-- the state after a list of choices, each by its number
+unfoldable pub after : Watch → List Choice → State → List ℕ → State
+after watch choices s [] = s
+after watch choices s (i ∷ path) = after watch choices (after_choice watch s (choice_at choices i)) path
 
--- the state after a list of choices
-abbrev pub after : List Choice → State → List ℕ → State
-after choices s path = run_state s (path_events choices path)
+-- these choices with their steps counted, each in the state in which it is made
+unfoldable pub counted_path : Watch → List Choice → State → List ℕ → List Choice
+counted_path watch choices s [] = []
+counted_path watch choices s (i ∷ path) =
+    counted_choice watch s (choice_at choices i) ∷ counted_path watch choices (after_choice watch s (choice_at choices i)) path
 
 -- each number of the list is that of a choice
 abbrev pub AreChoices : List Choice → List ℕ → Type 0

@@ -1,12 +1,15 @@
 -- Questions: what may come next, and what is asked of the states that are reached. (Own.)
-use Rattle.std.specs.Prelude.{ℕ, ◌≤◌, ◌&&◌, Bool, true, false, List, [], ◌∷◌, ◌++◌, Option, Some, None, IfSome, slice_index_or}
+use Rattle.std.specs.Prelude.{ℕ, ◌≤◌, ◌&&◌, Bool, true, false, List, [], ◌∷◌, ◌++◌, Option, Some, None, IfSome, flat_map, slice_index_or}
 use Rattle.std.specs.List.{All, list_any, position}
 use Rattle.object_store.specs.declared.sizes.Sizes.{Sizes}
 use Rattle.machine_state.specs.State.{State}
 use Rattle.separation_policy.specs.Policy.{PolicyValue}
+use Rattle.quiet_runs.specs.Runs.{Watch, watch_by}
 use Rattle.exploration.specs.declared.question.asks.Asks.{Asks}
 use Rattle.exploration.specs.declared.question.asks.Asks.TheVariants.{Never, Ever, Count}
 use Rattle.exploration.specs.declared.question.atom.Atom.{Atom}
+use Rattle.exploration.specs.declared.question.atom.Condition.{Condition}
+use Rattle.exploration.specs.declared.question.atom.Condition.TheVariants as conditions
 use Rattle.exploration.specs.declared.question.choice.Choice.{Choice}
 use Rattle.exploration.specs.question.Choice.{IsChoiceOf, all_choices}
 use Rattle.exploration.specs.question.Atom.{IsAtomOf, all_hold, crosses, is_of_policy}
@@ -99,6 +102,27 @@ choices_by harts (first ∷ rest) = first ∷ rest
 -- the same
 abbrev pub choices_of : QuestionValue → List Choice
 choices_of question = choices_by question.sizes.harts question.choices
+
+-- ---- what is watched
+
+-- the processes whose pc or registers a condition looks at
+abbrev pub processes_in : Condition → List ℕ
+processes_in (conditions.Pc p first last) = p ∷ []
+processes_in (conditions.Register p i value) = p ∷ []
+processes_in _ = []
+
+-- the pages whose bytes it looks at
+abbrev pub pages_in : Condition → List ℕ
+pages_in (conditions.Word page offset value) = page ∷ []
+pages_in _ = []
+
+-- those of all atoms of a question's properties
+abbrev pub watched_in : (Condition → List ℕ) → List PropertyValue → List ℕ
+watched_in of properties = flat_map (λ property. flat_map (λ atom. of atom.condition) property.atoms) properties
+
+-- what a question looks at besides capabilities, states of processes and who stands where
+abbrev pub watch_for : List PropertyValue → Watch
+watch_for properties = watch_by (watched_in processes_in properties) (watched_in pages_in properties)
 
 -- ---- states
 

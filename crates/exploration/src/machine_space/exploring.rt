@@ -1,13 +1,17 @@
 //! The search for a question, from a machine on.
-ghost use Rattle.std.specs.Prelude.{◌≡◌, IfOk};
+ghost use Rattle.std.specs.Prelude.{◌≡◌, IfOk, OnOk};
 ghost use Rattle.object_store.specs.Store.{sizes_of};
 ghost use Rattle.machine_state.specs.State.{state_of};
+ghost use Rattle.exploration.specs.question.Choice.{AreChoices};
+ghost use Rattle.exploration.specs.question.Question.{choices_of};
 ghost use Rattle.exploration.specs.Laws.{IsAnswerTo};
+ghost use Rattle.exploration.specs.Shown.{shown_of, told_path};
 
 use crate::asking;
 use crate::machine_space::limits::limits_of;
 use crate::machine_space::space::MachineSpace;
-use crate::question::{Asks, Question};
+use crate::machine_space::watching::watched_in;
+use crate::question::{Asks, Choice, Question};
 use breadth_first::{Explored, Watcher, explore};
 use cap_format::OutOfMemory;
 use machine_state::{Machine, Records};
@@ -18,6 +22,14 @@ use std::sync::ledger::Ledger;
 use steps::Steps;
 use walk_engine::Plain;
 
+/// The answer to a question.
+#[derive(Drop)]
+pub struct Answered {
+    pub explored: Explored,
+    /// The choices that lead to the state that the answer tells, each as so many steps or a tick; none where it tells no state.
+    pub shown: Vec<Choice>,
+}
+
 /// Goes through the states that a machine can come to by the choices of a question, and answers it. An error is want of
 /// memory, or there were more than 2^32 states or choices.
 pub fn explore_machine<'a, W: Watcher, L: Ledger>(
@@ -27,12 +39,17 @@ pub fn explore_machine<'a, W: Watcher, L: Ledger>(
     policy: &'a Policy,
     watcher: &mut W,
     fetches: &'a mut Steps<L>,
-) -> Result<Explored, OutOfMemory>
+) -> Result<Answered, OutOfMemory>
     requires { question.now.sizes ≡ sizes_of machine.objects }
-    ensures { IfOk result (IsAnswerTo question.now policy.now (state_of machine)) }
+    ensures answer { IfOk result (λ answered.
+        IsAnswerTo question.now policy.now (state_of machine) answered.explored) }
+    ensures shown { IfOk result (λ answered.
+        answered.shown.items ≡ shown_of question.now (state_of machine) answered.explored) }
 {
     let mut space = space_of(alloc, machine, question, policy, fetches)?;
-    search(alloc, &mut space, question, watcher)
+    let explored = search(alloc, &mut space, question, watcher)?;
+    let shown = shown_of(alloc, &mut space, question, &explored)?;
+    Ok(Answered { explored, shown })
 }
 
 /// The space of a machine's states.
@@ -49,6 +66,7 @@ fn space_of<'a, L: Ledger>(
     ensures start { IfOk result (λ space. space.start ≡ state_of machine) }
 {
     let closure = Closure::new(alloc, policy)?;
+    let watched = watched_in(alloc, question.properties())?;
     let choices = question.choices(alloc)?;
     if choices.len() > u32::MAX as usize {
         return Err(OutOfMemory);
@@ -61,6 +79,7 @@ fn space_of<'a, L: Ledger>(
         policy,
         closure,
         choices,
+        watched,
         states,
         start,
         records: Records::new(),
@@ -76,11 +95,35 @@ fn search<'a, W: Watcher, L: Ledger>(
     watcher: &mut W,
 ) -> Result<Explored, OutOfMemory>
     requires { space.old.question ≡ question.now }
-    ensures { IfOk result (IsAnswerTo space.old.question space.old.policy space.old.start) }
+    ensures answer { IfOk result (IsAnswerTo space.old.question space.old.policy space.old.start) }
+    ensures start { OnOk result (space.new.start ≡ space.old.start) }
 {
     let evers = asking(alloc, question.properties(), Asks::Ever)?;
     let counts = asking(alloc, question.properties(), Asks::Count)?;
     let limits = limits_of(question);
     let explored = explore(alloc, space, &limits, &evers, &counts, watcher)?;
     Ok(explored)
+}
+
+/// The choices that an answer tells, with their steps counted.
+#[tactic(auto, using(crate::proofs::Shown::counted_nil))]
+fn shown_of<'a, L: Ledger>(
+    alloc: Global,
+    space: &mut MachineSpace<'a, L>,
+    question: &Question,
+    explored: &Explored,
+) -> Result<Vec<Choice>, OutOfMemory>
+    requires sizes { sizes_of space.old.start.store ≡ question.now.sizes }
+    requires path { AreChoices (choices_of question.now) (told_path explored.now) }
+    ensures { IfOk result (λ shown. shown.items ≡ shown_of question.now space.old.start explored.now) }
+{
+    match explored {
+        Explored::Found { path, .. } => space.counted_from_start(question, path.as_slice()),
+        Explored::Closed {
+            lost: Some(lost),
+            ..
+        } => space.counted_from_start(question, lost.path.as_slice()),
+        Explored::Closed { lost: None, .. } => Ok(Vec::new(alloc)),
+        Explored::Open { .. } => Ok(Vec::new(alloc)),
+    }
 }

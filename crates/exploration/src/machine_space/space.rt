@@ -1,8 +1,16 @@
 //! The states of a machine as a space.
-use crate::machine_space::choosing::chosen;
+ghost use Rattle.std.specs.Prelude.{◌≡◌, IfOk};
+ghost use Rattle.object_store.specs.Store.{sizes_of};
+ghost use Rattle.exploration.specs.question.Choice.{AreChoices, counted_path};
+ghost use Rattle.exploration.specs.question.Question.{choices_of, watch_for};
+
+use crate::machine_space::choosing::{chosen, counted};
+use crate::machine_space::watching::watched_in;
 use crate::question::{Choice, Question, first_failing, holds};
 use breadth_first::Space;
+use cap_format::OutOfMemory;
 use machine_state::Records;
+use quiet_finding::Watched;
 use separation_policy::{Closure, Policy};
 use state_parts::{Key, States};
 use std::alloc::{AllocError, Global};
@@ -18,6 +26,7 @@ pub(crate) struct MachineSpace<'a, L: Ledger> {
     pub(crate) policy: &'a Policy,
     pub(crate) closure: Closure,
     pub(crate) choices: Vec<Choice>,
+    pub(crate) watched: Watched,
     pub(crate) states: States,
     /// The key of the state from which the choices start.
     pub(crate) start: Key,
@@ -34,7 +43,34 @@ impl<'a, L: Ledger> Model for MachineSpace<'a, L> {
 
     ghost view = { λ s. record { question = s.question.now; policy = s.policy.now; states = s.states; start = state_in s.states.tables s.start } };
 
-    ghost invariant = { λ s. IsSpace s.question.now s.policy.now s.closure s.choices.items s.states.tables s.start };
+    ghost invariant = { λ s. IsSpace s.question.now s.policy.now s.closure s.choices.items s.watched s.states.tables s.start };
+}
+
+impl<'a, L: Ledger> MachineSpace<'a, L> {
+    /// The choices of these numbers, made one after the other from the start, with their steps counted.
+    pub(crate) fn counted_from_start(
+        &mut self,
+        question: &Question,
+        path: &[u32],
+    ) -> Result<Vec<Choice>, OutOfMemory>
+        requires sizes { sizes_of self.old.start.store ≡ question.now.sizes }
+        requires path { AreChoices (choices_of question.now) path.now }
+        ensures { IfOk result (λ counted. counted.items ≡ counted_path
+            (watch_for question.now.properties) (choices_of question.now) self.old.start path.now) }
+    {
+        let choices = question.choices(self.alloc)?;
+        let watched = watched_in(self.alloc, question.properties())?;
+        self.states.go(&self.start, self.fetches)?;
+        counted(
+            self.alloc,
+            &mut self.states,
+            choices.as_slice(),
+            path,
+            &watched,
+            &mut self.records,
+            self.fetches,
+        )
+    }
 }
 
 impl<'a, L: Ledger> Space for MachineSpace<'a, L> {
@@ -78,9 +114,11 @@ impl<'a, L: Ledger> Space for MachineSpace<'a, L> {
     fn successor(&mut self, from: &Key, choice: u32) -> Result<Key, AllocError> {
         let choice = self.choices[choice as usize];
         let Ok(key) = chosen(
+            self.alloc,
             &mut self.states,
             from,
             choice,
+            &self.watched,
             &mut self.records,
             self.fetches,
         ) else {

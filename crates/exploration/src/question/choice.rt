@@ -11,6 +11,8 @@ use std::alloc::Global;
 pub enum Choice {
     /// So many steps of one hart, 1 to 1,000,000.
     Steps { hart: u8, times: u32 },
+    /// A step of a hart, and then its steps that are quiet: as long as the next one is, and no more than 4,096.
+    Run { hart: u8 },
     /// A tick of a hart's timer.
     Tick { hart: u8 },
 }

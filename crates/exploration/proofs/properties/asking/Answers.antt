@@ -1,4 +1,4 @@
-use Rattle.std.proofs.Common.{◌≡◌, ◌∙◌, ◌<◌, ◌++◌, ◌∷◌, [], ℕ, Bool, List, true, false, length, sym, ap, arith, append-nil}
+use Rattle.std.proofs.Common.{◌≡◌, ◌∙◌, ◌<◌, ◌++◌, ◌∷◌, [], ℕ, List, true, false, length, sym, ap, arith, append-nil}
 use Rattle.std.proofs.lemmas.List.{get_or_read}
 use Rattle.exploration.specs.declared.question.asks.Asks.TheVariants.{Never}
 use Rattle.exploration.specs.question.Question.{PropertyValue, property_of}

@@ -1,4 +1,6 @@
 use Rattle.std.proofs.Common.{◌∙◌, List, ap, refl, sym}
+use Rattle.machine_state.specs.State.{State}
+use Rattle.breadth_first.specs.System.{System}
 use Rattle.exploration.specs.question.Question.{PropertyValue, QuestionValue, is_count, is_ever}
 use Rattle.exploration.specs.Asking.{asking}
 use Rattle.exploration.specs.Explored.{limits_of}
@@ -13,8 +15,8 @@ pub explore-requires-clause-counts : goal.explore-requires-clause-counts
 explore-requires-clause-counts g c =
     asked-there is_count _ _ _ (c.deref-2.ensures.value ∙ c.in_ok-counts.ensures) (c.properties-2.ensures.value ∙ ap (λ (q : QuestionValue). q.properties) (sym c.requires))
 
-pub returns : goal.returns
-returns g c =
+pub returns-clause-answer : goal.returns-clause-answer
+returns-clause-answer g c =
     let v = c.args.space.now in
     let same = c.properties.ensures.value ∙ ap (λ (q : QuestionValue). q.properties) (sym c.requires) in
     let same_too = c.properties-2.ensures.value ∙ ap (λ (q : QuestionValue). q.properties) (sym c.requires) in
@@ -23,3 +25,6 @@ returns g c =
     (c.deref.ensures.value ∙ c.in_ok-evers.ensures ∙ ap (λ (ps : List PropertyValue). asking is_ever ps) same)
     (c.deref-2.ensures.value ∙ c.in_ok-counts.ensures ∙ ap (λ (ps : List PropertyValue). asking is_count ps) same_too)
     c.in_ok-explored.ensures.answer
+
+pub returns-clause-start : goal.returns-clause-start
+returns-clause-start g c = ap (λ (s : System State). s.start) c.in_ok-explored.ensures.keeps.system

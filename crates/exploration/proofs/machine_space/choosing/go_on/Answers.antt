@@ -1,0 +1,24 @@
+use Rattle.std.proofs.Common.{◌∙◌, ◌||◌, not, is_some, sym, ap, subst}
+use Rattle.object_store.specs.Store.{Store}
+use Rattle.object_store.specs.Meaning.{state_map}
+use Rattle.schedules.specs.Queues.{hart_of}
+use Rattle.machine_state.specs.Machine.{MachineValue}
+use Rattle.machine_state.specs.State.{state_of}
+use Rattle.quiet_finding.specs.Reaching.{IsReaching}
+use Rattle.quiet_finding.specs.Watched.{watch_of}
+use Rattle.exploration.proofs.Quiet.{idle-not_quiet, none-led, went-none}
+use Rattle.exploration.proofs.machine_space.choosing.go_on.Goals as goal
+
+pub returns-then-is_idle-clause-count : goal.returns-then-is_idle-clause-count
+returns-then-is_idle-clause-count g c =
+    let w = watch_of c.args.watched.now in
+    let idle = ap (λ (m : MachineValue (Unit {0})). m.halted || not (is_some (hart_of m.queues c.args.hart))) (sym c.machine-machine.ensures.value) ∙ sym c.is_idle.ensures ∙ c.if-is_idle.true in
+    went-none w c.args.hart (state_of c.args.states.now.machine) (idle-not_quiet w c.args.hart (state_of c.args.states.now.machine) idle)
+
+pub returns-then-is_idle-clause-state : goal.returns-then-is_idle-clause-state
+returns-then-is_idle-clause-state g c = none-led (watch_of c.args.watched.now) c.args.hart (state_of c.args.states.now.machine)
+
+pub perform_quiet-requires-clause-reaching : goal.perform_quiet-requires-clause-reaching
+perform_quiet-requires-clause-reaching g c =
+    subst (λ (s : Store). IsReaching (state_map s) c.in_ok-reaching.reaching)
+    (c.objects.ensures ∙ ap (λ (m : MachineValue (Unit {0})). m.objects) c.machine-machine.ensures.value) c.in_ok-reaching.ensures.value

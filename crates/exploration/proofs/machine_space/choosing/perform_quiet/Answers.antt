@@ -1,0 +1,78 @@
+use Rattle.std.proofs.Common.{◌≡◌, ◌∙◌, ℕ, refl, sym, ap, subst, arith}
+use Rattle.object_store.specs.declared.sizes.Sizes.{Sizes}
+use Rattle.machine_state.specs.Machine.{MachineValue}
+use Rattle.machine_state.specs.State.{state_of}
+use Rattle.quiet_runs.specs.Finding.{is_quiet}
+use Rattle.quiet_finding.specs.Reaching.{IsReaching}
+use Rattle.quiet_finding.specs.Watched.{watch_of}
+use Rattle.state_parts.specs.Space.{TablesValue}
+use Rattle.exploration.specs.machine_space.Space.{after_steps}
+use Rattle.exploration.proofs.Quiet.{gone-all, gone-more, gone-none, gone-quiet, gone-state, stays_after}
+use Rattle.exploration.proofs.machine_space.choosing.perform_quiet.Goals as goal
+
+pub quiet-init : goal.quiet-init
+quiet-init g c = record {
+  tables = refl;
+  reaching = c.requires.reaching;
+  gone = gone-none (watch_of c.args.watched.now) c.args.hart 4096 (state_of c.args.states.now.machine);
+}
+
+pub is_quiet-requires-clause-hart : goal.is_quiet-requires-clause-hart
+is_quiet-requires-clause-hart g c =
+    let here = ap (λ (m : MachineValue (Unit {0})). m.objects.harts) c.machine.ensures.value in
+    let sizes = ap (λ (z : Sizes). z.harts) c.machine.ensures.sizes in
+    let same = ap (λ (t : TablesValue). t.sizes.harts) c.quiet.invariant.tables in
+    omega (arith, here, sizes, same, c.requires.hart)
+
+pub is_quiet-requires-clause-reaching : goal.is_quiet-requires-clause-reaching
+is_quiet-requires-clause-reaching g c =
+    subst (λ (m : MachineValue (Unit {0})). IsReaching (state_of m).store c.args.reaching.now) (sym c.machine.ensures.value) c.quiet.invariant.reaching
+
+pub returns-then-not-is_quiet-clause-tables : goal.returns-then-not-is_quiet-clause-tables
+returns-then-not-is_quiet-clause-tables g c = c.quiet.invariant.tables
+
+pub returns-then-not-is_quiet-clause-count : goal.returns-then-not-is_quiet-clause-count
+returns-then-not-is_quiet-clause-count g c =
+    let w = watch_of c.args.watched.now in
+    let next = ap (λ (m : MachineValue (Unit {0})). is_quiet w (state_of m) c.args.hart) (sym c.machine.ensures.value) ∙ sym c.is_quiet.ensures.value ∙ c.if-not-is_quiet.true in
+    gone-quiet w c.args.hart 4096 (state_of c.args.states.now.machine) (state_of c.quiet.states.machine) c.quiet.performed c.quiet.invariant.gone next
+
+pub returns-then-not-is_quiet-clause-state : goal.returns-then-not-is_quiet-clause-state
+returns-then-not-is_quiet-clause-state g c =
+    gone-state (watch_of c.args.watched.now) c.args.hart 4096 (state_of c.args.states.now.machine) (state_of c.quiet.states.machine) c.quiet.performed c.quiet.invariant.gone
+
+pub perform-requires : goal.perform-requires
+perform-requires g c =
+    let same = ap (λ (t : TablesValue). t.sizes.harts) c.quiet.invariant.tables in
+    omega (arith, same, c.requires.hart)
+
+pub returns-in_err-perform-clause-tables : goal.returns-in_err-perform-clause-tables
+returns-in_err-perform-clause-tables g c = c.perform.ensures.tables ∙ c.quiet.invariant.tables
+
+pub quiet-preserved : goal.quiet-preserved
+quiet-preserved g c =
+    let w = watch_of c.args.watched.now in
+    let s = state_of c.quiet.states.machine in
+    let t = state_of c.perform.new.self.machine in
+    let next = ap (λ (m : MachineValue (Unit {0})). is_quiet w (state_of m) c.args.hart) (sym c.machine.ensures.value) ∙ sym c.is_quiet.ensures.value ∙ c.if-not-is_quiet.false in
+    record {
+      tables = c.perform.ensures.tables ∙ c.quiet.invariant.tables;
+      reaching = stays_after w c.args.hart c.held_law.ensures s t c.args.reaching.now next c.in_ok-perform.ensures.state c.quiet.invariant.reaching;
+      gone =
+          gone-more w c.args.hart 4096 (state_of c.args.states.now.machine) s t c.quiet.performed c.quiet.invariant.gone c.quiet-test.true next
+          c.in_ok-perform.ensures.state;
+    }
+
+pub returns-clause-tables : goal.returns-clause-tables
+returns-clause-tables g c = c.quiet.invariant.tables
+
+pub returns-clause-count : goal.returns-clause-count
+returns-clause-count g c =
+    let end : c.quiet.performed ≡ 4096 = omega arith in
+    gone-all (watch_of c.args.watched.now) c.args.hart 4096 (state_of c.args.states.now.machine) (state_of c.quiet.states.machine) c.quiet.performed c.quiet.invariant.gone end
+
+pub returns-clause-state : goal.returns-clause-state
+returns-clause-state g c =
+    let end : c.quiet.performed ≡ 4096 = omega arith in
+    gone-state (watch_of c.args.watched.now) c.args.hart 4096 (state_of c.args.states.now.machine) (state_of c.quiet.states.machine) c.quiet.performed c.quiet.invariant.gone
+    ∙ ap (λ (n : ℕ). after_steps c.args.hart n (state_of c.args.states.now.machine)) end
