@@ -1,0 +1,5 @@
+mod Watched
+mod Alike
+mod Seeing
+mod Paths
+mod Stepwise

@@ -1,0 +1,46 @@
+//! Interleavings: what an exploration over runs of the harts says of all lists of their steps, one by one and in whatever order.
+//!
+//! A run of a hart is a step and the quiet steps after it, taken at once. Where a question lets each hart of its machine be run,
+//! whatever else can be chosen, and no `never` fails after any choices, none fails after any steps. Where nothing else can be
+//! chosen, the same is so of `ever`. For no property tells two states apart that are the same to one who looks at what the
+//! question looks at, and after each list of steps the state is the same to him as after some runs.
+//!
+//! Nothing is said of ticks: a list of steps has none. Nor is anything said of `count`, since runs pass over the states within
+//! them. Where a limit ended an exploration, what it says of so many choices is so of as many steps.
+//!
+//! There is no code here: each function has a law as its contract, and calls those from which it follows. Nothing here knows
+//! how quiet steps are found, or how states are gone through.
+#![tactic(auto)]
+
+ghost use Rattle.interleavings.specs.Laws.{SeesOnlyLaw, NeverStepwiseLaw, WithinStepwiseLaw, EverStepwiseLaw};
+
+use quiet_runs::{ever_law, found_law, never_law, simulation_law};
+
+/// A property sees nothing of a state but what its question looks at.
+pub fn sees_only_law()
+    ensures { SeesOnlyLaw }
+{}
+
+/// Where each hart can be run, what no choices lead to no steps lead to.
+pub fn never_stepwise_law()
+    ensures { NeverStepwiseLaw }
+{
+    never_law();
+    found_law();
+}
+
+/// What no choices lead to up to a depth, no steps lead to up to the same.
+pub fn within_stepwise_law()
+    ensures { WithinStepwiseLaw }
+{
+    simulation_law();
+    found_law();
+}
+
+/// Where nothing but runs can be chosen, what choices can always lead to steps can always lead to.
+pub fn ever_stepwise_law()
+    ensures { EverStepwiseLaw }
+{
+    ever_law();
+    found_law();
+}
