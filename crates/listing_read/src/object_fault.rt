@@ -58,7 +58,7 @@ pub enum PolicyFault {
     LineTooLong,
     /// A byte is neither a space nor a visible character of ASCII.
     BadByte,
-    /// The first word is none of `domain`, `reads` and `end`.
+    /// The first word is that of no line of a policy.
     UnknownPolicy,
     /// The line has another number of words.
     WrongWords,
@@ -76,8 +76,14 @@ pub enum PolicyFault {
     BadOrder,
     /// A line gave one of the objects to another domain.
     Taken,
-    /// No line before made a domain of this name.
+    /// There is no domain of this name.
     NoDomain,
+    /// There is a domain of this name already.
+    NameTaken,
+    /// The line has to be the first of its policy.
+    NotFirst,
+    /// The input ends before the line `end` of the policy.
+    NoEnd,
 }
 
 impl From<FieldFault> for PolicyFault {
