@@ -1,5 +1,5 @@
 -- From the lines of the input to its bytes.
-use Rattle.std.proofs.Common.{◌≡◌, ◌+◌, ◌++◌, [], ℕ, List, Option, None, Some, IfSome, true, false, length, sym, ap, subst, arith}
+use Rattle.std.proofs.Common.{◌≡◌, ◌+◌, ◌++◌, [], ℕ, List, Option, None, Some, IfSome, false, length, sym, ap, subst, arith}
 use Rattle.std.specs.Io.KnownBytes.{Appends}
 use Rattle.coy_io.specs.Lines.{Part, IsFront, parts_of, whole_lines}
 use Rattle.coy_io.specs.Reader.{Reader, new_reader, ahead, bytes_ahead, GivesLines}
@@ -11,15 +11,14 @@ use Rattle.listing_read.specs.Reads.{GivesListing, GivesFront}
 use Rattle.listing_read.specs.declared.place.Place.TheVariants.{Header}
 use Rattle.schedule_replay.specs.Scheduled.{OnParts}
 use Rattle.courses.specs.Course.{ComesTo, Course, course_output}
-use Rattle.courses.specs.Ending.{EndsNothing, Outputs}
+use Rattle.courses.specs.Ending.{AwaitsMore, EndsNothing, Outputs}
 use Rattle.courses.specs.Listed.{Behind, listed_course, lines_course}
 use Rattle.courses.specs.Sure.{StandsOn, StandsSure}
 use Rattle.courses.specs.declared.exit.Exit.{Exit}
 use Rattle.courses.specs.declared.exit.Exit.TheVariants.{ImageRefused, ListingRefused}
-use Rattle.courses.specs.Exit.{is_finished}
 
--- lines of which all was done end nothing
-ends-nothing : (lines : ℕ) (exit : Exit) → is_finished exit ≡ true → EndsNothing lines exit
+-- what lines behind a listing don't end, all lines don't
+ends-nothing : (lines : ℕ) (exit : Exit) → AwaitsMore exit → EndsNothing lines exit
 ends-nothing lines (ListingRefused line fault) done = cc
 ends-nothing lines (ImageRefused offset fault) done = cc
 ends-nothing lines _ done = done
@@ -117,7 +116,7 @@ stands_on-same old new held held' taken taken' fetches fetches' count course oth
   unfinished = s.unfinished;
   given = s.given;
   gives = s.gives;
-  goes_on = subst (λ (c : Course). is_finished c.last.exit ≡ true) (same s.given) s.goes_on;
+  goes_on = subst (λ (c : Course). AwaitsMore c.last.exit) (same s.given) s.goes_on;
   written = subst (λ (c : Course). Appends taken taken' c.records) (same s.given) s.written;
   fetched = subst (λ (c : Course). fetches' ≡ fetches + count c.touches) (same s.given) s.fetched;
 }

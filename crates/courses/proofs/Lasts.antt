@@ -9,10 +9,10 @@ use Rattle.listing_read.specs.Statement.{ListingValue}
 use Rattle.listing_read.specs.declared.place.Place.TheVariants.{Header}
 use Rattle.courses.specs.Listed.{Behind, lines_course, listed_course}
 use Rattle.courses.specs.Course.{ComesTo, HasEntries, ends_in}
-use Rattle.courses.specs.Ending.{Output, Ends, HasCauses, IsGiven, told_end}
+use Rattle.courses.specs.Ending.{AwaitsMore, Output, Ends, HasCauses, IsGiven, told_end}
 use Rattle.courses.specs.Exit.{is_finished, status_of}
 use Rattle.courses.specs.declared.exit.Exit.{Exit}
-use Rattle.courses.specs.declared.exit.Exit.TheVariants.{Crossings, Done, ListingRefused, Open, OutOfMemory, ReadFault, TooLong, Usage, Violated, WriteFault}
+use Rattle.courses.specs.declared.exit.Exit.TheVariants.{Crossings, Done, ListingRefused, Open, OutOfMemory, PolicyRefused, ReadFault, TooLong, Usage, Violated, WriteFault}
 
 -- exits with other numbers are others
 pub exits-differ : (a b : Exit) → (status_of a ≡ status_of b → ⊥) → a ≡ b → ⊥
@@ -25,6 +25,11 @@ finished-given Crossings done = record { read = λ bad. cc; write = λ bad. cc; 
 finished-given Violated done = record { read = λ bad. cc; write = λ bad. cc; memory = λ bad. cc }
 finished-given Open done = record { read = λ bad. cc; write = λ bad. cc; memory = λ bad. cc }
 finished-given _ done = cc
+
+-- and lines of which all was done end nothing
+pub finished-awaits : (e : Exit) → is_finished e ≡ true → AwaitsMore e
+finished-awaits (PolicyRefused line fault) done = cc
+finished-awaits _ done = done
 
 pub finished-form : (e : Exit) → is_finished e ≡ true → e ≢ Usage
 finished-form e done usage = let bad : true ≡ false = sym done ∙ ap is_finished usage in cc

@@ -21,8 +21,10 @@ use Rattle.schedule_replay.specs.declared.replayed.Replayed.TheVariants as answe
 use Rattle.schedule_replay.proofs.ReadOn.{fails_on-judged}
 use Rattle.schedule_replay.proofs.Reading.{on_all, on_each}
 use Rattle.courses.specs.Course.{Course, ends_in}
-use Rattle.courses.specs.Ending.{Concludes, EndsIn, Fetches, IsGiven, Output, told_end}
+use Rattle.courses.specs.Ending.{AwaitsMore, Concludes, EndsIn, Fetches, IsGiven, Output, told_end}
 use Rattle.courses.specs.Exit.{is_finished}
+use Rattle.schedule_replay.specs.Lines.{FailsOn}
+use Rattle.courses.proofs.Lasts.{finished-awaits}
 use Rattle.courses.specs.Stopped.{MakesRest, replay_exit, stop_exit}
 use Rattle.courses.specs.declared.exit.Exit.{Exit}
 use Rattle.courses.specs.declared.exit.Exit.TheVariants.{Usage, ReadFault, TooLong, OutOfMemory}
@@ -103,6 +105,31 @@ pub record TellsAlone {M F : Type 0} (of : M → Course) (ends : M) (refused : �
   pub records : (of ends).records ≡ []
   pub touches : (of ends).touches ≡ []
 
+-- reading failed behind lines that end nothing and of which nothing is written
+pub failed-unread : {S K M : Type 0} (held : S → Option (List ℕ)) (source_faults : S → ℕ) (taken : K → Option (List ℕ)) (sink_faults : K → ℕ)
+    (reader reader' : Reader) (old new : S) (start : K) (f : ℕ) (count : List Touch → ℕ) → count [] ≡ 0 → (made : List Part → M) (of : M → Course) (ends : M)
+    → FailsOn made ends reader reader' (held old) (held new) → AwaitsMore (of ends).last.exit → (of ends).records ≡ [] → (of ends).touches ≡ []
+    → Rose (source_faults old) (source_faults new) → CameUnread held source_faults taken sink_faults reader reader' old new start start f f count (λ parts. of (made parts))
+failed-unread held source_faults taken sink_faults reader reader' old new start f count none made of ends fails going records touches rose = record {
+  stands = record {
+    before = fails.before;
+    going = fails.going;
+    unfinished = fails.unfinished;
+    given = fails.given;
+    gives = fails.gives;
+    goes_on = subst (λ m. AwaitsMore (of m).last.exit) (sym fails.makes) going;
+    written =
+        subst (λ m. Appends (taken start) (taken start) (of m).records) (sym fails.makes)
+        (subst (Appends (taken start) (taken start)) (sym records) (Appends-nil (taken start)));
+    fetched =
+        subst (λ m. f ≡ f + count (of m).touches) (sym fails.makes)
+        (subst (λ t. f ≡ f + count t) (sym touches) (omega (arith, none)));
+  };
+  most = on_each (ahead reader (held old)) _ (λ parts known. omega arith);
+  rose = rose;
+  still = refl;
+}
+
 module _ {S K : Type 0} (held : S → Option (List ℕ)) (source_faults : S → ℕ) (taken : K → Option (List ℕ)) (sink_faults : K → ℕ)
     (reader reader' : Reader) (old new : S) (start : K) (f : ℕ) (count : List Touch → ℕ) (none : count [] ≡ 0)
     {M F : Type 0} (made : List Part → M) (of : M → Course) (ends : M) (refused : ℕ → F → M) (past : M) (exit_by : ℕ → F → Exit)
@@ -136,26 +163,8 @@ module _ {S K : Type 0} (held : S → Option (List ℕ)) (source_faults : S → 
   -- reading failed
   unread : stop ≡ stops.ReadFault → CameUnread held source_faults taken sink_faults reader reader' old new start start f f count here
   unread is =
-      let fails = rest-at stops.ReadFault is in
-      record {
-        stands = record {
-          before = fails.before;
-          going = fails.going;
-          unfinished = fails.unfinished;
-          given = fails.given;
-          gives = fails.gives;
-          goes_on = subst (λ (m : M). is_finished (of m).last.exit ≡ true) (sym fails.makes) tells.going;
-          written =
-              subst (λ (m : M). Appends (taken start) (taken start) (of m).records) (sym fails.makes)
-              (subst (Appends (taken start) (taken start)) (sym tells.records) (Appends-nil (taken start)));
-          fetched =
-              subst (λ (m : M). f ≡ f + count (of m).touches) (sym fails.makes)
-              (subst (λ t. f ≡ f + count t) (sym tells.touches) (omega (arith, none)));
-        };
-        most = on_each (ahead reader (held old)) _ (λ parts known. omega arith);
-        rose = rose is;
-        still = refl;
-      }
+      failed-unread held source_faults taken sink_faults reader reader' old new start f count none made of ends (rest-at stops.ReadFault is)
+      (finished-awaits (of ends).last.exit tells.going) tells.records tells.touches (rose is)
 
   came-stop : (given : Exit) (s : Stop F) → stop ≡ s → stop_exit exit_by s ≡ Some given → Came_here given
   came-stop given stops.End is at = cc

@@ -25,7 +25,7 @@ use Rattle.schedule_replay.specs.declared.replayed.Replayed.TheVariants as answe
 use Rattle.schedule_replay.proofs.Reading.{on_all}
 use Rattle.schedule_replay.proofs.Told.{told-append}
 use Rattle.courses.specs.Course.{Course, course_fetches, course_output}
-use Rattle.courses.specs.Ending.{Concludes, EndsIn, Fetches, Output}
+use Rattle.courses.specs.Ending.{AwaitsMore, Concludes, EndsIn, Fetches, Output}
 use Rattle.courses.specs.Exit.{is_finished}
 use Rattle.courses.specs.Running.{Runner, finished_by, if_ended, run_course, running}
 use Rattle.courses.specs.Stopped.{replay_exit}
@@ -141,7 +141,7 @@ module _ {T K : Type 0} (kept : T → K) (cost : K → Items → Capability → 
             unfinished = fails.unfinished;
             given = fails.given;
             gives = fails.gives;
-            goes_on = subst (λ (all : Scheduled). is_finished (course s all).last.exit ≡ true) all refl;
+            goes_on = subst (λ (all : Scheduled). AwaitsMore (course s all).last.exit) all refl;
             written =
                 subst (λ (all : Scheduled). Appends (taken begun) (taken mid) (course s all).records) all
                 (subst (λ es. Appends (taken begun) (taken mid) (told runner.mode s es)) events (text-at answers.ReadFault is));

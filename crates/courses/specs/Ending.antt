@@ -4,6 +4,7 @@ use Rattle.std.specs.Io.KnownBytes.{Keeps, Appends}
 use Rattle.coy_io.specs.Causes.{Rose}
 use Rattle.coy_io.specs.Pieces.{AppendsSome}
 use Rattle.image_binary.specs.declared.fault.ImageWord.TheVariants.{Cut}
+use Rattle.listing_read.specs.declared.object_fault.PolicyFault.TheVariants.{NoEnd}
 use Rattle.courses.specs.Names.{fault_name, schedule_fault_name, image_word_name, cut_fault_name, policy_fault_name, question_fault_name}
 use Rattle.courses.specs.Exit.{is_finished}
 use Rattle.courses.specs.declared.exit.Exit.{Exit}
@@ -42,12 +43,17 @@ end_line _ = []
 abbrev pub told_end : Exit → Output
 told_end exit = record { text = end_line exit; exit = exit }
 
--- so many lines end nothing: all of them were read, or their listing is not over and lacks the line behind them all; or they
--- are no lines but bytes of an image, which lacks those behind them all
+-- lines behind a listing end nothing: all was done with them, or their policy lacks its end
+abbrev pub AwaitsMore : Exit → Type 0
+AwaitsMore (PolicyRefused line fault) = fault ≡ NoEnd
+AwaitsMore exit = is_finished exit ≡ true
+
+-- so many lines end nothing: those behind the listing don't, or the listing is not over and lacks the line behind them all; or
+-- they are no lines but bytes of an image, which lacks those behind them all
 abbrev pub EndsNothing : ℕ → Exit → Type 0
 EndsNothing n (ListingRefused line fault) = line ≡ n + 1
 EndsNothing n (ImageRefused offset fault) = fault ≡ Cut
-EndsNothing n exit = is_finished exit ≡ true
+EndsNothing n exit = AwaitsMore exit
 
 -- an exit that no fault of reading or writing and no want of memory gave
 pub record IsGiven (exit : Exit) : Type 0 where

@@ -38,6 +38,9 @@ policy_fault_name policies.NoObject = codes "NoObject"
 policy_fault_name policies.BadOrder = codes "BadOrder"
 policy_fault_name policies.Taken = codes "Taken"
 policy_fault_name policies.NoDomain = codes "NoDomain"
+policy_fault_name policies.NameTaken = codes "NameTaken"
+policy_fault_name policies.NotFirst = codes "NotFirst"
+policy_fault_name policies.NoEnd = codes "NoEnd"
 
 -- a fault of a line of a question
 abbrev pub question_fault_name : QuestionFault → List ℕ

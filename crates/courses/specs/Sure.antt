@@ -1,12 +1,11 @@
 -- What stands where reading failed (this project's own).
-use Rattle.std.specs.Prelude.{◌≡◌, ℕ, ◌+◌, true, false, List, [], length, Option}
+use Rattle.std.specs.Prelude.{◌≡◌, ℕ, ◌+◌, false, List, [], length, Option}
 use Rattle.std.specs.Io.KnownBytes.{Consumes, Appends}
 use Rattle.coy_io.specs.Lines.{Part, IsFront, whole_lines}
 use Rattle.coy_io.specs.Reader.{Reader, GivesLines, bytes_ahead}
 use Rattle.kernel_core.specs.Outcome.{Touch}
 use Rattle.courses.specs.Course.{Course}
-use Rattle.courses.specs.Ending.{EndsNothing}
-use Rattle.courses.specs.Exit.{is_finished}
+use Rattle.courses.specs.Ending.{AwaitsMore, EndsNothing}
 
 -- reading failed behind these bytes, no whole line of which ended the call, and the records that they make sure were
 -- written, no more and no less
@@ -29,6 +28,6 @@ pub record StandsOn (old new : Reader) (held held' taken taken' : Option (List �
   pub unfinished : IsFront new.rest
   pub given : List Part
   pub gives : GivesLines (bytes_ahead old held) (bytes_ahead new held') given
-  pub goes_on : is_finished (course given).last.exit ≡ true
+  pub goes_on : AwaitsMore (course given).last.exit
   pub written : Appends taken taken' (course given).records
   pub fetched : fetches' ≡ fetches + count (course given).touches

@@ -177,6 +177,9 @@ fn policy_fault_name(fault: PolicyFault) -> &'static str
         PolicyFault::BadOrder => "BadOrder",
         PolicyFault::Taken => "Taken",
         PolicyFault::NoDomain => "NoDomain",
+        PolicyFault::NameTaken => "NameTaken",
+        PolicyFault::NotFirst => "NotFirst",
+        PolicyFault::NoEnd => "NoEnd",
     }
 }
 
