@@ -18,6 +18,7 @@ use Rattle.schedule_replay.specs.Asked.{Asked, asked}
 use Rattle.schedule_replay.specs.Scheduled.{AtEnd, AtFault, AtLimit, Ending, OnParts}
 use Rattle.schedule_replay.proofs.Reading.{on_all, on_each}
 use Rattle.courses.specs.Course.{Course, cached, course_output}
+use Rattle.courses.specs.Ending.{AwaitsMore}
 use Rattle.courses.specs.Exit.{is_finished}
 use Rattle.courses.specs.Migrated.{last_of, migrated}
 use Rattle.courses.specs.declared.exit.Exit.{Exit}
@@ -98,7 +99,7 @@ module _ {S K : Type 0} (held : S → Option (List ℕ)) (source_faults : S → 
             unfinished = fails.unfinished;
             given = fails.given;
             gives = fails.gives;
-            goes_on = subst (λ (a : Asked). is_finished (migrated listing a).last.exit ≡ true) (sym fails.makes) refl;
+            goes_on = subst (λ (a : Asked). AwaitsMore (migrated listing a).last.exit) (sym fails.makes) refl;
             written = subst (λ (a : Asked). Appends (taken start) (taken now) (migrated listing a).records) (sym fails.makes)
                 (Appends-trans (taken start) (taken mid) (taken now) (listing_text listing) (events_text puts.lines) listed written);
             fetched = subst (λ (a : Asked). f ≡ f + cached (migrated listing a).touches) (sym fails.makes) (omega (arith, none));
