@@ -13,7 +13,7 @@ use Rattle.schedule_replay.specs.Scheduled.{OnParts, Scheduled, scheduled}
 use Rattle.schedule_replay.proofs.Reading.{on_all}
 use Rattle.schedule_replay.proofs.Scheduled.{scheduled-end}
 use Rattle.courses.specs.Course.{ComesTo, Course, cached, ends_in}
-use Rattle.courses.specs.Ending.{Concludes, HasCauses, Output}
+use Rattle.courses.specs.Ending.{AwaitsMore, Concludes, HasCauses, Output}
 use Rattle.courses.specs.Exit.{is_finished}
 use Rattle.courses.specs.Stopped.{stop_exit}
 use Rattle.courses.specs.Taken.{TakesLines}
@@ -95,7 +95,7 @@ module _ {S K : Type 0} (held : S → Option (List ℕ)) (source_faults : S → 
             unfinished = f.unfinished;
             given = r.given ++ f.given;
             gives = GivesLines-trans (bytes_ahead old (held source)) (bytes_ahead mid (held between)) (bytes_ahead new (held source')) r.given f.given (r.bytes f.before) f.gives;
-            goes_on = subst (λ (st : Stated). is_finished (stated_output told harts st).exit ≡ true) (sym (r.makes f.given)) f.goes_on;
+            goes_on = subst (λ (st : Stated). AwaitsMore (stated_output told harts st).exit) (sym (r.makes f.given)) f.goes_on;
             written = f.written;
             fetched = f.fetched;
           };
