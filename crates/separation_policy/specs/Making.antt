@@ -1,10 +1,12 @@
 -- How a policy is made: first of one domain, then with more, with their objects and with who reads whom. (Own.)
-use Rattle.std.specs.Prelude.{ℕ, ◌+◌, ◌-◌, ◌==◌, Bool, false, not, List, [], ◌∷◌, ◌++◌, take, drop, replicate, codes, bytes_eq, slice_index_or, slice_set, position, Option, Some, None}
+use Rattle.std.specs.Prelude.{ℕ, ◌+◌, ◌-◌, ◌==◌, Bool, true, false, not, List, [], ◌∷◌, ◌++◌, take, drop, replicate, codes, bytes_eq, slice_index_or, slice_set, position, Option, Some, None}
 use Rattle.std.specs.List.{count_by, list_any}
 use Rattle.cap_format.specs.declared.kind.CapKind.{CapKind}
 use Rattle.cap_format.specs.declared.kind.CapKind.TheVariants.{Page, CapPage, Gpt, Endpoint, Process}
 use Rattle.object_store.specs.declared.sizes.Sizes.{Sizes}
 use Rattle.separation_policy.specs.declared.policy.Domain.{Domain}
+use Rattle.separation_policy.specs.declared.stage.Stage.{Stage}
+use Rattle.separation_policy.specs.declared.stage.Stage.TheVariants.{Empty, Open, Listed}
 use Rattle.separation_policy.specs.DomainSet.{no_domains, with_domain}
 use Rattle.separation_policy.specs.Policy.{Assigned, PolicyValue, assigned_of, domain_or_rest, unmade}
 
@@ -24,11 +26,34 @@ none_assigned sizes = record {
 
 -- the policy of one domain, `rest`
 abbrev pub first_policy : Sizes → PolicyValue
-first_policy sizes = record { domains = domain_with (codes "rest") ∷ []; assigned = none_assigned sizes }
+first_policy sizes = record { domains = domain_with (codes "rest") ∷ []; assigned = none_assigned sizes; stage = Empty }
 
 -- with a domain more
 abbrev pub with_made : PolicyValue → List ℕ → PolicyValue
-with_made policy name = record { domains = policy.domains ++ domain_with name ∷ []; assigned = policy.assigned }
+with_made policy name = record policy { domains = policy.domains ++ domain_with name ∷ [] }
+
+-- with its first domains alone, as many as these
+abbrev pub with_first : PolicyValue → ℕ → PolicyValue
+with_first policy count = record policy { domains = take count policy.domains }
+
+-- where no domain is made any more
+abbrev pub with_listed : PolicyValue → PolicyValue
+with_listed policy = record policy { stage = Listed }
+
+-- whether nothing was said yet
+abbrev pub is_empty : Stage → Bool
+is_empty Empty = true
+is_empty _ = false
+
+-- whether the domains were listed
+abbrev pub is_listed : Stage → Bool
+is_listed Listed = true
+is_listed _ = false
+
+-- the stage once something was said
+abbrev pub begun : Stage → Stage
+begun Listed = Listed
+begun _ = Open
 
 -- the elements from `from` to `to` are assigned this domain
 abbrev pub assigned_between : List (Option ℕ) → ℕ → ℕ → ℕ → List (Option ℕ)
@@ -45,7 +70,11 @@ with_assigned_of assigned _ from to d = assigned
 
 -- the policy where they are
 abbrev pub with_assigned : PolicyValue → CapKind → ℕ → ℕ → ℕ → PolicyValue
-with_assigned policy kind from to d = record { domains = policy.domains; assigned = with_assigned_of policy.assigned kind from to d }
+with_assigned policy kind from to d = record {
+  domains = policy.domains;
+  assigned = with_assigned_of policy.assigned kind from to d;
+  stage = begun policy.stage;
+}
 
 -- a domain that may read domain `b` too
 abbrev pub domain_reading : Domain → ℕ → Domain
@@ -56,6 +85,7 @@ abbrev pub with_reading : PolicyValue → ℕ → ℕ → PolicyValue
 with_reading policy a b = record {
   domains = slice_set policy.domains a (domain_reading (slice_index_or policy.domains a unmade) b);
   assigned = policy.assigned;
+  stage = begun policy.stage;
 }
 
 -- the number of the domain of this name, if it was made
@@ -90,6 +120,6 @@ abbrev pub assigned_by_kind : List (Option ℕ) → List (Option ℕ) → List (
 assigned_by_kind pages cappages gpts processes endpoints =
     record { pages = pages; cappages = cappages; gpts = gpts; processes = processes; endpoints = endpoints }
 
--- the policy of these domains and lists
-abbrev pub policy_of : List Domain → Assigned → PolicyValue
-policy_of domains assigned = record { domains = domains; assigned = assigned }
+-- the policy of these domains and lists, of which this was said
+abbrev pub policy_of : List Domain → Assigned → Stage → PolicyValue
+policy_of domains assigned stage = record { domains = domains; assigned = assigned; stage = stage }

@@ -29,6 +29,7 @@ use Rattle.confinement.specs.Cut.{Cut, same_side, Holds}
 use Rattle.confinement.specs.Acts.{SameSizes, system_of}
 use Rattle.confinement.specs.isolation.Turns.{Turn, turns, told}
 use Rattle.separation_policy.specs.declared.policy.Domain.{Domain}
+use Rattle.separation_policy.specs.declared.stage.Stage.{Stage}
 use Rattle.separation_policy.specs.DomainSet.{no_domains, has_domain}
 
 -- ---- policies
@@ -50,11 +51,12 @@ assigned_of assigned Process = assigned.processes
 assigned_of assigned Endpoint = assigned.endpoints
 assigned_of assigned _ = []
 
--- a policy: the domains in the order in which they were made, each with its name and whom it may read, and the objects
--- of each. A domain is known by its number in this order.
+-- a policy: the domains in the order in which they were made, each with its name and whom it may read, the objects of each,
+-- and what was said of its domains. A domain is known by its number in this order.
 pub record PolicyValue : Type 0 where
   pub domains : List Domain
   pub assigned : Assigned
+  pub stage : Stage
 
 -- the domain of all objects that were assigned none, which is the first
 abbrev pub rest_domain : ℕ

@@ -9,8 +9,10 @@ mod closure;
 mod domain_set;
 mod laws;
 mod policy;
+mod stage;
 
 pub use closure::Closure;
 pub use domain_set::DomainSet;
 pub use laws::{cuts_law, integrity, noninterference, own_changes, reads_law};
 pub use policy::{DOMAIN_LIMIT, Domain, Policy};
+pub use stage::Stage;

@@ -2,9 +2,10 @@
 ghost use Rattle.std.specs.Prelude.{ℕ, ◌≡◌, ◌≤◌, ◌<◌, ◌+◌, ◌==◌, ◌++◌, ◌∷◌, [], bytes_eq, codes, length, position, slice_index_or, IfOk, IfSome, OnOk, OnErr};
 ghost use Rattle.std.specs.List.{list_any};
 ghost use Rattle.separation_policy.specs.Policy.{assigned_of, domain_of, domain_or_rest, unmade};
-ghost use Rattle.separation_policy.specs.Making.{first_policy, with_made, assigned_between, with_assigned, with_reading, domain_called, is_other, is_assigned_other, count_in, object_count, process_count};
+ghost use Rattle.separation_policy.specs.Making.{first_policy, with_first, with_listed, with_made, assigned_between, with_assigned, with_reading, domain_called, is_other, is_assigned_other, count_in, object_count, process_count};
 
 use crate::domain_set::DomainSet;
+use crate::stage::Stage;
 use cap_format::{CapKind, OutOfMemory};
 use cap_words::{Name, read_name};
 use object_store::Sizes;
@@ -31,6 +32,7 @@ pub struct Policy {
     gpts: Vec<Option<u8>>,
     processes: Vec<Option<u8>>,
     endpoints: Vec<Option<u8>>,
+    stage: Stage,
 }
 
 impl Model for Policy {
@@ -41,10 +43,10 @@ impl Model for Policy {
     ghost Value = { PolicyValue };
 
     ghost view = { λ p. policy_of p.domains.items (assigned_by_kind p.pages.items p.cappages.items p.gpts.items
-        p.processes.items p.endpoints.items) };
+        p.processes.items p.endpoints.items) p.stage };
 
     ghost invariant = { λ p. IsPolicy (policy_of p.domains.items (assigned_by_kind p.pages.items p.cappages.items
-        p.gpts.items p.processes.items p.endpoints.items)) };
+        p.gpts.items p.processes.items p.endpoints.items) p.stage) };
 }
 
 impl Policy {
@@ -64,7 +66,15 @@ impl Policy {
             gpts: vec![in alloc; None; sizes.gpts as usize]?,
             processes: vec![in alloc; None; sizes.processes as usize]?,
             endpoints: vec![in alloc; None; sizes.endpoints as usize]?,
+            stage: Stage::Empty,
         })
+    }
+
+    /// What was said of its domains.
+    pub fn stage(&self) -> Stage
+        ensures { result ≡ self.now.stage }
+    {
+        self.stage
     }
 
     /// How many domains there are.
@@ -182,12 +192,27 @@ impl Policy {
         Ok(())
     }
 
+    /// Keeps the first domains alone, as many as these.
+    pub fn keep_first(&mut self, count: usize)
+        ensures { self.new ≡ with_first self.old count }
+    {
+        self.domains.truncate(count);
+    }
+
+    /// Makes no domain any more.
+    pub fn close(&mut self)
+        ensures { self.new ≡ with_listed self.old }
+    {
+        self.stage = Stage::Listed;
+    }
+
     /// Assigns a domain to the objects `from` to `to` of a kind, both of them included.
     pub fn assign(&mut self, kind: CapKind, from: u16, to: u16, domain: u8)
         requires order { from ≤ to }
         requires there { to < length (assigned_of self.old.assigned kind) }
         ensures { self.new ≡ with_assigned self.old kind from to domain }
     {
+        self.stage = self.stage.begun();
         let first = from as usize;
         let last = to as usize;
         match kind {
@@ -206,6 +231,7 @@ impl Policy {
         requires read { read < length self.old.domains }
         ensures { self.new ≡ with_reading self.old reader read }
     {
+        self.stage = self.stage.begun();
         let now = self.domains[reader as usize].reads;
         self.domains[reader as usize].reads = now.with(read);
     }
