@@ -3,8 +3,9 @@ use Rattle.std.specs.Prelude.{ℕ, nat_lt, not, if◌then◌else◌, List, lengt
 use Rattle.cap_words.specs.Name.{name_of}
 use Rattle.listing_read.specs.Faults.{◌>>=◌, ensured}
 use Rattle.coy_text.specs.Words.{field}
-use Rattle.separation_policy.specs.Making.{domain_called, is_assigned_other}
+use Rattle.separation_policy.specs.Making.{domain_called, is_assigned_other, is_listed}
 use Rattle.separation_policy.specs.Policy.{PolicyValue, assigned_of}
+use Rattle.separation_policy.specs.declared.stage.Stage.{Stage}
 use Rattle.confine_check.specs.declared.block.Block.{Block}
 use Rattle.listing_read.specs.declared.object_fault.FieldFault.{FieldFault}
 use Rattle.listing_read.specs.ObjectFaults.{policy_fault}
@@ -16,16 +17,20 @@ use Rattle.listing_read.specs.declared.object_fault.PolicyFault.TheVariants.{Bad
 abbrev pub name_from : List ℕ → Result (List ℕ) PolicyFault
 name_from word = ok_or (name_of word) BadName
 
--- the number of a domain that was made, or else of the next one, if there is room for it
+-- the number of the next of so many domains, if one may still be made, and there is room for it
+abbrev pub next_domain : Stage → ℕ → Result ℕ PolicyFault
+next_domain stage count = if is_listed stage then Err NoDomain else (if nat_lt count 64 then Ok count else Err TooManyDomains)
+
+-- the number of a domain that was made, or else of the next one
 abbrev pub or_next : PolicyValue → Option ℕ → Result ℕ PolicyFault
 or_next policy (Some domain) = Ok domain
-or_next policy None = if nat_lt (length policy.domains) 64 then Ok (length policy.domains) else Err TooManyDomains
+or_next policy None = next_domain policy.stage (length policy.domains)
 
 -- the number of the domain of this name, which is the next one where none has it
 abbrev pub domain_numbered : PolicyValue → List ℕ → Result ℕ PolicyFault
 domain_numbered policy name = or_next policy (domain_called policy name)
 
--- A and B: a domain that was made
+-- A and B: a domain that there is
 unfoldable pub domain_from : PolicyValue → List ℕ → Result ℕ PolicyFault
 domain_from policy word = do
   name ← name_from word

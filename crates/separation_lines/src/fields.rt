@@ -2,13 +2,13 @@
 ghost use Rattle.std.specs.Prelude.{◌≡◌, ◌<◌, ◌≤◌, length, IfOk};
 ghost use Rattle.coy_text.specs.Words.{words_of};
 ghost use Rattle.separation_policy.specs.Policy.{assigned_of};
-ghost use Rattle.separation_lines.specs.Fields.{block_from, domain_from, domain_numbered, name_from, objects_from};
+ghost use Rattle.separation_lines.specs.Fields.{block_from, domain_from, domain_numbered, name_from, next_domain, objects_from};
 
 use cap_words::{Name, read_name};
 use confine_check::{Block, read_block, read_kind};
 use coy_text::word;
 use listing_read::PolicyFault;
-use separation_policy::{DOMAIN_LIMIT, Policy};
+use separation_policy::{DOMAIN_LIMIT, Policy, Stage};
 
 /// The name that a word is.
 pub(crate) fn name(word: &[u8]) -> Result<Name, PolicyFault>
@@ -29,12 +29,24 @@ pub(crate) fn numbered(name: &[u8], policy: &Policy) -> Result<u8, PolicyFault>
     let count = policy.len();
     match policy.domain_called(name) {
         Some(domain) => Ok(domain),
-        None if count < DOMAIN_LIMIT => Ok(count as u8),
-        None => Err(PolicyFault::TooManyDomains),
+        None => next_domain(policy.stage(), count),
     }
 }
 
-/// A domain that was made.
+/// The number of the next of so many domains.
+fn next_domain(stage: Stage, count: usize) -> Result<u8, PolicyFault>
+    ensures value { result ≡ next_domain stage count }
+    ensures few { IfOk result (λ domain. domain < 64) }
+    ensures next { IfOk result (λ domain. domain ≡ count) }
+{
+    match stage {
+        Stage::Listed => Err(PolicyFault::NoDomain),
+        _ if count < DOMAIN_LIMIT => Ok(count as u8),
+        _ => Err(PolicyFault::TooManyDomains),
+    }
+}
+
+/// A domain that there is.
 #[tactic(auto, unfolding(crate::specs::Fields::domain_from))]
 pub(crate) fn made(word: &[u8], policy: &Policy) -> Result<u8, PolicyFault>
     ensures value { result ≡ domain_from policy.now word.now }

@@ -3,11 +3,13 @@
 //! A policy is read a line at a time, and a line `end` ends it. Nothing here knows of machines, or when a policy holds.
 #![tactic(auto)]
 
+mod domains;
 mod fault;
 mod fields;
 mod line;
 mod said;
 
+pub use domains::read_listed;
 pub use fault::Untaken;
 pub use line::read_policy;
 pub use listing_read::PolicyFault;
