@@ -1,5 +1,5 @@
 -- From the lines of a policy and of a schedule, to what a part of a call did with them.
-use Rattle.std.proofs.Common.{◌≡◌, ◌≢◌, ◌++◌, [], ℕ, List, Option, Some, None, true, false, refl, sym, ap, subst}
+use Rattle.std.proofs.Common.{◌≡◌, ◌≢◌, ◌+◌, ◌++◌, [], ℕ, List, Option, Some, None, true, false, refl, sym, ap, subst}
 use Rattle.coy_io.specs.Causes.{Rose}
 use Rattle.coy_io.specs.Lines.{Part}
 use Rattle.coy_io.specs.Reader.{Reader, ahead, bytes_ahead}
@@ -10,20 +10,21 @@ use Rattle.judged_lines.specs.declared.stop.Stop.{Stop}
 use Rattle.judged_lines.specs.declared.stop.Stop.TheVariants as stops
 use Rattle.separation_lines.specs.declared.fault.Untaken.{Untaken}
 use Rattle.separation_lines.specs.declared.fault.Untaken.TheVariants.{Refused, OutOfMemory}
+use Rattle.listing_read.specs.declared.object_fault.PolicyFault.TheVariants.{NoEnd}
 use Rattle.separation_policy.specs.Policy.{PolicyValue}
 use Rattle.kernel_core.specs.Outcome.{Touch}
 use Rattle.schedule_replay.specs.Scheduled.{OnParts, Scheduled, scheduled}
 use Rattle.schedule_replay.proofs.Scheduled.{scheduled-end}
 use Rattle.courses.specs.Course.{ComesTo, Course, cached, ends_in}
-use Rattle.courses.specs.Ending.{Concludes, HasCauses}
+use Rattle.courses.specs.Ending.{AwaitsMore, Concludes, HasCauses}
 use Rattle.courses.specs.Exit.{is_finished}
 use Rattle.courses.specs.Stopped.{stop_exit}
 use Rattle.courses.specs.Taken.{TakesLines}
 use Rattle.courses.specs.declared.exit.Exit.{Exit}
 use Rattle.courses.specs.declared.exit.Exit.TheVariants as exits
 use Rattle.courses.specs.declared.exit.Exit.TheVariants.{PolicyRefused, ReadFault, TooLong}
-use Rattle.courses.proofs.Concluding.{came-wanting, takes-concluded}
-use Rattle.courses.proofs.Rests.{TellsAlone, stop-stopped}
+use Rattle.courses.proofs.Concluding.{came-unread, came-wanting, takes-concluded}
+use Rattle.courses.proofs.Rests.{TellsAlone, failed-unread, stop-stopped}
 use Rattle.separation_program.specs.Judged.{judging, stated_output}
 use Rattle.separation_program.specs.Stated.{AreStated, IsOver, PastEnd, RefusedAt, Stated, States, StatesRest, stated, untaken_exit}
 use Rattle.separation_program.proofs.Verdicts.{told-finished}
@@ -90,9 +91,10 @@ module _ {S K : Type 0} (held : S → Option (List ℕ)) (source_faults : S → 
       (States first 0 []) RefusedAt PastEnd PolicyRefused (tells s harts first 0) stops.TooLong r (λ bad. cc) (λ other. quiet (λ bad. cc)) out' 0 exit
       given (let same : TooLong ≡ given = cc in ap Some same) c refl
   policy-stopped out out' exit given stops.ReadFault r at rose quiet c =
-      stop-stopped held source_faults taken sink_faults old new source source' out 0 cached refl (stated first old.number) (λ st. ends_in (stated_output s harts st))
-      (States policy new.number []) RefusedAt PastEnd PolicyRefused (tells s harts policy new.number) stops.ReadFault r (λ same. rose refl) (λ other. absurd (other refl)) out' 0 exit
-      given (let same : ReadFault ≡ given = cc in ap Some same) c refl
+      takes-concluded held source_faults taken sink_faults old new source source' out out 0 0 cached here out' 0 exit given
+      (came-unread (let same : given ≡ ReadFault = cc in same)
+      (failed-unread held source_faults taken sink_faults old new source source' out 0 cached refl (stated first old.number) (λ st. ends_in (stated_output s harts st))
+      (RefusedAt (new.number + 1) NoEnd) r refl refl refl (rose refl))) c refl
 
   -- the policy was read, and the schedule behind it judged
   pub policy-over : (mid : Reader) (between : S) (out out' : K) (exit : Exit) → IsOver first policy old mid (held source) (held between) → source_faults between ≡ source_faults source
@@ -110,7 +112,7 @@ module _ {S K : Type 0} (held : S → Option (List ℕ)) (source_faults : S → 
           unfinished = f.unfinished;
           given = r.given ++ f.given;
           gives = GivesLines-trans (bytes_ahead old (held source)) (bytes_ahead mid (held between)) (bytes_ahead new (held source')) r.given f.given (r.bytes f.before) f.gives;
-          goes_on = subst (λ (st : Stated). is_finished (stated_output s harts st).exit ≡ true) (sym (r.makes f.given)) f.goes_on;
+          goes_on = subst (λ (st : Stated). AwaitsMore (stated_output s harts st).exit) (sym (r.makes f.given)) f.goes_on;
           written = f.written;
           fetched = f.fetched;
         };

@@ -1,14 +1,16 @@
 -- Line by line, what the lines of a policy state.
-use Rattle.std.proofs.Common.{◌≡◌, ◌+◌, ◌∙◌, ◌∷◌, ◌++◌, [], ℕ, List, true, false, Option, Some, None, Result, Ok, Err, refl, sym, ap, subst, inl, inr}
+use Rattle.std.proofs.Common.{◌≡◌, ◌≢◌, ◌+◌, ◌∙◌, ◌∷◌, ◌++◌, [], Bool, ℕ, List, true, false, if◌then◌else◌, Option, Some, None, Result, Ok, Err, refl, sym, ap, subst, inl, inr}
 use Rattle.coy_io.specs.Lines.{Part, Line, LongLine, PastLimit}
 use Rattle.coy_io.specs.Reader.{Reader, Advances, Begins, IsDone, ahead}
-use Rattle.judged_lines.specs.Judged.{JudgesNext, NoneLeft, Refuses}
+use Rattle.judged_lines.specs.Judged.{JudgesNext, Refuses}
 use Rattle.judged_lines.specs.declared.stop.Stop.{Stop}
 use Rattle.judged_lines.specs.declared.stop.Stop.TheVariants as stops
 use Rattle.separation_policy.specs.Policy.{PolicyValue}
+use Rattle.coy_text.specs.Words.{words_of}
 use Rattle.separation_lines.specs.PolicyLine.{after_line, answered, as_untaken, policy_line}
+use Rattle.separation_lines.specs.DomainsLine.{domains_line, line_answer, line_policy, list_answer, list_policy, lists_domains}
 use Rattle.listing_read.specs.declared.object_fault.PolicyFault.{PolicyFault}
-use Rattle.listing_read.specs.declared.object_fault.PolicyFault.TheVariants.{LineTooLong}
+use Rattle.listing_read.specs.declared.object_fault.PolicyFault.TheVariants.{LineTooLong, NoEnd}
 use Rattle.separation_lines.specs.declared.fault.Untaken.{Untaken}
 use Rattle.separation_lines.specs.declared.fault.Untaken.TheVariants.{Refused, OutOfMemory}
 use Rattle.separation_lines.specs.declared.said.Said.{Said}
@@ -17,8 +19,8 @@ use Rattle.separation_lines.specs.declared.said.Next.{Next}
 use Rattle.separation_lines.specs.declared.said.Next.TheVariants as nexts
 use Rattle.schedule_replay.specs.Lines.{FailsOn, ReadsOn}
 use Rattle.schedule_replay.proofs.ReadOn.{fails_on, on_lines, reads_on-line, reads_on-trans}
-use Rattle.schedule_replay.proofs.Reading.{on_begun, on_given}
-use Rattle.separation_program.specs.Stated.{AreStated, IsOver, JudgesPolicyLine, PastEnd, RefusedAt, StateAll, States, StatesRest, stated, stated_with}
+use Rattle.schedule_replay.proofs.Reading.{on_begun, on_given, on_none}
+use Rattle.separation_program.specs.Stated.{AreStated, IsOver, JudgesPolicyLine, PastEnd, RefusedAt, StateAll, States, StatesRest, stated, stated_with, without_end}
 
 -- ---- one line
 
@@ -31,16 +33,30 @@ answered-fault : (answer : Result Next PolicyFault) (fault : PolicyFault) → Er
 answered-fault (Ok next) fault same = cc
 answered-fault (Err other) fault same = let one : fault ≡ other = cc in ap Err (sym one)
 
+-- what is said by a line that ends the policy leaves it as it was
+said-unchanged : (first : PolicyValue) (told : Result Said PolicyFault) → answered told ≡ Ok nexts.Schedule → after_line first told ≡ first
+said-unchanged first (Ok says.Nothing) ends = refl
+said-unchanged first (Ok (says.Objects domain name block)) ends = cc
+said-unchanged first (Ok (says.Reads reader read)) ends = cc
+said-unchanged first (Ok says.Ends) ends = refl
+said-unchanged first (Err fault) ends = refl
+
+-- a line that lists domains ends no policy
+list-open : (listed : Result PolicyValue PolicyFault) → list_answer listed ≡ Ok nexts.Schedule → ⊥
+list-open (Ok policy) ends = cc
+list-open (Err fault) ends = cc
+
 -- a line that ends the policy leaves it as it was
-unchanged : (first : PolicyValue) (told : Result Said PolicyFault) → answered told ≡ Ok nexts.Schedule → after_line first told ≡ first
-unchanged first (Ok says.Nothing) ends = refl
-unchanged first (Ok (says.Objects domain name block)) ends = cc
-unchanged first (Ok (says.Reads reader read)) ends = cc
-unchanged first (Ok says.Ends) ends = refl
-unchanged first (Err fault) ends = refl
+unchanged : (first : PolicyValue) (line : List ℕ) → line_answer first line ≡ Ok nexts.Schedule → line_policy first line ≡ first
+unchanged first line ends = by (lists_domains (words_of line)) ends
+  where
+    by : (lists : Bool) → (if lists then list_answer (domains_line first line) else answered (policy_line first line)) ≡ Ok nexts.Schedule
+        → (if lists then list_policy first (domains_line first line) else after_line first (policy_line first line)) ≡ first
+    by true ends = absurd (list-open (domains_line first line) ends)
+    by false ends = said-unchanged first (policy_line first line) ends
 
 module _ (policy : PolicyValue) (n : ℕ) where
-  stated-end : stated policy n [] ≡ States policy n []
+  stated-end : stated policy n [] ≡ RefusedAt (n + 1) NoEnd
   unfolding stated
   stated-end = refl
 
@@ -54,41 +70,36 @@ module _ (policy : PolicyValue) (n : ℕ) where
 
   stated-line : (line : List ℕ) (parts : List Part)
       → stated policy n (Line line ∷ parts)
-      ≡ stated_with policy (n + 1) parts (answered (policy_line policy line)) (stated (after_line policy (policy_line policy line)) (n + 1) parts)
+      ≡ stated_with policy (n + 1) parts (line_answer policy line) (stated (line_policy policy line) (n + 1) parts)
   unfolding stated
   stated-line line parts = refl
 
   -- by what it answers
-  stated-answered : (line : List ℕ) (parts : List Part) (answer : Result Next PolicyFault) → answered (policy_line policy line) ≡ answer
-      → stated policy n (Line line ∷ parts) ≡ stated_with policy (n + 1) parts answer (stated (after_line policy (policy_line policy line)) (n + 1) parts)
+  stated-answered : (line : List ℕ) (parts : List Part) (answer : Result Next PolicyFault) → line_answer policy line ≡ answer
+      → stated policy n (Line line ∷ parts) ≡ stated_with policy (n + 1) parts answer (stated (line_policy policy line) (n + 1) parts)
   stated-answered line parts answer is =
-      stated-line line parts ∙ ap (λ a. stated_with policy (n + 1) parts a (stated (after_line policy (policy_line policy line)) (n + 1) parts)) is
+      stated-line line parts ∙ ap (λ a. stated_with policy (n + 1) parts a (stated (line_policy policy line) (n + 1) parts)) is
 
   -- one that is taken in leaves it to those behind it what is stated
   stated-taken : (policy' : PolicyValue) (line : List ℕ) (parts : List Part) → JudgesPolicyLine policy line (Ok nexts.Policy) policy' → stated policy n (Line line ∷ parts) ≡ stated policy' (n + 1) parts
   stated-taken policy' line parts judged =
-      stated-answered line parts (Ok nexts.Policy) (answered-next (answered (policy_line policy line)) nexts.Policy (judged.answer (λ same. cc)))
+      stated-answered line parts (Ok nexts.Policy) (answered-next (line_answer policy line) nexts.Policy (judged.answer (λ same. cc)))
       ∙ ap (λ (x : PolicyValue). stated x (n + 1) parts) (sym (judged.after (λ same. cc)))
 
   -- one that ends the policy states it
   stated-over : (policy' : PolicyValue) (line : List ℕ) (parts : List Part) → JudgesPolicyLine policy line (Ok nexts.Schedule) policy' → stated policy n (Line line ∷ parts) ≡ States policy' (n + 1) parts
   stated-over policy' line parts judged =
-      let ends : answered (policy_line policy line) ≡ Ok nexts.Schedule = answered-next (answered (policy_line policy line)) nexts.Schedule (judged.answer (λ same. cc)) in
+      let ends : line_answer policy line ≡ Ok nexts.Schedule = answered-next (line_answer policy line) nexts.Schedule (judged.answer (λ same. cc)) in
       stated-answered line parts (Ok nexts.Schedule) ends
-      ∙ ap (λ (x : PolicyValue). States x (n + 1) parts) (sym (judged.after (λ same. cc) ∙ unchanged policy (policy_line policy line) ends))
+      ∙ ap (λ (x : PolicyValue). States x (n + 1) parts) (sym (judged.after (λ same. cc) ∙ unchanged policy line ends))
 
   -- and one that is refused ends the lines
   stated-refused : (policy' : PolicyValue) (line : List ℕ) (fault : PolicyFault) (parts : List Part) → JudgesPolicyLine policy line (Err (Refused fault)) policy'
       → stated policy n (Line line ∷ parts) ≡ RefusedAt (n + 1) fault
   stated-refused policy' line fault parts judged =
-      stated-answered line parts (Err fault) (answered-fault (answered (policy_line policy line)) fault (judged.answer (λ same. cc)))
+      stated-answered line parts (Err fault) (answered-fault (line_answer policy line) fault (judged.answer (λ same. cc)))
 
 -- ---- the policy is over
-
--- no line is left
-are_stated-end : (policy : PolicyValue) (n : ℕ) (old : Option (List Part)) (rest : List Part) → IsDone old → rest ≡ [] → AreStated policy n old policy n (Some rest)
-are_stated-end policy n None rest none last = tt
-are_stated-end policy n (Some parts) rest none last = ap (stated policy n) none ∙ stated-end policy n ∙ ap (States policy n) (sym last)
 
 -- lines were read, and then those behind them state a policy
 are_stated-behind : (first mid last : PolicyValue) (n m k : ℕ) (old now new : Option (List Part)) (given : List Part) → Advances old now given
@@ -105,21 +116,11 @@ are_stated-on first last n k None new given lines makes = tt
 are_stated-on first last n k (Some parts) None given lines makes = absurd lines
 are_stated-on first last n k (Some parts) (Some rest) given lines makes = ap (stated first n) lines ∙ makes rest
 
--- a reader at the end
-abbrev at_end : Reader → Reader
-at_end old = record old { rest = []; ended = true }
-
 -- ---- the next line
 
--- there is none
-over-end : (policy : PolicyValue) (old new : Reader) (held held' : Option (List ℕ)) → NoneLeft old new held held' → IsOver policy policy old new held held'
-over-end policy old new held held' left = subst (λ (r : Reader). IsDone (ahead r held') → IsOver policy policy old r held held') (sym left.reader) here left.still
-  where
-    here : IsDone (ahead (at_end old) held') → IsOver policy policy old (at_end old) held held'
-    here still = record {
-      known = are_stated-end policy old.number (ahead old held) _ left.none still;
-      given = λ going. let bad : true ≡ false = going in cc;
-    }
+-- there is none, and the policy lacks its end
+states-none : (policy : PolicyValue) (old : Reader) (held : Option (List ℕ)) → IsDone (ahead old held) → StateAll policy old held (RefusedAt (old.number + 1) NoEnd)
+states-none policy old held done = on_none (ahead old held) (λ parts. stated policy old.number parts ≡ RefusedAt (old.number + 1) NoEnd) done (stated-end policy old.number)
 
 -- it is past the limit
 states-past : (policy : PolicyValue) (old : Reader) (held : Option (List ℕ)) → Begins (ahead old held) PastLimit → StateAll policy old held PastEnd
@@ -175,14 +176,16 @@ module _ (first mid last : PolicyValue) (old now new : Reader) (held held' held'
   pub states-over : Came mid last now new held' held'' (Ok nexts.Schedule) → IsOver first last old new held held''
   states-over next = over-behind (over-line mid last now new held' held'' next)
 
-  -- there is no further line
-  pub states-rest : (stop : Stop Untaken) → Came mid last now new held' held'' (Err stop) → StatesRest first last old new held held'' stop
-  states-rest stops.End next = over-behind (subst (λ (p : PolicyValue). IsOver mid p now new held' held'') (sym next.1) (over-end mid now new held' held'' next.0))
+  -- none does, and there is no further line
+  pub states-rest : (stop : Stop Untaken) → Came mid last now new held' held'' (Err stop) → StatesRest first last old new held held'' (without_end new.number stop)
+  states-rest stops.End next =
+      on_lines _ _ old now held held' (λ s. s ≡ RefusedAt (new.number + 1) NoEnd) r
+      (subst (λ n. StateAll mid now held' (RefusedAt (n + 1) NoEnd)) (ap (λ (reader : Reader). reader.number) (sym next.0.reader)) (states-none mid now held' next.0.none))
   states-rest (stops.Refused line (Refused fault)) next =
       on_lines _ _ old now held held' (λ s. s ≡ RefusedAt line fault) r (states-refused mid last now new held' held'' line fault next)
   states-rest (stops.Refused line OutOfMemory) next = tt
   states-rest stops.TooLong next = on_lines _ _ old now held held' (λ s. s ≡ PastEnd) r (states-past mid now held' next.0)
   states-rest stops.ReadFault next =
       subst (λ made. FailsOn (stated first old.number) made old new held held'')
-      (stated-end mid now.number ∙ ap (λ n. States mid n []) (sym next.0.counted) ∙ ap (λ (p : PolicyValue). States p new.number []) (sym next.1))
+      (stated-end mid now.number ∙ ap (λ n. RefusedAt (n + 1) NoEnd) (sym next.0.counted))
       (fails_on (stated first old.number) (stated mid now.number) old now new held held' held'' r next.0)

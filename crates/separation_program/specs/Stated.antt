@@ -1,12 +1,13 @@
--- What the lines behind a listing state: a policy, and the lines of a schedule behind it; or the first line that is refused
--- (this project's own).
+-- What the lines behind a listing state: a policy, and the lines of a schedule behind its end; or the first line that is refused,
+-- which is the one behind the last where the policy has no end (this project's own).
 use Rattle.std.specs.Prelude.{◌≡◌, ◌≢◌, ℕ, ◌+◌, false, List, [], ◌∷◌, Option, Some, None, Result, Ok, Err, ⊤}
 use Rattle.coy_io.specs.Lines.{Part, Line, LongLine, PastLimit}
 use Rattle.coy_io.specs.Reader.{Reader, ahead}
 use Rattle.separation_policy.specs.Policy.{PolicyValue}
-use Rattle.separation_lines.specs.PolicyLine.{after_line, answered, as_untaken, policy_line}
+use Rattle.separation_lines.specs.PolicyLine.{as_untaken}
+use Rattle.separation_lines.specs.DomainsLine.{line_answer, line_policy}
 use Rattle.listing_read.specs.declared.object_fault.PolicyFault.{PolicyFault}
-use Rattle.listing_read.specs.declared.object_fault.PolicyFault.TheVariants.{LineTooLong}
+use Rattle.listing_read.specs.declared.object_fault.PolicyFault.TheVariants.{LineTooLong, NoEnd}
 use Rattle.separation_lines.specs.declared.fault.Untaken.{Untaken}
 use Rattle.separation_lines.specs.declared.fault.Untaken.TheVariants.{Refused, OutOfMemory}
 use Rattle.separation_lines.specs.declared.said.Next.{Next}
@@ -19,8 +20,8 @@ use Rattle.courses.specs.declared.exit.Exit.TheVariants.{PolicyRefused}
 use Rattle.schedule_replay.specs.Lines.{FailsOn, ReadsOn}
 use Rattle.schedule_replay.specs.Scheduled.{OnParts}
 
--- what lines state: this policy, with the number of its last line and the lines of the schedule behind it, which are none
--- where no line `end` stands; or nothing, since a line is refused or the input goes on behind the last byte that is read
+-- what lines state: this policy, with the number of its line `end` and the lines of the schedule behind that; or nothing, since a
+-- line is refused or the input goes on behind the last byte that is read
 pub data Stated : Type 0 where
   States : (policy : PolicyValue) (last : ℕ) (rest : List Part) → Stated
   RefusedAt : (line : ℕ) (fault : PolicyFault) → Stated
@@ -34,17 +35,22 @@ stated_with policy n rest (Err fault) behind = RefusedAt n fault
 
 -- what the lines behind line `n` state, where those before gave this policy
 unfoldable pub stated : PolicyValue → ℕ → List Part → Stated
-stated policy n [] = States policy n []
+stated policy n [] = RefusedAt (n + 1) NoEnd
 stated policy n (LongLine ∷ parts) = RefusedAt (n + 1) LineTooLong
 stated policy n (PastLimit ∷ parts) = PastEnd
 stated policy n (Line line ∷ parts) =
-    stated_with policy (n + 1) parts (answered (policy_line policy line)) (stated (after_line policy (policy_line policy line)) (n + 1) parts)
+    stated_with policy (n + 1) parts (line_answer policy line) (stated (line_policy policy line) (n + 1) parts)
 
 -- how a line is judged by itself: what is told of it, and the policy after it; where memory is wanting the policy is as before
 pub record JudgesPolicyLine (policy : PolicyValue) (line : List ℕ) (told : Result Next Untaken) (policy' : PolicyValue) : Type 0 where
-  pub answer : told ≢ Err OutOfMemory → told ≡ as_untaken (answered (policy_line policy line))
-  pub after : told ≢ Err OutOfMemory → policy' ≡ after_line policy (policy_line policy line)
+  pub answer : told ≢ Err OutOfMemory → told ≡ as_untaken (line_answer policy line)
+  pub after : told ≢ Err OutOfMemory → policy' ≡ line_policy policy line
   pub before : told ≡ Err OutOfMemory → policy' ≡ policy
+
+-- why there is no further line of a policy, behind `n` lines of which none ends it: where there is none at all, it lacks its end
+abbrev pub without_end : ℕ → Stop Untaken → Stop Untaken
+without_end n stops.End = stops.Refused (n + 1) (Refused NoEnd)
+without_end n stop = stop
 
 -- ---- lines as they are read
 
@@ -64,13 +70,13 @@ pub record IsOver (first policy : PolicyValue) (old new : Reader) (held held' : 
 abbrev pub StateAll : PolicyValue → Reader → Option (List ℕ) → Stated → Type 0
 StateAll first old held all = OnParts (ahead old held) (λ parts. stated first old.number parts ≡ all)
 
--- what reading all lines came to, up to where they end
+-- what reading the lines of a policy came to, up to where it ends
 abbrev pub StatesRest : PolicyValue → PolicyValue → Reader → Reader → Option (List ℕ) → Option (List ℕ) → Stop Untaken → Type 0
 StatesRest first policy old new held held' stops.End = IsOver first policy old new held held'
 StatesRest first policy old new held held' (stops.Refused line (Refused fault)) = StateAll first old held (RefusedAt line fault)
 StatesRest first policy old new held held' (stops.Refused line OutOfMemory) = ⊤
 StatesRest first policy old new held held' stops.TooLong = StateAll first old held PastEnd
-StatesRest first policy old new held held' stops.ReadFault = FailsOn (stated first old.number) (States policy new.number []) old new held held'
+StatesRest first policy old new held held' stops.ReadFault = FailsOn (stated first old.number) (RefusedAt (new.number + 1) NoEnd) old new held held'
 
 -- the exit where a line of a policy is not taken in
 abbrev pub untaken_exit : ℕ → Untaken → Exit

@@ -29,7 +29,7 @@ use std::sync::ledger::Ledger;
 use steps::Steps;
 use walk_engine::Plain;
 
-/// Reads a listing, the lines of a policy and, behind a line `end`, a schedule, which sets the system up: it is run without
+/// Reads a listing, the lines of a policy and, behind its line `end`, a schedule, which sets the system up: it is run without
 /// a word, each access walked afresh. Tells of the state behind it that the policy holds, or every crossing.
 #[tactic(auto, using(crate::proofs::Slots::slots_wanting))]
 pub(crate) fn separate<S: Source, K: Sink, L: Ledger>(

@@ -1,14 +1,14 @@
 //! The lines of a policy, one after the other.
-ghost use Rattle.std.specs.Prelude.{◌≡◌, ◌≢◌, false};
+ghost use Rattle.std.specs.Prelude.{◌≡◌, ◌≢◌, ◌<◌, ◌↔◌, false};
 ghost use Rattle.coy_io.specs.Causes.{Rose};
 ghost use Rattle.coy_io.specs.Reader.{TellsEnd};
 ghost use Rattle.listing_read.specs.declared.object_fault.PolicyFault.TheVariants.{LineTooLong};
 ghost use Rattle.separation_lines.specs.declared.fault.Untaken.TheVariants.{Refused};
-ghost use Rattle.separation_program.specs.Stated.{JudgesPolicyLine, StatesRest};
+ghost use Rattle.separation_program.specs.Stated.{without_end, JudgesPolicyLine, StatesRest};
 
 use coy_io::{LineReader, Source};
 use judged_lines::{Judge, Stop, judge_next};
-use separation_lines::{Next, PolicyFault, Untaken, read_policy};
+use separation_lines::{Next, PolicyFault, Untaken, read_listed};
 use separation_policy::Policy;
 
 /// Judges the lines of a policy, and takes in what they say. It tells what the next line belongs to.
@@ -27,7 +27,7 @@ impl Judge for PolicyLines {
     ghost long = { λ _. Refused LineTooLong };
 
     fn judge(&self, line: &[u8], policy: &mut Policy) -> Result<Next, Untaken> {
-        read_policy(line, policy)
+        read_listed(line, policy)
     }
 
     fn too_long(&self) -> Untaken {
@@ -35,8 +35,8 @@ impl Judge for PolicyLines {
     }
 }
 
-/// Reads the lines of a policy up to where it ends, and takes in what they say. It answers why there is no further line of
-/// it: `End` where it is over, by a line `end` or with the input.
+/// Reads the lines of a policy up to its line `end`, and takes in what they say. It answers why there is no further line of it:
+/// `End` where it is over, and where the input is over before, that the line behind the last is refused.
 pub(crate) fn read_policies<S: Source>(
     lines: &mut LineReader,
     source: &mut S,
@@ -54,7 +54,23 @@ pub(crate) fn read_policies<S: Source>(
         match judge_next(&PolicyLines, policy, lines, source) {
             Ok(Next::Policy) => {}
             Ok(Next::Schedule) => return Stop::End,
-            Err(stop) => return stop,
+            Err(stop) => return without_end(stop, lines.number()),
         }
+    }
+}
+
+/// Why there is no further line of a policy, behind so many of which none ends it.
+fn without_end(stop: Stop<Untaken>, number: u32) -> Stop<Untaken>
+    requires { number < 4294967295 }
+    ensures value { result ≡ without_end number stop }
+    ensures refused { result ≢ Stop.End }
+    ensures read { result ≡ Stop.ReadFault ↔ stop ≡ Stop.ReadFault }
+{
+    match stop {
+        Stop::End => Stop::Refused {
+            line: number + 1,
+            fault: Untaken::Refused(PolicyFault::NoEnd),
+        },
+        other => other,
     }
 }

@@ -1,5 +1,5 @@
-use Rattle.std.proofs.Common.{◌∙◌, refl}
-use Rattle.separation_program.specs.Stated.{stated}
+use Rattle.std.proofs.Common.{◌∙◌, ap, refl, subst, sym}
+use Rattle.separation_program.specs.Stated.{StatesRest, stated, without_end}
 use Rattle.schedule_replay.proofs.ReadOn.{reads_on-none, reads_on-trans}
 use Rattle.separation_program.proofs.Stating.{reads-line, states-over, states-rest}
 use Rattle.separation_program.proofs.lines.read_policies.Goals as goal
@@ -31,4 +31,6 @@ returns-in-Ok-Schedule-clause-states g c =
 
 pub returns-in-Err-clause-states : goal.returns-in-Err-clause-states
 returns-in-Err-clause-states g c =
-    states-rest c.args.policy.now c.lines.policy c.judge_next.new.made c.args.lines.now c.lines.lines c.judge_next.new.lines _ _ _ c.lines.invariant.reads c.in-Err.stop c.in-Err.ensures.next
+    subst (StatesRest c.args.policy.now c.judge_next.new.made c.args.lines.now c.judge_next.new.lines _ _)
+    (sym (c.without_end.ensures.value ∙ ap (λ n. without_end n c.in-Err.stop) c.number.ensures.value))
+    (states-rest c.args.policy.now c.lines.policy c.judge_next.new.made c.args.lines.now c.lines.lines c.judge_next.new.lines _ _ _ c.lines.invariant.reads c.in-Err.stop c.in-Err.ensures.next)
