@@ -16,6 +16,7 @@ const SEPARATION_ROWS: &str = "\
 coyotos 1
 machine 1 2 1 1 2 1
 end
+end
 =>
 separated domains=1
 domain rest objects=7 processes=2 reads=-
@@ -32,6 +33,7 @@ domain d page 3
 reads a b
 reads b c
 reads c d
+end
 =>
 separated domains=5
 domain rest objects=2 processes=1 reads=-
@@ -54,6 +56,7 @@ domain a cappage 0
 domain a gpt 0
 domain a process 0
 domain a endpoint 0
+end
 =>
 crossing cappage 0 5 page:1@12/00000 a -> rest
 crossing gpt 0 3 page:1@12/00000+r a -> rest
@@ -73,6 +76,7 @@ domain sensor gpt 0
 domain sensor page 0
 domain monitor gpt 1
 reads monitor sensor
+end
 =>
 separated domains=3
 domain rest objects=2 processes=2 reads=-
@@ -89,6 +93,7 @@ domain sensor gpt 0
 domain sensor page 0
 domain monitor gpt 1
 reads sensor monitor
+end
 =>
 crossing gpt 1 0 page:0@12/00000+r monitor -> sensor
 crossings 1
@@ -106,6 +111,7 @@ domain a process 0
 domain b process 1
 reads a code
 reads b code
+end
 =>
 separated domains=4
 domain rest objects=0 processes=0 reads=-
@@ -126,6 +132,7 @@ domain a process 0
 domain b process 1
 reads a code
 reads b code
+end
 =>
 crossing process 1 0 gpt:0@16/00000+rw b -> code
 crossings 1
@@ -140,6 +147,7 @@ domain a process 0
 domain b process 1
 domain b endpoint 0
 reads a b
+end
 =>
 crossing process 0 4 entry:0:0000001f a -> b
 crossings 1
@@ -154,6 +162,7 @@ capreg 1 2 sysctl
 end
 domain a process 0
 domain b gpt 0
+end
 =>
 separated domains=3
 domain rest objects=1 processes=1 reads=- halts logs
@@ -177,6 +186,7 @@ domain init process 0
 domain init gpt 0
 domain init page 0
 domain b process 1
+end
 =>
 range process 0 4 init
 crossing process 1 4 process:0 b -> init
@@ -282,6 +292,7 @@ domain a page 0
 domain a page 0 1
 reads a a
   domain   rest  page  2
+end
 =>
 separated domains=2
 domain rest objects=1 processes=0 reads=-
@@ -509,6 +520,146 @@ domain bk page 62
 domain more thing 0
 =>
 refused 67 TooManyDomains
+==
+9 none: the policy is to come
+coyotos 1
+machine 1 2 0 0 0 0
+end
+=>
+refused 4 NoEnd
+==
+9 none: the line behind the last, which says nothing
+coyotos 1
+machine 1 2 0 0 0 0
+end
+domain a page 0
+reads a rest
+# and here it is cut
+=>
+refused 7 NoEnd
+==
+9 none: a line that is refused comes first
+coyotos 1
+machine 1 2 0 0 0 0
+end
+domain a page 0
+read
+=>
+refused 5 UnknownPolicy
+==
+0 none: all domains are listed, of which one has no object
+coyotos 1
+machine 1 2 0 0 0 0
+end
+
+# these and no others
+domains a  b c
+domain c page 1
+reads c b
+reads rest a
+end
+=>
+separated domains=4
+domain rest objects=1 processes=0 reads=a
+domain a objects=0 processes=0 reads=-
+domain b objects=0 processes=0 reads=-
+domain c objects=1 processes=0 reads=b
+==
+9 none: a name that is not listed, before the kind
+coyotos 1
+machine 1 2 0 0 0 0
+end
+domains sensor monitor
+domain sensor page 0
+domain monitr thing 1
+end
+=>
+refused 6 NoDomain
+==
+9 none: who reads is listed, and whom is not
+coyotos 1
+machine 1 2 0 0 0 0
+end
+domains sensor monitor
+reads monitor sensr
+end
+=>
+refused 5 NoDomain
+==
+9 none: no name
+coyotos 1
+machine 1 2 0 0 0 0
+end
+domains
+end
+=>
+refused 4 WrongWords
+==
+9 none: a name behind those that stand
+coyotos 1
+machine 1 2 0 0 0 0
+end
+domains a b_2 B
+end
+=>
+refused 4 BadName
+==
+9 none: a name twice
+coyotos 1
+machine 1 2 0 0 0 0
+end
+domains a b a B
+end
+=>
+refused 4 NameTaken
+==
+9 none: rest is there
+coyotos 1
+machine 1 2 0 0 0 0
+end
+domains a rest
+end
+=>
+refused 4 NameTaken
+==
+9 none: behind an object of rest
+coyotos 1
+machine 1 2 0 0 0 0
+end
+domain rest page 0
+domains a
+end
+=>
+refused 5 NotFirst
+==
+9 none: behind who reads, before its names
+coyotos 1
+machine 1 2 0 0 0 0
+end
+reads rest rest
+domains A
+end
+=>
+refused 5 NotFirst
+==
+9 none: listed already
+coyotos 1
+machine 1 2 0 0 0 0
+end
+domains a
+domains b
+end
+=>
+refused 5 NotFirst
+==
+9 none: the last of 64 names, and one behind it is bad
+coyotos 1
+machine 1 2 0 0 0 0
+end
+domains a b c d e f g h i j k l m n o p q r s t u v w x y z aa ab ac ad ae af ag ah ai aj ak al am an ao ap aq ar as at au av aw ax ay az ba bb bc bd be bf bg bh bi bj bk bl B
+end
+=>
+refused 4 TooManyDomains
 ==
 2 none
 coyotos 3
