@@ -44,6 +44,7 @@ def policy_lines(plan, name):
     need(plan.domains, "the plan has no line `domain`")
     yield remark(f"The domains of {name}, made by tools/listing-of.")
     yield from named_lines(plan)
+    yield "end"
 
 
 def cut_lines(plan, name, domain):

@@ -18,7 +18,7 @@ def unknown(fault, word, forms, what):
     elif word in EVENTS:
         seen = "a schedule stands behind a line `end` of the policy" if what == "a policy" else \
             "a line of a schedule stands in no cut"
-    elif word in ("left", "domain", "reads"):
+    elif word in ("left", "domains", "domain", "reads"):
         seen = "a cut is for `confine`, and a policy for `separation`"
     elif word in ("may", "never", "ever", "depth", "states"):
         seen = "a question is for `explore`"
@@ -78,34 +78,55 @@ def cut(words, terms):
 class Policy:
     """The domains of a policy, as its lines make them."""
 
-    FORMS = {"domain": "domain NAME KIND N [M]", "reads": "reads A B", "end": "end"}
+    FORMS = {"domains": "domains A [B ..]", "domain": "domain NAME KIND N [M]", "reads": "reads A B", "end": "end"}
+    LEAST = {"domains": 2, "domain": 4, "reads": 3, "end": 1}
+    MOST = {"domains": 256, "domain": 5, "reads": 3, "end": 1}  # a line of 512 bytes has no more words than 256
 
     def __init__(self, terms):
-        self.terms, self.domains, self.assigned = terms, ["rest"], []
+        self.terms, self.domains, self.assigned, self.first, self.are_listed = terms, ["rest"], [], None, False
 
     def line(self, words, number):
         """Judges a line; whether the policy ends here."""
         if words[0] not in self.FORMS:
             raise unknown("UnknownPolicy", words[0], self.FORMS, "a policy")
-        least = {"domain": 4, "reads": 3, "end": 1}[words[0]]
-        count_words(words, least, 5 if words[0] == "domain" else least, self.FORMS[words[0]])
-        if words[0] == "domain":
+        count_words(words, self.LEAST[words[0]], self.MOST[words[0]], self.FORMS[words[0]])
+        if words[0] == "domains":
+            self.listed(words)
+        elif words[0] == "domain":
             self.domain(words, number)
         elif words[0] == "reads":
             for word in words[1:]:
                 self.known(word)
+        self.first = self.first or number
         return words[0] == "end"
+
+    def listed(self, words):
+        if self.first:
+            raise Refused("NotFirst", words[0], "the first line of the policy", f"line {self.first} stands in front")
+        for word in words[1:]:
+            if name_of(word) in self.domains:
+                raise Refused("NameTaken", word, "a name that no other domain has",
+                              "rest is there in every policy" if word == "rest" else "it stands twice")
+            self.room(word)
+            self.domains.append(str(word))
+        self.are_listed = True
+
+    def room(self, word):
+        if len(self.domains) == MOST_DOMAINS:
+            raise Refused("TooManyDomains", word, f"at most {MOST_DOMAINS} domains, rest among them", "one is too many")
 
     def known(self, word):
         if name_of(word) not in self.domains:
             found = difflib.get_close_matches(word, self.domains, 1)
-            raise Refused("NoDomain", word, "a domain that a line in front made, or rest",
-                          f"there is {found[0]}" if found else "")
+            raise Refused("NoDomain", word, "a domain that is listed, or rest" if self.are_listed else
+                          "a domain that a line in front made, or rest", f"there is {found[0]}" if found else "")
 
     def domain(self, words, number):
         name = name_of(words[1])
-        if name not in self.domains and len(self.domains) == MOST_DOMAINS:
-            raise Refused("TooManyDomains", words[1], f"at most {MOST_DOMAINS} domains, rest among them", "one is too many")
+        if self.are_listed:
+            self.known(words[1])
+        elif name not in self.domains:
+            self.room(words[1])
         kind, first, last = block(words, 2, self.terms)
         for other, line, its, low, high in self.assigned:
             if other != name and its == kind and low <= last and first <= high:

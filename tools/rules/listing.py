@@ -117,6 +117,7 @@ class Reader:
         return {"header": Refused("BadHeader", nothing, "the first line: coyotos 1 or coyotos 2", "there is no line"),
                 "machine": Refused("BadMachine", nothing, f"the second line: {FORM}", "the input ends before it"),
                 "statements": Refused("NoEnd", nothing, "a line `end`", "the input ends without it"),
+                "policy": Refused("NoEnd", nothing, "a line `end` of the policy", "the input ends without it"),
                 }.get(self.place)
 
 
@@ -151,4 +152,4 @@ def behind_of(data):
     if any(first in QUESTION and first not in Policy.FORMS for first in firsts):
         return "question"
     first = firsts[0] if firsts else ""
-    return "cut" if first == "left" else "policy" if first in ("domain", "reads") else "schedule"
+    return "cut" if first == "left" else "policy" if first in ("domains", "domain", "reads") else "schedule"
