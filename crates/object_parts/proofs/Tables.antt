@@ -1,10 +1,11 @@
 -- Tables: what stands for the same has one number, and numbers keep what they stand for.
 use Rattle.std.proofs.Common.{◌≡◌, ℕ, ◌<◌, ◌≤◌, zero, suc, ◌⊎◌, inl, inr, Bool, true, List, [], ◌∷◌, ◌++◌, map, get_or, slice_get, Option, Some, None, refl, sym, ap, ◌∙◌, append_assoc, append-nil, arith}
 use Rattle.std.specs.Bool.{Decides}
-use Rattle.std.specs.List.{IsDistinct}
+use Rattle.std.specs.List.{IsDistinct, position}
 use Rattle.std.specs.Option.{option_map}
 use Rattle.std.proofs.lemmas.Bool.{cases_lt}
 use Rattle.std.proofs.lemmas.Option.{slice_get-map, slice_get_within, get_or_from_slice_get}
+use Rattle.std.proofs.lemmas.List.Quantifiers.{position-Some}
 use Rattle.std.proofs.lemmas.Map.Keys.{apart_from_distinct}
 use Rattle.object_parts.specs.Table.{AreApart, Grows}
 
@@ -51,3 +52,7 @@ grown_twice a b c first second = record { added = first.added ++ second.added; b
 -- a table that stays
 pub grown_none : {V : Type 0} (a : List V) → Grows a a
 grown_none a = record { added = []; behind = sym (append-nil a) }
+
+-- what stands at the first place that passes passes
+pub passes_at : {K : Type 0} (p : K → Bool) (ks : List K) (i : ℕ) (k : K) → Some i ≡ position p ks → slice_get ks i ≡ Some k → p k ≡ true
+passes_at p ks i k first there = ap p (sym (get_or_from_slice_get ks i k k there)) ∙ (position-Some p ks i k (sym first)).1

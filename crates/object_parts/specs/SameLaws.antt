@@ -1,5 +1,5 @@
 -- Each of these tests answers true exactly where both are equal.
-use Rattle.std.proofs.Common.{◌≡◌, ℕ, ◌==◌, Bool, true, false, ◌&&◌, List, refl, ap, arith}
+use Rattle.std.proofs.Common.{◌≡◌, ℕ, ◌==◌, Bool, true, false, IsTrue, ◌&&◌, List, refl, ap, arith}
 use Rattle.std.specs.Bool.{beq, Decides}
 use Rattle.std.specs.Cmp.{unsigned_Decides, booleans_Decides}
 use Rattle.std.specs.Cmp.Lexicographic.{pointwise_decides}
@@ -22,6 +22,7 @@ use Rattle.process_objects.specs.Process.{ProcessValue, process_of}
 use Rattle.endpoint_objects.specs.declared.endpoint.Endpoint.{Endpoint as EndpointValue}
 use Rattle.object_store.specs.Object.{ObjectValue}
 use Rattle.object_store.specs.Object.ObjectValue.{OfPage, OfCapPage, OfGpt, OfProcess, OfEndpoint, OfNone}
+use Rattle.object_parts.specs.Part.{hashed}
 use Rattle.object_parts.specs.Same.{same_numbers, cap_fields, same_cap, same_caps, same_header, same_gpt, wait_fields, same_wait, same_accept, same_doing, same_process, same_endpoint, same_object}
 
 -- two different answers
@@ -218,3 +219,11 @@ object_decides (OfProcess c a) (OfProcess d b) = same_kind_decides OfProcess sam
 object_decides (OfEndpoint c a) (OfEndpoint d b) = same_kind_decides OfEndpoint same_endpoint c d a b (endpoint_decides a b) (λ e. (cc, cc))
 object_decides OfNone OfNone = (λ e. refl, λ e. refl)
 object_decides x y = (λ e. apart e, λ e. cc)
+
+-- what is the same is hashed alike
+pub stands_hashed : (x y : ObjectValue) → IsTrue (same_object x y) → hashed x ≡ hashed y
+stands_hashed x y same = ap hashed ((object_decides x y).0 same)
+
+-- and is the same as what the other is
+pub stands_alike : (x y z : ObjectValue) → IsTrue (same_object x y) → same_object x z ≡ same_object y z
+stands_alike x y z same = ap (λ (v : ObjectValue). same_object v z) ((object_decides x y).0 same)

@@ -1,8 +1,11 @@
 //! Comparing parts.
-ghost use Rattle.std.specs.Prelude.{◌≡◌, ◌<◌, ◌≤◌, ◌↔◌, IsTrue, length};
+ghost use Rattle.std.specs.Prelude.{◌≡◌, ◌<◌, ◌≤◌, ◌↔◌, IsTrue, map, length};
+ghost use Rattle.object_store.specs.Meaning.{live, process_map};
 ghost use Rattle.object_parts.specs.Same.{same_numbers, same_caps, same_wait, same_accept, same_doing, same_process, same_endpoint};
 
+use cap_format::Cap;
 use endpoint_objects::Endpoint;
+use object_store::Objects;
 use page_store::{CapPage, Page};
 use process_objects::{Accept, Process, State, Wait};
 
@@ -83,6 +86,64 @@ fn all_cap_registers_same(a: &Process, b: &Process) -> bool
         }
     }
     true
+}
+
+/// Whether a process of a store, with Null in place of each of its dead capabilities, is the same as another.
+pub(crate) fn same_live_processes(objects: &Objects, a: &Process, b: &Process) -> bool
+    ensures { result ≡ same_process (process_map (live objects.now.items) a.now) b.now }
+{
+    a.pc() == b.pc()
+        && a.registers() == b.registers()
+        && same_states(a.state(), b.state())
+        && same_live_slots(objects, a, b)
+        && same_live_cap_registers(objects, a, b)
+}
+
+fn same_live_slots(objects: &Objects, a: &Process, b: &Process) -> bool
+    ensures { result ≡ same_caps (map (live objects.now.items) a.now.slots) b.now.slots }
+{
+    all_live_slots_same(objects, a, b)
+}
+
+#[tactic(auto, using(crate::proofs::Compared::live_more))]
+fn all_live_slots_same(objects: &Objects, a: &Process, b: &Process) -> bool
+    ensures { IsTrue result ↔ (map (live objects.now.items) a.now.slots ≡ b.now.slots) }
+{
+    a.tell_range();
+    b.tell_range();
+    for i in 0..3 {
+        if !same_live(objects, a.slot(i), b.slot(i)) {
+            return false;
+        }
+    }
+    true
+}
+
+fn same_live_cap_registers(objects: &Objects, a: &Process, b: &Process) -> bool
+    ensures { result ≡ same_caps (map (live objects.now.items) a.now.capregs) b.now.capregs }
+{
+    all_live_cap_registers_same(objects, a, b)
+}
+
+#[tactic(auto, using(crate::proofs::Compared::live_more))]
+fn all_live_cap_registers_same(objects: &Objects, a: &Process, b: &Process) -> bool
+    ensures { IsTrue result ↔ (map (live objects.now.items) a.now.capregs ≡ b.now.capregs) }
+{
+    a.tell_range();
+    b.tell_range();
+    for i in 0..32 {
+        if !same_live(objects, a.capreg(i), b.capreg(i)) {
+            return false;
+        }
+    }
+    true
+}
+
+/// Whether a capability, or Null where it is dead, is the same as another.
+fn same_live(objects: &Objects, a: Cap, b: Cap) -> bool
+    ensures { IsTrue result ↔ (live objects.now.items a ≡ b) }
+{
+    objects.live(a) == b
 }
 
 fn same_states(a: State, b: State) -> bool

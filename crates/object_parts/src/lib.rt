@@ -7,13 +7,16 @@ mod compare;
 mod count;
 mod feeding;
 mod making;
+mod numbering;
 mod part;
 mod putting;
 mod slots;
 mod table;
+mod there;
 
 pub use count::Count;
 pub use making::part_of;
+pub use numbering::number_of_part;
 pub use part::Part;
 pub use putting::put_part;
 pub use slots::Slots;

@@ -21,6 +21,27 @@ pub enum Part {
     Endpoint { count: Count, endpoint: Endpoint },
 }
 
+impl Part {
+    ghost use Rattle.object_parts.specs.Live.{IsInRanges};
+    ghost use Rattle.object_parts.specs.Objects.{object_in};
+
+    /// Does nothing: its contract tells what every part keeps.
+    pub(crate) fn tell_range(&self)
+        ensures { IsInRanges (object_in self.now) }
+    {
+        match self {
+            Part::Page { .. } => {}
+            Part::CapPage { page, .. } => page.tell_range(),
+            Part::Gpt { gpt, .. } => gpt.tell_range(),
+            Part::Process { process, .. } => process.tell_range(),
+            Part::Endpoint { endpoint, .. } => {
+                // A capability that is read tells its ranges.
+                let _kind = endpoint.recipient.kind();
+            }
+        }
+    }
+}
+
 impl PartialEq for Part {
     ghost use Rattle.std.specs.Ordering.{on};
     ghost use Rattle.std.specs.Cmp.{decided, on_equiv, partial_equiv_from_equiv};

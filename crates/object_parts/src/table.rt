@@ -1,9 +1,9 @@
 //! Tables in which each value stands once, and is known by its number.
-ghost use Rattle.std.specs.Prelude.{◌≡◌, ◌<◌, [], map, length, slice_get, Some, IfOk, OnErr};
+ghost use Rattle.std.specs.Prelude.{◌≡◌, ◌<◌, [], map, length, slice_get, Some, IfOk, IfSome, IsTrue};
 ghost use Rattle.object_parts.specs.Table.{Grows, AreApart};
 
 use cap_format::OutOfMemory;
-use indexmap::IndexSet;
+use indexmap::{Equivalent, IndexSet};
 use std::alloc::Global;
 use std::hash::Hash;
 use std::marker::Model;
@@ -58,6 +58,18 @@ impl<K: Kept> Table<K> {
         }
         let (index, _) = self.set.insert_full(kept)?;
         Ok(index as u32)
+    }
+
+    /// What a query stands for, with its number, if it is in the table.
+    pub(crate) fn find<Q: Equivalent<K>>(&self, query: Q) -> Option<(u32, &K)>
+        ensures value { IfSome result (λ r. slice_get (map K.content self.now) r.0 ≡ Some (K.content r.1.now)) }
+        ensures equal { IfSome result (λ r. IsTrue (Q.equivalent query r.1.now)) }
+    {
+        let (index, kept) = self.set.get_full(query)?;
+        if index > u32::MAX as usize {
+            return None;
+        }
+        Some((index as u32, kept))
     }
 
     /// Does nothing: its contract tells what every table keeps.
