@@ -1,7 +1,11 @@
 -- Lists that are compared one element after the other.
-use Rattle.std.proofs.Common.{◌≡◌, ℕ, ◌+◌, ◌<◌, ◌↔◌, Bool, true, false, IsTrue, List, [], ◌∷◌, ◌++◌, get_or, length, map, take, drop, refl, sym, ap, ◌∙◌, arith}
+use Rattle.std.proofs.Common.{◌≡◌, ℕ, ◌+◌, ◌<◌, ◌↔◌, Bool, true, false, IsTrue, List, [], ◌∷◌, ◌++◌, get_or, length, map, take, drop, refl, sym, ap, ◌∙◌, subst, arith}
 use Rattle.std.proofs.lemmas.List.{take_more, take_all, length-map, get_or-map}
-use Rattle.cap_format.specs.Capability.{Capability, null}
+use Rattle.cap_format.specs.declared.kind.CapKind.{CapKind}
+use Rattle.cap_format.specs.declared.kind.CapKind.TheVariants.{Null}
+use Rattle.cap_format.specs.Kind.{is_memory, restr_limit, count_limit, object_limit, payload_limit, slot_limit}
+use Rattle.cap_format.specs.Guard.{no_guard}
+use Rattle.cap_format.specs.Capability.{Capability, IsCapability, capability, null}
 use Rattle.object_store.specs.Store.{Items}
 use Rattle.object_store.specs.Meaning.{live}
 use Rattle.object_parts.specs.Same.{same_caps}
@@ -31,3 +35,28 @@ live_more o a b i n size size_too within same next =
     let here : i < length a = rw size within in
     let there : i < length b = rw size_too within in
     same_more (map (live o) a) b i null (rw (length-map a (live o)) here) there same (get_or-map (live o) a i null null here ∙ next)
+
+-- a capability whose kind is Null has no field
+pub null_kind : (c : Capability) → IsCapability c → c.kind ≡ Null → c ≡ null
+null_kind c is kind = whole kind restr count (is.unguarded (ap is_memory kind)) object payload slot
+  where
+    restr : c.restr ≡ 0
+    restr = let few : c.restr < 1 = subst (λ (k : CapKind). c.restr < restr_limit k) kind is.restr in omega (arith, few)
+
+    count : c.count ≡ 0
+    count = let few : c.count < 1 = subst (λ (k : CapKind). c.count < count_limit k) kind is.count in omega (arith, few)
+
+    object : c.object ≡ 0
+    object = let few : c.object < 1 = subst (λ (k : CapKind). c.object < object_limit k) kind is.object in omega (arith, few)
+
+    payload : c.payload ≡ 0
+    payload = let few : c.payload < 1 = subst (λ (k : CapKind). c.payload < payload_limit k) kind is.payload in omega (arith, few)
+
+    slot : c.slot ≡ 0
+    slot = let few : c.slot < 1 = subst (λ (k : CapKind). c.slot < slot_limit k) kind is.slot in omega (arith, few)
+
+    by : Capability → Capability
+    by x = capability x.kind x.restr x.count x.guard x.object x.payload x.slot
+
+    whole : c.kind ≡ Null → c.restr ≡ 0 → c.count ≡ 0 → c.guard ≡ no_guard → c.object ≡ 0 → c.payload ≡ 0 → c.slot ≡ 0 → by c ≡ null
+    whole h1 h2 h3 h4 h5 h6 h7 = rw (h1, h2, h3, h4, h5, h6, h7) refl

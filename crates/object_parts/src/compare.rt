@@ -1,9 +1,10 @@
 //! Comparing parts.
 ghost use Rattle.std.specs.Prelude.{◌≡◌, ◌<◌, ◌≤◌, ◌↔◌, IsTrue, map, length};
+ghost use Rattle.cap_format.specs.Capability.{null};
 ghost use Rattle.object_store.specs.Meaning.{live, process_map};
 ghost use Rattle.object_parts.specs.Same.{same_numbers, same_caps, same_wait, same_accept, same_doing, same_process, same_endpoint};
 
-use cap_format::Cap;
+use cap_format::{Cap, CapKind};
 use endpoint_objects::Endpoint;
 use object_store::Objects;
 use page_store::{CapPage, Page};
@@ -143,7 +144,19 @@ fn all_live_cap_registers_same(objects: &Objects, a: &Process, b: &Process) -> b
 fn same_live(objects: &Objects, a: Cap, b: Cap) -> bool
     ensures { IsTrue result ↔ (live objects.now.items a ≡ b) }
 {
+    // Most are Null.
+    if is_null(a) && is_null(b) {
+        return true;
+    }
     objects.live(a) == b
+}
+
+/// Whether a capability is Null, by its kind alone.
+#[tactic(auto, using(crate::proofs::Compared::null_kind))]
+fn is_null(cap: Cap) -> bool
+    ensures { IsTrue result ↔ (cap ≡ null) }
+{
+    cap.kind() == CapKind::Null
 }
 
 fn same_states(a: State, b: State) -> bool
