@@ -9,3 +9,4 @@ pub mod Unchanged
 pub mod Holding
 pub mod Alike
 pub mod Stepping
+pub mod Shown

@@ -14,9 +14,10 @@ ghost use Rattle.state_parts.specs.Keys.{AreAll, objects_of, values_of, Reads, s
 ghost use Rattle.state_parts.specs.Looking.{IsTarget, AreRanged};
 ghost use Rattle.state_parts.specs.Marking.{StandsStill};
 
+use crate::fetched::{Fetched, nothing_fetched};
 use crate::going::{bring, mark, mark_all};
 use crate::look::{counts_same, look, look_anew};
-use crate::marking::mark_event;
+use crate::performing::perform_event;
 use crate::standing::Standing;
 use cap_format::OutOfMemory;
 use machine_state::{Event, Machine, Name, Records};
@@ -35,6 +36,8 @@ pub(crate) struct Board {
     desk: Objects,
     /// What may have changed since.
     changed: Vec<Name>,
+    /// Where each process fetched last.
+    fetched: Vec<Fetched>,
 }
 
 impl Model for Board {
@@ -55,13 +58,16 @@ impl Board {
         ensures machine { IfOk result (λ board. board.machine ≡ machine) }
         ensures desk { IfOk result (λ board. board.desk ≡ empty_store (sizes_of machine.objects)) }
     {
-        let desk = Objects::new(alloc, machine.objects().sizes())?;
+        let sizes = machine.objects().sizes();
+        let desk = Objects::new(alloc, sizes)?;
+        let fetched = nothing_fetched(alloc, sizes.processes)?;
         let mut changed = Vec::new(alloc);
         mark_all(&mut changed, names)?;
         Ok(Board {
             machine,
             desk,
             changed,
+            fetched,
         })
     }
 
@@ -151,11 +157,13 @@ impl Board {
     /// wasn't performed.
     pub fn perform<L: Ledger>(
         &mut self,
+        names: &[Name],
         event: Event,
         records: &mut Records,
         fetches: &mut Steps<L>,
     ) -> Result<bool, OutOfMemory>
-        requires { hart_in event < self.old.machine.objects.harts }
+        requires all { AreAll (sizes_of self.old.desk) (names_of names.now) }
+        requires hart { hart_in event < self.old.machine.objects.harts }
         ensures state { OnOk result (state_of self.new.machine ≡ (event_of (state_of self.old.machine) event).state) }
         ensures still { IfOk result (λ still. IsTrue still →
             StandsStill (state_of self.old.machine) (state_of self.new.machine)) }
@@ -163,8 +171,15 @@ impl Board {
         ensures sizes { sizes_of self.new.machine.objects ≡ sizes_of self.old.machine.objects }
         ensures desk { self.new.desk ≡ self.old.desk }
     {
-        let still = mark_event(&mut self.machine, event, &mut self.changed, fetches)?;
-        kernel_core::event_into(&mut self.machine, event, records, fetches);
+        let still = perform_event(
+            &mut self.machine,
+            event,
+            names,
+            &mut self.changed,
+            &mut self.fetched,
+            records,
+            fetches,
+        )?;
         // Sizes that are read tell that there are as many objects as counts.
         let _here = self.machine.objects().sizes();
         let _there = self.desk.sizes();

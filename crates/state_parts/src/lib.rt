@@ -6,12 +6,15 @@
 #![tactic(auto)]
 
 mod board;
+mod fetched;
 mod going;
 mod key;
 mod lists;
 mod look;
 mod marking;
 mod names;
+mod performing;
+mod showing;
 mod standing;
 mod stands;
 mod states;

@@ -13,7 +13,7 @@ ghost use Rattle.state_parts.specs.Marking.{HaveCounts};
 
 use cap_format::OutOfMemory;
 use machine_state::Name;
-use object_parts::{Part, Table, part_of};
+use object_parts::{Part, Table, number_of_part};
 use object_store::Objects;
 use std::alloc::Global;
 use std::sync::ledger::Ledger;
@@ -89,7 +89,7 @@ pub(crate) fn look_anew<L: Ledger>(
     Ok(found)
 }
 
-/// The number of one object's part, which is made anew.
+/// The number of one object's part, which is looked up anew.
 fn new_look<L: Ledger>(
     alloc: Global,
     table: &mut Table<Part>,
@@ -101,8 +101,7 @@ fn new_look<L: Ledger>(
     ensures grows { Grows (map object_in table.old) (map object_in table.new) }
     ensures reads { IfOk result (λ found. ReadsLive (map object_in table.new) (live_store objects.now) (object_name name.kind name.number) found) }
 {
-    let part = part_of(alloc, objects, name.kind, name.number, fetches)?;
-    table.number(part)
+    number_of_part(alloc, table, objects, name.kind, name.number, fetches)
 }
 
 /// Whether a name is among these.

@@ -124,7 +124,7 @@ fn mark_pages(objects: &Objects, pieces: &Pieces, marked: &mut Vec<Name>) -> Res
 }
 
 /// Marks an object, if there is one of this number.
-fn mark_object(
+pub(crate) fn mark_object(
     objects: &Objects,
     kind: CapKind,
     number: u32,

@@ -161,7 +161,9 @@ impl States {
         self.parts.tell_apart();
         self.standings.tell_apart();
         let _machine = self.board.machine();
-        let still = self.board.perform(event, records, fetches)?;
+        let still = self
+            .board
+            .perform(self.names.as_slice(), event, records, fetches)?;
         if !still {
             self.stands = None;
         }

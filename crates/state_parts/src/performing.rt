@@ -1,0 +1,235 @@
+//! Performing an event, with all marked that it may change.
+ghost use Rattle.std.specs.Prelude.{◌≡◌, ◌<◌, ◌≤◌, ◌+◌, ◌∷◌, [], IsTrue, IfOk, IfSome, OnOk, OnErr, MatchOption, length};
+ghost use Rattle.cap_format.specs.declared.kind.CapKind.TheVariants.{Page};
+ghost use Rattle.object_store.specs.Store.{sizes_of};
+ghost use Rattle.object_store.specs.Object.{object_name, Stays};
+ghost use Rattle.machine_state.specs.Machine.{hart_in};
+ghost use Rattle.machine_state.specs.State.{state_of};
+ghost use Rattle.machine_state.specs.Outcome.{process_name};
+ghost use Rattle.machine_state.specs.Taking.{names_of};
+ghost use Rattle.kernel_core.specs.Event.{event_of};
+ghost use Rattle.std.specs.Vec.{vec_len, vec_capacity};
+ghost use Rattle.state_parts.specs.Keys.{AreAll};
+ghost use Rattle.state_parts.specs.Looking.{HasAll, IsMore};
+ghost use Rattle.state_parts.specs.Marking.{AddsThere, HasThere, StandsStill};
+ghost use Rattle.event_reach.specs.Plain.{stored_names};
+ghost use Rattle.state_parts.specs.Shown.{IsStepOf, IsShown};
+
+use crate::fetched::{Fetched, note_fetch, seems_plain};
+use crate::look::is_named;
+use crate::marking::{mark_event, mark_object};
+use crate::showing::plain_shown;
+use cap_format::{CapKind, OutOfMemory};
+use event_reach::PlainInsn;
+use machine_state::{Event, Machine, Name, Records};
+use object_store::Objects;
+use std::sync::ledger::Ledger;
+use steps::Steps;
+use walk_engine::Plain;
+
+/// Performs an event, marks all that it may change, and tells whether the queues and the harts are sure to have stayed.
+/// Where memory is wanting it wasn't performed, and some is marked.
+///
+/// Where the next instruction seems to be plain there is no look ahead: the records tell afterwards whether it was. If not,
+/// all objects are marked.
+pub(crate) fn perform_event<L: Ledger>(
+    machine: &mut Machine<Plain>,
+    event: Event,
+    names: &[Name],
+    marked: &mut Vec<Name>,
+    fetched: &mut Vec<Fetched>,
+    records: &mut Records,
+    fetches: &mut Steps<L>,
+) -> Result<bool, OutOfMemory>
+    requires hart { hart_in event < machine.old.objects.harts }
+    requires all { AreAll (sizes_of machine.old.objects) (names_of names.now) }
+    ensures state { OnOk result (state_of machine.new ≡ (event_of (state_of machine.old) event).state) }
+    ensures still { let s = state_of machine.old in
+        IfOk result (λ still. IsTrue still → StandsStill s (event_of s event).state) }
+    ensures err { OnErr result (state_of machine.new ≡ state_of machine.old) }
+    ensures objects { OnErr result (machine.new.objects ≡ machine.old.objects) }
+    ensures adds { AddsThere machine.old.objects (names_of marked.old.items) (names_of marked.new.items) }
+    ensures has { let changed = (event_of (state_of machine.old) event).changed in
+        OnOk result (HasThere machine.old.objects changed (names_of marked.new.items)) }
+    ensures stays { let changed = (event_of (state_of machine.old) event).changed in
+        OnOk result (Stays changed machine.old.objects machine.new.objects) }
+    ensures sizes { sizes_of machine.new.objects ≡ sizes_of machine.old.objects }
+{
+    if let Some(p) = stepping(machine, event) {
+        if seems_plain(machine, p, fetched.as_slice()) {
+            let still = perform_plainly(machine, event, p, names, marked, records, fetches)?;
+            note_fetch(fetched, records);
+            return Ok(still);
+        }
+    }
+    let still = perform_marked(machine, event, marked, records, fetches)?;
+    note_fetch(fetched, records);
+    Ok(still)
+}
+
+/// The process that a step of a machine that is not halted finds on its hart.
+fn stepping(machine: &Machine<Plain>, event: Event) -> Option<u16>
+    requires { hart_in event < machine.now.objects.harts }
+    ensures { IfSome result (λ p. IsStepOf p machine.now event) }
+{
+    if machine.halted() {
+        return None;
+    }
+    match event {
+        Event::Step(hart) => machine.on_hart(hart),
+        Event::Tick(_) => None,
+    }
+}
+
+/// The same by a look ahead.
+fn perform_marked<L: Ledger>(
+    machine: &mut Machine<Plain>,
+    event: Event,
+    marked: &mut Vec<Name>,
+    records: &mut Records,
+    fetches: &mut Steps<L>,
+) -> Result<bool, OutOfMemory>
+    requires { hart_in event < machine.old.objects.harts }
+    ensures state { OnOk result (state_of machine.new ≡ (event_of (state_of machine.old) event).state) }
+    ensures still { let s = state_of machine.old in
+        IfOk result (λ still. IsTrue still → StandsStill s (event_of s event).state) }
+    ensures err { OnErr result (state_of machine.new ≡ state_of machine.old) }
+    ensures objects { OnErr result (machine.new.objects ≡ machine.old.objects) }
+    ensures adds { AddsThere machine.old.objects (names_of marked.old.items) (names_of marked.new.items) }
+    ensures has { let changed = (event_of (state_of machine.old) event).changed in
+        OnOk result (HasThere machine.old.objects changed (names_of marked.new.items)) }
+    ensures stays { let changed = (event_of (state_of machine.old) event).changed in
+        OnOk result (Stays changed machine.old.objects machine.new.objects) }
+    ensures sizes { sizes_of machine.new.objects ≡ sizes_of machine.old.objects }
+{
+    let still = mark_event(machine, event, marked, fetches)?;
+    kernel_core::event_into(machine, event, records, fetches);
+    Ok(still)
+}
+
+/// The same of a step of a process, by what the records tell of it.
+fn perform_plainly<L: Ledger>(
+    machine: &mut Machine<Plain>,
+    event: Event,
+    p: u16,
+    names: &[Name],
+    marked: &mut Vec<Name>,
+    records: &mut Records,
+    fetches: &mut Steps<L>,
+) -> Result<bool, OutOfMemory>
+    requires hart { hart_in event < machine.old.objects.harts }
+    requires step { IsStepOf p machine.old event }
+    requires all { AreAll (sizes_of machine.old.objects) (names_of names.now) }
+    ensures state { OnOk result (state_of machine.new ≡ (event_of (state_of machine.old) event).state) }
+    ensures still { let s = state_of machine.old in
+        IfOk result (λ still. IsTrue still → StandsStill s (event_of s event).state) }
+    ensures err { OnErr result (state_of machine.new ≡ state_of machine.old) }
+    ensures objects { OnErr result (machine.new.objects ≡ machine.old.objects) }
+    ensures adds { AddsThere machine.old.objects (names_of marked.old.items) (names_of marked.new.items) }
+    ensures has { let changed = (event_of (state_of machine.old) event).changed in
+        OnOk result (HasThere machine.old.objects changed (names_of marked.new.items)) }
+    ensures stays { let changed = (event_of (state_of machine.old) event).changed in
+        OnOk result (Stays changed machine.old.objects machine.new.objects) }
+    ensures sizes { sizes_of machine.new.objects ≡ sizes_of machine.old.objects }
+{
+    mark_process(machine.objects(), p, names, marked)?;
+    let shown = perform_shown(machine, event, p, records, fetches);
+    mark_shown(machine.objects(), shown, names, marked);
+    Ok(shown.is_some())
+}
+
+/// Marks a process, and makes room for the names of all objects.
+fn mark_process(
+    objects: &Objects,
+    p: u16,
+    names: &[Name],
+    marked: &mut Vec<Name>,
+) -> Result<(), OutOfMemory>
+    ensures adds { AddsThere objects.now (names_of marked.old.items) (names_of marked.new.items) }
+    ensures has { OnOk result (HasThere objects.now (process_name p ∷ []) (names_of marked.new.items)) }
+    ensures room { OnOk result (vec_len marked.new + length names.now ≤ vec_capacity marked.new) }
+{
+    mark_object(objects, CapKind::Process, u32::from(p), marked)?;
+    marked.reserve(names.len())?;
+    Ok(())
+}
+
+/// Performs a step of a process, and tells the plain instruction that its records show.
+fn perform_shown<L: Ledger>(
+    machine: &mut Machine<Plain>,
+    event: Event,
+    p: u16,
+    records: &mut Records,
+    fetches: &mut Steps<L>,
+) -> Option<PlainInsn>
+    requires hart { hart_in event < machine.old.objects.harts }
+    requires step { IsStepOf p machine.old event }
+    ensures state { state_of machine.new ≡ (event_of (state_of machine.old) event).state }
+    ensures shown { let s = state_of machine.old in IfSome result (IsShown p s (event_of s event)) }
+    ensures stays { let changed = (event_of (state_of machine.old) event).changed in
+        Stays changed machine.old.objects machine.new.objects }
+    ensures sizes { sizes_of machine.new.objects ≡ sizes_of machine.old.objects }
+{
+    let regs = *machine.registers(p);
+    let pc = machine.pc(p);
+    kernel_core::event_into(machine, event, records, fetches);
+    plain_shown(records, p, &regs, pc)
+}
+
+/// Marks the page of the store that was shown, or all objects where nothing was shown. There is room for their names.
+fn mark_shown(objects: &Objects, shown: Option<PlainInsn>, names: &[Name], marked: &mut Vec<Name>)
+    requires all { AreAll (sizes_of objects.now) (names_of names.now) }
+    requires some { 1 ≤ length names.now }
+    requires room { vec_len marked.old + length names.now ≤ vec_capacity marked.old }
+    ensures adds { AddsThere objects.now (names_of marked.old.items) (names_of marked.new.items) }
+    ensures has { MatchOption shown (HasAll (names_of names.now) (names_of marked.new.items))
+        (λ plain. HasThere objects.now (stored_names plain.page) (names_of marked.new.items)) }
+{
+    match shown {
+        Some(plain) => match plain.page {
+            Some(page) => mark_page(objects, page, marked),
+            None => {}
+        },
+        None => add_all(marked, names),
+    }
+}
+
+/// Marks a page, if there is one of this number. There is room for its name.
+fn mark_page(objects: &Objects, page: u16, marked: &mut Vec<Name>)
+    requires { vec_len marked.old < vec_capacity marked.old }
+    ensures adds { AddsThere objects.now (names_of marked.old.items) (names_of marked.new.items) }
+    ensures has { HasThere objects.now (object_name Page page ∷ []) (names_of marked.new.items) }
+{
+    let pages = objects.sizes().pages;
+    if page >= pages {
+        return;
+    }
+    let name = Name {
+        kind: CapKind::Page,
+        number: page,
+    };
+    add_name(marked, name);
+}
+
+/// Marks a name, if it isn't marked yet. There is room for it.
+fn add_name(marked: &mut Vec<Name>, name: Name)
+    requires { vec_len marked.old < vec_capacity marked.old }
+    ensures grows { IsMore (object_name name.kind name.number ∷ []) (names_of marked.old.items) (names_of marked.new.items) }
+    ensures has { HasAll (object_name name.kind name.number ∷ []) (names_of marked.new.items) }
+{
+    if is_named(marked.as_slice(), name) {
+        return;
+    }
+    marked.push_reserved(name);
+}
+
+/// Marks all objects. There is room for their names.
+fn add_all(marked: &mut Vec<Name>, names: &[Name])
+    requires { vec_len marked.old + length names.now ≤ vec_capacity marked.old }
+    ensures more { IsMore (names_of names.now) (names_of marked.old.items) (names_of marked.new.items) }
+    ensures all { HasAll (names_of names.now) (names_of marked.new.items) }
+{
+    'each: for i in 0..names.len() {
+        marked.push_reserved(names[i]);
+    }
+}
