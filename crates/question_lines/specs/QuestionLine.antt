@@ -12,7 +12,7 @@ use Rattle.separation_lines.specs.declared.said.Said.{Said as PolicySaid}
 use Rattle.exploration.specs.declared.question.asks.Asks.{Asks}
 use Rattle.exploration.specs.declared.question.asks.Asks.TheVariants.{Never, Ever, Count}
 use Rattle.exploration.specs.declared.question.choice.Choice.{Choice}
-use Rattle.exploration.specs.declared.question.choice.Choice.TheVariants.{Steps, Tick}
+use Rattle.exploration.specs.declared.question.choice.Choice.TheVariants.{Steps, Run, Tick}
 use Rattle.exploration.specs.question.Choice.{IsChoiceOf}
 use Rattle.exploration.specs.question.Question.{IsPropertyOf, QuestionValue, property_of, with_choice, with_depth, with_property, with_states}
 use Rattle.listing_read.specs.declared.object_fault.QuestionFault.{QuestionFault}
@@ -40,6 +40,13 @@ step_line sizes words = do
   times ← times_of words
   Ok (Steps hart times)
 
+-- `may run H`
+unfoldable pub run_line : Sizes → List (List ℕ) → Result Choice QuestionFault
+run_line sizes words = do
+  _ ← ensured (length words == 3) WrongWords
+  hart ← hart_from sizes.harts (field words 2)
+  Ok (Run hart)
+
 -- `may tick H`
 unfoldable pub tick_line : Sizes → List (List ℕ) → Result Choice QuestionFault
 tick_line sizes words = do
@@ -51,7 +58,8 @@ tick_line sizes words = do
 unfoldable pub choice_line : Sizes → List (List ℕ) → Result Choice QuestionFault
 choice_line sizes words =
     if bytes_eq (field words 1) (codes "step") then step_line sizes words
-    else (if bytes_eq (field words 1) (codes "tick") then tick_line sizes words else Err UnknownEvent)
+    else (if bytes_eq (field words 1) (codes "run") then run_line sizes words
+    else (if bytes_eq (field words 1) (codes "tick") then tick_line sizes words else Err UnknownEvent))
 
 -- `may ..`
 unfoldable pub may_line : Sizes → List (List ℕ) → Result Said QuestionFault

@@ -4,7 +4,7 @@ ghost use Rattle.coy_text.specs.Words.{words_of};
 ghost use Rattle.object_store.specs.declared.sizes.Sizes.{Sizes};
 ghost use Rattle.exploration.specs.question.Choice.{IsChoiceOf};
 ghost use Rattle.listing_read.specs.declared.object_fault.QuestionFault.TheVariants.{WrongWords};
-ghost use Rattle.question_lines.specs.QuestionLine.{after_said, as_untaken, asks_line, choice_line, depth_line, end_line, is_of_policy, line_answer, line_policy, line_question, may_line, next_of, plain_line, policy_answered, question_line, said_by, states_line, step_line, tick_line, times_of, IsSaid, IsUntaken};
+ghost use Rattle.question_lines.specs.QuestionLine.{after_said, as_untaken, asks_line, choice_line, depth_line, end_line, is_of_policy, line_answer, line_policy, line_question, may_line, next_of, plain_line, policy_answered, question_line, run_line, said_by, states_line, step_line, tick_line, times_of, IsSaid, IsUntaken};
 ghost use Rattle.separation_lines.specs.PolicyLine.{policy_line, after_line as policy_after_line};
 
 use crate::atoms::atoms;
@@ -193,6 +193,9 @@ fn choice(sizes: Sizes, line: &[u8]) -> Result<Choice, QuestionFault>
     if second == b"step".as_slice() {
         return step(sizes, line);
     }
+    if second == b"run".as_slice() {
+        return run(sizes, line);
+    }
     if second == b"tick".as_slice() {
         return tick(sizes, line);
     }
@@ -224,6 +227,16 @@ fn times_of(line: &[u8]) -> Result<u32, QuestionFault>
         return Ok(1);
     }
     times(word(line, 3))
+}
+
+#[tactic(auto, unfolding(crate::specs::QuestionLine::run_line))]
+fn run(sizes: Sizes, line: &[u8]) -> Result<Choice, QuestionFault>
+    ensures value { result ≡ run_line sizes (words_of line.now) }
+    ensures range { IfOk result (IsChoiceOf sizes.harts) }
+{
+    has_words(word_count(line), 3)?;
+    let hart = hart(sizes.harts, word(line, 2))?;
+    Ok(Choice::Run { hart })
 }
 
 #[tactic(auto, unfolding(crate::specs::QuestionLine::tick_line))]
