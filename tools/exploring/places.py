@@ -10,6 +10,7 @@ import tempfile
 
 from debugger.places import Process, Trouble, compile_places, place_of_state
 from exploring.question import Wrong
+from exploring.quiet import MOST, is_quiet
 
 WAIT = 600  # seconds for a process to answer
 
@@ -18,7 +19,7 @@ class Places:
     """The states that were found, by their numbers, each with the process that stands there, or how it was found."""
 
     def __init__(self, program, question, most):
-        self.program, self.choices, self.most = program, question.choices, most
+        self.program, self.question, self.most = program, question, most
         self.origins, self.kept = [None], {}
         self.room = tempfile.TemporaryDirectory(prefix="coyotos-explore-")
         compile_places(f"{self.room.name}/places.so")
@@ -54,27 +55,41 @@ class Places:
     def first_text(self):
         return self.text_of(self.first.copy())
 
-    def chosen(self, process, choice):
-        """A copy of a process, one choice further."""
+    def chosen(self, process, line):
+        """A copy of a process, behind a line of a schedule."""
         made = process.copy()
-        made.feed(f"{self.choices[choice]}\n".encode())
+        made.feed(f"{line}\n".encode())
         return made
 
-    def text_after(self, process, choice):
-        return self.text_of(self.chosen(process, choice))
+    def counted(self, process, choice):
+        """A choice as a line of a schedule: a run of a hart as its steps, from this state on."""
+        what, hart = choice.split()[:2]
+        if what != "run":
+            return choice
+        made, steps = self.chosen(process, f"step {hart} 1"), 1
+        while steps <= MOST and is_quiet(self.text_of(made.copy()), int(hart), *self.question.watched):
+            made.feed(f"step {hart} 1\n".encode())
+            steps += 1
+        made.close()
+        return f"step {hart} {steps}"
 
-    def add(self, parent, process, choice):
+    def after(self, process, choice):
+        """A choice as a line of a schedule, and the state behind it."""
+        line = self.counted(process, choice)
+        return line, self.text_of(self.chosen(process, line))
+
+    def add(self, parent, process, line):
         """Puts down where the next state comes from; its process is kept if there is room."""
-        self.origins.append((parent, choice))
+        self.origins.append((parent, line))
         if len(self.kept) < self.most:
-            self.kept[len(self.origins) - 1] = self.chosen(process, choice)
+            self.kept[len(self.origins) - 1] = self.chosen(process, line)
 
     def path(self, state):
-        """The choices that lead to a state."""
+        """The lines of a schedule that lead to a state, one for each choice."""
         found = []
         while self.origins[state]:
-            state, choice = self.origins[state]
-            found.append(choice)
+            state, line = self.origins[state]
+            found.append(line)
         return found[::-1]
 
     def take(self, state):
@@ -82,7 +97,7 @@ class Places:
         if state in self.kept:
             return self.kept.pop(state)
         process = self.first.copy()
-        lines = "".join(f"{self.choices[choice]}\n" for choice in self.path(state))
+        lines = "".join(f"{line}\n" for line in self.path(state))
         if lines:
             process.feed(lines.encode())
         return process

@@ -77,15 +77,22 @@ class Question:
         else:
             raise ValueError
 
+    @property
+    def watched(self):
+        """The processes whose pc or registers an atom is about, and the pages of which it is about bytes."""
+        words = [atom.words for line in self.lines for atom in line.atoms]
+        return ({int(said[1]) for said in words if said[0] in ("pc", "reg")},
+                {int(said[1]) for said in words if said[0] == "word"})
+
     def asking(self, asks):
         """The lines that ask this, in their order."""
         return [line for line in self.lines if line.asks == asks]
 
 
 def choice_of(words):
-    """A choice as the line of a schedule."""
-    if words[0] == "tick" and len(words) == 2:
-        return f"tick {int(words[1])}"
+    """A choice: the line of a schedule, or the run of a hart."""
+    if words[0] in ("run", "tick") and len(words) == 2:
+        return f"{words[0]} {int(words[1])}"
     if words[0] == "step" and len(words) in (2, 3):
         return f"step {int(words[1])} {int(words[2]) if len(words) == 3 else 1}"
     raise ValueError

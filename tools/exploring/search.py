@@ -32,13 +32,13 @@ class Search:
     def open(self, number):
         """Tries all choices of a state. Whether the search goes on."""
         process, reached = self.places.take(number), []
-        for choice in range(len(self.question.choices)):
-            text = self.places.text_after(process, choice)
+        for choice in self.question.choices:
+            line, text = self.places.after(process, choice)
             self.tried += 1
             if text not in self.numbers:
                 if len(self.depths) == self.question.states:
                     return False
-                self.places.add(number, process, choice)
+                self.places.add(number, process, line)
                 if self.judge(text, self.depths[number] + 1):
                     return False
             reached.append(self.numbers[text])
@@ -72,7 +72,7 @@ class Search:
 
     def led(self, word, line, state):
         path = self.places.path(state)
-        return [f"{word} {line} depth={len(path)}", *(self.question.choices[choice] for choice in path)]
+        return [f"{word} {line} depth={len(path)}", *path]
 
     def counts(self):
         for line in self.question.asking("count"):

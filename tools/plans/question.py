@@ -38,8 +38,8 @@ def question_line(plan, words):
 
 def choice(plan, words):
     """A choice behind `may`."""
-    need(words and (words[0] == "step" and len(words) in (2, 3) or words[0] == "tick" and len(words) == 2),
-         "may step H [N], or may tick H")
+    need(words and (words[0] == "step" and len(words) in (2, 3) or words[0] in ("run", "tick") and len(words) == 2),
+         "may step H [N], may run H, or may tick H")
     hart = number(words[1], "a hart", TOP - 1)
     need(hart < plan.harts, f"there is no hart {hart}: the machine has {plan.harts}, from 0 on")
     if not words[2:]:

@@ -5,10 +5,10 @@ from rules.behind import EVENTS, Policy, hart, times, unknown
 from rules.statement import count_words, kind_of
 from rules.words import Refused, decimal_of, end_of, hexadecimal_of
 
-FORMS = {"may": "may step H [N], may tick H", "never": "never ATOM [and ATOM ..]", "ever": "ever ATOM [and ATOM ..]",
+FORMS = {"may": "may step H [N], may run H, may tick H", "never": "never ATOM [and ATOM ..]", "ever": "ever ATOM [and ATOM ..]",
          "count": "count ATOM [and ATOM ..]", "domain": "domain NAME KIND N [M]", "reads": "reads A B", "depth": "depth N",
          "states": "states N", "end": "end"}
-CHOICES = {"step": "may step H [N]", "tick": "may tick H"}
+CHOICES = {"step": "may step H [N]", "run": "may run H", "tick": "may tick H"}
 # Each atom with its form, and with the least and the largest number of its words.
 ATOMS = {"stuck": ("stuck", 1, 1), "halted": ("halted", 1, 1), "crossing": ("crossing", 1, 1),
          "running": ("running P", 2, 2), "receiving": ("receiving P", 2, 2), "faulted": ("faulted P [CODE]", 2, 3),
@@ -45,7 +45,7 @@ class Question:
 
     @staticmethod
     def unknown(word):
-        if word in EVENTS:
+        if word in EVENTS or word in CHOICES:
             return Refused("UnknownQuestion", word, f"a line of a question: {', '.join(FORMS.values())}",
                            f"a choice is `may {word} ..`" if word in CHOICES else
                            "a schedule stands behind a line `end` of the question")
@@ -54,7 +54,7 @@ class Question:
     def choice(self, words):
         word = words[1] if words[1:] else end_of(words)
         if word not in CHOICES:
-            raise Refused("UnknownEvent", word, "step or tick", "a choice has steps of one hart" if word == "round" else
+            raise Refused("UnknownEvent", word, "step, run or tick", "a choice has steps of one hart" if word == "round" else
                           "a word is missing" if not word else "")
         count_words(words, 3, 4 if word == "step" else 3, CHOICES[word])
         hart(words[2], self.terms)
