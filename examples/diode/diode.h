@@ -6,6 +6,11 @@
 
 #include "coyotos.h"
 
+/* how many readings there are */
+#ifndef READING_COUNT
+#define READING_COUNT 20
+#endif
+
 enum { ROOM = 64 };
 
 struct reading {

@@ -1,7 +1,7 @@
 /* Reads what the sensor measured, and passes on what is too high. At its end it tries to write to the sensor's page. */
 #include "diode.h"
 
-enum { READING_COUNT = 20, LIMIT = 80 };
+enum { LIMIT = 80 };
 
 coy_word main(void) {
     for (coy_word seen = 0; seen < READING_COUNT; seen++) {

@@ -1,8 +1,6 @@
 /* Measures, and writes what it measured. It holds its page and nothing else, and reads nothing that another writes. */
 #include "diode.h"
 
-enum { READING_COUNT = 20 };
-
 /* In the place of a device: values that go up and down between 0 and 99. */
 static coy_word measure(coy_word number) { return (number * 37 + 11) % 100; }
 

@@ -1,0 +1,3 @@
+/* The monitor, with so few readings that all orders of steps can be gone through. */
+#define READING_COUNT 2
+#include "monitor.c"
