@@ -34,7 +34,7 @@ use Rattle.explore_program.specs.Posed.{HasPosed, IfPosed, Posed, posed, posed_a
 use Rattle.explore_program.specs.Program.{asked_by, explore, is_early}
 use Rattle.explore_program.specs.Stated.{PastEnd, RefusedAt, Stated, States, first_asked, stated}
 use Rattle.explore_program.specs.Theorem.{AnswersInput, Holds, IsViolated, Judges, OneOutputLaw, TellsFlushed, TellsInput}
-use Rattle.explore_program.specs.Told.{Answers, HoldsAlways, Tells, ended_output, exit_of, explore_course, stated_output}
+use Rattle.explore_program.specs.Told.{Answers, HoldsAlways, Stepwise, Tells, ended_output, exit_of, explore_course, stated_output}
 use Rattle.explore_program.proofs.Setting.{nothing_told}
 use Rattle.explore_program.proofs.Verdicts.{done-holds, exactly-done, same-told, told-violated}
 
@@ -158,13 +158,14 @@ module _ (bytes : List ℕ) (taken taken' : Option (List ℕ)) (exit : Exit) (to
 pub judges-call : (words : List (List ℕ)) (held taken taken' : Option (List ℕ)) (exit : Exit) (told : Output)
     → (exit ≢ ReadFault → exit ≢ OutOfMemory → IfSome held (λ bytes. IfPosed (λ asked s. Answers asked s told) (posed bytes)))
     → IfSome held (λ bytes. Outputs taken taken' exit (course_output (lines_course (explore_course told) (parts_of bytes)))) → Judges words held exit
-judges-call words None taken taken' exit told answers written = record { holds = λ asked done. tt; always = λ asked done. tt; violated = λ bad. tt; exactly = λ asked given limit. tt }
+judges-call words None taken taken' exit told answers written = record { holds = λ asked done. tt; always = λ asked done. tt; stepwise = λ asked done. tt; violated = λ bad. tt; exactly = λ asked given limit. tt }
 judges-call words (Some bytes) taken taken' exit told answers written =
     let came = came-listed told (listing_of Header 1 (parts_of bytes)) in
     record {
       holds = λ asked done.
           follows-done bytes taken taken' exit told answers written Holds (ap is_finished done) (λ p a own. done-holds p.asked p.state a.answer a.exact (own ∙ done)) came;
       always = λ asked done. follows-done bytes taken taken' exit told answers written HoldsAlways (ap is_finished done) (λ p a own. a.always (own ∙ done)) came;
+      stepwise = λ asked done. follows-done bytes taken taken' exit told answers written Stepwise (ap is_finished done) (λ p a own. a.stepwise (own ∙ done)) came;
       violated = λ violated.
           follows-done bytes taken taken' exit told answers written IsViolated (ap is_finished violated)
           (λ p a own. told-violated p.asked p.state a.answer a.exact (own ∙ violated)) came;
@@ -178,6 +179,7 @@ pub judges-none : (words : List (List ℕ)) (held : Option (List ℕ)) (exit : E
 judges-none words held exit other unasked = record {
   holds = λ asked done. absurd (unasked asked);
   always = λ asked done. absurd (unasked asked);
+  stepwise = λ asked done. absurd (unasked asked);
   violated = λ violated. absurd (other violated);
   exactly = λ asked given limit. absurd (unasked asked);
 }
@@ -186,9 +188,9 @@ judges-none words held exit other unasked = record {
 pub judges-after : {T E : Type 0} (words : List (List ℕ)) (held : Option (List ℕ)) (exit : Exit) (flushed : Result T E) → Judges words held exit → Judges words held (exit_after exit flushed)
 judges-after words held exit (Ok done) j = j
 judges-after words held ReadFault (Err fault) j =
-    record { holds = λ asked bad. cc; always = λ asked bad. cc; violated = λ bad. cc; exactly = λ asked given limit. absurd (given.read refl) }
+    record { holds = λ asked bad. cc; always = λ asked bad. cc; stepwise = λ asked bad. cc; violated = λ bad. cc; exactly = λ asked given limit. absurd (given.read refl) }
 judges-after words held _ (Err fault) j =
-    record { holds = λ asked bad. cc; always = λ asked bad. cc; violated = λ bad. cc; exactly = λ asked given limit. absurd (given.write refl) }
+    record { holds = λ asked bad. cc; always = λ asked bad. cc; stepwise = λ asked bad. cc; violated = λ bad. cc; exactly = λ asked given limit. absurd (given.write refl) }
 
 -- an output behind a flush
 given-after : {T E : Type 0} (exit : Exit) (flushed : Result T E) → IsGiven (exit_after exit flushed) → IsGiven exit
@@ -357,4 +359,4 @@ one_output one words bytes a b first second =
     (λ p is.
     let x = asked-at (λ asked s. Answers asked s a) (posed bytes) p is first in
     let y = asked-at (λ asked s. Answers asked s b) (posed bytes) p is second in
-    x.is ∙ same-told p.asked x.answer y.answer (one p.asked.question p.asked.policy p.state x.answer y.answer x.searched y.searched) ∙ sym y.is)
+    x.is ∙ same-told p.asked p.state x.answer y.answer (one p.asked.question p.asked.policy p.state x.answer y.answer x.searched y.searched) ∙ sym y.is)

@@ -11,7 +11,7 @@ use Rattle.explore_program.specs.declared.asked.Asked.{Asked}
 use Rattle.explore_program.specs.declared.words.Wanted.TheVariants.{Explore}
 use Rattle.explore_program.specs.Posed.{HasPosed, IfPosed, posed}
 use Rattle.explore_program.specs.Program.{asked_by, explore}
-use Rattle.explore_program.specs.Told.{Answers, HoldsAlways, Tells}
+use Rattle.explore_program.specs.Told.{Answers, HoldsAlways, Stepwise, Tells}
 
 -- ---- what holds
 
@@ -50,6 +50,7 @@ pub record TellsFlushed (words : List (List ℕ)) (held : Option (List ℕ)) (ex
 pub record Judges (words : List (List ℕ)) (held : Option (List ℕ)) (exit : Exit) : Type 0 where
   pub holds : asked_by words ≡ Some Explore → exit ≡ Done → IfSome held (λ bytes. HasPosed Holds (posed bytes))
   pub always : asked_by words ≡ Some Explore → exit ≡ Done → IfSome held (λ bytes. HasPosed HoldsAlways (posed bytes))
+  pub stepwise : asked_by words ≡ Some Explore → exit ≡ Done → IfSome held (λ bytes. HasPosed Stepwise (posed bytes))
   pub violated : exit ≡ Violated → IfSome held (λ bytes. HasPosed IsViolated (posed bytes))
   pub exactly : asked_by words ≡ Some Explore → IsGiven exit → exit ≢ Open
       → IfSome held (λ bytes. IfPosed (λ asked s. (exit ≡ Done) ↔ Holds asked s) (posed bytes))

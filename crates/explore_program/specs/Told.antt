@@ -1,7 +1,7 @@
 -- What is told of a question, and what the program writes with it (this project's own).
 --
 -- No definition goes through the states: what is told is that of an answer of the search, which `Answers` says.
-use Rattle.std.specs.Prelude.{◌≡◌, ◌≢◌, ◌<◌, ℕ, true, List, [], Some, None, Result, Ok, Err}
+use Rattle.std.specs.Prelude.{◌≡◌, ◌≢◌, ◌<◌, ◌≤◌, ℕ, true, List, [], length, Some, None, Result, Ok, Err, ⊤}
 use Rattle.std.specs.List.{All}
 use Rattle.machine_state.specs.Machine.{hart_in}
 use Rattle.machine_state.specs.declared.event.Event.{Event}
@@ -9,9 +9,14 @@ use Rattle.kernel_core.specs.Run.{run_state}
 use Rattle.kernel_core.specs.State.{State}
 use Rattle.breadth_first.specs.declared.answer.Explored.{Explored}
 use Rattle.breadth_first.specs.declared.answer.Explored.TheVariants as answers
-use Rattle.exploration.specs.question.Question.{choices_of}
-use Rattle.exploration.specs.Explored.{IsExact, IsSafe, Says}
+use Rattle.exploration.specs.Explored.{AsksEver, IsExact, IsSafe, Says}
+use Rattle.exploration.specs.declared.question.choice.Choice.{Choice}
+use Rattle.exploration.specs.question.Question.{holds}
 use Rattle.exploration.specs.Laws.{IsAnswerTo}
+use Rattle.exploration.specs.Shown.{shown_of}
+use Rattle.interleavings.specs.Laws.{EachHartRuns, OnlyRuns}
+use Rattle.quiet_runs.specs.Laws.{AreHarts, CanCome}
+use Rattle.quiet_runs.specs.Runs.{after_steps}
 use Rattle.explore_program.specs.explored_text.Text.{explored_text}
 use Rattle.schedule_replay.specs.Scheduled.{Ending, AtEnd, AtFault, AtLimit, scheduled}
 use Rattle.courses.specs.Course.{ends_in}
@@ -38,17 +43,44 @@ abbrev pub written_exit : {T E : Type 0} → Exit → Result T E → Exit
 written_exit exit (Ok done) = exit
 written_exit exit (Err fault) = WriteFault
 
--- what is told of a question by an answer
-abbrev pub told_by : Asked → Explored → Output
-told_by asked answer = record {
-  text = explored_text asked.question.properties (choices_of asked.question) answer;
+-- what is told of a question by an answer, where these choices lead to the state that it tells
+abbrev pub told_with : Asked → List Choice → Explored → Output
+told_with asked shown answer = record {
+  text = explored_text asked.question.properties shown answer;
   exit = exit_of answer;
 }
+
+-- what is told by an answer of a question asked of this state: the choices that lead on from it, with their steps counted
+abbrev pub told_by : Asked → State → Explored → Output
+told_by asked s answer = told_with asked (shown_of asked.question s answer) answer
 
 -- where no line says `may`: whatever the events, of harts that there are, no `never` fails in the state behind them
 abbrev pub HoldsAlways : Asked → State → Type 0
 HoldsAlways asked s = asked.question.choices ≡ []
     → (es : List Event) → All (λ e. hart_in e < asked.question.sizes.harts) es → IsSafe asked.question asked.policy (run_state s es)
+
+-- where each hart can be run: whatever the steps of the harts, no `never` fails in the state after them
+abbrev pub HoldsStepwise : Asked → State → Type 0
+HoldsStepwise asked s = EachHartRuns asked.question
+    → (harts : List ℕ) → AreHarts asked.question.sizes.harts harts → IsSafe asked.question asked.policy (after_steps s harts)
+
+-- and where nothing else can be chosen: whatever the steps of the harts, others lead on to where the atoms of an `ever` hold
+abbrev pub CanComeStepwise : Asked → State → Type 0
+CanComeStepwise asked s = EachHartRuns asked.question → OnlyRuns asked.question
+    → (n : ℕ) → AsksEver asked.question n → (harts : List ℕ) → AreHarts asked.question.sizes.harts harts
+    → CanCome asked.question.sizes.harts (λ t. holds asked.question asked.policy t n) (after_steps s harts)
+
+-- both
+pub record Stepwise (asked : Asked) (s : State) : Type 0 where
+  pub never : HoldsStepwise asked s
+  pub ever : CanComeStepwise asked s
+
+-- where a limit ended the search, and each hart can be run: no `never` fails after as many steps as choices were gone through
+abbrev pub StepwiseWithin : Asked → State → Explored → Type 0
+StepwiseWithin asked s (answers.Open size counts) = EachHartRuns asked.question
+    → (harts : List ℕ) → AreHarts asked.question.sizes.harts harts → length harts ≤ size.depth
+    → IsSafe asked.question asked.policy (after_steps s harts)
+StepwiseWithin asked s _ = ⊤
 
 -- What is told of a question asked of this state is that of an answer of the search. All that the answer says is so, of the
 -- abstract machine, and it is yes exactly where the question's is.
@@ -58,7 +90,9 @@ pub record Answers (asked : Asked) (s : State) (told : Output) : Type 0 where
   pub says : Says asked.question asked.policy s answer
   pub exact : IsExact asked.question asked.policy s answer
   pub always : exit_of answer ≡ Done → HoldsAlways asked s
-  pub is : told ≡ told_by asked answer
+  pub stepwise : exit_of answer ≡ Done → Stepwise asked s
+  pub within : StepwiseWithin asked s answer
+  pub is : told ≡ told_by asked s answer
 
 -- Of an output this is so, and where a call comes to tell one, it answers: the call may end for want of memory, or since reading
 -- failed, before it does.

@@ -3,16 +3,17 @@ ghost use Rattle.std.specs.Prelude.{◌≡◌, ◌≢◌};
 ghost use Rattle.object_store.specs.Store.{sizes_of};
 ghost use Rattle.machine_state.specs.State.{state_of};
 ghost use Rattle.courses.specs.Ending.{EndsIn};
-ghost use Rattle.explore_program.specs.Told.{Answers, Tells, exit_of, told_by, written_exit};
+ghost use Rattle.explore_program.specs.Told.{Answers, Tells, exit_of, told_with, written_exit};
 
 use crate::asked::Asked;
 use crate::explored_text::put_explored;
 use breadth_first::{Explored, Watcher};
 use courses::Exit;
 use coy_io::{Sink, WriteFault};
-use exploration::machine_space::explore_machine;
+use exploration::machine_space::{Answered, explore_machine};
 use exploration::question::Asks;
 use exploration::{asking, explored_laws};
+use interleavings::{ever_stepwise_law, never_stepwise_law, within_stepwise_law};
 use machine_state::Machine;
 use std::alloc::Global;
 use std::sync::ledger::Ledger;
@@ -34,6 +35,9 @@ pub(crate) fn answer<K: Sink, W: Watcher, L: Ledger>(
     ensures unwritten { result ≡ Exit.OutOfMemory → output.new ≡ output.old }
 {
     explored_laws();
+    never_stepwise_law();
+    within_stepwise_law();
+    ever_stepwise_law();
     match explore_machine(
         alloc,
         machine,
@@ -42,22 +46,18 @@ pub(crate) fn answer<K: Sink, W: Watcher, L: Ledger>(
         watcher,
         fetches,
     ) {
-        Ok(explored) => tell(alloc, asked, &explored, output),
+        Ok(answered) => tell(alloc, asked, &answered, output),
         Err(_) => Exit::OutOfMemory,
     }
 }
 
 /// Tells an answer.
-fn tell<K: Sink>(alloc: Global, asked: &Asked, explored: &Explored, output: &mut K) -> Exit
+fn tell<K: Sink>(alloc: Global, asked: &Asked, answered: &Answered, output: &mut K) -> Exit
     ensures ends { result ≢ Exit.OutOfMemory → EndsIn K.taken K.faults output.old output.new result
-        (told_by asked.now explored.now) }
+        (told_with asked.now answered.now.shown.items answered.now.explored) }
     ensures unwritten { result ≡ Exit.OutOfMemory → output.new ≡ output.old }
 {
-    let question = &asked.question;
-    let properties = question.properties();
-    let Ok(choices) = question.choices(alloc) else {
-        return Exit::OutOfMemory;
-    };
+    let properties = asked.question.properties();
     let Ok(evers) = asking(alloc, properties, Asks::Ever) else {
         return Exit::OutOfMemory;
     };
@@ -66,13 +66,13 @@ fn tell<K: Sink>(alloc: Global, asked: &Asked, explored: &Explored, output: &mut
     };
     let written = put_explored(
         properties,
-        choices.as_slice(),
+        answered.shown.as_slice(),
         evers.as_slice(),
         counted.as_slice(),
-        explored,
+        &answered.explored,
         output,
     );
-    end_written(written, exit_of(explored))
+    end_written(written, exit_of(&answered.explored))
 }
 
 /// How a call ends that was to end so once its text was written.

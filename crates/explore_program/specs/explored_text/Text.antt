@@ -1,32 +1,32 @@
 -- What is told of an exploration: whether all properties hold, or the choices that lead to a state in which one doesn't.
 -- (Own.)
-use Rattle.std.specs.Prelude.{ℕ, zero, suc, Bool, if◌then◌else◌, List, [], ◌∷◌, ◌++◌, length, flat_map, codes, decimal, slice_index, slice_index_or, Option, Some, None}
+use Rattle.std.specs.Prelude.{ℕ, List, [], ◌++◌, length, flat_map, codes, decimal, slice_index, slice_index_or, Option, Some, None}
 use Rattle.breadth_first.specs.declared.answer.Count.{Count}
 use Rattle.breadth_first.specs.declared.answer.Explored.{Explored}
 use Rattle.breadth_first.specs.declared.answer.Explored.TheVariants.{Found, Closed, Open}
 use Rattle.breadth_first.specs.declared.answer.Lost.{Lost}
 use Rattle.breadth_first.specs.declared.answer.Size.{Size}
 use Rattle.exploration.specs.declared.question.choice.Choice.{Choice}
-use Rattle.exploration.specs.declared.question.choice.Choice.TheVariants.{Steps, Tick}
-use Rattle.exploration.specs.question.Choice.{choice_at}
+use Rattle.exploration.specs.declared.question.choice.Choice.TheVariants.{Steps, Run, Tick}
 use Rattle.exploration.specs.question.Question.{PropertyValue, is_count, is_ever}
 use Rattle.exploration.specs.Asking.{asking, property_at}
 use Rattle.run_text.specs.Each.{each_below}
 
 -- ---- choices, as the lines of a schedule
 
--- a choice
+-- so many steps of a hart
+unfoldable pub steps_text : ℕ → ℕ → List ℕ
+steps_text hart times = codes "step " ++ decimal hart ++ codes " " ++ decimal times ++ codes "\n"
+
+-- a choice whose steps are counted; a run of which they aren't is its first step
 unfoldable pub choice_text : Choice → List ℕ
-choice_text (Steps hart times) = codes "step " ++ decimal hart ++ codes " " ++ decimal times ++ codes "\n"
+choice_text (Steps hart times) = steps_text hart times
+choice_text (Run hart) = steps_text hart 1
 choice_text (Tick hart) = codes "tick " ++ decimal hart ++ codes "\n"
 
--- a choice by its number
-abbrev pub step_text : List Choice → ℕ → List ℕ
-step_text choices i = choice_text (choice_at choices i)
-
 -- a list of them
-abbrev pub path_text : List Choice → List ℕ → List ℕ
-path_text choices path = flat_map (step_text choices) path
+abbrev pub choices_text : List Choice → List ℕ
+choices_text choices = flat_map choice_text choices
 
 -- ---- lines
 
@@ -62,18 +62,18 @@ counted_text properties counts i = count_text (property_at properties (slice_ind
 abbrev pub counts_text : List PropertyValue → List Count → List ℕ
 counts_text properties counts = each_below (counted_text properties counts) (length counts)
 
--- a state that a property is about, and the choices that lead to it
-unfoldable pub led_to : List ℕ → ℕ → List Choice → List ℕ → List ℕ
-led_to word line choices path = led_text word line (length path) ++ path_text choices path
+-- a state that a property is about, how many choices lead to it, and these with their steps counted
+unfoldable pub led_to : List ℕ → ℕ → List ℕ → List Choice → List ℕ
+led_to word line path shown = led_text word line (length path) ++ choices_text shown
 
 -- what is told where all states were seen: that all holds, or a state from which nothing leads to one with all atoms
 abbrev pub closed_text : List PropertyValue → List Choice → Size → Option Lost → List ℕ
-closed_text properties choices size None = size_text (codes "holds") size
-closed_text properties choices size (Some lost) =
-    led_to (codes "lost") (property_at properties (slice_index (asking is_ever properties) lost.ever)).line choices lost.path.items
+closed_text properties shown size None = size_text (codes "holds") size
+closed_text properties shown size (Some lost) =
+    led_to (codes "lost") (property_at properties (slice_index (asking is_ever properties) lost.ever)).line lost.path.items shown
 
--- what is told of an exploration
+-- what is told of an exploration, where these are the choices that lead to the state that it tells
 unfoldable pub explored_text : List PropertyValue → List Choice → Explored → List ℕ
-explored_text properties choices (Found n path) = led_to (codes "found") (property_at properties n).line choices path.items
-explored_text properties choices (Closed size counts lost) = counts_text properties counts.items ++ closed_text properties choices size lost
-explored_text properties choices (Open size counts) = counts_text properties counts.items ++ size_text (codes "open") size
+explored_text properties shown (Found n path) = led_to (codes "found") (property_at properties n).line path.items shown
+explored_text properties shown (Closed size counts lost) = counts_text properties counts.items ++ closed_text properties shown size lost
+explored_text properties shown (Open size counts) = counts_text properties counts.items ++ size_text (codes "open") size

@@ -1,8 +1,10 @@
-use Rattle.std.proofs.Common.{refl}
+use Rattle.std.proofs.Common.{List, refl, subst}
 use Rattle.machine_state.specs.State.{state_of}
-use Rattle.explore_program.specs.Told.{told_by}
+use Rattle.courses.specs.Ending.{EndsIn}
+use Rattle.exploration.specs.declared.question.choice.Choice.{Choice}
+use Rattle.explore_program.specs.Told.{told_by, told_with}
 use Rattle.explore_program.proofs.Setting.{nothing_told}
-use Rattle.explore_program.proofs.Verdicts.{answer-finished, done-holds}
+use Rattle.explore_program.proofs.Verdicts.{answer-finished, done-holds, stepwise-within}
 use Rattle.explore_program.proofs.answering.answer.Goals as goal
 
 pub returns-in-Ok-clause-tells : goal.returns-in-Ok-clause-tells
@@ -10,11 +12,11 @@ returns-in-Ok-clause-tells g c =
     let asked = c.args.asked.now in
     let s = state_of c.args.machine in
     let laws = c.explored_laws.ensures in
-    let searched = c.in-Ok.ensures in
-    let answer = c.in-Ok.explored in
+    let searched = c.in-Ok.ensures.answer in
+    let answer = c.in-Ok.answered.explored in
     let exact = laws.exact asked.question asked.policy s answer searched in
     record {
-      told = told_by asked answer;
+      told = told_by asked s answer;
       finished = answer-finished answer;
       answers = λ read memory. record {
         answer = answer;
@@ -22,9 +24,18 @@ returns-in-Ok-clause-tells g c =
         says = laws.says asked.question asked.policy s answer searched;
         exact = exact;
         always = λ done choices. laws.every_event asked.question asked.policy s choices (done-holds asked s answer exact done).never;
+        stepwise = λ done.
+            let all = done-holds asked s answer exact done in
+            record {
+              never = λ runs. c.never_stepwise_law.ensures asked.question asked.policy s runs all.never;
+              ever = λ runs only. c.ever_stepwise_law.ensures asked.question asked.policy s runs only all.ever;
+            };
+        within = stepwise-within asked s answer (laws.says asked.question asked.policy s answer searched) (c.within_stepwise_law.ensures asked.question asked.policy s);
         is = refl;
       };
-      so = c.tell.ensures.ends;
+      so = λ memory.
+          subst (λ (shown : List Choice). EndsIn g.K.Sink.taken g.K.Sink.faults c.args.output.now c.tell.new.output c.tell.result (told_with asked shown answer))
+          c.in-Ok.ensures.shown (c.tell.ensures.ends memory);
     }
 
 pub returns-in-Err-clause-tells : goal.returns-in-Err-clause-tells

@@ -1,4 +1,4 @@
-use Rattle.std.proofs.Common.{◌<◌, ◌≤◌, length, arith}
+use Rattle.std.proofs.Common.{◌≤◌, length, arith}
 use Rattle.run_text.proofs.Texts.{all_done, none_yet, one_more, one_stops}
 use Rattle.explore_program.specs.explored_text.Text.{counted_text}
 use Rattle.explore_program.proofs.explored_text.counts.put_counts.Goals as goal

@@ -8,4 +8,4 @@ returns-in_err-put_led g c = stop _ _ _ _ _ _ _ _ c.from_residual.ensures.0 c.in
 
 pub returns : goal.returns
 unfolding led_to
-returns g c = go_on _ _ _ _ _ _ _ _ _ _ c.in_ok-put_led.ensures c.put_path.ensures
+returns g c = go_on _ _ _ _ _ _ _ _ _ _ c.in_ok-put_led.ensures c.put_choices.ensures
