@@ -1,4 +1,5 @@
 pub mod Stated
 pub mod Confine
 pub mod Decided
+pub mod Places
 pub mod Laws

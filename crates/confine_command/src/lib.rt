@@ -10,4 +10,4 @@ mod laws;
 mod lines;
 
 pub use input::confine;
-pub use laws::awake_law;
+pub use laws::{awake_law, decided_law};
