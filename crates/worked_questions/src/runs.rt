@@ -41,6 +41,17 @@ impl Watcher for Nobody {
     fn watch(&mut self, _states: usize, _depth: usize, _tried: u64) {}
 }
 
+/// Lets each of two harts be run.
+fn run_both(rt: &impl Abort, question: &mut Question)
+    ensures { question.new.sizes ≡ question.old.sizes }
+{
+    if question.sizes().harts < 2 {
+        return;
+    }
+    question.may(Choice::Run { hart: 0 }).expect(rt, "hart 0");
+    question.may(Choice::Run { hart: 1 }).expect(rt, "hart 1");
+}
+
 /// The answer to a question of one line, where each choice is a run of a hart.
 fn answer<L: Ledger>(
     rt: &impl Abort,
@@ -53,11 +64,7 @@ fn answer<L: Ledger>(
     let mut policy = Policy::new(alloc, machine.objects().sizes()).expect(rt, line);
     let read = read_question(alloc, line.as_bytes(), 1, &mut question, &mut policy);
     assert!(rt; read.is_ok(), "{line}");
-    for hart in 0..2 {
-        if hart < question.sizes().harts {
-            question.may(Choice::Run { hart }).expect(rt, line);
-        }
-    }
+    run_both(rt, &mut question);
     explore_machine(alloc, machine, &question, &policy, &mut Nobody, fetches).expect(rt, line)
 }
 
@@ -71,8 +78,8 @@ fn check_all<L: Ledger>(rt: &impl Abort, alloc: Global, permit: Permit)
 {
     let mut fetches = Steps::<L>::new(permit);
 
-    // Nobody has run, process 0 or 1 is at its breakpoint on hart 0 or 1, both are so on either harts, one is past its breakpoint
-    // and the other hasn't run, or is at its own on hart 0 or 1, and both are past: 11 states.
+    // Nobody has run (1 state); process 0 is at its breakpoint, on either hart (2), or past it (1); both are at theirs, either way
+    // round (2); one is past and the other at its own, on either hart (4); both are past (1).
     let all = answer(rt, alloc, "ever faulted 0 and faulted 1", &mut fetches);
     assert!(rt;
         matches!(all.explored, Explored::Closed { size, lost: None, .. } if size.states == 11 && size.tried == 22 && size.depth == 4),

@@ -28,14 +28,14 @@ pub is_quiet-requires-clause-reaching : goal.is_quiet-requires-clause-reaching
 is_quiet-requires-clause-reaching g c =
     subst (λ (m : MachineValue (Unit {0})). IsReaching (state_of m).store c.args.reaching.now) (sym c.machine.ensures.value) c.quiet.invariant.reaching
 
-pub returns-then-not-is_quiet-clause-tables : goal.returns-then-not-is_quiet-clause-tables
-returns-then-not-is_quiet-clause-tables g c = c.quiet.invariant.tables
-
 pub returns-then-not-is_quiet-clause-count : goal.returns-then-not-is_quiet-clause-count
 returns-then-not-is_quiet-clause-count g c =
     let w = watch_of c.args.watched.now in
     let next = ap (λ (m : MachineValue (Unit {0})). is_quiet w (state_of m) c.args.hart) (sym c.machine.ensures.value) ∙ sym c.is_quiet.ensures.value ∙ c.if-not-is_quiet.true in
     gone-quiet w c.args.hart 4096 (state_of c.args.states.now.machine) (state_of c.quiet.states.machine) c.quiet.performed c.quiet.invariant.gone next
+
+pub returns-then-not-is_quiet-clause-tables : goal.returns-then-not-is_quiet-clause-tables
+returns-then-not-is_quiet-clause-tables g c = c.quiet.invariant.tables
 
 pub returns-then-not-is_quiet-clause-state : goal.returns-then-not-is_quiet-clause-state
 returns-then-not-is_quiet-clause-state g c =
