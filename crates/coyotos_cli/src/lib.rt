@@ -9,6 +9,6 @@ mod making;
 mod program;
 
 pub use courses::Exit;
-pub use laws::same_course_law;
+pub use laws::{confined_law, same_course_law};
 pub use program::coyotos;
 pub use schedule_replay::{Counts, Mode, Replayed, replay};
