@@ -6,6 +6,4 @@ mod atoms;
 #[cfg(test)]
 mod lines;
 #[cfg(test)]
-mod runs;
-#[cfg(test)]
 mod starts;

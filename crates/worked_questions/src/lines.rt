@@ -30,17 +30,22 @@ UnknownQuestion |Never stuck|
 question |may step 1|
 question |may step 1 1000000|
 question |may tick 0|
+question |may run 1|
 UnknownEvent |may|
 UnknownEvent |may round 1|
 WrongWords |may step|
 WrongWords |may step 0 1 1|
 WrongWords |may tick 0 1|
+WrongWords |may run|
+WrongWords |may run 0 1|
 BadNumber |may step x 0|
 NoHart |may step 2 0|
 BadNumber |may step 1 x|
 BadRepeat |may step 1 0|
 BadRepeat |may step 1 1000001|
 NoHart |may tick 2|
+BadNumber |may run x|
+NoHart |may run 2|
 question |depth 0|
 WrongWords |depth|
 BadNumber |depth 0x1|

@@ -556,6 +556,454 @@ step 1 1
 =>
 refused 6 NoHart
 ==
+0 none: a run goes on over what concerns nobody else
+coyotos 1
+machine 1 4 2 4 2 1
+code 0 0 addi x1 x0 1
+code 0 4 addi x2 x0 2
+code 0 8 ebreak
+slot 0 0 page:0@12/0
+slot 1 0 page:1@12/0
+process 0 0 gpt:0@16/0 schedule:3 null run
+process 1 0 gpt:1@16/0 null null stop
+
+end
+may run 0
+=>
+holds states=3 tried=3 depth=2
+==
+0 none: somebody may read the page of the code
+coyotos 1
+machine 1 4 2 4 2 1
+code 0 0 addi x1 x0 1
+code 0 4 addi x2 x0 2
+code 0 8 ebreak
+slot 0 0 page:0@12/0
+slot 1 0 page:1@12/0
+process 0 0 gpt:0@16/0 schedule:3 null run
+process 1 0 gpt:1@16/0 null null stop
+capreg 1 5 page:0@12/0+rw
+end
+may run 0
+=>
+holds states=4 tried=4 depth=3
+==
+0 none: somebody comes to it through two more GPTs
+coyotos 1
+machine 1 4 2 4 2 1
+code 0 0 addi x1 x0 1
+code 0 4 addi x2 x0 2
+code 0 8 ebreak
+slot 0 0 page:0@12/0
+slot 1 0 page:1@12/0
+process 0 0 gpt:0@16/0 schedule:3 null run
+process 1 0 gpt:1@16/0 null null stop
+slot 1 5 gpt:2@16/0
+slot 2 5 gpt:3@16/0
+slot 3 7 page:0@12/0
+end
+may run 0
+=>
+holds states=4 tried=4 depth=3
+==
+0 none: it stands in a capability page
+coyotos 1
+machine 1 4 2 4 2 1
+code 0 0 addi x1 x0 1
+code 0 4 addi x2 x0 2
+code 0 8 ebreak
+slot 0 0 page:0@12/0
+slot 1 0 page:1@12/0
+process 0 0 gpt:0@16/0 schedule:3 null run
+process 1 0 gpt:1@16/0 null null stop
+cap 0 9 page:0@12/0
+end
+may run 0
+=>
+holds states=4 tried=4 depth=3
+==
+0 none: nobody comes to the GPT in which it stands
+coyotos 1
+machine 1 4 2 4 2 1
+code 0 0 addi x1 x0 1
+code 0 4 addi x2 x0 2
+code 0 8 ebreak
+slot 0 0 page:0@12/0
+slot 1 0 page:1@12/0
+process 0 0 gpt:0@16/0 schedule:3 null run
+process 1 0 gpt:1@16/0 null null stop
+slot 2 5 page:0@12/0
+end
+may run 0
+=>
+holds states=3 tried=3 depth=2
+==
+0 none: somebody holds the process
+coyotos 1
+machine 1 4 2 4 2 1
+code 0 0 addi x1 x0 1
+code 0 4 addi x2 x0 2
+code 0 8 ebreak
+slot 0 0 page:0@12/0
+slot 1 0 page:1@12/0
+process 0 0 gpt:0@16/0 schedule:3 null run
+process 1 0 gpt:1@16/0 null null stop
+capreg 1 5 process:0
+end
+may run 0
+=>
+holds states=4 tried=4 depth=3
+==
+0 none: an endpoint alone names it
+coyotos 1
+machine 1 4 2 4 2 1
+code 0 0 addi x1 x0 1
+code 0 4 addi x2 x0 2
+code 0 8 ebreak
+slot 0 0 page:0@12/0
+slot 1 0 page:1@12/0
+process 0 0 gpt:0@16/0 schedule:3 null run
+process 1 0 gpt:1@16/0 null null stop
+endpoint 0 process:0 1 0 plain
+capreg 1 5 entry:0:0
+end
+may run 0
+=>
+holds states=3 tried=3 depth=2
+==
+0 none: somebody holds a range
+coyotos 1
+machine 1 4 2 4 2 1
+code 0 0 addi x1 x0 1
+code 0 4 addi x2 x0 2
+code 0 8 ebreak
+slot 0 0 page:0@12/0
+slot 1 0 page:1@12/0
+process 0 0 gpt:0@16/0 schedule:3 null run
+process 1 0 gpt:1@16/0 null null stop
+cap 0 5 range
+end
+may run 0
+=>
+holds states=4 tried=4 depth=3
+==
+0 none: somebody holds a window
+coyotos 1
+machine 1 4 2 4 2 1
+code 0 0 addi x1 x0 1
+code 0 4 addi x2 x0 2
+code 0 8 ebreak
+slot 0 0 page:0@12/0
+slot 1 0 page:1@12/0
+process 0 0 gpt:0@16/0 schedule:3 null run
+process 1 0 gpt:1@16/0 null null stop
+slot 3 5 window:1000@12/0
+end
+may run 0
+=>
+holds states=4 tried=4 depth=3
+==
+0 none: a line looks at the process
+coyotos 1
+machine 1 4 2 4 2 1
+code 0 0 addi x1 x0 1
+code 0 4 addi x2 x0 2
+code 0 8 ebreak
+slot 0 0 page:0@12/0
+slot 1 0 page:1@12/0
+process 0 0 gpt:0@16/0 schedule:3 null run
+process 1 0 gpt:1@16/0 null null stop
+
+end
+may run 0
+count pc 0 4
+=>
+count 13 states=1 depth=1
+holds states=4 tried=4 depth=3
+==
+0 none: a line looks at a page of its own
+coyotos 1
+machine 1 4 2 4 2 1
+code 0 0 addi x1 x0 1
+code 0 4 addi x2 x0 2
+code 0 8 ebreak
+slot 0 0 page:0@12/0
+slot 1 0 page:1@12/0
+process 0 0 gpt:0@16/0 schedule:3 null run
+process 1 0 gpt:1@16/0 null null stop
+
+end
+may run 0
+count word 0 ffc 0
+=>
+count 13 states=4 depth=0
+holds states=4 tried=4 depth=3
+==
+0 none: a line looks at another page
+coyotos 1
+machine 1 4 2 4 2 1
+code 0 0 addi x1 x0 1
+code 0 4 addi x2 x0 2
+code 0 8 ebreak
+slot 0 0 page:0@12/0
+slot 1 0 page:1@12/0
+process 0 0 gpt:0@16/0 schedule:3 null run
+process 1 0 gpt:1@16/0 null null stop
+
+end
+may run 0
+count word 1 ffc 0
+=>
+count 13 states=3 depth=0
+holds states=3 tried=3 depth=2
+==
+0 none: what is stored to is another's, too
+coyotos 1
+machine 1 4 2 4 2 1
+code 0 0 addi x1 x0 6
+code 0 4 sw x1 0(x4)
+code 0 8 addi x1 x0 7
+code 0 c ebreak
+slot 0 0 page:0@12/0
+slot 1 0 page:1@12/0
+process 0 0 gpt:0@16/0 schedule:3 null run
+process 1 0 gpt:1@16/0 null null stop
+slot 0 1 page:2@12/0
+reg 0 4 1000
+capreg 1 5 page:2@12/0+r
+end
+may run 0
+=>
+holds states=4 tried=4 depth=3
+==
+10 none: a load faults behind two quiet steps
+coyotos 1
+machine 1 4 2 4 2 1
+code 0 0 addi x1 x0 1
+code 0 4 addi x2 x0 2
+code 0 8 lw x3 0(x4)
+slot 0 0 page:0@12/0
+slot 1 0 page:1@12/0
+process 0 0 gpt:0@16/0 schedule:3 null run
+process 1 0 gpt:1@16/0 null null stop
+reg 0 4 1000
+end
+may run 0
+never faulted 0
+=>
+found 13 depth=2
+step 0 2
+step 0 1
+==
+0 none: the page of the code is given away in between
+coyotos 1
+machine 1 4 2 4 2 1
+code 0 0 addi x1 x0 1
+code 0 4 addi x2 x0 2
+code 0 8 ecall
+code 0 c addi x1 x0 3
+code 0 10 addi x2 x0 4
+code 0 14 ebreak
+slot 0 0 page:0@12/0
+slot 1 0 page:1@12/0
+process 0 0 gpt:0@16/0 schedule:3 null run
+process 1 0 gpt:1@16/0 null null stop
+slot 0 1 cappage:0@12/0
+capreg 0 1 page:0@12/0
+reg 0 10 1000
+reg 0 11 1
+reg 0 17 2
+end
+may run 0
+=>
+holds states=6 tried=6 depth=5
+==
+0 none: somebody has a dead capability to what is stored to
+coyotos 1
+machine 1 4 2 4 2 1
+code 0 0 addi x1 x0 6
+code 0 4 sw x1 0(x4)
+code 0 8 addi x1 x0 7
+code 0 c ebreak
+slot 0 0 page:0@12/0
+slot 1 0 page:1@12/0
+process 0 0 gpt:0@16/0 schedule:3 null run
+process 1 0 gpt:1@16/0 null null stop
+code 1 0 addi x10 x5 0
+code 1 4 addi x11 x0 9
+code 1 8 addi x18 x0 3
+code 1 c ecall
+code 1 10 addi x10 x6 0
+code 1 14 addi x11 x0 8
+code 1 18 addi x12 x0 1
+code 1 1c addi x13 x0 2
+code 1 20 addi x19 x0 5
+code 1 24 ecall
+code 1 28 addi x10 x7 0
+code 1 2c addi x11 x0 9
+code 1 30 addi x12 x0 1
+code 1 34 addi x18 x0 5
+code 1 38 ecall
+code 1 3c addi x17 x0 3
+code 1 40 addi x10 x0 3
+code 1 44 addi x11 x0 3
+code 1 48 ecall
+code 1 4c addi x10 x0 0
+code 1 50 addi x11 x0 5
+code 1 54 ecall
+code 1 58 addi x11 x0 2
+code 1 5c ecall
+code 1 60 addi x11 x0 1
+code 1 64 ecall
+code 1 68 ebreak
+process 1 0 gpt:1@16/0 schedule:5 null run
+reg 1 5 10021
+reg 1 6 80021
+reg 1 7 10022
+reg 0 4 1000
+capreg 1 1 range
+capreg 1 2 gpt:0@16/0
+capreg 1 3 page:2@12/0
+end
+may run 0
+end
+step 0 27
+=>
+holds states=3 tried=3 depth=2
+==
+0 none: somebody has a new one
+coyotos 1
+machine 1 4 2 4 2 1
+code 0 0 addi x1 x0 6
+code 0 4 sw x1 0(x4)
+code 0 8 addi x1 x0 7
+code 0 c ebreak
+slot 0 0 page:0@12/0
+slot 1 0 page:1@12/0
+process 0 0 gpt:0@16/0 schedule:3 null run
+process 1 0 gpt:1@16/0 null null stop
+code 1 0 addi x10 x5 0
+code 1 4 addi x11 x0 9
+code 1 8 addi x18 x0 3
+code 1 c ecall
+code 1 10 addi x10 x6 0
+code 1 14 addi x11 x0 8
+code 1 18 addi x12 x0 1
+code 1 1c addi x13 x0 2
+code 1 20 addi x19 x0 5
+code 1 24 ecall
+code 1 28 addi x10 x7 0
+code 1 2c addi x11 x0 9
+code 1 30 addi x12 x0 1
+code 1 34 addi x18 x0 5
+code 1 38 ecall
+code 1 3c addi x17 x0 3
+code 1 40 addi x10 x0 5
+code 1 44 addi x11 x0 3
+code 1 48 ecall
+code 1 4c addi x10 x0 0
+code 1 50 addi x11 x0 5
+code 1 54 ecall
+code 1 58 addi x11 x0 2
+code 1 5c ecall
+code 1 60 addi x11 x0 1
+code 1 64 ecall
+code 1 68 ebreak
+process 1 0 gpt:1@16/0 schedule:5 null run
+reg 1 5 10021
+reg 1 6 80021
+reg 1 7 10022
+reg 0 4 1000
+capreg 1 1 range
+capreg 1 2 gpt:0@16/0
+capreg 1 3 page:2@12/0
+end
+may run 0
+end
+step 0 27
+=>
+holds states=4 tried=4 depth=3
+==
+10 none: a run is no longer than 4,097 steps
+coyotos 1
+machine 1 4 2 4 2 1
+code 0 0 addi x1 x1 1
+code 0 4 bne x1 x2 -4
+code 0 8 ebreak
+slot 0 0 page:0@12/0
+slot 1 0 page:1@12/0
+process 0 0 gpt:0@16/0 schedule:3 null run
+process 1 0 gpt:1@16/0 null null stop
+reg 0 2 bb8
+end
+may run 0
+never faulted 0
+=>
+found 13 depth=3
+step 0 4097
+step 0 1903
+step 0 1
+==
+0 none: a loop without end
+coyotos 1
+machine 1 4 2 4 2 1
+code 0 0 jal x0 0
+slot 0 0 page:0@12/0
+slot 1 0 page:1@12/0
+process 0 0 gpt:0@16/0 schedule:3 null run
+process 1 0 gpt:1@16/0 null null stop
+
+end
+may run 0
+=>
+holds states=2 tried=2 depth=1
+==
+0 none: two harts are run
+coyotos 1
+machine 2 4 2 4 2 1
+code 0 0 addi x1 x0 1
+code 0 4 addi x2 x0 2
+code 0 8 ebreak
+slot 0 0 page:0@12/0
+slot 1 0 page:1@12/0
+process 0 0 gpt:0@16/0 schedule:3 null run
+process 1 0 gpt:1@16/0 null null stop
+code 1 0 addi x1 x0 1
+code 1 4 ebreak
+process 1 0 gpt:1@16/0 schedule:3 null run
+end
+may run 0
+may run 1
+ever faulted 0 and faulted 1
+count faulted 1
+=>
+count 17 states=3 depth=3
+holds states=11 tried=22 depth=4
+==
+10 none: runs of one and ticks
+coyotos 1
+machine 2 4 2 4 2 1
+code 0 0 addi x1 x0 1
+code 0 4 addi x2 x0 2
+code 0 8 ebreak
+slot 0 0 page:0@12/0
+slot 1 0 page:1@12/0
+process 0 0 gpt:0@16/0 schedule:3 null run
+process 1 0 gpt:1@16/0 null null stop
+code 1 0 addi x1 x0 1
+code 1 4 ebreak
+process 1 0 gpt:1@16/0 schedule:3 null run
+end
+may run 0
+may tick 0
+never faulted 1
+=>
+found 16 depth=4
+step 0 2
+step 0 1
+step 0 1
+step 0 1
+==
 0 --help
 =>
 usage: explore

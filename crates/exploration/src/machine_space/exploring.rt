@@ -2,8 +2,6 @@
 ghost use Rattle.std.specs.Prelude.{◌≡◌, IfOk, OnOk};
 ghost use Rattle.object_store.specs.Store.{sizes_of};
 ghost use Rattle.machine_state.specs.State.{state_of};
-ghost use Rattle.exploration.specs.question.Choice.{AreChoices};
-ghost use Rattle.exploration.specs.question.Question.{choices_of};
 ghost use Rattle.exploration.specs.Laws.{IsAnswerTo};
 ghost use Rattle.exploration.specs.Shown.{shown_of, told_path};
 
@@ -48,7 +46,7 @@ pub fn explore_machine<'a, W: Watcher, L: Ledger>(
 {
     let mut space = space_of(alloc, machine, question, policy, fetches)?;
     let explored = search(alloc, &mut space, question, watcher)?;
-    let shown = shown_of(alloc, &mut space, question, &explored)?;
+    let shown = space.counted_from_start(question, told_path(&explored))?;
     Ok(Answered { explored, shown })
 }
 
@@ -105,25 +103,15 @@ fn search<'a, W: Watcher, L: Ledger>(
     Ok(explored)
 }
 
-/// The choices that an answer tells, with their steps counted.
-#[tactic(auto, using(crate::proofs::Shown::counted_nil))]
-fn shown_of<'a, L: Ledger>(
-    alloc: Global,
-    space: &mut MachineSpace<'a, L>,
-    question: &Question,
-    explored: &Explored,
-) -> Result<Vec<Choice>, OutOfMemory>
-    requires sizes { sizes_of space.old.start.store ≡ question.now.sizes }
-    requires path { AreChoices (choices_of question.now) (told_path explored.now) }
-    ensures { IfOk result (λ shown. shown.items ≡ shown_of question.now space.old.start explored.now) }
+/// The choices that an answer tells, each by its number: none where it tells of no state.
+fn told_path(explored: &Explored) -> &[u32]
+    ensures { result.now ≡ told_path explored.now }
 {
     match explored {
-        Explored::Found { path, .. } => space.counted_from_start(question, path.as_slice()),
+        Explored::Found { path, .. } => path.as_slice(),
         Explored::Closed {
-            lost: Some(lost),
-            ..
-        } => space.counted_from_start(question, lost.path.as_slice()),
-        Explored::Closed { lost: None, .. } => Ok(Vec::new(alloc)),
-        Explored::Open { .. } => Ok(Vec::new(alloc)),
+            lost: Some(lost), ..
+        } => lost.path.as_slice(),
+        _ => &[],
     }
 }
