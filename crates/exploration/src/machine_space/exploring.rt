@@ -110,7 +110,8 @@ fn told_path(explored: &Explored) -> &[u32]
     match explored {
         Explored::Found { path, .. } => path.as_slice(),
         Explored::Closed {
-            lost: Some(lost), ..
+            lost: Some(lost),
+            ..
         } => lost.path.as_slice(),
         _ => &[],
     }
