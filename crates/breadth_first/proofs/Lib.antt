@@ -5,6 +5,7 @@ mod Keys
 mod Steps
 mod Endings
 mod Counts
+mod Judging
 mod Numbers
 mod Evers
 mod Telling

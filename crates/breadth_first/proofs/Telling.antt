@@ -95,6 +95,10 @@ pub on-ok : {T E : Type 0} (r : Result T E) {P Q : Type 0} → OnOk r P → (P �
 on-ok (Ok x) p f = f p
 on-ok (Err e) p f = p
 
+pub on-ok-any : {T E : Type 0} (r : Result T E) {Q : Type 0} → Q → OnOk r Q
+on-ok-any (Ok x) q = q
+on-ok-any (Err e) q = tt
+
 -- a list that isn't empty
 pub not-empty : (n : ℕ) → 0 < n → not (n == 0) ≡ true
 not-empty n l = by (n == 0) refl

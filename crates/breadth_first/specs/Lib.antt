@@ -2,6 +2,7 @@ pub mod System
 pub mod Paths
 pub mod Order
 pub mod Kept
+pub mod Marks
 pub mod Answer
 pub mod Told
 pub mod Front

@@ -3,8 +3,10 @@
 ghost use Rattle.std.specs.Prelude.{◌≡◌, ◌<◌, ℕ, true, false, not, map, length, count_by, All, IfOk, OnOk, MatchOption, slice_index_or, slice_get, Some};
 ghost use Rattle.breadth_first.specs.Answer.{IsCount, AreCounts};
 ghost use Rattle.breadth_first.specs.Kept.{Keeps};
+ghost use Rattle.breadth_first.specs.Marks.{judged};
 ghost use Rattle.breadth_first.specs.Progress.{Searched, IsOpened, IsFirstMark};
 
+use crate::marks::{Marks, judge, no_marks};
 use crate::search::Search;
 use crate::{Count, Space};
 use std::alloc::{AllocError, Global};
@@ -29,49 +31,46 @@ pub(crate) fn first_mark(marks: &[bool], wanted: bool) -> Option<usize>
 }
 
 impl<S: Space> Search<S> {
-    /// Whether each state passes a test, in their order.
-    pub(crate) fn passing(
+    /// Whether each state passes each of the tests: the space is brought to each state once.
+    pub(crate) fn judged(
         &self,
         alloc: Global,
         space: &mut S,
-        test: usize,
-    ) -> Result<Vec<bool>, AllocError>
+        tests: &[usize],
+    ) -> Result<Vec<Marks>, AllocError>
         requires all { All (S.held space.old) self.now.seen.keys }
-        requires test { test < (S.system space.old).tests }
+        requires tests { All (λ t. t < (S.system space.old).tests) tests.now }
         ensures keeps { OnOk result
             (Keeps (S.system space.old) (S.held space.old) (S.means space.old)
             (S.system space.new) (S.held space.new) (S.means space.new)) }
-        ensures marks { IfOk result (λ marks. marks.items
-            ≡ map ((S.system space.old).test test) (map (S.means space.old) self.now.seen.keys)) }
+        ensures marks { IfOk result (λ lists. lists.items
+            ≡ judged (S.system space.old) tests.now (map (S.means space.old) self.now.seen.keys)) }
     {
-        let mut marks = Vec::new(alloc);
+        let mut lists = no_marks(alloc, tests.len())?;
         for index in 0..self.seen.len() {
-            let passes = space.passes(&self.seen[index], test)?;
-            marks.push(passes)?;
+            judge(space, &self.seen[index], tests, &mut lists)?;
         }
-        Ok(marks)
+        Ok(lists)
     }
 
-    /// How many states pass a test, and how few choices lead to one that does.
-    pub(crate) fn count(
+    /// How many states are marked, and how few choices lead to one that is.
+    fn count(
         &self,
         alloc: Global,
-        space: &mut S,
+        space: &S,
         limit: Option<usize>,
-        test: usize,
+        marks: &[bool],
     ) -> Result<Count, AllocError>
-        requires searched { Searched (S.system space.old) (S.held space.old) (S.means space.old)
+        requires searched { Searched (S.system space.now) (S.held space.now) (S.means space.now)
             limit self.now.seen.keys self.now.origins.items }
-        requires opened { IsOpened (S.system space.old) (map (S.means space.old) self.now.seen.keys) }
-        requires test { test < (S.system space.old).tests }
-        ensures keeps { OnOk result
-            (Keeps (S.system space.old) (S.held space.old) (S.means space.old)
-            (S.system space.new) (S.held space.new) (S.means space.new)) }
-        ensures count { IfOk result (IsCount (S.system space.old) (map (S.means space.old) self.now.seen.keys) test) }
+        requires opened { IsOpened (S.system space.now) (map (S.means space.now) self.now.seen.keys) }
+        requires many { length marks.now ≡ length self.now.seen.keys }
+        ensures { IfOk result (λ count. (t : ℕ)
+            → marks.now ≡ map ((S.system space.now).test t) (map (S.means space.now) self.now.seen.keys)
+            → IsCount (S.system space.now) (map (S.means space.now) self.now.seen.keys) t count) }
     {
-        let marks = self.passing(alloc, space, test)?;
-        let states = count_marks(&marks);
-        let Some(index) = first_mark(&marks, true) else {
+        let states = count_marks(marks);
+        let Some(index) = first_mark(marks, true) else {
             return Ok(Count {
                 states,
                 first: None,
@@ -84,27 +83,26 @@ impl<S: Space> Search<S> {
         })
     }
 
-    /// A count for each of the tests.
+    /// A count for each of the tests by which the states were judged.
     pub(crate) fn counts(
         &self,
         alloc: Global,
-        space: &mut S,
+        space: &S,
         limit: Option<usize>,
         tests: &[usize],
+        lists: &[Marks],
     ) -> Result<Vec<Count>, AllocError>
-        requires searched { Searched (S.system space.old) (S.held space.old) (S.means space.old)
+        requires searched { Searched (S.system space.now) (S.held space.now) (S.means space.now)
             limit self.now.seen.keys self.now.origins.items }
-        requires opened { IsOpened (S.system space.old) (map (S.means space.old) self.now.seen.keys) }
-        requires tests { All (λ t. t < (S.system space.old).tests) tests.now }
-        ensures keeps { OnOk result
-            (Keeps (S.system space.old) (S.held space.old) (S.means space.old)
-            (S.system space.new) (S.held space.new) (S.means space.new)) }
-        ensures counts { IfOk result (λ counts. AreCounts (S.system space.old)
-            (map (S.means space.old) self.now.seen.keys) tests.now counts.items) }
+        requires opened { IsOpened (S.system space.now) (map (S.means space.now) self.now.seen.keys) }
+        requires marks { lists.now
+            ≡ judged (S.system space.now) tests.now (map (S.means space.now) self.now.seen.keys) }
+        ensures { IfOk result (λ counts. AreCounts (S.system space.now)
+            (map (S.means space.now) self.now.seen.keys) tests.now counts.items) }
     {
         let mut counts = Vec::new(alloc);
-        for test in tests {
-            let count = self.count(alloc, space, limit, *test)?;
+        for place in 0..tests.len() {
+            let count = self.count(alloc, space, limit, lists[place].as_slice())?;
             counts.push(count)?;
         }
         Ok(counts)

@@ -1,12 +1,13 @@
 //! From which states a test can be come to.
 
-ghost use Rattle.std.specs.Prelude.{◌≡◌, ◌<◌, ◌*◌, map, length, All, IfOk, OnOk};
+ghost use Rattle.std.specs.Prelude.{◌≡◌, ◌<◌, ◌*◌, ℕ, map, length, IfOk};
 ghost use Rattle.breadth_first.specs.Answer.{IsEver};
-ghost use Rattle.breadth_first.specs.Kept.{Keeps};
+ghost use Rattle.breadth_first.specs.Marks.{judged};
 ghost use Rattle.breadth_first.specs.Progress.{Searched, IsOpened, AreAll, AreEdges, IsFirstStuck, IsFirstUnreached};
 ghost use Rattle.reaches_back.specs.Edges.{AreEdges as AreNumbered};
 
 use crate::counting::first_mark;
+use crate::marks::Marks;
 use crate::search::Search;
 use crate::{Lost, Space};
 use reaches_back::reach_back;
@@ -22,51 +23,48 @@ fn first_unreached(width: usize, ends: &[u32], marks: &mut [bool]) -> Option<usi
 }
 
 impl<S: Space> Search<S> {
-    /// The index of the first state from which no choices lead to one that passes the test.
-    pub(crate) fn first_stuck(
+    /// The index of the first state from which no choices lead to one that is marked.
+    fn first_stuck(
         &self,
         alloc: Global,
-        space: &mut S,
-        test: usize,
+        space: &S,
+        marks: &[bool],
     ) -> Result<Option<usize>, AllocError>
-        requires all { All (S.held space.old) self.now.seen.keys }
-        requires test { test < (S.system space.old).tests }
-        requires edges { AreEdges (S.system space.old) (map (S.means space.old) self.now.seen.keys)
-            (length self.now.seen.keys * (S.system space.old).choices) self.now.edges.ends.items }
-        ensures keeps { OnOk result
-            (Keeps (S.system space.old) (S.held space.old) (S.means space.old)
-            (S.system space.new) (S.held space.new) (S.means space.new)) }
-        ensures stuck { IfOk result (IsFirstStuck (S.system space.old)
-            (map (S.means space.old) self.now.seen.keys) test) }
+        requires many { length marks.now ≡ length self.now.seen.keys }
+        requires edges { AreEdges (S.system space.now) (map (S.means space.now) self.now.seen.keys)
+            (length self.now.seen.keys * (S.system space.now).choices) self.now.edges.ends.items }
+        ensures { IfOk result (λ first. (t : ℕ)
+            → marks.now ≡ map ((S.system space.now).test t) (map (S.means space.now) self.now.seen.keys)
+            → IsFirstStuck (S.system space.now) (map (S.means space.now) self.now.seen.keys) t first) }
     {
-        let mut marks = self.passing(alloc, space, test)?;
+        let mut marks = marks.to_vec(alloc)?;
         let width = space.choices() as usize;
         Ok(first_unreached(width, &self.edges.ends, &mut marks))
     }
 
-    /// The first of the tests that can't be come to from some state, with the first such state.
+    /// The first of the tests by which the states were judged that can't be come to from some state, with the first such
+    /// state.
     pub(crate) fn lost(
         &self,
         alloc: Global,
-        space: &mut S,
+        space: &S,
         limit: Option<usize>,
         evers: &[usize],
+        lists: &[Marks],
     ) -> Result<Option<Lost>, AllocError>
-        requires searched { Searched (S.system space.old) (S.held space.old) (S.means space.old)
+        requires searched { Searched (S.system space.now) (S.held space.now) (S.means space.now)
             limit self.now.seen.keys self.now.origins.items }
-        requires opened { IsOpened (S.system space.old) (map (S.means space.old) self.now.seen.keys) }
-        requires all { AreAll (S.system space.old) (map (S.means space.old) self.now.seen.keys) }
-        requires tests { All (λ t. t < (S.system space.old).tests) evers.now }
-        requires edges { 0 < length evers.now → AreEdges (S.system space.old) (map (S.means space.old) self.now.seen.keys)
-            (length self.now.seen.keys * (S.system space.old).choices) self.now.edges.ends.items }
-        ensures keeps { OnOk result
-            (Keeps (S.system space.old) (S.held space.old) (S.means space.old)
-            (S.system space.new) (S.held space.new) (S.means space.new)) }
-        ensures lost { IfOk result (IsEver (S.system space.old)
-            (map (S.means space.old) self.now.seen.keys) evers.now) }
+        requires opened { IsOpened (S.system space.now) (map (S.means space.now) self.now.seen.keys) }
+        requires all { AreAll (S.system space.now) (map (S.means space.now) self.now.seen.keys) }
+        requires marks { lists.now
+            ≡ judged (S.system space.now) evers.now (map (S.means space.now) self.now.seen.keys) }
+        requires edges { 0 < length evers.now → AreEdges (S.system space.now) (map (S.means space.now) self.now.seen.keys)
+            (length self.now.seen.keys * (S.system space.now).choices) self.now.edges.ends.items }
+        ensures { IfOk result (IsEver (S.system space.now)
+            (map (S.means space.now) self.now.seen.keys) evers.now) }
     {
-        for (ever, test) in evers.iter().enumerate() {
-            if let Some(index) = self.first_stuck(alloc, space, *test)? {
+        for ever in 0..evers.len() {
+            if let Some(index) = self.first_stuck(alloc, space, lists[ever].as_slice())? {
                 let path = self.path(alloc, space, limit, index)?;
                 return Ok(Some(Lost { ever, path }));
             }

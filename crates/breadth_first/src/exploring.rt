@@ -1,13 +1,16 @@
 //! The search, from its start to its answer.
 
-ghost use Rattle.std.specs.Prelude.{◌≡◌, ◌<◌, ◌*◌, List, ℕ, map, length, IfOk, OnOk, IfSome, All, Some};
+ghost use Rattle.std.specs.Prelude.{◌≡◌, ◌<◌, ◌*◌, ◌++◌, List, ℕ, map, length, IfOk, OnOk, IfSome, All, Some};
 ghost use Rattle.breadth_first.specs.Answer.{IsAnswer, IsOpen, IsClosed, seen};
 ghost use Rattle.breadth_first.specs.Kept.{Keeps};
+ghost use Rattle.breadth_first.specs.Marks.{judged};
+ghost use Rattle.breadth_first.specs.declared.levels.End.TheVariants.{AllReached};
 ghost use Rattle.breadth_first.specs.Progress.{Searched, IsOpened, GoesOn, Ends, AreEdges, EdgesAreKept};
 
 use crate::answering::tried_of;
 use crate::edges::Edges;
 use crate::levels::End;
+use crate::marks::{Marks, no_marks};
 use crate::search::{Search, Stop};
 use crate::{Explored, Limits, Size, Space, Watcher};
 use indexmap::IndexSet;
@@ -35,36 +38,36 @@ impl<S: Space> Search<S> {
         ensures answer { IfOk result (λ answer. (evers : List ℕ)
             → IsAnswer (S.system space.old) limits evers counts.now answer) }
     {
-        let counts = self.counts(alloc, space, limits.states, counts)?;
+        let lists = self.judged(alloc, space, counts)?;
+        let counts = self.counts(alloc, space, limits.states, counts, &lists)?;
         Ok(Explored::Open { size, counts })
     }
 
-    /// The answer where the search came to all states.
+    /// The answer where the search came to all states, which were judged by the tests.
     fn told_closed(
         &self,
         alloc: Global,
-        space: &mut S,
+        space: &S,
         limits: Limits,
         evers: &[usize],
         counts: &[usize],
+        lists: &[Marks],
         size: Size,
     ) -> Result<Explored, AllocError>
-        requires searched { Searched (S.system space.old) (S.held space.old) (S.means space.old)
+        requires searched { Searched (S.system space.now) (S.held space.now) (S.means space.now)
             limits.states self.now.seen.keys self.now.origins.items }
-        requires opened { IsOpened (S.system space.old) (map (S.means space.old) self.now.seen.keys) }
-        requires evers { All (λ t. t < (S.system space.old).tests) evers.now }
-        requires counts { All (λ t. t < (S.system space.old).tests) counts.now }
-        requires ended { IsClosed (S.system space.old) limits size }
-        requires seen { seen (S.system space.old) size ≡ map (S.means space.old) self.now.seen.keys }
-        requires edges { 0 < length evers.now → AreEdges (S.system space.old) (map (S.means space.old) self.now.seen.keys)
-            (length self.now.seen.keys * (S.system space.old).choices) self.now.edges.ends.items }
-        ensures keeps { OnOk result
-            (Keeps (S.system space.old) (S.held space.old) (S.means space.old)
-            (S.system space.new) (S.held space.new) (S.means space.new)) }
-        ensures answer { IfOk result (IsAnswer (S.system space.old) limits evers.now counts.now) }
+        requires opened { IsOpened (S.system space.now) (map (S.means space.now) self.now.seen.keys) }
+        requires marks { lists.now
+            ≡ judged (S.system space.now) (evers.now ++ counts.now) (map (S.means space.now) self.now.seen.keys) }
+        requires ended { IsClosed (S.system space.now) limits size }
+        requires seen { seen (S.system space.now) size ≡ map (S.means space.now) self.now.seen.keys }
+        requires edges { 0 < length evers.now → AreEdges (S.system space.now) (map (S.means space.now) self.now.seen.keys)
+            (length self.now.seen.keys * (S.system space.now).choices) self.now.edges.ends.items }
+        ensures { IfOk result (IsAnswer (S.system space.now) limits evers.now counts.now) }
     {
-        let counts = self.counts(alloc, space, limits.states, counts)?;
-        let lost = self.lost(alloc, space, limits.states, evers)?;
+        let first = evers.len();
+        let counts = self.counts(alloc, space, limits.states, counts, &lists[first..])?;
+        let lost = self.lost(alloc, space, limits.states, evers, &lists[..first])?;
         Ok(Explored::Closed { size, counts, lost })
     }
 
@@ -116,6 +119,7 @@ impl<S: Space> Search<S> {
         limits: Limits,
         evers: &[usize],
         counts: &[usize],
+        lists: &[Marks],
         end: End,
     ) -> Result<Explored, AllocError>
         requires searched { Searched (S.system space.old) (S.held space.old) (S.means space.old)
@@ -125,6 +129,8 @@ impl<S: Space> Search<S> {
         requires counts { All (λ t. t < (S.system space.old).tests) counts.now }
         requires edges { EdgesAreKept (S.system space.old) (map (S.means space.old) self.now.seen.keys)
             evers.now self.now.edges.ends.items end }
+        requires marks { (d : ℕ) → end ≡ AllReached d → lists.now
+            ≡ judged (S.system space.old) (evers.now ++ counts.now) (map (S.means space.old) self.now.seen.keys) }
         ensures keeps { OnOk result
             (Keeps (S.system space.old) (S.held space.old) (S.means space.old)
             (S.system space.new) (S.held space.new) (S.means space.new)) }
@@ -149,10 +155,19 @@ impl<S: Space> Search<S> {
                     tried,
                     depth,
                 };
-                self.told_closed(alloc, space, limits, evers, counts, size)
+                self.told_closed(alloc, space, limits, evers, counts, lists, size)
             }
         }
     }
+}
+
+/// The tests of both lists.
+fn both(alloc: Global, evers: &[usize], counts: &[usize]) -> Result<Vec<usize>, AllocError>
+    ensures { IfOk result (λ tests. tests.items ≡ evers.now ++ counts.now) }
+{
+    let mut tests = evers.to_vec(alloc)?;
+    tests.extend_from_slice(counts)?;
+    Ok(tests)
 }
 
 /// Searches the space from its start, and tells which states are reached.
@@ -186,6 +201,8 @@ pub fn explore<S: Space, W: Watcher>(
             path: Vec::new(alloc),
         });
     }
-    let end = search.walk(space, *limits, watcher)?;
-    search.answer(alloc, space, *limits, evers, counts, end)
+    let tests = both(alloc, evers, counts)?;
+    let mut lists = no_marks(alloc, tests.len())?;
+    let end = search.walk(space, *limits, &tests, &mut lists, watcher)?;
+    search.answer(alloc, space, *limits, evers, counts, &lists, end)
 }

@@ -1,12 +1,14 @@
 //! The levels of a search: the states that as many choices lead to.
 
-ghost use Rattle.std.specs.Prelude.{◌≡◌, ◌*◌, ◌∷◌, [], ℕ, map, length, IfOk, OnOk};
+ghost use Rattle.std.specs.Prelude.{◌≡◌, ◌<◌, ◌*◌, ◌∷◌, [], ℕ, map, length, take, All, IfOk, OnOk};
 ghost use Rattle.breadth_first.specs.declared.levels.End.TheVariants.{AllReached};
 ghost use Rattle.breadth_first.specs.Answer.{before};
 ghost use Rattle.breadth_first.specs.Kept.{Keeps};
+ghost use Rattle.breadth_first.specs.Marks.{judged};
 ghost use Rattle.breadth_first.specs.Order.{reached};
 ghost use Rattle.breadth_first.specs.Progress.{Searched, AreSafe, GoesOn, Ends, KeepsEdges};
 
+use crate::marks::Marks;
 use crate::search::{Search, Stop, is_met};
 use crate::{Limits, Space, Watcher};
 use std::alloc::AllocError;
@@ -29,6 +31,8 @@ impl<S: Space> Search<S> {
         limit: Option<usize>,
         from: usize,
         depth: usize,
+        tests: &[usize],
+        lists: &mut Vec<Marks>,
         watcher: &mut W,
     ) -> Result<Option<Stop>, AllocError>
         requires searched { Searched (S.system space.old) (S.held space.old) (S.means space.old)
@@ -38,6 +42,9 @@ impl<S: Space> Search<S> {
         requires safe { AreSafe (S.system space.old) (map (S.means space.old) self.old.seen.keys) }
         requires edges { KeepsEdges (S.system space.old) (map (S.means space.old) self.old.seen.keys)
             (from * (S.system space.old).choices) self.old.edges.keeps self.old.edges.ends.items }
+        requires tests { All (λ t. t < (S.system space.old).tests) tests.now }
+        requires marks { lists.old.items
+            ≡ judged (S.system space.old) tests.now (take from (map (S.means space.old) self.old.seen.keys)) }
         ensures keeps { OnOk result
             (Keeps (S.system space.old) (S.held space.old) (S.means space.old)
             (S.system space.new) (S.held space.new) (S.means space.new)) }
@@ -51,9 +58,12 @@ impl<S: Space> Search<S> {
             (map (S.means space.new) self.new.seen.keys)
             (length self.old.seen.keys * (S.system space.old).choices)
             self.new.edges.keeps self.new.edges.ends.items) }
+        ensures marks { IfOk result (λ stop. stop ≡ None → lists.new.items
+            ≡ judged (S.system space.old) tests.now
+            (take (length self.old.seen.keys) (map (S.means space.new) self.new.seen.keys))) }
     {
         for at in from..self.seen.len() {
-            if let Some(stop) = self.expand(space, limit, at)? {
+            if let Some(stop) = self.expand(space, limit, at, tests, lists)? {
                 return Ok(Some(stop));
             }
             let tried = (at as u64)
@@ -69,6 +79,8 @@ impl<S: Space> Search<S> {
         &mut self,
         space: &mut S,
         limits: Limits,
+        tests: &[usize],
+        lists: &mut Vec<Marks>,
         watcher: &mut W,
     ) -> Result<End, AllocError>
         requires searched { Searched (S.system space.old) (S.held space.old) (S.means space.old)
@@ -76,6 +88,8 @@ impl<S: Space> Search<S> {
         requires start { map (S.means space.old) self.old.seen.keys ≡ (S.system space.old).start ∷ [] }
         requires safe { AreSafe (S.system space.old) (map (S.means space.old) self.old.seen.keys) }
         requires edges { self.old.edges.ends.items ≡ [] }
+        requires tests { All (λ t. t < (S.system space.old).tests) tests.now }
+        requires marks { lists.old.items ≡ map (λ t. []) tests.now }
         ensures keeps { OnOk result
             (Keeps (S.system space.old) (S.held space.old) (S.means space.old)
             (S.system space.new) (S.held space.new) (S.means space.new)) }
@@ -89,6 +103,8 @@ impl<S: Space> Search<S> {
             (map (S.means space.new) self.new.seen.keys)
             (length self.new.seen.keys * (S.system space.old).choices)
             self.new.edges.keeps self.new.edges.ends.items) }
+        ensures marks { IfOk result (λ end. (d : ℕ) → end ≡ AllReached d → lists.new.items
+            ≡ judged (S.system space.old) tests.now (map (S.means space.new) self.new.seen.keys)) }
     {
         let mut depth = 0;
         let mut from = 0;
@@ -97,7 +113,15 @@ impl<S: Space> Search<S> {
                 return Ok(End::TooFar { depth, tried: from });
             }
             let to = self.seen.len();
-            if let Some(stop) = self.level(space, limits.states, from, depth, watcher)? {
+            if let Some(stop) = self.level(
+                space,
+                limits.states,
+                from,
+                depth,
+                tests,
+                lists,
+                watcher,
+            )? {
                 return Ok(End::Stopped(depth, stop));
             }
             if self.seen.len() == to {

@@ -11,6 +11,7 @@ mod edges;
 mod ever;
 mod exploring;
 mod levels;
+mod marks;
 mod origins;
 mod search;
 mod space;

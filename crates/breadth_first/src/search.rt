@@ -1,12 +1,14 @@
 //! The states that a search keeps, and how it tries the choices of one.
 
-ghost use Rattle.std.specs.Prelude.{◌≡◌, ◌<◌, ◌≤◌, ◌+◌, ◌*◌, ◌^◌, ◌↔◌, [], map, length, All, IfOk, OnOk, IfSome, IsTrue, Some, None};
+ghost use Rattle.std.specs.Prelude.{◌≡◌, ◌<◌, ◌≤◌, ◌+◌, ◌*◌, ◌^◌, ◌↔◌, [], map, length, take, All, IfOk, OnOk, IfSome, IsTrue, Some, None};
 ghost use Rattle.breadth_first.specs.Kept.{Keeps};
+ghost use Rattle.breadth_first.specs.Marks.{judged};
 ghost use Rattle.breadth_first.specs.Order.{opened};
 ghost use Rattle.breadth_first.specs.Progress.{Searched, Adds, AreSafe, Begins, Expands, KeepsEdges};
 
 use crate::Space;
 use crate::edges::Edges;
+use crate::marks::{Marks, judge};
 use crate::origins::Origin;
 use indexmap::IndexSet;
 use std::alloc::AllocError;
@@ -124,8 +126,48 @@ impl<S: Space> Search<S> {
         }
     }
 
-    /// Tries all choices of the state with the index `at`.
+    /// Judges the state with the index `at` by each of the tests, and then tries all its choices: they start there, so that
+    /// the space is brought to it once for both.
     pub(crate) fn expand(
+        &mut self,
+        space: &mut S,
+        limit: Option<usize>,
+        at: usize,
+        tests: &[usize],
+        lists: &mut Vec<Marks>,
+    ) -> Result<Option<Stop>, AllocError>
+        requires searched { Searched (S.system space.old) (S.held space.old) (S.means space.old)
+            limit self.old.seen.keys self.old.origins.items }
+        requires at { at < length self.old.seen.keys }
+        requires opened { map (S.means space.old) self.old.seen.keys ≡ opened (S.system space.old) at }
+        requires safe { AreSafe (S.system space.old) (map (S.means space.old) self.old.seen.keys) }
+        requires edges { KeepsEdges (S.system space.old) (map (S.means space.old) self.old.seen.keys)
+            (at * (S.system space.old).choices) self.old.edges.keeps self.old.edges.ends.items }
+        requires tests { All (λ t. t < (S.system space.old).tests) tests.now }
+        requires marks { lists.old.items
+            ≡ judged (S.system space.old) tests.now (take at (map (S.means space.old) self.old.seen.keys)) }
+        ensures keeps { OnOk result
+            (Keeps (S.system space.old) (S.held space.old) (S.means space.old)
+            (S.system space.new) (S.held space.new) (S.means space.new)) }
+        ensures searched { OnOk result
+            (Searched (S.system space.old) (S.held space.new) (S.means space.new)
+            limit self.new.seen.keys self.new.origins.items) }
+        ensures expands { IfOk result (Expands (S.system space.old) limit at
+            (map (S.means space.new) self.new.seen.keys)) }
+        ensures keeping { OnOk result (self.new.edges.keeps ≡ self.old.edges.keeps) }
+        ensures edges { IfOk result (λ stop. stop ≡ None → KeepsEdges (S.system space.old)
+            (map (S.means space.new) self.new.seen.keys)
+            (at * (S.system space.old).choices + (S.system space.old).choices)
+            self.new.edges.keeps self.new.edges.ends.items) }
+        ensures marks { IfOk result (λ stop. stop ≡ None → lists.new.items
+            ≡ judged (S.system space.old) tests.now (take (at + 1) (map (S.means space.new) self.new.seen.keys))) }
+    {
+        judge(space, &self.seen[at], tests, lists)?;
+        self.try_choices(space, limit, at)
+    }
+
+    /// Tries all choices of the state with the index `at`.
+    fn try_choices(
         &mut self,
         space: &mut S,
         limit: Option<usize>,

@@ -15,6 +15,7 @@ mod table;
 mod there;
 
 pub use count::Count;
+pub use feeding::folded;
 pub use making::part_of;
 pub use numbering::number_of_part;
 pub use part::Part;

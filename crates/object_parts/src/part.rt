@@ -3,7 +3,7 @@ ghost use Rattle.std.specs.Prelude.{◌≡◌};
 
 use crate::compare::{same_cap_pages, same_endpoints, same_pages, same_processes};
 use crate::count::Count;
-use crate::feeding::{feed_cap_page, feed_page, feed_registers};
+use crate::feeding::{feed_cap_page, feed_front, feed_page};
 use crate::slots::Slots;
 use crate::table::Kept;
 use endpoint_objects::Endpoint;
@@ -108,8 +108,7 @@ impl Hash for Part {
     fn hash<H: Hasher>(&self, state: &mut H) {
         match self {
             Part::Page { count, page } => {
-                state.write_u32(count.value);
-                feed_page(page, state);
+                feed_page(count.value, page, state);
             }
             Part::CapPage { count, page } => {
                 state.write_u32(count.value);
@@ -120,8 +119,7 @@ impl Hash for Part {
                 gpt.feed(state);
             }
             Part::Process { count: _, process } => {
-                state.write_u32(process.pc());
-                feed_registers(process, state);
+                feed_front(process, state);
             }
             Part::Endpoint { count, endpoint } => {
                 state.write_u32(count.value);

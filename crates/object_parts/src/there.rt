@@ -3,7 +3,7 @@ ghost use Rattle.std.specs.Prelude.{◌≡◌};
 
 use crate::compare::{same_live_processes, same_pages};
 use crate::count::Count;
-use crate::feeding::{feed_page, feed_registers};
+use crate::feeding::{feed_front, feed_page};
 use crate::part::Part;
 use indexmap::Equivalent;
 use object_store::Objects;
@@ -57,8 +57,7 @@ impl<'a> Hash for ProcessThere<'a> {
     ghost respects_eq = { (on_Alike (λ q. q.process.now.pc ∷ q.process.now.regs) (same_Alike hashed_front numbers_decide)).fed };
 
     fn hash<H: Hasher>(&self, state: &mut H) {
-        state.write_u32(self.process.pc());
-        feed_registers(self.process, state);
+        feed_front(self.process, state);
     }
 }
 
@@ -127,8 +126,7 @@ impl<'a> Hash for PageThere<'a> {
     ghost respects_eq = { (on_Alike (λ q. q.count.value ∷ q.page.now) (same_Alike hashed_bytes numbers_decide)).fed };
 
     fn hash<H: Hasher>(&self, state: &mut H) {
-        state.write_u32(self.count.value);
-        feed_page(self.page, state);
+        feed_page(self.count.value, self.page, state);
     }
 }
 

@@ -2,22 +2,24 @@
 use Rattle.std.proofs.Common.{◌≡◌, ℕ, Bool, List, Option, None, Some, slice_get, refl, sym, ap, ◌∙◌, subst}
 use Rattle.std.proofs.lemmas.Option.{get_or_from_slice_get}
 use Rattle.object_store.specs.declared.sizes.Sizes.{Sizes}
-use Rattle.object_store.specs.Store.{Store}
+use Rattle.object_store.specs.Store.{Store, sizes_of}
 use Rattle.object_store.specs.Meaning.{state_map}
-use Rattle.object_store.specs.Object.{ObjectName, ObjectValue}
+use Rattle.object_store.specs.Object.{ObjectName, ObjectValue, IsEven}
 use Rattle.schedules.specs.Queues.{QueuesValue}
 use Rattle.machine_state.specs.Machine.{MachineValue, IsMachine}
 use Rattle.machine_state.specs.State.{State, state_of}
+use Rattle.object_parts.specs.Live.{live_store}
 use Rattle.object_parts.specs.Table.{AreApart, Grows}
 use Rattle.object_parts.proofs.Revived.{live_itself}
 use Rattle.object_parts.proofs.Tables.{grown_get, grown_none}
 use Rattle.state_parts.specs.declared.key.Key.{Key}
-use Rattle.state_parts.specs.Keys.{objects_of, values_of, store_by}
+use Rattle.state_parts.specs.Keys.{objects_of, values_of, Reads, store_by}
 use Rattle.state_parts.specs.Looking.{IsTarget}
 use Rattle.state_parts.specs.Standing.{StandingValue, standing_at, nowhere}
 use Rattle.state_parts.specs.Space.{TablesValue, AreTables, Held, store_of, standing_of, state_in}
 use Rattle.state_parts.specs.States.{tables_of, IsDesk, IsStanding, GrowTables}
 use Rattle.state_parts.proofs.Brought.{reads_grown}
+use Rattle.state_parts.proofs.Holding.{means_live}
 
 -- tables that stay
 pub grown_tables_none : (t : TablesValue) → AreTables t → GrowTables t t
@@ -102,3 +104,12 @@ standing_same m standing queues halted = joined queues halted
 -- the same sizes, names and numbers give the same store
 pub store_by_same : {z y : Sizes} {xs ys : List ObjectName} {ns ks : List ℕ} (T : List ObjectValue) → z ≡ y → xs ≡ ys → ns ≡ ks → store_by z xs (values_of T ns) ≡ store_by y ys (values_of T ks)
 store_by_same T h1 h2 h3 = rw (h1, h2, h3) refl
+
+-- a machine with the objects and the standing of a key is in its state
+pub still_means : (t : TablesValue) (key : Key) (desk : Store) (at : List ℕ) (known : Option ℕ) (m : MachineValue (Unit {0})) → AreTables t → IsDesk t desk at → IsStanding t known m → IsEven m.objects → m.objects ≡ desk
+    → at ≡ key.parts.items → known ≡ Some key.standing → state_of m ≡ state_in t key
+still_means t key desk at known m tables is stands even objects same standing =
+    let At : List ℕ → Type 0 = λ ns. Reads t.objects ns (objects_of t.names desk) in
+    let On : Store → Type 0 = λ s. Reads t.objects key.parts.items (objects_of t.names s) in
+    let live : live_store m.objects ≡ desk = ap (λ (s : Store). live_store s) objects ∙ is.live in
+    sym (means_live t key m.objects (standing_at m) tables even (ap sizes_of objects ∙ is.same) (subst On (sym live) (subst At same is.reads)) (stands.each key.standing standing))

@@ -2,6 +2,7 @@
 ghost use Rattle.std.specs.Prelude.{◌≡◌, ◌<◌, map, IsTrue, IfOk, OnOk, OnErr};
 ghost use Rattle.cap_format.specs.Capability.{IsCapability};
 ghost use Rattle.object_store.specs.Ahead.{EachCapability};
+ghost use Rattle.object_store.specs.Object.{IsEven};
 ghost use Rattle.object_store.specs.Store.{sizes_of, empty_store};
 ghost use Rattle.machine_state.specs.Machine.{IsMachine, hart_in};
 ghost use Rattle.machine_state.specs.State.{state_of};
@@ -83,6 +84,17 @@ impl Board {
         ensures { result.now ≡ self.now.desk }
     {
         &self.desk
+    }
+
+    /// Whether the machine's objects are sure to be those from which events start.
+    pub fn is_still(&self) -> bool
+        ensures objects { IsTrue result → self.now.machine.objects ≡ self.now.desk }
+        ensures even { IsEven self.now.machine.objects }
+    {
+        // Sizes that are read tell that there are as many objects as counts.
+        let _here = self.machine.objects().sizes();
+        let _there = self.desk.sizes();
+        self.changed.as_slice().is_empty()
     }
 
     /// Brings the machine to a state: to the objects of these numbers, and to this standing. Where memory is wanting the

@@ -1,7 +1,8 @@
 //! Keys: what is kept of a state.
-ghost use Rattle.std.specs.Prelude.{◌≡◌, IfOk};
+ghost use Rattle.std.specs.Prelude.{◌≡◌, IsTrue, IfOk, length};
 
 use cap_format::OutOfMemory;
+use object_parts::folded;
 use std::alloc::Global;
 use std::hash::{Hash, Hasher};
 
@@ -26,6 +27,21 @@ impl Key {
             standing: self.standing,
         })
     }
+}
+
+/// Writes numbers over as many others.
+pub(crate) fn write_numbers(into: &mut Vec<u32>, numbers: &[u32])
+    requires { length into.old.items ≡ length numbers.now }
+    ensures { into.new.items ≡ numbers.now }
+{
+    into.copy_from_slice(numbers);
+}
+
+/// Whether numbers are the same.
+pub(crate) fn same_numbers(a: &[u32], b: &[u32]) -> bool
+    ensures { IsTrue result → a.now ≡ b.now }
+{
+    a == b
 }
 
 /// A copy of numbers.
@@ -68,7 +84,6 @@ impl Hash for Key {
     ghost respects_eq = { (on_Alike key_in (same_Alike hashed_key key_decides)).fed };
 
     fn hash<H: Hasher>(&self, state: &mut H) {
-        self.parts.hash(state);
-        state.write_u32(self.standing);
+        state.write_u64(folded(u64::from(self.standing), self.parts.as_slice()));
     }
 }

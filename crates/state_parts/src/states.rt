@@ -1,5 +1,5 @@
 //! The states of a machine that were seen.
-ghost use Rattle.std.specs.Prelude.{◌≡◌, ◌<◌, map, IfOk, OnOk, OnErr};
+ghost use Rattle.std.specs.Prelude.{◌≡◌, ◌<◌, map, IsTrue, IfOk, OnOk, OnErr};
 ghost use Rattle.object_store.specs.Store.{sizes_of};
 ghost use Rattle.machine_state.specs.Machine.{hart_in};
 ghost use Rattle.machine_state.specs.State.{state_of};
@@ -8,7 +8,7 @@ ghost use Rattle.state_parts.specs.Space.{Held, state_in};
 ghost use Rattle.state_parts.specs.States.{GrowTables};
 
 use crate::board::Board;
-use crate::key::{Key, copy_numbers};
+use crate::key::{Key, same_numbers, write_numbers};
 use crate::look::look_anew;
 use crate::names::all_names;
 use crate::standing::Standing;
@@ -130,7 +130,9 @@ impl States {
     {
         self.parts.tell_apart();
         self.standings.tell_apart();
-        let at = copy_numbers(self.alloc, key.parts.as_slice())?;
+        if self.is_at(key) {
+            return Ok(());
+        }
         let standing = self.standings.get(key.standing);
         self.board.go(
             &self.parts,
@@ -140,9 +142,22 @@ impl States {
             standing,
             fetches,
         )?;
-        self.at = at;
+        write_numbers(&mut self.at, key.parts.as_slice());
         self.stands = Some(key.standing);
         Ok(())
+    }
+
+    /// Whether the machine is sure to be in the state of a key: it was brought there, and performed no event since.
+    fn is_at(&self, key: &Key) -> bool
+        ensures { IsTrue result → state_of self.now.machine ≡ state_in self.now.tables key.now }
+    {
+        let Some(standing) = self.stands else {
+            return false;
+        };
+        if standing != key.standing || !self.board.is_still() {
+            return false;
+        }
+        same_numbers(self.at.as_slice(), key.parts.as_slice())
     }
 
     /// Performs an event. Where memory is wanting the machine stays in its state.

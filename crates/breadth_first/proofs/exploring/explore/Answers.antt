@@ -1,10 +1,11 @@
-use Rattle.std.proofs.Common.{◌≡◌, ◌*◌, ◌<◌, length, map, All, ◌∷◌, [], true, not, sym, ap, ◌∙◌, subst, IfOk}
+use Rattle.std.proofs.Common.{◌≡◌, ◌*◌, ◌<◌, length, map, All, ◌∷◌, [], true, not, sym, ap, ◌∙◌, subst, arith, IfOk}
 use Rattle.std.proofs.lemmas.List.{length-map}
 use Rattle.breadth_first.specs.Answer.{IsFound, IsAnswer}
 use Rattle.breadth_first.specs.Progress.{Begins, Ends, AreEdges}
 use Rattle.breadth_first.proofs.Keys.{keeps-trans}
 use Rattle.breadth_first.proofs.Steps.{searched-same, safe-same}
 use Rattle.breadth_first.proofs.Telling.{found-start, on-ok, not-empty}
+use Rattle.breadth_first.proofs.Judging.{empties}
 use Rattle.breadth_first.proofs.exploring.explore.Goals as goal
 
 pub begin-requires-clause-seen : goal.begin-requires-clause-seen
@@ -75,3 +76,8 @@ pub returns-clause-keeps : goal.returns-clause-keeps
 returns-clause-keeps g c =
     let both = keeps-trans c.in_ok-property.ensures.keeps c.in_ok-end.ensures.keeps in
     on-ok c.answer.result c.answer.ensures.keeps (λ k. keeps-trans both k)
+
+pub walk-requires-clause-marks : goal.walk-requires-clause-marks
+walk-requires-clause-marks g c =
+    let many : c.len.result ≡ length c.deref.result.now = omega (arith, c.len.ensures, c.in_ok-tests.tests.ok, ap length c.deref.ensures.value) in
+    c.in_ok-lists.ensures ∙ empties c.deref.result.now c.len.result [] many

@@ -1,4 +1,4 @@
-use Rattle.std.proofs.Common.{sym, ap, ◌∙◌, subst, Some}
+use Rattle.std.proofs.Common.{ap, ◌∙◌, subst, Some}
 use Rattle.object_parts.specs.Live.{IsInRanges}
 use Rattle.object_parts.specs.Objects.{object_in}
 use Rattle.object_parts.proofs.Buried.{process_there}

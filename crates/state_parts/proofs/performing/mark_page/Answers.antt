@@ -1,4 +1,4 @@
-use Rattle.std.proofs.Common.{◌<◌, ◌∷◌, [], ap, subst, sym, arith, ◌≤◌, ℕ, ◌≡◌}
+use Rattle.std.proofs.Common.{◌<◌, ◌∷◌, [], ap, arith, ◌≤◌, ◌≡◌}
 use Rattle.cap_format.specs.declared.kind.CapKind.TheVariants.{Page}
 use Rattle.object_store.specs.declared.sizes.Sizes.{Sizes}
 use Rattle.object_store.specs.Store.{size_of}

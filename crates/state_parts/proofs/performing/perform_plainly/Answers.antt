@@ -1,7 +1,6 @@
-use Rattle.std.proofs.Common.{List, ◌∷◌, [], sym, ap, ◌∙◌, subst}
+use Rattle.std.proofs.Common.{◌∷◌, [], sym, ap, ◌∙◌, subst}
 use Rattle.object_store.specs.Store.{Store, sizes_of}
 use Rattle.object_store.specs.declared.sizes.Sizes.{Sizes}
-use Rattle.object_store.specs.Object.{ObjectName}
 use Rattle.machine_state.specs.Outcome.{process_name}
 use Rattle.machine_state.specs.State.{state_of}
 use Rattle.machine_state.specs.Taking.{names_of}
@@ -9,7 +8,7 @@ use Rattle.kernel_core.specs.Event.{event_of}
 use Rattle.state_parts.specs.Keys.{AreAll}
 use Rattle.state_parts.specs.Marking.{AddsThere, HasThere}
 use Rattle.state_parts.proofs.Marked.{adds_then}
-use Rattle.state_parts.proofs.Shown.{adds_sizes, has_shown, marked_sizes, some_named, still_shown}
+use Rattle.state_parts.proofs.Shown.{adds_sizes, has_shown, marked_sizes, some_named}
 use Rattle.state_parts.proofs.performing.perform_plainly.Goals as goal
 
 pub mark_shown-requires-clause-all : goal.mark_shown-requires-clause-all

@@ -1,7 +1,7 @@
-use Rattle.std.proofs.Common.{ℕ, List, Option, sym, subst, ◌∙◌}
+use Rattle.std.proofs.Common.{ℕ, List, Option, sym, subst}
 use Rattle.std.specs.Prelude.{IfSome}
 use Rattle.machine_state.specs.declared.record.Record.{Record}
-use Rattle.machine_state.specs.State.{State, state_of, process, pc_of}
+use Rattle.machine_state.specs.State.{state_of, pc_of}
 use Rattle.kernel_core.specs.Event.{event_of}
 use Rattle.event_reach.specs.declared.plain.PlainInsn.{PlainInsn}
 use Rattle.state_parts.specs.Shown.{shown_plain, IsShown}

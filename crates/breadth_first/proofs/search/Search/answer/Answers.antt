@@ -2,8 +2,9 @@ use Rattle.std.proofs.Common.{◌≡◌, ◌*◌, length, map, sym, ap, ◌∙�
 use Rattle.std.proofs.lemmas.List.{length-map}
 use Rattle.breadth_first.specs.Answer.{before}
 use Rattle.breadth_first.specs.Progress.{Ends, AreEdges}
+use Rattle.breadth_first.proofs.Keys.{keeps-refl}
 use Rattle.breadth_first.proofs.Endings.{open-depth}
-use Rattle.breadth_first.proofs.Telling.{within-opened, closed-seen, room-of, ok-then}
+use Rattle.breadth_first.proofs.Telling.{within-opened, closed-seen, room-of, ok-then, on-ok-any}
 use Rattle.breadth_first.proofs.search.Search.answer.Goals as goal
 
 pub told_stop-requires-clause-stopped : goal.told_stop-requires-clause-stopped
@@ -109,4 +110,12 @@ pub returns-in-TooFar-clause-answer : goal.returns-in-TooFar-clause-answer
 returns-in-TooFar-clause-answer g c = ok-then c.told_open.result c.told_open.ensures.answer (λ a is. is c.args.evers.now)
 
 pub returns-in-AllReached-clause-answer : goal.returns-in-AllReached-clause-answer
-returns-in-AllReached-clause-answer g c = c.told_closed.ensures.answer
+returns-in-AllReached-clause-answer g c = c.told_closed.ensures
+
+pub told_closed-requires-clause-marks : goal.told_closed-requires-clause-marks
+told_closed-requires-clause-marks g c = c.requires.marks c.in-AllReached.depth c.in-AllReached.is
+
+pub returns-in-AllReached-clause-keeps : goal.returns-in-AllReached-clause-keeps
+returns-in-AllReached-clause-keeps g c =
+    let s = c.args.space.now in
+    on-ok-any c.told_closed.result (keeps-refl (g.S.Space.system s) (g.S.Space.held s) (g.S.Space.means s))

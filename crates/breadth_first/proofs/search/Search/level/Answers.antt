@@ -1,6 +1,7 @@
-use Rattle.std.proofs.Common.{◌≡◌, suc, ◌+◌, ◌*◌, ◌<◌, ◌≤◌, length, map, Some, None, refl, sym, ap, ◌∙◌, subst, arith}
+use Rattle.std.proofs.Common.{◌≡◌, suc, ◌+◌, ◌*◌, ◌<◌, ◌≤◌, length, map, take, All, Some, None, refl, sym, ap, ◌∙◌, subst, arith}
 use Rattle.std.proofs.lemmas.List.{length-map}
 use Rattle.breadth_first.specs.Answer.{before}
+use Rattle.breadth_first.specs.Marks.{judged}
 use Rattle.breadth_first.specs.Order.{opened, reached}
 use Rattle.breadth_first.specs.Progress.{Expands, KeepsEdges}
 use Rattle.breadth_first.proofs.Keys.{keeps-refl, keeps-trans}
@@ -20,6 +21,7 @@ loop-at-init g c =
       safe = c.requires.safe;
       keeping = refl;
       edges = c.requires.edges;
+      marks = c.requires.marks;
     }
 
 pub expand-requires-clause-searched : goal.expand-requires-clause-searched
@@ -71,6 +73,7 @@ loop-at-preserved g c =
       edges = (let sum : c.loop-at.at * (g.S.Space.system c.args.space.now).choices + (g.S.Space.system c.args.space.now).choices ≡ (c.loop-at.at + 1) * (g.S.Space.system c.args.space.now).choices = omega arith in
           subst (λ n. KeepsEdges (g.S.Space.system c.args.space.now) (map (g.S.Space.means c.expand.new.space) c.expand.new.self.seen.keys) n c.expand.new.self.edges.keeps c.expand.new.self.edges.ends.items) sum
           (subst (λ t. KeepsEdges t (map (g.S.Space.means c.expand.new.space) c.expand.new.self.seen.keys) (c.loop-at.at * t.choices + t.choices) c.expand.new.self.edges.keeps c.expand.new.self.edges.ends.items) inv.keeps.system (c.in_ok-stop.ensures.edges c.in_default.is)));
+      marks = c.in_ok-stop.ensures.marks c.in_default.is ∙ ap (λ t. judged t c.args.tests.now (take (c.loop-at.at + 1) (map (g.S.Space.means c.expand.new.space) c.expand.new.self.seen.keys))) inv.keeps.system;
     }
 
 pub returns-clause-keeps : goal.returns-clause-keeps
@@ -109,3 +112,22 @@ returns-clause-edges g c _ =
     let last : c.loop-at.at ≡ length keys =
     omega (arith, few, c.loop-at-test.false, c.loop-at.auto.at-end, c.requires.from, c.len-at-end.ensures.len, ap length c.requires.reached, length-map keys (g.S.Space.means c.args.space.now)) in
     subst (λ n. KeepsEdges (g.S.Space.system c.args.space.now) (map (g.S.Space.means c.loop-at.space) c.loop-at.self.seen.keys) (n * (g.S.Space.system c.args.space.now).choices) c.loop-at.self.edges.keeps c.loop-at.self.edges.ends.items) last inv.edges
+
+pub expand-requires-clause-tests : goal.expand-requires-clause-tests
+expand-requires-clause-tests g c = subst (λ t. All (λ n. n < t.tests) c.args.tests.now) (sym c.loop-at.invariant.keeps.system) c.requires.tests
+
+pub expand-requires-clause-marks : goal.expand-requires-clause-marks
+expand-requires-clause-marks g c =
+    c.loop-at.invariant.marks ∙ ap (λ t. judged t c.args.tests.now (take c.loop-at.at (map (g.S.Space.means c.loop-at.space) c.loop-at.self.seen.keys))) (sym c.loop-at.invariant.keeps.system)
+
+pub returns-in-Some-clause-marks : goal.returns-in-Some-clause-marks
+returns-in-Some-clause-marks g c e = absurd (some-none e)
+
+pub returns-clause-marks : goal.returns-clause-marks
+returns-clause-marks g c _ =
+    let inv = c.loop-at.invariant in
+    let keys = c.args.self.now.seen.keys in
+    let few = before-within (g.S.Space.system c.args.space.now) (g.met.S.Space.decides c.args.space.now) c.args.depth in
+    let last : c.loop-at.at ≡ length keys =
+    omega (arith, few, c.loop-at-test.false, c.loop-at.auto.at-end, c.requires.from, c.len-at-end.ensures.len, ap length c.requires.reached, length-map keys (g.S.Space.means c.args.space.now)) in
+    inv.marks ∙ ap (λ n. judged (g.S.Space.system c.args.space.now) c.args.tests.now (take n (map (g.S.Space.means c.loop-at.space) c.loop-at.self.seen.keys))) last

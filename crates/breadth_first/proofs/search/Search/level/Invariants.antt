@@ -1,5 +1,6 @@
-use Rattle.std.proofs.Common.{◌≡◌, ◌*◌, map}
+use Rattle.std.proofs.Common.{◌≡◌, ◌*◌, map, take}
 use Rattle.breadth_first.specs.Kept.{Keeps}
+use Rattle.breadth_first.specs.Marks.{judged}
 use Rattle.breadth_first.specs.Order.{opened}
 use Rattle.breadth_first.specs.Progress.{Searched, AreSafe, KeepsEdges}
 use Rattle.breadth_first.proofs.search.Search.level.Given as goal
@@ -12,4 +13,5 @@ invariant-loop-at g l = record {
   safe : AreSafe (g.S.Space.system l.fn.space) (map (g.S.Space.means l.space) l.self.seen.keys);
   keeping : l.self.edges.keeps ≡ l.fn.self.edges.keeps;
   edges : KeepsEdges (g.S.Space.system l.fn.space) (map (g.S.Space.means l.space) l.self.seen.keys) (l.at * (g.S.Space.system l.fn.space).choices) l.self.edges.keeps l.self.edges.ends.items;
+  marks : l.lists.items ≡ judged (g.S.Space.system l.fn.space) l.tests (take l.at (map (g.S.Space.means l.space) l.self.seen.keys));
 }

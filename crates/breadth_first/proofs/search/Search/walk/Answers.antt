@@ -1,6 +1,7 @@
-use Rattle.std.proofs.Common.{◌≡◌, ℕ, suc, ◌+◌, ◌*◌, ◌<◌, ◌≤◌, length, map, Option, IfSome, Some, None, refl, sym, ap, ◌∙◌, subst, arith, rules, true≢false}
-use Rattle.std.proofs.lemmas.List.{length-map}
+use Rattle.std.proofs.Common.{◌≡◌, ℕ, suc, ◌+◌, ◌*◌, ◌<◌, ◌≤◌, length, map, take, All, Option, IfSome, Some, None, refl, sym, ap, ◌∙◌, subst, arith, rules, true≢false}
+use Rattle.std.proofs.lemmas.List.{length-map, take_all}
 use Rattle.breadth_first.specs.Answer.{before}
+use Rattle.breadth_first.specs.Marks.{judged}
 use Rattle.breadth_first.specs.Order.{reached}
 use Rattle.breadth_first.specs.Progress.{GoesOn, AreWithin, KeepsEdges}
 use Rattle.breadth_first.specs.declared.search.Stop.{Stop}
@@ -37,6 +38,7 @@ levels-init g c =
       edges = (let none : 0 ≡ 0 * (g.S.Space.system s).choices = omega arith in
           subst (λ n. KeepsEdges (g.S.Space.system s) (map (g.S.Space.means s) c.args.self.now.seen.keys) n c.args.self.now.edges.keeps c.args.self.now.edges.ends.items) none
           (edges-none (g.S.Space.system s) (map (g.S.Space.means s) c.args.self.now.seen.keys) c.args.self.now.edges.keeps c.args.self.now.edges.ends.items c.requires.edges));
+      marks = c.requires.marks;
     }
 
 pub level-requires-clause-searched : goal.level-requires-clause-searched
@@ -96,6 +98,9 @@ levels-preserved g c =
       keeping = c.in_ok-stop.ensures.keeping ∙ c.levels.invariant.keeping;
       edges = subst (λ n. KeepsEdges (g.S.Space.system c.args.space.now) (map (g.S.Space.means c.level.new.space) c.level.new.self.seen.keys) (n * (g.S.Space.system c.args.space.now).choices) c.level.new.self.edges.keeps c.level.new.self.edges.ends.items) (sym c.len-to.ensures.len)
           (subst (λ t. KeepsEdges t (map (g.S.Space.means c.level.new.space) c.level.new.self.seen.keys) (length c.levels.self.seen.keys * t.choices) c.level.new.self.edges.keeps c.level.new.self.edges.ends.items) c.levels.invariant.keeps.system (c.in_ok-stop.ensures.edges c.in_default.is));
+      marks = c.in_ok-stop.ensures.marks c.in_default.is
+          ∙ ap (λ t. judged t c.args.tests.now (take (length c.levels.self.seen.keys) (map (g.S.Space.means c.level.new.space) c.level.new.self.seen.keys))) c.levels.invariant.keeps.system
+          ∙ ap (λ n. judged (g.S.Space.system c.args.space.now) c.args.tests.now (take n (map (g.S.Space.means c.level.new.space) c.level.new.self.seen.keys))) (sym c.len-to.ensures.len);
     }
 
 pub levels-smaller : goal.levels-smaller
@@ -153,3 +158,24 @@ pub returns-then-len-to-clause-edges : goal.returns-then-len-to-clause-edges
 returns-then-len-to-clause-edges g c d _ =
     subst (λ n. KeepsEdges (g.S.Space.system c.args.space.now) (map (g.S.Space.means c.level.new.space) c.level.new.self.seen.keys) (n * (g.S.Space.system c.args.space.now).choices) c.level.new.self.edges.keeps c.level.new.self.edges.ends.items) (sym c.len-to.ensures.len ∙ sym c.if-len-to.true ∙ c.len.ensures.len)
     (subst (λ t. KeepsEdges t (map (g.S.Space.means c.level.new.space) c.level.new.self.seen.keys) (length c.levels.self.seen.keys * t.choices) c.level.new.self.edges.keeps c.level.new.self.edges.ends.items) c.levels.invariant.keeps.system (c.in_ok-stop.ensures.edges c.in_default.is))
+
+pub level-requires-clause-tests : goal.level-requires-clause-tests
+level-requires-clause-tests g c = subst (λ t. All (λ n. n < t.tests) c.args.tests.now) (sym c.levels.invariant.keeps.system) c.requires.tests
+
+pub level-requires-clause-marks : goal.level-requires-clause-marks
+level-requires-clause-marks g c =
+    c.levels.invariant.marks ∙ ap (λ t. judged t c.args.tests.now (take c.levels.from (map (g.S.Space.means c.levels.space) c.levels.self.seen.keys))) (sym c.levels.invariant.keeps.system)
+
+pub returns-then-is_met-clause-marks : goal.returns-then-is_met-clause-marks
+returns-then-is_met-clause-marks g c d e = absurd (far-all e)
+
+pub returns-in-Some-clause-marks : goal.returns-in-Some-clause-marks
+returns-in-Some-clause-marks g c d e = absurd (stopped-all e)
+
+pub returns-then-len-to-clause-marks : goal.returns-then-len-to-clause-marks
+returns-then-len-to-clause-marks g c d _ =
+    let news = map (g.S.Space.means c.level.new.space) c.level.new.self.seen.keys in
+    let past : length news ≤ length c.levels.self.seen.keys = omega (arith, length-map c.level.new.self.seen.keys (g.S.Space.means c.level.new.space), c.len.ensures.len, c.if-len-to.true, c.len-to.ensures.len) in
+    c.in_ok-stop.ensures.marks c.in_default.is
+    ∙ ap (λ t. judged t c.args.tests.now (take (length c.levels.self.seen.keys) news)) c.levels.invariant.keeps.system
+    ∙ ap (judged (g.S.Space.system c.args.space.now) c.args.tests.now) (take_all (length c.levels.self.seen.keys) news past)

@@ -1,6 +1,7 @@
-use Rattle.std.proofs.Common.{◌≡◌, ◌≤◌, ◌*◌, ◌-◌, ◌^◌, map, length, IfSome}
+use Rattle.std.proofs.Common.{◌≡◌, ◌≤◌, ◌*◌, ◌-◌, ◌^◌, map, take, length, IfSome}
 use Rattle.breadth_first.specs.Answer.{before}
 use Rattle.breadth_first.specs.Kept.{Keeps}
+use Rattle.breadth_first.specs.Marks.{judged}
 use Rattle.breadth_first.specs.Progress.{Searched, AreWithin, KeepsEdges}
 use Rattle.breadth_first.proofs.search.Search.walk.Given as goal
 
@@ -14,6 +15,7 @@ invariant-levels g l = record {
   below : IfSome l.limits.depth (λ n. l.depth ≤ n);
   keeping : l.self.edges.keeps ≡ l.fn.self.edges.keeps;
   edges : KeepsEdges (g.S.Space.system l.fn.space) (map (g.S.Space.means l.space) l.self.seen.keys) (l.from * (g.S.Space.system l.fn.space).choices) l.self.edges.keeps l.self.edges.ends.items;
+  marks : l.lists.items ≡ judged (g.S.Space.system l.fn.space) l.tests (take l.from (map (g.S.Space.means l.space) l.self.seen.keys));
 }
 
 abbrev pub decreases-levels : goal.decreases-levels

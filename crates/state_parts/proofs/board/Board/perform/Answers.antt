@@ -1,5 +1,5 @@
 use Rattle.std.proofs.Common.{sym, subst}
-use Rattle.object_store.specs.Store.{Store, sizes_of}
+use Rattle.object_store.specs.Store.{Store}
 use Rattle.object_store.specs.declared.sizes.Sizes.{Sizes}
 use Rattle.object_store.proofs.Same.{even_store}
 use Rattle.machine_state.specs.State.{state_of}

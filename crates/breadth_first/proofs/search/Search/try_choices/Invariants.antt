@@ -1,7 +1,7 @@
 use Rattle.std.proofs.Common.{◌≡◌, ◌+◌, ◌*◌, map}
 use Rattle.breadth_first.specs.Kept.{Keeps}
 use Rattle.breadth_first.specs.Progress.{Tries, KeepsEdges}
-use Rattle.breadth_first.proofs.search.Search.expand.Given as goal
+use Rattle.breadth_first.proofs.search.Search.try_choices.Given as goal
 
 abbrev pub invariant-loop-choice : goal.invariant-loop-choice
 invariant-loop-choice g l = record {

@@ -1,0 +1,154 @@
+use Rattle.std.proofs.Common.{◌≡◌, suc, ◌+◌, ◌*◌, ◌<◌, map, ◌++◌, ◌∷◌, [], if◌then◌else◌, Some, None, refl, sym, ap, ◌∙◌, subst, arith}
+use Rattle.std.proofs.lemmas.List.{length-map}
+use Rattle.std.proofs.lemmas.Option.{slice_get_within}
+use Rattle.breadth_first.specs.declared.origins.Origin.{Origin}
+use Rattle.breadth_first.specs.Progress.{Steps, Tries, Adds, KeepsEdges}
+use Rattle.breadth_first.proofs.Keys.{keeps-refl, keeps-trans, keeps-all, held-at}
+use Rattle.breadth_first.proofs.Steps.{step-taken, adds-taken, edges-taken, tried-all, tries-none, tries-index}
+use Rattle.breadth_first.proofs.search.Search.try_choices.Goals as goal
+
+some-none : {X : Type 0} {x : X} → Some x ≡ None → ⊥
+some-none e = cc
+
+pub loop-choice-init : goal.loop-choice-init
+loop-choice-init g c =
+    let s = c.args.space.now in
+    record {
+      keeps = keeps-refl (g.S.Space.system s) (g.S.Space.held s) (g.S.Space.means s);
+      tries = tries-none (g.S.Space.system s) (g.met.S.Space.decides s) c.args.limit c.args.at c.args.self.now.seen.keys c.args.self.now.origins.items c.requires.searched c.requires.at c.requires.opened c.requires.safe;
+      keeping = refl;
+      edges = (let e : c.args.at * (g.S.Space.system s).choices ≡ c.args.at * (g.S.Space.system s).choices + 0 = omega arith in
+          subst (λ n. KeepsEdges (g.S.Space.system s) (map (g.S.Space.means s) c.args.self.now.seen.keys) n c.args.self.now.edges.keeps c.args.self.now.edges.ends.items) e c.requires.edges);
+    }
+
+pub index-requires : goal.index-requires
+index-requires g c = tries-index (g.S.Space.system c.args.space.now) (g.met.S.Space.decides c.args.space.now) c.args.limit c.args.at c.loop-choice.choice c.loop-choice.self.seen.keys c.loop-choice.self.origins.items c.loop-choice.invariant.tries
+
+pub successor-requires-clause-held : goal.successor-requires-clause-held
+successor-requires-clause-held g c = held-at (g.S.Space.held c.loop-choice.space) c.loop-choice.self.seen.keys c.loop-choice.invariant.tries.searched.all c.args.at c.index.result.now c.index.ensures
+
+pub successor-requires-clause-choice : goal.successor-requires-clause-choice
+successor-requires-clause-choice g c =
+    let within : c.loop-choice.choice < (g.S.Space.system c.args.space.now).choices = omega (arith, c.choices-choice-end.ensures, c.loop-choice-test.true) in
+    subst (λ t. c.loop-choice.choice < t.choices) (sym c.loop-choice.invariant.keeps.system) within
+
+pub add-requires-clause-all : goal.add-requires-clause-all
+add-requires-clause-all g c = keeps-all c.in_ok-key.ensures.keeps c.loop-choice.self.seen.keys c.loop-choice.invariant.tries.searched.all
+
+pub add-requires-clause-few : goal.add-requires-clause-few
+add-requires-clause-few g c = c.loop-choice.invariant.tries.searched.few
+
+pub add-requires-clause-room : goal.add-requires-clause-room
+add-requires-clause-room g c = c.loop-choice.invariant.tries.searched.room
+
+pub returns-in-Violates-clause-keeps : goal.returns-in-Violates-clause-keeps
+returns-in-Violates-clause-keeps g c = keeps-trans (keeps-trans c.loop-choice.invariant.keeps c.in_ok-key.ensures.keeps) c.in_ok-index.ensures.keeps
+
+pub returns-in-Violates-clause-searched : goal.returns-in-Violates-clause-searched
+returns-in-Violates-clause-searched g c =
+    let origin : Origin = record { parent = c.args.at; choice = c.loop-choice.choice } in
+    let inv = c.loop-choice.invariant in
+    let within : c.loop-choice.choice < (g.S.Space.system c.args.space.now).choices = omega (arith, c.choices-choice-end.ensures, c.loop-choice-test.true) in
+    let step = step-taken (g.S.Space.system c.args.space.now) (g.met.S.Space.decides c.args.space.now) (g.S.Space.held c.add.new.space) (g.S.Space.means c.add.new.space) c.args.limit c.args.at c.loop-choice.choice c.loop-choice.self.seen.keys c.add.new.self.seen.keys c.loop-choice.self.origins.items c.add.new.self.origins.items origin
+    refl refl inv.keeps.system inv.tries within c.in_ok-key.ensures.keeps c.index.result.now c.in_ok-key.key c.index.ensures c.in_ok-key.ensures.means c.in_ok-index.ensures.all c.in_ok-index.ensures.few c.in_ok-index.ensures.room c.in_ok-index.field-0 c.in_ok-index.ensures.adds in
+    let steps = Steps (g.S.Space.system c.args.space.now) (g.S.Space.held c.add.new.space) (g.S.Space.means c.add.new.space) c.args.limit c.args.at c.loop-choice.choice c.add.new.self.seen.keys c.add.new.self.origins.items in
+    (subst steps c.in-Violates.is step).0
+
+pub returns-in-Violates-clause-expands : goal.returns-in-Violates-clause-expands
+returns-in-Violates-clause-expands g c =
+    let origin : Origin = record { parent = c.args.at; choice = c.loop-choice.choice } in
+    let inv = c.loop-choice.invariant in
+    let within : c.loop-choice.choice < (g.S.Space.system c.args.space.now).choices = omega (arith, c.choices-choice-end.ensures, c.loop-choice-test.true) in
+    let step = step-taken (g.S.Space.system c.args.space.now) (g.met.S.Space.decides c.args.space.now) (g.S.Space.held c.add.new.space) (g.S.Space.means c.add.new.space) c.args.limit c.args.at c.loop-choice.choice c.loop-choice.self.seen.keys c.add.new.self.seen.keys c.loop-choice.self.origins.items c.add.new.self.origins.items origin
+    refl refl inv.keeps.system inv.tries within c.in_ok-key.ensures.keeps c.index.result.now c.in_ok-key.key c.index.ensures c.in_ok-key.ensures.means c.in_ok-index.ensures.all c.in_ok-index.ensures.few c.in_ok-index.ensures.room c.in_ok-index.field-0 c.in_ok-index.ensures.adds in
+    let steps = Steps (g.S.Space.system c.args.space.now) (g.S.Space.held c.add.new.space) (g.S.Space.means c.add.new.space) c.args.limit c.args.at c.loop-choice.choice c.add.new.self.seen.keys c.add.new.self.origins.items in
+    let all = subst steps c.in-Violates.is step in
+    (all.1, all.2)
+
+pub returns-in-Full-clause-keeps : goal.returns-in-Full-clause-keeps
+returns-in-Full-clause-keeps g c = keeps-trans (keeps-trans c.loop-choice.invariant.keeps c.in_ok-key.ensures.keeps) c.in_ok-index.ensures.keeps
+
+pub returns-in-Full-clause-searched : goal.returns-in-Full-clause-searched
+returns-in-Full-clause-searched g c =
+    let origin : Origin = record { parent = c.args.at; choice = c.loop-choice.choice } in
+    let inv = c.loop-choice.invariant in
+    let within : c.loop-choice.choice < (g.S.Space.system c.args.space.now).choices = omega (arith, c.choices-choice-end.ensures, c.loop-choice-test.true) in
+    let step = step-taken (g.S.Space.system c.args.space.now) (g.met.S.Space.decides c.args.space.now) (g.S.Space.held c.add.new.space) (g.S.Space.means c.add.new.space) c.args.limit c.args.at c.loop-choice.choice c.loop-choice.self.seen.keys c.add.new.self.seen.keys c.loop-choice.self.origins.items c.add.new.self.origins.items origin
+    refl refl inv.keeps.system inv.tries within c.in_ok-key.ensures.keeps c.index.result.now c.in_ok-key.key c.index.ensures c.in_ok-key.ensures.means c.in_ok-index.ensures.all c.in_ok-index.ensures.few c.in_ok-index.ensures.room c.in_ok-index.field-0 c.in_ok-index.ensures.adds in
+    let steps = Steps (g.S.Space.system c.args.space.now) (g.S.Space.held c.add.new.space) (g.S.Space.means c.add.new.space) c.args.limit c.args.at c.loop-choice.choice c.add.new.self.seen.keys c.add.new.self.origins.items in
+    (subst steps c.in-Full.is step).0
+
+pub returns-in-Full-clause-expands : goal.returns-in-Full-clause-expands
+returns-in-Full-clause-expands g c =
+    let origin : Origin = record { parent = c.args.at; choice = c.loop-choice.choice } in
+    let inv = c.loop-choice.invariant in
+    let within : c.loop-choice.choice < (g.S.Space.system c.args.space.now).choices = omega (arith, c.choices-choice-end.ensures, c.loop-choice-test.true) in
+    let step = step-taken (g.S.Space.system c.args.space.now) (g.met.S.Space.decides c.args.space.now) (g.S.Space.held c.add.new.space) (g.S.Space.means c.add.new.space) c.args.limit c.args.at c.loop-choice.choice c.loop-choice.self.seen.keys c.add.new.self.seen.keys c.loop-choice.self.origins.items c.add.new.self.origins.items origin
+    refl refl inv.keeps.system inv.tries within c.in_ok-key.ensures.keeps c.index.result.now c.in_ok-key.key c.index.ensures c.in_ok-key.ensures.means c.in_ok-index.ensures.all c.in_ok-index.ensures.few c.in_ok-index.ensures.room c.in_ok-index.field-0 c.in_ok-index.ensures.adds in
+    let steps = Steps (g.S.Space.system c.args.space.now) (g.S.Space.held c.add.new.space) (g.S.Space.means c.add.new.space) c.args.limit c.args.at c.loop-choice.choice c.add.new.self.seen.keys c.add.new.self.origins.items in
+    (refl, (subst steps c.in-Full.is step).1)
+
+pub loop-choice-preserved : goal.loop-choice-preserved
+loop-choice-preserved g c =
+    let origin : Origin = record { parent = c.args.at; choice = c.loop-choice.choice } in
+    let inv = c.loop-choice.invariant in
+    let within : c.loop-choice.choice < (g.S.Space.system c.args.space.now).choices = omega (arith, c.choices-choice-end.ensures, c.loop-choice-test.true) in
+    let step = step-taken (g.S.Space.system c.args.space.now) (g.met.S.Space.decides c.args.space.now) (g.S.Space.held c.add.new.space) (g.S.Space.means c.add.new.space) c.args.limit c.args.at c.loop-choice.choice c.loop-choice.self.seen.keys c.add.new.self.seen.keys c.loop-choice.self.origins.items c.add.new.self.origins.items origin
+    refl refl inv.keeps.system inv.tries within c.in_ok-key.ensures.keeps c.index.result.now c.in_ok-key.key c.index.ensures c.in_ok-key.ensures.means c.in_ok-index.ensures.all c.in_ok-index.ensures.few c.in_ok-index.ensures.room c.in_ok-index.field-0 c.in_ok-index.ensures.adds in
+    let steps = Steps (g.S.Space.system c.args.space.now) (g.S.Space.held c.add.new.space) (g.S.Space.means c.add.new.space) c.args.limit c.args.at c.loop-choice.choice c.add.new.self.seen.keys c.add.new.self.origins.items in
+    let taken = adds-taken (g.S.Space.system c.args.space.now) (g.met.S.Space.decides c.args.space.now) (g.S.Space.held c.add.new.space) (g.S.Space.means c.add.new.space) c.args.limit c.args.at c.loop-choice.choice c.loop-choice.self.seen.keys c.add.new.self.seen.keys c.loop-choice.self.origins.items c.add.new.self.origins.items origin
+    inv.keeps.system inv.tries c.in_ok-key.ensures.keeps c.index.result.now c.in_ok-key.key c.index.ensures c.in_ok-key.ensures.means c.in_ok-index.field-0 c.in_ok-index.ensures.adds in
+    let kept = subst (Adds (g.S.Space.system c.args.space.now) c.args.limit (map (g.S.Space.means c.loop-choice.space) c.loop-choice.self.seen.keys) ((g.S.Space.system c.args.space.now).next inv.tries.parent c.loop-choice.choice) (map (g.S.Space.means c.add.new.space) c.add.new.self.seen.keys) c.loop-choice.self.origins.items origin c.add.new.self.origins.items) c.in-At.is taken in
+    let more : suc c.loop-choice.choice ≡ c.loop-choice.choice + 1 = omega arith in
+    record {
+      keeps = keeps-trans (keeps-trans c.loop-choice.invariant.keeps c.in_ok-key.ensures.keeps) c.in_ok-index.ensures.keeps;
+      tries = subst (λ n. Tries (g.S.Space.system c.args.space.now) (g.S.Space.held c.add.new.space) (g.S.Space.means c.add.new.space) c.args.limit c.args.at n c.add.new.self.seen.keys c.add.new.self.origins.items) more (subst steps c.in-At.is step);
+      keeping = c.in_ok-note-in-At.ensures.keeps ∙ ap (λ e. e.keeps) c.add.ensures.edges ∙ inv.keeping;
+      edges = (let sum : c.args.at * (g.S.Space.system c.args.space.now).choices + c.loop-choice.choice + 1 ≡ c.args.at * (g.S.Space.system c.args.space.now).choices + (c.loop-choice.choice + 1) = omega arith in
+          subst (λ n. KeepsEdges (g.S.Space.system c.args.space.now) (map (g.S.Space.means c.add.new.space) c.add.new.self.seen.keys) n c.note.new.self.keeps c.note.new.self.ends.items) sum
+          (edges-taken (g.S.Space.system c.args.space.now) (g.met.S.Space.decides c.args.space.now) (g.S.Space.means c.add.new.space) c.args.limit c.args.at c.loop-choice.choice c.loop-choice.self.seen.keys c.add.new.self.seen.keys c.loop-choice.self.origins.items c.add.new.self.origins.items origin
+          inv.tries within c.in-At.index kept c.loop-choice.self.edges.keeps c.note.new.self.keeps c.loop-choice.self.edges.ends.items c.note.new.self.ends.items inv.edges
+          (c.in_ok-note-in-At.ensures.keeps ∙ ap (λ e. e.keeps) c.add.ensures.edges)
+          (c.in_ok-note-in-At.ensures.ends ∙ ap (λ e. if e.keeps then e.ends.items ++ c.in-At.index ∷ [] else e.ends.items) c.add.ensures.edges)));
+    }
+
+pub returns-clause-keeps : goal.returns-clause-keeps
+returns-clause-keeps g c = c.loop-choice.invariant.keeps
+
+pub returns-clause-searched : goal.returns-clause-searched
+returns-clause-searched g c = c.loop-choice.invariant.tries.searched
+
+pub returns-clause-expands : goal.returns-clause-expands
+returns-clause-expands g c =
+    let last : c.loop-choice.choice ≡ (g.S.Space.system c.args.space.now).choices = omega (arith, c.choices-choice-end.ensures, c.loop-choice-test.false, c.loop-choice.auto.choice-end) in
+    tried-all (g.S.Space.system c.args.space.now) (g.met.S.Space.decides c.args.space.now) c.args.limit c.args.at c.loop-choice.choice c.loop-choice.self.seen.keys c.loop-choice.self.origins.items last c.loop-choice.invariant.tries
+
+pub note-requires : goal.note-requires
+note-requires g c =
+    let origin : Origin = record { parent = c.args.at; choice = c.loop-choice.choice } in
+    let inv = c.loop-choice.invariant in
+    let taken = adds-taken (g.S.Space.system c.args.space.now) (g.met.S.Space.decides c.args.space.now) (g.S.Space.held c.add.new.space) (g.S.Space.means c.add.new.space) c.args.limit c.args.at c.loop-choice.choice c.loop-choice.self.seen.keys c.add.new.self.seen.keys c.loop-choice.self.origins.items c.add.new.self.origins.items origin
+    inv.keeps.system inv.tries c.in_ok-key.ensures.keeps c.index.result.now c.in_ok-key.key c.index.ensures c.in_ok-key.ensures.means c.in_ok-index.field-0 c.in_ok-index.ensures.adds in
+    let kept = subst (Adds (g.S.Space.system c.args.space.now) c.args.limit (map (g.S.Space.means c.loop-choice.space) c.loop-choice.self.seen.keys) ((g.S.Space.system c.args.space.now).next inv.tries.parent c.loop-choice.choice) (map (g.S.Space.means c.add.new.space) c.add.new.self.seen.keys) c.loop-choice.self.origins.items origin c.add.new.self.origins.items) c.in-At.is taken in
+    let inside = slice_get_within (map (g.S.Space.means c.add.new.space) c.add.new.self.seen.keys) c.in-At.index ((g.S.Space.system c.args.space.now).next inv.tries.parent c.loop-choice.choice) kept.at in
+    omega (arith, inside, c.in_ok-index.ensures.few, length-map c.add.new.self.seen.keys (g.S.Space.means c.add.new.space))
+
+pub returns-clause-keeping : goal.returns-clause-keeping
+returns-clause-keeping g c = c.loop-choice.invariant.keeping
+
+pub returns-clause-edges : goal.returns-clause-edges
+returns-clause-edges g c _ =
+    let last : c.loop-choice.choice ≡ (g.S.Space.system c.args.space.now).choices = omega (arith, c.choices-choice-end.ensures, c.loop-choice-test.false, c.loop-choice.auto.choice-end) in
+    subst (λ n. KeepsEdges (g.S.Space.system c.args.space.now) (map (g.S.Space.means c.loop-choice.space) c.loop-choice.self.seen.keys) (c.args.at * (g.S.Space.system c.args.space.now).choices + n) c.loop-choice.self.edges.keeps c.loop-choice.self.edges.ends.items) last c.loop-choice.invariant.edges
+
+pub returns-in-Violates-clause-keeping : goal.returns-in-Violates-clause-keeping
+returns-in-Violates-clause-keeping g c = ap (λ e. e.keeps) c.add.ensures.edges ∙ c.loop-choice.invariant.keeping
+
+pub returns-in-Full-clause-keeping : goal.returns-in-Full-clause-keeping
+returns-in-Full-clause-keeping g c = ap (λ e. e.keeps) c.add.ensures.edges ∙ c.loop-choice.invariant.keeping
+
+pub returns-in-Violates-clause-edges : goal.returns-in-Violates-clause-edges
+returns-in-Violates-clause-edges g c e = absurd (some-none e)
+
+pub returns-in-Full-clause-edges : goal.returns-in-Full-clause-edges
+returns-in-Full-clause-edges g c e = absurd (some-none e)

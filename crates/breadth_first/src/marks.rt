@@ -1,0 +1,91 @@
+//! Marks: which states pass which tests.
+
+ghost use Rattle.std.specs.Prelude.{◌≡◌, ◌<◌, ◌++◌, ◌∷◌, [], List, length, replicate, All, IfOk, OnOk, slice_set, slice_index_or};
+ghost use Rattle.breadth_first.specs.Kept.{Keeps};
+ghost use Rattle.breadth_first.specs.Marks.{judged};
+
+use crate::Space;
+use std::alloc::{AllocError, Global};
+use std::marker::Model;
+
+/// Of states, in their order, whether they pass a test.
+#[derive(Drop)]
+pub(crate) struct Marks {
+    list: Vec<bool>,
+}
+
+impl Model for Marks {
+    ghost use Rattle.std.specs.Prelude.{List, Bool};
+
+    ghost Value = { List Bool };
+
+    ghost view = { λ m. m.list.items };
+}
+
+impl Marks {
+    fn new(alloc: Global) -> Marks
+        ensures { result ≡ [] }
+    {
+        Marks {
+            list: Vec::new(alloc),
+        }
+    }
+
+    fn push(&mut self, mark: bool) -> Result<(), AllocError>
+        ensures { OnOk result (self.new ≡ self.old ++ mark ∷ []) }
+    {
+        self.list.push(mark)?;
+        Ok(())
+    }
+
+    pub(crate) fn as_slice(&self) -> &[bool]
+        ensures { result.now ≡ self.now }
+    {
+        self.list.as_slice()
+    }
+}
+
+/// A list for each of so many tests, with no state judged yet.
+#[tactic(auto, using(crate::proofs::Judging::empty_more))]
+pub(crate) fn no_marks(alloc: Global, tests: usize) -> Result<Vec<Marks>, AllocError>
+    ensures { IfOk result (λ lists. lists.items ≡ replicate tests []) }
+{
+    let mut lists = Vec::new(alloc);
+    for _ in 0..tests {
+        lists.push(Marks::new(alloc))?;
+    }
+    Ok(lists)
+}
+
+/// Adds a mark to one of the lists.
+fn note(lists: &mut Vec<Marks>, place: usize, mark: bool) -> Result<(), AllocError>
+    requires { place < length lists.old.items }
+    ensures { OnOk result (lists.new.items
+        ≡ slice_set lists.old.items place (slice_index_or lists.old.items place [] ++ mark ∷ [])) }
+{
+    lists[place].push(mark)
+}
+
+/// Judges one more state by each of the tests.
+pub(crate) fn judge<S: Space>(
+    space: &mut S,
+    key: &S::Key,
+    tests: &[usize],
+    lists: &mut Vec<Marks>,
+) -> Result<(), AllocError>
+    requires held { S.held space.old key.now }
+    requires tests { All (λ t. t < (S.system space.old).tests) tests.now }
+    requires many { length lists.old.items ≡ length tests.now }
+    ensures keeps { OnOk result
+        (Keeps (S.system space.old) (S.held space.old) (S.means space.old)
+        (S.system space.new) (S.held space.new) (S.means space.new)) }
+    ensures marks { OnOk result ((states : List S.State)
+        → lists.old.items ≡ judged (S.system space.old) tests.now states
+        → lists.new.items ≡ judged (S.system space.old) tests.now (states ++ S.means space.old key.now ∷ [])) }
+{
+    for place in 0..tests.len() {
+        let passes = space.passes(key, tests[place])?;
+        note(lists, place, passes)?;
+    }
+    Ok(())
+}
