@@ -72,7 +72,7 @@ class Question:
             self.depth, = map(int, words[1:])
         elif words[0] == "states":
             self.states, = map(int, words[1:])
-        elif words[0] in ("domain", "reads"):
+        elif words[0] in ("domain", "reads", "writes", "halts", "logs"):
             self.policy.take(words)
         else:
             raise ValueError

@@ -1,9 +1,8 @@
 -- A verdict is Yes exactly where the cut holds.
-use Rattle.std.proofs.Common.{◌≡◌, ℕ, zero, suc, ◌+◌, ◌-◌, ◌<◌, ◌≤◌, ◌⊎◌, inl, inr, Bool, true, false, not, ◌&&◌, ◌||◌, nat_lt, if◌then◌else◌, List, [], ◌∷◌, length, get_or, replicate, map, Option, Some, None, refl, sym, ◌∙◌, ap, subst, arith}
+use Rattle.std.proofs.Common.{◌≡◌, ℕ, zero, suc, ◌+◌, ◌<◌, ◌≤◌, ◌⊎◌, inl, inr, Bool, true, false, not, ◌&&◌, ◌||◌, if◌then◌else◌, List, [], ◌∷◌, length, get_or, Option, Some, None, refl, sym, ◌∙◌, ap, subst, arith}
 use Rattle.std.specs.Option.{option_or}
-use Rattle.std.proofs.lemmas.Bool.{cases_lt, and_from, and_parts, or_cases, or_left, or_right, lt-ltb, ltb-true}
+use Rattle.std.proofs.lemmas.Bool.{cases_lt, and_from, and_parts, or_cases, or_left, or_right}
 use Rattle.std.proofs.lemmas.List.{get_or_past}
-use Rattle.std.proofs.Math.ListN.{get_or-map}
 use Rattle.cap_format.specs.declared.kind.CapKind.{CapKind}
 use Rattle.cap_format.specs.declared.kind.CapKind.TheVariants.{Null, Page, CapPage, Gpt, Window, LocalWindow, Endpoint, Entry, Process, Schedule, Range, Discrim, KernLog, SysCtl}
 use Rattle.cap_format.specs.Kind.{is_counted, object_kind}
@@ -11,13 +10,7 @@ use Rattle.cap_format.specs.Capability.{Capability, null, bare}
 use Rattle.cap_format.specs.Weakening.{is_harmless}
 use Rattle.confinement.specs.declared.cut_side.CutSide.{CutSide}
 use Rattle.confinement.specs.Cut.{Cut, side_of, same_side, NamesOwn, MayCross, MayHold, EachMayHold, AllOn, SleepApart}
-use Rattle.gpt_objects.specs.Gpt.{GptValue, slot_of as gpt_slot_of, empty_gpt, empty_slots as empty_gpt_slots}
-use Rattle.page_store.specs.CapPage.{cap_at, empty_cappage}
-use Rattle.process_objects.specs.Process.{ProcessValue, capreg_of, slot_of, empty_process, empty_capregs, empty_slots as empty_process_slots}
-use Rattle.endpoint_objects.specs.declared.endpoint.Endpoint.{Endpoint as EndpointValue}
-use Rattle.endpoint_objects.specs.Endpoint.{empty_endpoint}
-use Rattle.object_store.specs.Store.{Store, Items, size_of, gpt_at, slot_at, cappage_at, process_at, endpoint_at}
-use Rattle.object_store.proofs.Means.{slot_at-map_of, cappage_at-state_map, process_at-state_map, endpoint_at-state_map}
+use Rattle.object_store.specs.Store.{Store, Items, size_of}
 use Rattle.schedules.specs.Queues.{QueuesValue, sleepers_of}
 use Rattle.object_store.specs.Meaning.{is_live, live, meaning, state_map}
 use Rattle.confine_check.specs.declared.verdict.Breach.{Breach}
@@ -26,6 +19,7 @@ use Rattle.confine_check.specs.Breach.{first_from, is_range, is_sysctl, is_kernl
 use Rattle.confine_check.specs.Full.{AreFull}
 use Rattle.confinement.proofs.Held.{may-null}
 use Rattle.confinement.proofs.Sides.{same_side-tells, same_side-true}
+use Rattle.confine_check.proofs.Holding.{AllHave, each-has, has-all}
 use Rattle.confine_check.proofs.First.{first_zero, first_suc}
 use Rattle.confine_check.proofs.Least.{least-each, each-least}
 use Rattle.confine_check.specs.Laws.{VerdictLaw}
@@ -217,11 +211,8 @@ module _ (cut : Cut) (s : Store) where
       may-meaning cut (side_of cut kind n) s.items (cap_in s kind n i) (may_hold-says cut (side_of cut kind n) (live s.items (cap_in s kind n i)) (if_none _ _ at))
 
   -- all four kinds
-  pub record AllPlaces : Type 0 where
-    pub cappages : PlacesMay CapPage
-    pub gpts : PlacesMay Gpt
-    pub endpoints : PlacesMay Endpoint
-    pub processes : PlacesMay Process
+  abbrev pub AllPlaces : Type 0
+  AllPlaces = AllHave (λ kind n c. MayHold cut (side_of cut kind n) c) s
 
   none-all : breach_of cut s ≡ None → AllPlaces
   none-all e =
@@ -236,146 +227,18 @@ module _ (cut : Cut) (s : Store) where
       (both_none (breach_of_kind cut s Gpt) _ (places-none Gpt all.gpts)
       (both_none (breach_of_kind cut s Endpoint) (breach_of_kind cut s Process) (places-none Endpoint all.endpoints) (places-none Process all.processes)))
 
-  -- ---- the map's capabilities are the meanings of these
+  -- ---- so it is of each of the map
 
-  abbrev Means : Capability → Capability
-  Means c = meaning s.items c
-
-  null_at : (n i : ℕ) → get_or (replicate n null) i null ≡ null
-  null_at zero i = refl
-  null_at (suc n) zero = refl
-  null_at (suc n) (suc i) = null_at n i
-
-  -- Null may stand where there is no place
-  null-held : (side : CutSide) (c : Capability) → c ≡ null → MayHold cut side (Means c)
-  null-held side c e = subst (λ (d : Capability). MayHold cut side (Means d)) (sym e) (may-null cut side)
-
-  -- what is read of a list of meanings is the meaning of what is read
-  read-meaning : (side : CutSide) (xs : List Capability) (i : ℕ) → MayHold cut side (Means (get_or xs i null)) → MayHold cut side (get_or (map Means xs) i null)
-  read-meaning side xs i m = subst (λ (c : Capability). MayHold cut side c) (sym (get_or-map Means xs i null)) m
-
-  meaning-read : (side : CutSide) (xs : List Capability) (i : ℕ) → MayHold cut side (get_or (map Means xs) i null) → MayHold cut side (Means (get_or xs i null))
-  meaning-read side xs i m = subst (λ (c : Capability). MayHold cut side c) (get_or-map Means xs i null) m
-
-  -- of a list of `n` capabilities those at places below `n` are known, and the others are Null
-  below : (side : CutSide) (n : ℕ) (xs : List Capability) (i : ℕ) → length xs ≡ n → (i < n → MayHold cut side (Means (get_or xs i null))) → MayHold cut side (Means (get_or xs i null))
-  below side n xs i size known = elim (cases_lt i n) [
-    | inl there ↦ known there
-    | inr past ↦ null-held side (get_or xs i null) (get_or_past xs i null (omega (arith, size, past)))
-  ]
-
-  not_below : (i : ℕ) → nat_lt (i + 3) 3 ≡ false
-  not_below i = by (nat_lt (i + 3) 3) refl
-    where
-      by : (b : Bool) → nat_lt (i + 3) 3 ≡ b → b ≡ false
-      by true e = let lt = ltb-true (i + 3) 3 e in absurd (omega (arith, lt))
-      by false e = refl
-
-  cap-capreg : (p i : ℕ) → cap_in s Process p (i + 3) ≡ capreg_of (process_at s p) i
-  cap-capreg p i =
-      let same : i + 3 - 3 ≡ i = omega arith in
-      ap (λ (b : Bool). if b then slot_of (process_at s p) (i + 3) else capreg_of (process_at s p) (i + 3 - 3)) (not_below i) ∙ ap (λ (j : ℕ). capreg_of (process_at s p) j) same
-
-  cap-slot : (p i : ℕ) → i < 3 → cap_in s Process p i ≡ slot_of (process_at s p) i
-  cap-slot p i lt = ap (λ (b : Bool). if b then slot_of (process_at s p) i else capreg_of (process_at s p) (i - 3)) (lt-ltb i 3 lt)
-
-  empty-gpt : (i : ℕ) → gpt_slot_of empty_gpt i ≡ null
-  unfolding empty_gpt_slots
-  empty-gpt i = null_at 16 i
-
-  empty-cappage : (i : ℕ) → cap_at empty_cappage i ≡ null
-  unfolding empty_cappage
-  empty-cappage i = null_at 256 i
-
-  empty-capreg : (i : ℕ) → capreg_of empty_process i ≡ null
-  unfolding empty_capregs
-  empty-capreg i = null_at 32 i
-
-  empty-slot : (i : ℕ) → slot_of empty_process i ≡ null
-  unfolding empty_process_slots
-  empty-slot i = null_at 3 i
-
-  module _ (full : AreFull s) (all : AllPlaces) where
-    slot-held : (g i : ℕ) → MayHold cut (side_of cut Gpt g) (Means (slot_at s.items g i))
-    slot-held g i = elim (cases_lt g (size_of s.items Gpt)) [
-      | inl there ↦
-          let each = full.is_store.ranged.each in
-          let inside : g < length s.items.gpts = omega (arith, each, there) in
-          let is = full.is_store.ranged.gpts g empty_gpt inside in
-          below (side_of cut Gpt g) 16 (gpt_at s.items g).slots i is.sixteen (λ place. all.gpts g i there place)
-      | inr past ↦
-          let each = full.is_store.ranged.each in
-          let outside : length s.items.gpts ≤ g = omega (arith, each, past) in
-          null-held (side_of cut Gpt g) (slot_at s.items g i) (ap (λ (v : GptValue). gpt_slot_of v i) (get_or_past s.items.gpts g empty_gpt outside) ∙ empty-gpt i)
-    ]
-
-    cappage-held : (n i : ℕ) → MayHold cut (side_of cut CapPage n) (Means (cap_at (cappage_at s n) i))
-    cappage-held n i = elim (cases_lt n (size_of s.items CapPage)) [
-      | inl there ↦ below (side_of cut CapPage n) 256 (cappage_at s n) i (full.cappages n there) (λ place. all.cappages n i there place)
-      | inr past ↦
-          let each = full.is_store.sized.cappages in
-          let outside : length s.contents.cappages ≤ n = omega (arith, each, past) in
-          null-held (side_of cut CapPage n) (cap_at (cappage_at s n) i) (ap (λ (v : List Capability). cap_at v i) (get_or_past s.contents.cappages n empty_cappage outside) ∙ empty-cappage i)
-    ]
-
-    empty-there : (p : ℕ) → size_of s.items Process ≤ p → process_at s p ≡ empty_process
-    empty-there p past =
-        let each = full.is_store.sized.processes in
-        let outside : length s.contents.processes ≤ p = omega (arith, each, past) in
-        get_or_past s.contents.processes p empty_process outside
-
-    capreg-held : (p i : ℕ) → MayHold cut (side_of cut Process p) (Means (capreg_of (process_at s p) i))
-    capreg-held p i = elim (cases_lt p (size_of s.items Process)) [
-      | inl there ↦
-          let size = full.processes p there in
-          below (side_of cut Process p) 32 (process_at s p).capregs i size.0 (λ place.
-          subst (λ (c : Capability). MayHold cut (side_of cut Process p) (Means c)) (cap-capreg p i) (all.processes p (i + 3) there (omega (arith, place))))
-      | inr past ↦ null-held (side_of cut Process p) (capreg_of (process_at s p) i) (ap (λ (v : ProcessValue). capreg_of v i) (empty-there p past) ∙ empty-capreg i)
-    ]
-
-    process_slot-held : (p i : ℕ) → MayHold cut (side_of cut Process p) (Means (slot_of (process_at s p) i))
-    process_slot-held p i = elim (cases_lt p (size_of s.items Process)) [
-      | inl there ↦
-          let size = full.processes p there in
-          below (side_of cut Process p) 3 (process_at s p).slots i size.1 (λ place.
-          subst (λ (c : Capability). MayHold cut (side_of cut Process p) (Means c)) (cap-slot p i place) (all.processes p i there (omega (arith, place))))
-      | inr past ↦ null-held (side_of cut Process p) (slot_of (process_at s p) i) (ap (λ (v : ProcessValue). slot_of v i) (empty-there p past) ∙ empty-slot i)
-    ]
-
-    recipient-held : (e : ℕ) → MayHold cut (side_of cut Endpoint e) (Means (endpoint_at s e).recipient)
-    recipient-held e = elim (cases_lt e (size_of s.items Endpoint)) [
-      | inl there ↦ all.endpoints e 0 there (omega arith)
-      | inr past ↦
-          let each = full.is_store.sized.endpoints in
-          let outside : length s.contents.endpoints ≤ e = omega (arith, each, past) in
-          null-held (side_of cut Endpoint e) (endpoint_at s e).recipient (ap (λ (v : EndpointValue). v.recipient) (get_or_past s.contents.endpoints e empty_endpoint outside))
-    ]
-
-    -- so each capability of the map may stand where it does
-    pub each-held : EachMayHold cut (state_map s)
-    each-held = record {
-      slots = λ g i. subst (λ (c : Capability). MayHold cut (side_of cut Gpt g) c) (sym (slot_at-map_of s.items g i)) (slot-held g i);
-      cappages = λ n i. subst (λ (v : List Capability). MayHold cut (side_of cut CapPage n) (cap_at v i)) (sym (cappage_at-state_map s n)) (read-meaning (side_of cut CapPage n) (cappage_at s n) i (cappage-held n i));
-      capregs = λ p i. subst (λ (v : ProcessValue). MayHold cut (side_of cut Process p) (capreg_of v i)) (sym (process_at-state_map s p)) (read-meaning (side_of cut Process p) (process_at s p).capregs i (capreg-held p i));
-      process_slots = λ p i. subst (λ (v : ProcessValue). MayHold cut (side_of cut Process p) (slot_of v i)) (sym (process_at-state_map s p)) (read-meaning (side_of cut Process p) (process_at s p).slots i (process_slot-held p i));
-      recipients = λ e. subst (λ (v : EndpointValue). MayHold cut (side_of cut Endpoint e) v.recipient) (sym (endpoint_at-state_map s e)) (recipient-held e);
-    }
+  pub each-held : AreFull s → AllPlaces → EachMayHold cut (state_map s)
+  each-held full all =
+      let each = each-has (λ kind n c. MayHold cut (side_of cut kind n) c) (λ kind n. may-null cut (side_of cut kind n)) s full all in
+      record { slots = each.slots; cappages = each.cappages; capregs = each.capregs; process_slots = each.process_slots; recipients = each.recipients }
 
   -- and the other way round
-  process-places : EachMayHold cut (state_map s) → PlacesMay Process
-  process-places each p i there place = by (nat_lt i 3)
-    where
-      by : (b : Bool) → MayHold cut (side_of cut Process p) (Means (if b then slot_of (process_at s p) i else capreg_of (process_at s p) (i - 3)))
-      by true = meaning-read (side_of cut Process p) (process_at s p).slots i (subst (λ (v : ProcessValue). MayHold cut (side_of cut Process p) (slot_of v i)) (process_at-state_map s p) (each.process_slots p i))
-      by false = meaning-read (side_of cut Process p) (process_at s p).capregs (i - 3) (subst (λ (v : ProcessValue). MayHold cut (side_of cut Process p) (capreg_of v (i - 3))) (process_at-state_map s p) (each.capregs p (i - 3)))
-
   pub held-all : EachMayHold cut (state_map s) → AllPlaces
-  held-all each = record {
-    cappages = λ n i there place. meaning-read (side_of cut CapPage n) (cappage_at s n) i (subst (λ (v : List Capability). MayHold cut (side_of cut CapPage n) (cap_at v i)) (cappage_at-state_map s n) (each.cappages n i));
-    gpts = λ g i there place. subst (λ (c : Capability). MayHold cut (side_of cut Gpt g) c) (slot_at-map_of s.items g i) (each.slots g i);
-    endpoints = λ e i there place. subst (λ (v : EndpointValue). MayHold cut (side_of cut Endpoint e) v.recipient) (endpoint_at-state_map s e) (each.recipients e);
-    processes = process-places each;
-  }
+  held-all each =
+      has-all (λ kind n c. MayHold cut (side_of cut kind n) c) (λ kind n. may-null cut (side_of cut kind n)) s
+      (record { slots = each.slots; cappages = each.cappages; capregs = each.capregs; process_slots = each.process_slots; recipients = each.recipients })
 
 -- ---- sleepers
 

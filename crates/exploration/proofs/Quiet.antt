@@ -7,9 +7,12 @@ use Rattle.kernel_core.specs.Event.{event_of}
 use Rattle.kernel_core.proofs.Ran.{run_state-cons, run_state-nil}
 use Rattle.quiet_runs.specs.Runs.{Watch, after_step}
 use Rattle.quiet_runs.specs.Finding.{is_quiet, is_quiet_on, quiet_steps, quiet_within}
-use Rattle.quiet_runs.specs.Laws.{HeldLaw, HoldAlike}
+use Rattle.quiet_runs.specs.Laws.{HeldLaw, LookAlike}
 use Rattle.quiet_finding.specs.Reaching.{IsReaching, ReachingValue}
+use Rattle.quiet_finding.specs.declared.walks.KeptWalks.{KeptWalks}
+use Rattle.quiet_finding.specs.Walks.{AreKeptOn}
 use Rattle.quiet_finding.proofs.Kept.{reaching-kept}
+use Rattle.quiet_finding.proofs.Walking.{kept-after}
 use Rattle.exploration.specs.machine_space.Space.{after_steps}
 
 module _ (watch : Watch) (hart : ℕ) where
@@ -118,6 +121,14 @@ module _ (watch : Watch) (hart : ℕ) where
   pub none-led : (s : State) → s ≡ after_steps hart 0 s
   none-led s = sym (run_state-nil s)
 
-  -- who comes to what is the same after a quiet step
+  -- what one looks at is the same after a quiet step
+  looks-alike : HeldLaw → (s t : State) → is_quiet watch s hart ≡ true → t ≡ (event_of s (Step hart)).state → LookAlike s t
+  looks-alike law s t quiet is = subst (λ (x : State). LookAlike s x) (sym is) (law watch s hart quiet)
+
+  -- so who comes to what is
   pub stays_after : HeldLaw → (s t : State) (r : ReachingValue) → is_quiet watch s hart ≡ true → t ≡ (event_of s (Step hart)).state → IsReaching s.store r → IsReaching t.store r
-  stays_after law s t r quiet is held = reaching-kept s.store t.store r (subst (λ (x : State). HoldAlike s.store x.store) (sym is) (law watch s hart quiet)) held
+  stays_after law s t r quiet is held = reaching-kept s.store t.store r (looks-alike law s t quiet is).hold held
+
+  -- and so are walks
+  pub walks_after : HeldLaw → (s t : State) (walks : KeptWalks) → is_quiet watch s hart ≡ true → t ≡ (event_of s (Step hart)).state → AreKeptOn s hart walks → AreKeptOn t hart walks
+  walks_after law s t walks quiet is kept = kept-after s t hart walks (looks-alike law s t quiet is) kept

@@ -9,7 +9,7 @@ use Rattle.kernel_core.specs.Run.{run_state}
 use Rattle.kernel_core.proofs.Ran.{run_state-cons, run_state-nil}
 use Rattle.quiet_runs.specs.Runs.{Watch}
 use Rattle.quiet_finding.specs.Watched.{WatchedValue}
-use Rattle.separation_policy.specs.declared.domain_set.DomainSet.{DomainSet}
+use Rattle.separation_policy.specs.Closure.{ClosureValue}
 use Rattle.separation_policy.specs.Policy.{PolicyValue}
 use Rattle.breadth_first.specs.declared.answer.Explored.{Explored}
 use Rattle.breadth_first.specs.declared.answer.Limits.{Limits}
@@ -54,7 +54,7 @@ module _ (question : QuestionValue) (policy : PolicyValue) where
   }
 
   -- and so does what it keeps
-  pub space_grown : (closure : List DomainSet) (choices : List Choice) (watched : WatchedValue) (old new : TablesValue) (start : Key) → GrowTables old new → IsSpace question policy closure choices watched old start → IsSpace question policy closure choices watched new start
+  pub space_grown : (closure : ClosureValue) (choices : List Choice) (watched : WatchedValue) (old new : TablesValue) (start : Key) → GrowTables old new → IsSpace question policy closure choices watched old start → IsSpace question policy closure choices watched new start
   space_grown closure choices watched old new start grows is = record {
     given = is.given;
     range = is.range;

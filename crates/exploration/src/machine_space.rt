@@ -6,6 +6,7 @@
 mod choosing;
 mod exploring;
 mod limits;
+mod looks;
 mod space;
 mod watching;
 

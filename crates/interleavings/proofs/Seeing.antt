@@ -11,11 +11,13 @@ use Rattle.machine_state.specs.State.{State, process}
 use Rattle.independence.specs.Rewrite.{SameButData}
 use Rattle.confine_check.specs.Breach.{places_in}
 use Rattle.separation_policy.specs.Policy.{PolicyValue}
+use Rattle.quiet_runs.specs.Finding.{is_below, runs}
+use Rattle.quiet_runs.specs.Reaching.{names}
 use Rattle.exploration.specs.declared.question.asks.Asks.TheVariants.{Never}
 use Rattle.exploration.specs.declared.question.atom.Atom.{Atom}
 use Rattle.exploration.specs.declared.question.atom.Condition.{Condition}
 use Rattle.exploration.specs.declared.question.atom.Condition.TheVariants as conditions
-use Rattle.exploration.specs.question.Atom.{all_hold, atom_holds, condition_holds, crosses, has_word, is_asleep, is_faulted, is_faulted_by, is_receiving, is_running, is_stuck, names_object, some_below}
+use Rattle.exploration.specs.question.Atom.{all_hold, atom_holds, condition_holds, crosses, has_word, is_asleep, is_faulted, is_faulted_by, is_receiving, is_stuck}
 use Rattle.exploration.specs.question.Question.{PropertyValue, pages_in, processes_in, property_of}
 use Rattle.interleavings.specs.Laws.{SeesOnlyLaw}
 use Rattle.interleavings.proofs.Watched.{stands-alone, stands-first, stands-of, stands-second}
@@ -38,7 +40,7 @@ module _ (policy : PolicyValue) (s t : State) (same : SameButData s t) where
       → condition_holds (crosses policy s) condition s ≡ condition_holds (crosses policy t) condition t
   condition-same conditions.Stuck processes pages = ap (λ (q : QueuesValue). is_stuck q) same.queues
   condition-same conditions.Halted processes pages = same.halted
-  condition-same (conditions.Running p) processes pages = let q = same.processes p in ap is_running q.state
+  condition-same (conditions.Running p) processes pages = let q = same.processes p in ap runs q.state
   condition-same (conditions.Receiving p) processes pages = let q = same.processes p in ap is_receiving q.state
   condition-same (conditions.Faulted p) processes pages = let q = same.processes p in ap is_faulted q.state
   condition-same (conditions.FaultedBy p code) processes pages = let q = same.processes p in ap (is_faulted_by code) q.state
@@ -48,7 +50,7 @@ module _ (policy : PolicyValue) (s t : State) (same : SameButData s t) where
   condition-same (conditions.Register p i value) processes pages = ap (λ (q : ProcessValue). reg_of q i == value) (processes p (stands-alone p))
   condition-same (conditions.Word page offset value) processes pages = ap (λ (bytes : List ℕ). has_word bytes offset value) (pages page (stands-alone page))
   condition-same (conditions.Holds kind n of named) processes pages =
-      ap (λ (held : CapKind → ℕ → ℕ → Capability). some_below (λ i. names_object (held kind n i) of named) (places_in kind)) (caps-same s t same)
+      ap (λ (held : CapKind → ℕ → ℕ → Capability). is_below (λ i. names (held kind n i) of named) (places_in kind)) (caps-same s t same)
   condition-same conditions.Crossing processes pages = crosses-same s t same policy
 
   atom-same : (atom : Atom) → SameProcesses (processes_in atom.condition) → SamePages (pages_in atom.condition)

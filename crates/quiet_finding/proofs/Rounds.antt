@@ -31,11 +31,11 @@ through-nobody cs kind n =
     same true = refl
     same false = refl
 
-reached-zero : (s : Store) (kind : CapKind) (n : ℕ) → reached_within 0 s kind n ≡ held_by s kind n
+pub reached-zero : (s : Store) (kind : CapKind) (n : ℕ) → reached_within 0 s kind n ≡ held_by s kind n
 unfolding reached_within
 reached-zero s kind n = refl
 
-reached-suc : (most : ℕ) (s : Store) (kind : CapKind) (n : ℕ) → reached_within (suc most) s kind n
+pub reached-suc : (most : ℕ) (s : Store) (kind : CapKind) (n : ℕ) → reached_within (suc most) s kind n
     ≡ joined (held_by s kind n) (joined_below (λ g. through (reached_within most s Gpt g) (gpt_at s.items g).slots kind n) (length s.items.gpts))
 unfolding reached_within
 reached-suc most s kind n = refl
@@ -93,13 +93,13 @@ module _ (s : Store) (full : AreFull s) where
   page-count = sym full.is_store.sized.pages
 
   module _ (last : ReachingValue) (kind : CapKind) (n : ℕ) where
-    by-processes : by_objects M last Process (size_of s.items Process) kind n ≡ joined_below (λ p. through (Alone p) (caps_of M p) kind n) (length M.contents.processes)
+    pub by-processes : by_objects M last Process (size_of s.items Process) kind n ≡ joined_below (λ p. through (Alone p) (caps_of M p) kind n) (length M.contents.processes)
     by-processes =
         joined_below-same (λ p. by_places M (Alone p) Process p (places_in Process) kind n) (λ p. through (Alone p) (caps_of M p) kind n) (size_of s.items Process)
         (λ p lt. places-through M Process p (caps_of M p) (process-long s full p lt) (λ i place. process-at s full p i lt place) (Alone p) kind n)
         ∙ ap (joined_below (λ p. through (Alone p) (caps_of M p) kind n)) process-count
 
-    by-cappages : by_objects M last CapPage (size_of s.items CapPage) kind n ≡ joined_below (λ c. through Several (cappage_at M c) kind n) (length M.contents.cappages)
+    pub by-cappages : by_objects M last CapPage (size_of s.items CapPage) kind n ≡ joined_below (λ c. through Several (cappage_at M c) kind n) (length M.contents.cappages)
     by-cappages =
         joined_below-same (λ c. by_places M Several CapPage c (places_in CapPage) kind n) (λ c. through Several (cappage_at M c) kind n) (size_of s.items CapPage)
         (λ c lt. places-through M CapPage c (cappage_at M c) (cappage-long s full c lt) (λ i place. refl) Several kind n)
@@ -112,19 +112,19 @@ module _ (s : Store) (full : AreFull s) where
         ∙ ap (joined_below (λ g. through (to_gpt last g) (gpt_at M.items g).slots kind n)) gpt-count
 
   module _ (test : Capability → Bool) where
-    in-processes : in_objects M Process (size_of s.items Process) test ≡ is_below (λ p. list_any test (caps_of M p)) (length M.contents.processes)
+    pub in-processes : in_objects M Process (size_of s.items Process) test ≡ is_below (λ p. list_any test (caps_of M p)) (length M.contents.processes)
     in-processes =
         is_below-same (λ p. in_places M Process p (places_in Process) test) (λ p. list_any test (caps_of M p)) (size_of s.items Process)
         (λ p lt. places-any M Process p (caps_of M p) (process-long s full p lt) (λ i place. process-at s full p i lt place) test)
         ∙ ap (is_below (λ p. list_any test (caps_of M p))) process-count
 
-    in-cappages : in_objects M CapPage (size_of s.items CapPage) test ≡ is_below (λ c. list_any test (cappage_at M c)) (length M.contents.cappages)
+    pub in-cappages : in_objects M CapPage (size_of s.items CapPage) test ≡ is_below (λ c. list_any test (cappage_at M c)) (length M.contents.cappages)
     in-cappages =
         is_below-same (λ c. in_places M CapPage c (places_in CapPage) test) (λ c. list_any test (cappage_at M c)) (size_of s.items CapPage)
         (λ c lt. places-any M CapPage c (cappage_at M c) (cappage-long s full c lt) (λ i place. refl) test)
         ∙ ap (is_below (λ c. list_any test (cappage_at M c))) cappage-count
 
-    in-gpts : in_objects M Gpt (size_of s.items Gpt) test ≡ is_below (λ g. list_any test (gpt_at M.items g).slots) (length M.items.gpts)
+    pub in-gpts : in_objects M Gpt (size_of s.items Gpt) test ≡ is_below (λ g. list_any test (gpt_at M.items g).slots) (length M.items.gpts)
     in-gpts =
         is_below-same (λ g. in_places M Gpt g (places_in Gpt) test) (λ g. list_any test (gpt_at M.items g).slots) (size_of s.items Gpt)
         (λ g lt. places-any M Gpt g (gpt_at M.items g).slots (gpt-long s full g lt) (λ i place. refl) test)

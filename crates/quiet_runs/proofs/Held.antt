@@ -1,11 +1,13 @@
--- A quiet step moves no capability.
+-- A quiet step moves no capability, and leaves what accesses come to.
 use Rattle.std.proofs.Common.{◌≡◌, ℕ, zero, suc, Bool, ◌||◌, List, [], ◌∷◌, ◌++◌, length, get_or, refl, sym, ◌∙◌, ap, ap₂, length-set}
 use Rattle.std.specs.List.{list_any}
 use Rattle.cap_format.specs.declared.kind.CapKind.{CapKind}
 use Rattle.cap_format.specs.declared.kind.CapKind.TheVariants.{Gpt}
-use Rattle.cap_format.specs.Capability.{Capability}
+use Rattle.cap_format.specs.Capability.{Capability, null}
 use Rattle.page_store.specs.CapPage.{empty_cappage}
 use Rattle.object_store.specs.Store.{Store, Items, gpt_at}
+use Rattle.walk_meaning.specs.Walk.{access}
+use Rattle.walk_engine.specs.Answer.{hit_of}
 use Rattle.machine_state.specs.State.{State}
 use Rattle.independence.specs.Rewrite.{Rewrite, ProcessIs, PageIs, rewritten, rewritten_all}
 use Rattle.independence.proofs.Quieting.{quiet_law}
@@ -14,7 +16,7 @@ use Rattle.quiet_runs.specs.declared.reached_by.ReachedBy.TheVariants.{Alone, Se
 use Rattle.quiet_runs.specs.Runs.{Watch, IsQuietFor, after_step}
 use Rattle.quiet_runs.specs.Reaching.{joined, joined_below, through, caps_of, held_by, reached_within}
 use Rattle.quiet_runs.specs.Finding.{is_below, some_held}
-use Rattle.quiet_runs.specs.Laws.{HoldAlike, HeldLaw}
+use Rattle.quiet_runs.specs.Laws.{HoldAlike, LookAlike, HeldLaw}
 use Rattle.quiet_runs.proofs.Below.{below-same}
 use Rattle.quiet_runs.proofs.Steps.{quiet-same}
 use Rattle.quiet_runs.proofs.Found.{found}
@@ -70,16 +72,31 @@ length-rewritten s (rewrite ∷ rewrites) = length-rewritten (rewritten s rewrit
     one (ProcessIs p value) = length-set s.store.contents.processes p value
     one (PageIs n page) = refl
 
--- it moves no capability
-held-step : (watch : Watch) (s : State) (hart : ℕ) → IsQuietFor watch s hart → HoldAlike s.store (after_step s hart).store
+-- nor a page
+pages-rewritten : (s : State) (rewrites : List Rewrite) → length (rewritten_all s rewrites).store.contents.pages ≡ length s.store.contents.pages
+pages-rewritten s [] = refl
+pages-rewritten s (rewrite ∷ rewrites) = pages-rewritten (rewritten s rewrite) rewrites ∙ one rewrite
+  where
+    one : (rewrite : Rewrite) → length (rewritten s rewrite).store.contents.pages ≡ length s.store.contents.pages
+    one (ProcessIs p value) = refl
+    one (PageIs n page) = length-set s.store.contents.pages n page
+
+-- it moves no capability, and walks go by the same items from the same slot
+held-step : (watch : Watch) (s : State) (hart : ℕ) → IsQuietFor watch s hart → LookAlike s (after_step s hart)
 held-step watch s hart quiet =
     let seen = quiet-same watch s hart quiet in
     let same = seen.same in
     let law = quiet_law quiet.cut quiet.process s hart quiet.by in
     let does = law.does in
-    hold-alike s.store (after_step s hart).store (sym same.items) (sym same.cappages)
-    (ap (λ (t : State). length t.store.contents.processes) does.state ∙ length-rewritten s law.rewrites)
-    (λ p. let one = same.processes p in ap₂ (λ (slots capregs : List Capability). slots ++ capregs) (sym one.slots) (sym one.capregs))
+    record {
+      hold = hold-alike s.store (after_step s hart).store (sym same.items) (sym same.cappages)
+          (ap (λ (t : State). length t.store.contents.processes) does.state ∙ length-rewritten s law.rewrites)
+          (λ p. let one = same.processes p in ap₂ (λ (slots capregs : List Capability). slots ++ capregs) (sym one.slots) (sym one.capregs));
+      pages = ap (λ (t : State). length t.store.contents.pages) does.state ∙ pages-rewritten s law.rewrites;
+      queues = sym same.queues;
+      walks = λ p at kind. let one = same.processes p in
+          ap₂ (λ (o : Items) (slots : List Capability). hit_of (access o (get_or slots 0 null) at kind)) (sym same.items) (sym one.slots);
+    }
 
 -- so it is with each that is found
 pub held_law : HeldLaw

@@ -4,7 +4,9 @@ use Rattle.std.specs.List.{AllByRecursion as Each}
 use Rattle.cap_format.specs.declared.kind.CapKind.{CapKind}
 use Rattle.cap_format.specs.Capability.{Capability}
 use Rattle.object_store.specs.Store.{Store}
+use Rattle.walk_meaning.specs.declared.kind.Kind.{Kind}
 use Rattle.machine_state.specs.State.{State}
+use Rattle.machine_state.specs.DataAccess.{data_access}
 use Rattle.quiet_runs.specs.Runs.{Watch, RunsAreQuiet, SameFor, SeesOnly, after_step, after_steps, after_runs}
 use Rattle.quiet_runs.specs.Reaching.{reached_by}
 use Rattle.quiet_runs.specs.Finding.{is_quiet, quiet_steps, some_held}
@@ -73,6 +75,14 @@ pub record HoldAlike (s t : Store) : Type 0 where
   pub held : (test : Capability → Bool) → some_held test t ≡ some_held test s
   pub reached : (kind : CapKind) (n : ℕ) → reached_by t kind n ≡ reached_by s kind n
 
--- A quiet step moves no capability.
+-- What one looks at who looks for quiet steps is the same in both: what is held, and who comes to what; how many pages there are;
+-- who is on which hart; and what each access of data comes to.
+pub record LookAlike (s t : State) : Type 0 where
+  pub hold : HoldAlike s.store t.store
+  pub pages : length t.store.contents.pages ≡ length s.store.contents.pages
+  pub queues : t.queues ≡ s.queues
+  pub walks : (p at : ℕ) (kind : Kind) → data_access t p at kind ≡ data_access s p at kind
+
+-- A quiet step moves no capability, and leaves all of this.
 abbrev pub HeldLaw : Type 0
-HeldLaw = (watch : Watch) (s : State) (hart : ℕ) → is_quiet watch s hart ≡ true → HoldAlike s.store (after_step s hart).store
+HeldLaw = (watch : Watch) (s : State) (hart : ℕ) → is_quiet watch s hart ≡ true → LookAlike s (after_step s hart)

@@ -41,7 +41,7 @@ pub fn found_law()
     ensures { FoundLaw }
 {}
 
-/// A quiet step moves no capability.
+/// A quiet step moves no capability, and leaves what each access of data comes to.
 pub fn held_law()
     ensures { HeldLaw }
 {}

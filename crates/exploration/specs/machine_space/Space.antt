@@ -4,9 +4,8 @@ use Rattle.std.specs.List.{All}
 use Rattle.machine_state.specs.declared.event.Event.TheVariants.{Step}
 use Rattle.machine_state.specs.State.{State}
 use Rattle.kernel_core.specs.Run.{run_state}
-use Rattle.separation_policy.specs.declared.domain_set.DomainSet.{DomainSet}
 use Rattle.separation_policy.specs.Policy.{PolicyValue}
-use Rattle.separation_policy.specs.Closure.{IsClosure}
+use Rattle.separation_policy.specs.Closure.{ClosureValue, IsClosure}
 use Rattle.breadth_first.specs.System.{System}
 use Rattle.quiet_finding.specs.Watched.{WatchedValue, watch_of}
 use Rattle.exploration.specs.declared.question.choice.Choice.{Choice}
@@ -35,7 +34,7 @@ searched_of question policy start = system_of question policy same_state start
 
 -- the choices are the question's, and few enough to have numbers; the closure is the policy's; what is watched is what the
 -- question looks at; tables are those of a machine that the question is about, and the start is a state in them
-pub record IsSpace (question : QuestionValue) (policy : PolicyValue) (closure : List DomainSet) (choices : List Choice) (watched : WatchedValue) (tables : TablesValue) (start : Key) : Type 0 where
+pub record IsSpace (question : QuestionValue) (policy : PolicyValue) (closure : ClosureValue) (choices : List Choice) (watched : WatchedValue) (tables : TablesValue) (start : Key) : Type 0 where
   pub given : choices ≡ choices_of question
   pub range : All (IsChoiceOf question.sizes.harts) choices
   pub few : length choices < 2 ^ 32

@@ -1,11 +1,9 @@
 -- Atoms: what may hold of a state. (Own.)
-use Rattle.std.specs.Prelude.{ℕ, zero, suc, ◌+◌, ◌<◌, ◌≤◌, ◌==◌, ◌&&◌, ◌||◌, nat_le, not, Bool, true, false, if◌then◌else◌, is_some, List, [], ◌∷◌, length}
+use Rattle.std.specs.Prelude.{ℕ, ◌+◌, ◌<◌, ◌≤◌, ◌==◌, ◌&&◌, ◌||◌, nat_le, not, Bool, true, false, if◌then◌else◌, is_some, List, [], ◌∷◌, length}
 use Rattle.std.specs.List.{list_all}
 use Rattle.cap_format.specs.declared.kind.CapKind.{CapKind}
 use Rattle.cap_format.specs.declared.fault.FaultCode.{FaultCode}
-use Rattle.cap_format.specs.Kind.{number_of, is_counted, object_kind}
 use Rattle.cap_format.specs.Codes.{fault_number}
-use Rattle.cap_format.specs.Capability.{Capability}
 use Rattle.page_store.specs.Page.{bytes_at}
 use Rattle.process_objects.specs.declared.state.State.{State as ProcessState}
 use Rattle.process_objects.specs.declared.state.State.TheVariants as states
@@ -18,24 +16,21 @@ use Rattle.machine_state.specs.State.{State, process, pc_of, register_of}
 use Rattle.confine_check.specs.Breach.{places_in, cap_in}
 use Rattle.separation_policy.specs.Policy.{PolicyValue}
 use Rattle.separation_check.specs.Crossings.{crossings_in}
+use Rattle.quiet_runs.specs.Finding.{is_below, runs}
+use Rattle.quiet_runs.specs.Reaching.{names}
 use Rattle.exploration.specs.declared.question.atom.Atom.{Atom}
 use Rattle.exploration.specs.declared.question.atom.Condition.{Condition}
 use Rattle.exploration.specs.declared.question.atom.Condition.TheVariants as conditions
-
--- the test holds of one of the numbers below `n`
-unfoldable pub some_below : (ℕ → Bool) → ℕ → Bool
-some_below test zero = false
-some_below test (suc n) = some_below test n || test n
 
 -- ---- processes
 
 -- a process is on a hart
 abbrev pub some_on_hart : QueuesValue → Bool
-some_on_hart q = some_below (λ hart. is_some (hart_of q hart)) (length q.harts)
+some_on_hart q = is_below (λ hart. is_some (hart_of q hart)) (length q.harts)
 
 -- a process is in a ready queue
 abbrev pub some_ready : QueuesValue → Bool
-some_ready q = some_below (λ priority. not (length (ready_queue q priority) == 0)) priorities
+some_ready q = is_below (λ priority. not (length (ready_queue q priority) == 0)) priorities
 
 -- nobody is on a hart or in a ready queue
 abbrev pub is_stuck : QueuesValue → Bool
@@ -43,12 +38,7 @@ is_stuck q = not (some_on_hart q || some_ready q)
 
 -- the process sleeps on another
 abbrev pub is_asleep : QueuesValue → ℕ → Bool
-is_asleep q p = some_below (λ on. stands_in (sleepers_of q on) p) (length q.sleepers)
-
--- a process that runs
-abbrev pub is_running : ProcessState → Bool
-is_running states.Running = true
-is_running _ = false
+is_asleep q p = is_below (λ on. stands_in (sleepers_of q on) p) (length q.sleepers)
 
 -- one that waits for a message
 abbrev pub is_receiving : ProcessState → Bool
@@ -71,13 +61,9 @@ is_faulted_by wanted _ = false
 abbrev pub has_word : List ℕ → ℕ → ℕ → Bool
 has_word page offset value = number_spelled (bytes_at page offset 4) == value
 
--- a capability names this object; an entry names its endpoint
-abbrev pub names_object : Capability → CapKind → ℕ → Bool
-names_object c of named = is_counted c.kind && (number_of (object_kind c.kind) == number_of of) && (c.object == named)
-
 -- a capability in some place of object `n` of a kind names this object, where each capability stands as it means
 abbrev pub object_holds : Store → CapKind → ℕ → CapKind → ℕ → Bool
-object_holds s kind n of named = some_below (λ i. names_object (cap_in s kind n i) of named) (places_in kind)
+object_holds s kind n of named = is_below (λ i. names (cap_in s kind n i) of named) (places_in kind)
 
 -- there is something in a list
 abbrev pub is_any : {A : Type 0} → List A → Bool
@@ -94,7 +80,7 @@ crosses policy s = is_any (crossings_in policy s)
 abbrev pub condition_holds : Bool → Condition → State → Bool
 condition_holds crossing conditions.Stuck s = is_stuck s.queues
 condition_holds crossing conditions.Halted s = s.halted
-condition_holds crossing (conditions.Running p) s = is_running (process s p).state
+condition_holds crossing (conditions.Running p) s = runs (process s p).state
 condition_holds crossing (conditions.Receiving p) s = is_receiving (process s p).state
 condition_holds crossing (conditions.Faulted p) s = is_faulted (process s p).state
 condition_holds crossing (conditions.FaultedBy p code) s = is_faulted_by code (process s p).state

@@ -7,16 +7,18 @@ ghost use Rattle.machine_state.specs.State.{state_of};
 ghost use Rattle.quiet_runs.specs.Runs.{after_step};
 ghost use Rattle.quiet_runs.specs.Finding.{quiet_steps};
 ghost use Rattle.quiet_finding.specs.Reaching.{IsReaching};
+ghost use Rattle.quiet_finding.specs.Walks.{AreKeptOn};
 ghost use Rattle.quiet_finding.specs.Watched.{watch_of};
 ghost use Rattle.exploration.specs.question.Choice.{AreChoices, IsChoiceOf, after_choice, counted_choice, counted_path};
 ghost use Rattle.state_parts.specs.Space.{Held, state_in};
 ghost use Rattle.state_parts.specs.States.{GrowTables};
 ghost use Rattle.exploration.specs.machine_space.Space.{after_steps};
 
+use crate::machine_space::looks::{Looks, kept_of};
 use crate::question::Choice;
 use cap_format::OutOfMemory;
 use machine_state::{Event, Machine, Records};
-use quiet_finding::{Reaching, Watched, is_quiet};
+use quiet_finding::{KeptWalks, Reaching, Watched, is_quiet};
 use quiet_runs::held_law;
 use state_parts::{Key, States};
 use std::alloc::Global;
@@ -34,6 +36,7 @@ pub(crate) fn chosen<L: Ledger>(
     from: &Key,
     choice: Choice,
     watched: &Watched,
+    looks: &mut Looks,
     records: &mut Records,
     fetches: &mut Steps<L>,
 ) -> Result<Key, OutOfMemory>
@@ -46,7 +49,7 @@ pub(crate) fn chosen<L: Ledger>(
     ensures stands { IfOk result (λ key. state_of states.new.machine ≡ state_in states.new.tables key) }
 {
     states.go(from, fetches)?;
-    choose(alloc, states, choice, watched, records, fetches)?;
+    choose(alloc, states, choice, watched, looks, records, fetches)?;
     let key = states.key(fetches)?;
     Ok(key)
 }
@@ -57,6 +60,7 @@ fn choose<L: Ledger>(
     states: &mut States,
     choice: Choice,
     watched: &Watched,
+    looks: &mut Looks,
     records: &mut Records,
     fetches: &mut Steps<L>,
 ) -> Result<Choice, OutOfMemory>
@@ -73,7 +77,7 @@ fn choose<L: Ledger>(
             Ok(choice)
         }
         Choice::Run { hart } => {
-            let times = run(alloc, states, hart, watched, records, fetches)?;
+            let times = run(alloc, states, hart, watched, looks, records, fetches)?;
             Ok(Choice::Steps { hart, times })
         }
         Choice::Tick { hart } => {
@@ -89,6 +93,7 @@ fn run<L: Ledger>(
     states: &mut States,
     hart: u8,
     watched: &Watched,
+    looks: &mut Looks,
     records: &mut Records,
     fetches: &mut Steps<L>,
 ) -> Result<u32, OutOfMemory>
@@ -100,7 +105,7 @@ fn run<L: Ledger>(
         state_of states.new.machine ≡ after_steps hart times (state_of states.old.machine)) }
 {
     states.perform(Event::Step(hart), records, fetches)?;
-    let more = go_on(alloc, states, hart, watched, records, fetches)?;
+    let more = go_on(alloc, states, hart, watched, looks, records, fetches)?;
     Ok(more + 1)
 }
 
@@ -110,6 +115,7 @@ fn go_on<L: Ledger>(
     states: &mut States,
     hart: u8,
     watched: &Watched,
+    looks: &mut Looks,
     records: &mut Records,
     fetches: &mut Steps<L>,
 ) -> Result<u32, OutOfMemory>
@@ -125,21 +131,35 @@ fn go_on<L: Ledger>(
     if is_idle(machine, hart) {
         return Ok(0);
     }
-    let reaching = Reaching::new(alloc, machine.objects(), fetches)?;
-    perform_quiet(states, hart, &reaching, watched, records, fetches)
+    let kept = kept_of(alloc, looks.reaching.take(), machine.objects(), fetches)?;
+    looks.walks.forget();
+    let steps = perform_quiet(
+        states,
+        hart,
+        kept.reaching(),
+        watched,
+        &mut looks.walks,
+        records,
+        fetches,
+    );
+    looks.reaching = Some(kept);
+    steps
 }
 
-/// The same, where it is known who comes to what. That holds for all of the steps: a quiet one moves no capability.
+/// The same, where it is known who comes to what. That holds for all of the steps, and what is kept of walks after each: a quiet
+/// one moves no capability.
 fn perform_quiet<L: Ledger>(
     states: &mut States,
     hart: u8,
     reaching: &Reaching,
     watched: &Watched,
+    walks: &mut KeptWalks,
     records: &mut Records,
     fetches: &mut Steps<L>,
 ) -> Result<u32, OutOfMemory>
     requires hart { hart < states.old.tables.sizes.harts }
     requires reaching { IsReaching (state_of states.old.machine).store reaching.now }
+    requires walks { AreKeptOn (state_of states.old.machine) hart walks.old }
     ensures tables { states.new.tables ≡ states.old.tables }
     ensures count { IfOk result (λ steps. steps
         ≡ quiet_steps (watch_of watched.now) (state_of states.old.machine) hart) }
@@ -149,7 +169,7 @@ fn perform_quiet<L: Ledger>(
 {
     held_law();
     'quiet: for performed in 0..QUIET_MOST {
-        if !is_quiet(states.machine(), hart, reaching, watched, fetches) {
+        if !is_quiet(states.machine(), hart, reaching, watched, walks, fetches) {
             return Ok(performed);
         }
         states.perform(Event::Step(hart), records, fetches)?;
@@ -190,6 +210,7 @@ pub(crate) fn counted<L: Ledger>(
     choices: &[Choice],
     path: &[u32],
     watched: &Watched,
+    looks: &mut Looks,
     records: &mut Records,
     fetches: &mut Steps<L>,
 ) -> Result<Vec<Choice>, OutOfMemory>
@@ -203,7 +224,7 @@ pub(crate) fn counted<L: Ledger>(
     'each: for place in 0..path.len() {
         let i = path[place] as usize;
         let choice = choices[i];
-        let made = choose(alloc, states, choice, watched, records, fetches)?;
+        let made = choose(alloc, states, choice, watched, looks, records, fetches)?;
         counted.push(made)?;
     }
     Ok(counted)

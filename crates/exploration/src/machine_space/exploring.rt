@@ -7,6 +7,7 @@ ghost use Rattle.exploration.specs.Shown.{shown_of, told_path};
 
 use crate::asking;
 use crate::machine_space::limits::limits_of;
+use crate::machine_space::looks::Looks;
 use crate::machine_space::space::MachineSpace;
 use crate::machine_space::watching::watched_in;
 use crate::question::{Asks, Choice, Question};
@@ -78,6 +79,7 @@ fn space_of<'a, L: Ledger>(
         closure,
         choices,
         watched,
+        looks: Looks::new(),
         states,
         start,
         records: Records::new(),

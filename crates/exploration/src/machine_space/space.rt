@@ -5,6 +5,7 @@ ghost use Rattle.exploration.specs.question.Choice.{AreChoices, counted_path};
 ghost use Rattle.exploration.specs.question.Question.{choices_of, watch_for};
 
 use crate::machine_space::choosing::{chosen, counted};
+use crate::machine_space::looks::Looks;
 use crate::machine_space::watching::watched_in;
 use crate::question::{Choice, Question, first_failing, holds};
 use breadth_first::Space;
@@ -27,6 +28,7 @@ pub(crate) struct MachineSpace<'a, L: Ledger> {
     pub(crate) closure: Closure,
     pub(crate) choices: Vec<Choice>,
     pub(crate) watched: Watched,
+    pub(crate) looks: Looks,
     pub(crate) states: States,
     /// The key of the state from which the choices start.
     pub(crate) start: Key,
@@ -67,6 +69,7 @@ impl<'a, L: Ledger> MachineSpace<'a, L> {
             choices.as_slice(),
             path,
             &watched,
+            &mut self.looks,
             &mut self.records,
             self.fetches,
         )
@@ -119,6 +122,7 @@ impl<'a, L: Ledger> Space for MachineSpace<'a, L> {
             from,
             choice,
             &self.watched,
+            &mut self.looks,
             &mut self.records,
             self.fetches,
         ) else {

@@ -4,8 +4,9 @@ ghost use Rattle.std.specs.List.{All, list_any, position};
 ghost use Rattle.cap_format.specs.declared.kind.CapKind.TheVariants.{Process};
 ghost use Rattle.object_store.specs.Store.{size_of, sizes_of};
 ghost use Rattle.machine_state.specs.State.{state_of, process};
-ghost use Rattle.exploration.specs.question.Atom.{IsAtomOf, IsConditionOf, all_hold, atom_holds, condition_holds, has_word, is_faulted, is_faulted_by, is_receiving, is_running, is_stuck};
+ghost use Rattle.exploration.specs.question.Atom.{IsAtomOf, IsConditionOf, all_hold, atom_holds, condition_holds, has_word, is_faulted, is_faulted_by, is_receiving, is_stuck};
 ghost use Rattle.separation_policy.specs.Closure.{IsClosure};
+ghost use Rattle.quiet_runs.specs.Finding.{runs};
 ghost use Rattle.exploration.specs.question.Question.{IsPropertyOf, fails, first_failing, holds, is_about_policy};
 
 use crate::question::asks::Asks;
@@ -212,7 +213,7 @@ fn state<T: Translator>(machine: &Machine<T>, p: u16) -> State
 }
 
 fn is_running(state: State) -> bool
-    ensures { result ≡ is_running state }
+    ensures { result ≡ runs state }
 {
     matches!(state, State::Running)
 }

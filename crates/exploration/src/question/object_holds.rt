@@ -3,7 +3,8 @@ ghost use Rattle.std.specs.Prelude.{◌≡◌, ◌<◌};
 ghost use Rattle.object_store.specs.Store.{size_of};
 ghost use Rattle.object_store.specs.Meaning.{state_map};
 ghost use Rattle.confine_check.specs.Breach.{cap_in, places_in};
-ghost use Rattle.exploration.specs.question.Atom.{names_object, object_holds};
+ghost use Rattle.quiet_runs.specs.Reaching.{names};
+ghost use Rattle.exploration.specs.question.Atom.{object_holds};
 
 use cap_format::{Cap, CapKind};
 use confine_check::{cap_in, places};
@@ -13,7 +14,7 @@ use steps::Steps;
 
 /// Whether a capability names an object; an entry names its endpoint.
 fn names_object(cap: Cap, of: CapKind, named: u16) -> bool
-    ensures { result ≡ names_object cap of named }
+    ensures { result ≡ names cap of named }
 {
     let kind = cap.kind();
     kind.is_counted() && kind.object_kind() == of && cap.object() == named as u32
@@ -31,7 +32,7 @@ fn place_holds<L: Ledger>(
 ) -> bool
     requires there { n < size_of objects.now.items kind }
     requires place { i < places_in kind }
-    ensures { result ≡ names_object (cap_in (state_map objects.now) kind n i) of named }
+    ensures { result ≡ names (cap_in (state_map objects.now) kind n i) of named }
 {
     names_object(
         objects.live(cap_in(objects, kind, n, i, fetches)),

@@ -4,8 +4,9 @@ use Rattle.object_store.specs.Meaning.{state_map}
 use Rattle.schedules.specs.Queues.{hart_of}
 use Rattle.machine_state.specs.Machine.{MachineValue}
 use Rattle.machine_state.specs.State.{state_of}
-use Rattle.quiet_finding.specs.Reaching.{IsReaching}
+use Rattle.quiet_finding.specs.Reaching.{IsReaching, ReachingValue}
 use Rattle.quiet_finding.specs.Watched.{watch_of}
+use Rattle.quiet_finding.proofs.Walking.{none-kept}
 use Rattle.exploration.proofs.Quiet.{idle-not_quiet, none-led, went-none}
 use Rattle.exploration.proofs.machine_space.choosing.go_on.Goals as goal
 
@@ -18,7 +19,12 @@ returns-then-is_idle-clause-count g c =
 pub returns-then-is_idle-clause-state : goal.returns-then-is_idle-clause-state
 returns-then-is_idle-clause-state g c = none-led (watch_of c.args.watched.now) c.args.hart (state_of c.args.states.now.machine)
 
-pub perform_quiet-requires-clause-reaching : goal.perform_quiet-requires-clause-reaching
-perform_quiet-requires-clause-reaching g c =
-    subst (λ (s : Store). IsReaching (state_map s) c.in_ok-reaching.reaching)
-    (c.objects.ensures ∙ ap (λ (m : MachineValue (Unit {0})). m.objects) c.machine-machine.ensures.value) c.in_ok-reaching.ensures.value
+pub perform_quiet-steps-requires-clause-reaching : goal.perform_quiet-steps-requires-clause-reaching
+perform_quiet-steps-requires-clause-reaching g c =
+    subst (λ (r : ReachingValue). IsReaching (state_of c.args.states.now.machine).store r) (sym c.reaching.ensures)
+    (subst (λ (s : Store). IsReaching (state_map s) c.in_ok-kept.kept.reaching)
+    (c.objects.ensures ∙ ap (λ (m : MachineValue (Unit {0})). m.objects) c.machine-machine.ensures.value) c.in_ok-kept.ensures)
+
+pub perform_quiet-steps-requires-clause-walks : goal.perform_quiet-steps-requires-clause-walks
+perform_quiet-steps-requires-clause-walks g c =
+    none-kept (state_of c.args.states.now.machine) c.args.hart c.forget.new.self c.forget.ensures.fetch c.forget.ensures.load c.forget.ensures.store

@@ -4,16 +4,18 @@ use Rattle.machine_state.specs.Machine.{MachineValue}
 use Rattle.machine_state.specs.State.{state_of}
 use Rattle.quiet_runs.specs.Finding.{is_quiet}
 use Rattle.quiet_finding.specs.Reaching.{IsReaching}
+use Rattle.quiet_finding.specs.Walks.{AreKeptOn}
 use Rattle.quiet_finding.specs.Watched.{watch_of}
 use Rattle.state_parts.specs.Space.{TablesValue}
 use Rattle.exploration.specs.machine_space.Space.{after_steps}
-use Rattle.exploration.proofs.Quiet.{gone-all, gone-more, gone-none, gone-quiet, gone-state, stays_after}
+use Rattle.exploration.proofs.Quiet.{gone-all, gone-more, gone-none, gone-quiet, gone-state, stays_after, walks_after}
 use Rattle.exploration.proofs.machine_space.choosing.perform_quiet.Goals as goal
 
 pub quiet-init : goal.quiet-init
 quiet-init g c = record {
   tables = refl;
   reaching = c.requires.reaching;
+  walks = c.requires.walks;
   gone = gone-none (watch_of c.args.watched.now) c.args.hart 4096 (state_of c.args.states.now.machine);
 }
 
@@ -27,6 +29,10 @@ is_quiet-requires-clause-hart g c =
 pub is_quiet-requires-clause-reaching : goal.is_quiet-requires-clause-reaching
 is_quiet-requires-clause-reaching g c =
     subst (λ (m : MachineValue (Unit {0})). IsReaching (state_of m).store c.args.reaching.now) (sym c.machine.ensures.value) c.quiet.invariant.reaching
+
+pub is_quiet-requires-clause-walks : goal.is_quiet-requires-clause-walks
+is_quiet-requires-clause-walks g c =
+    subst (λ (m : MachineValue (Unit {0})). AreKeptOn (state_of m) c.args.hart c.quiet.walks) (sym c.machine.ensures.value) c.quiet.invariant.walks
 
 pub returns-then-not-is_quiet-clause-count : goal.returns-then-not-is_quiet-clause-count
 returns-then-not-is_quiet-clause-count g c =
@@ -58,6 +64,8 @@ quiet-preserved g c =
     record {
       tables = c.perform.ensures.tables ∙ c.quiet.invariant.tables;
       reaching = stays_after w c.args.hart c.held_law.ensures s t c.args.reaching.now next c.in_ok-perform.ensures.state c.quiet.invariant.reaching;
+      walks = walks_after w c.args.hart c.held_law.ensures s t c.is_quiet.new.walks next c.in_ok-perform.ensures.state
+          (subst (λ (m : MachineValue (Unit {0})). AreKeptOn (state_of m) c.args.hart c.is_quiet.new.walks) c.machine.ensures.value c.is_quiet.ensures.walks);
       gone =
           gone-more w c.args.hart 4096 (state_of c.args.states.now.machine) s t c.quiet.performed c.quiet.invariant.gone c.quiet-test.true next
           c.in_ok-perform.ensures.state;

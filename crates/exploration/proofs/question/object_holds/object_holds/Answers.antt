@@ -1,19 +1,19 @@
 use Rattle.std.proofs.Common.{◌∙◌, sym, arith}
 use Rattle.object_store.specs.Meaning.{state_map}
 use Rattle.confine_check.specs.Breach.{cap_in, places_in}
-use Rattle.exploration.specs.question.Atom.{names_object}
+use Rattle.quiet_runs.specs.Reaching.{names}
 use Rattle.exploration.proofs.Some.{some-here, some-more, some-zero}
 use Rattle.exploration.proofs.question.object_holds.object_holds.Goals as goal
 
 pub each-init : goal.each-init
-each-init g c = some-zero (λ i. names_object (cap_in (state_map c.args.objects.now) c.args.kind c.args.n i) c.args.of c.args.named)
+each-init g c = some-zero (λ i. names (cap_in (state_map c.args.objects.now) c.args.kind c.args.n i) c.args.of c.args.named)
 
 pub returns-then-place_holds : goal.returns-then-place_holds
 returns-then-place_holds g c =
-    sym (some-here (λ i. names_object (cap_in (state_map c.args.objects.now) c.args.kind c.args.n i) c.args.of c.args.named) (places_in c.args.kind) c.each.i
+    sym (some-here (λ i. names (cap_in (state_map c.args.objects.now) c.args.kind c.args.n i) c.args.of c.args.named) (places_in c.args.kind) c.each.i
     (omega (arith, c.places-i-end.ensures, c.each-test.true)) (sym c.place_holds.ensures ∙ c.if-place_holds.true))
 
 pub each-preserved : goal.each-preserved
 each-preserved g c =
-    some-more (λ i. names_object (cap_in (state_map c.args.objects.now) c.args.kind c.args.n i) c.args.of c.args.named) c.each.i c.each.invariant
+    some-more (λ i. names (cap_in (state_map c.args.objects.now) c.args.kind c.args.n i) c.args.of c.args.named) c.each.i c.each.invariant
     (sym c.place_holds.ensures ∙ c.if-place_holds.false)

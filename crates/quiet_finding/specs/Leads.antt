@@ -1,0 +1,67 @@
+-- Where capabilities lead, as far as it matters for who comes to what. (Own.)
+use Rattle.std.specs.Prelude.{◌≡◌, ℕ, zero, suc, ◌*◌, ◌/◌, ◌%◌, List, [], ◌∷◌, ◌++◌}
+use Rattle.cap_format.specs.declared.kind.CapKind.{CapKind}
+use Rattle.cap_format.specs.declared.kind.CapKind.TheVariants.{Null, Page, CapPage, Gpt, Window, Process, Range}
+use Rattle.cap_format.specs.Capability.{Capability}
+use Rattle.object_store.specs.Store.{Store, size_of}
+use Rattle.object_store.specs.Meaning.{state_map}
+use Rattle.confine_check.specs.Breach.{cap_in, places_in}
+use Rattle.confine_check.specs.Full.{AreFull}
+use Rattle.quiet_finding.specs.declared.leads.Lead.{Lead}
+use Rattle.quiet_finding.specs.Reaching.{IsReaching, ReachingValue}
+
+-- to an object of a kind
+abbrev pub lead_to : CapKind → ℕ → Lead
+lead_to kind object = record { kind = kind; object = object }
+
+-- where a capability of this kind leads: to the page, GPT or process that it names; by a Range or a window beyond what it names,
+-- wherever that is; and by others nowhere
+abbrev pub lead_by : CapKind → ℕ → Lead
+lead_by Page object = lead_to Page object
+lead_by Gpt object = lead_to Gpt object
+lead_by Process object = lead_to Process object
+lead_by Range object = lead_to Range 0
+lead_by Window object = lead_to Window 0
+lead_by _ object = lead_to Null 0
+
+-- where a capability leads
+abbrev pub lead_of : Capability → Lead
+lead_of c = lead_by c.kind c.object
+
+-- where the capability in a place leads: the places of all objects of a kind are numbered one object after the other
+abbrev pub lead_in : Store → CapKind → ℕ → Lead
+lead_in s kind place = lead_of (cap_in s kind (place / places_in kind) (place % places_in kind))
+
+-- those of so many places, in their order
+unfoldable pub listed : (ℕ → Lead) → ℕ → List Lead
+listed leads zero = []
+listed leads (suc n) = listed leads n ++ leads n ∷ []
+
+-- those of all objects of a kind
+abbrev pub leads_of : Store → CapKind → List Lead
+leads_of s kind = listed (lead_in s kind) (size_of s.items kind * places_in kind)
+
+-- where the capabilities of processes, capability pages and GPTs lead
+pub record LeadsValue : Type 0 where
+  pub processes : List Lead
+  pub cappages : List Lead
+  pub gpts : List Lead
+
+-- so do they in these objects
+pub record AreLeadsOf (s : Store) (leads : LeadsValue) : Type 0 where
+  pub processes : leads.processes ≡ leads_of s Process
+  pub cappages : leads.cappages ≡ leads_of s CapPage
+  pub gpts : leads.gpts ≡ leads_of s Gpt
+
+-- tables of who comes to what, with where the capabilities led of which they were made
+pub record KeptValue : Type 0 where
+  pub leads : LeadsValue
+  pub reaching : ReachingValue
+
+-- both by their parts
+abbrev pub kept_by : List Lead → List Lead → List Lead → ReachingValue → KeptValue
+kept_by processes cappages gpts reaching = record { leads = record { processes = processes; cappages = cappages; gpts = gpts }; reaching = reaching }
+
+-- the tables are right for all objects whose capabilities lead there, each of which has all of its places
+abbrev pub IsRight : KeptValue → Type 0
+IsRight kept = (s : Store) → AreFull s → AreLeadsOf (state_map s) kept.leads → IsReaching (state_map s) kept.reaching
