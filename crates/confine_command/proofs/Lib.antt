@@ -4,5 +4,4 @@ pub mod Stating
 pub mod Deciding
 pub mod Sound
 mod Finding
-mod Placed
 pub mod Written

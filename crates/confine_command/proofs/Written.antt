@@ -4,6 +4,7 @@ use Rattle.coy_io.specs.Lines.{parts_of}
 use Rattle.listing_read.specs.Listing.{Listed, Good, Refused, Past, listing_of}
 use Rattle.listing_read.specs.declared.place.Place.TheVariants.{Header}
 use Rattle.image_builder.specs.Boot.{booted}
+use Rattle.run_places.proofs.Booted.{booted-has}
 use Rattle.confine_check.specs.Sides.{all_right}
 use Rattle.courses.specs.Course.{course_output}
 use Rattle.courses.specs.Listed.{listed_course}
@@ -15,7 +16,6 @@ use Rattle.confine_command.specs.Stated.{stated}
 use Rattle.confine_command.proofs.Awake.{booted-awake}
 use Rattle.confine_command.proofs.Deciding.{decides-stated}
 use Rattle.confine_command.proofs.Finding.{finds-exactly}
-use Rattle.confine_command.proofs.Placed.{booted-has}
 
 listed-decided : (all : Listed) → (listed_course confine_course all).last.exit ≡ Done → DecidesListed all (course_output (listed_course confine_course all)).text
 listed-decided (Good listing last rest) done =

@@ -1,5 +1,4 @@
 pub mod Stated
 pub mod Confine
 pub mod Decided
-pub mod Places
 pub mod Laws

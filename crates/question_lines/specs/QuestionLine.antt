@@ -158,7 +158,9 @@ IsSaid sizes _ = Unit {0}
 
 -- a line of the policy, by its first word
 abbrev pub is_of_policy : List (List ℕ) → Bool
-is_of_policy words = bytes_eq (field words 0) (codes "domain") || bytes_eq (field words 0) (codes "reads")
+is_of_policy words =
+    bytes_eq (field words 0) (codes "domain") || bytes_eq (field words 0) (codes "reads") || bytes_eq (field words 0) (codes "writes")
+    || bytes_eq (field words 0) (codes "halts") || bytes_eq (field words 0) (codes "logs")
 
 -- the question goes on behind such a line, unless it is refused
 abbrev pub policy_answered : Result PolicySaid PolicyFault → Result Next QuestionFault

@@ -51,7 +51,11 @@ fn is_of_policy(line: &[u8]) -> bool
     ensures { result ≡ is_of_policy (words_of line.now) }
 {
     let first = word(line, 0);
-    first == b"domain".as_slice() || first == b"reads".as_slice()
+    first == b"domain".as_slice()
+        || first == b"reads".as_slice()
+        || first == b"writes".as_slice()
+        || first == b"halts".as_slice()
+        || first == b"logs".as_slice()
 }
 
 /// Takes a line of the policy in.

@@ -1,25 +1,25 @@
 -- Each crossing that is told is one, none is missing, and they come in order.
-use Rattle.std.proofs.Common.{◌≡◌, ◌≢◌, ◌↔◌, ℕ, ◌<◌, ◌≤◌, ◌==◌, ◌⊎◌, inl, inr, ◌++◌, Bool, true, false, if◌then◌else◌, List, length, Option, Some, None, refl, sym, ◌∙◌, ap, subst, arith, eqb-true}
+use Rattle.std.proofs.Common.{◌≡◌, ℕ, ◌<◌, ◌≤◌, ◌==◌, inl, inr, ◌++◌, ◌&&◌, Bool, true, false, not, if◌then◌else◌, List, length, Option, Some, None, refl, sym, ◌∙◌, ap, ap₂, subst, arith, eqb-true}
 use Rattle.std.specs.List.{Contains, AllPairs}
-use Rattle.std.proofs.lemmas.Bool.{eq-eqb}
+use Rattle.std.proofs.lemmas.Bool.{and_parts, eq-eqb}
 use Rattle.std.proofs.lemmas.List.Elements.{Contains-append_left, Contains-append_right, Contains-append_cases}
 use Rattle.cap_format.specs.declared.kind.CapKind.{CapKind}
 use Rattle.cap_format.specs.declared.kind.CapKind.TheVariants.{Null, Page, CapPage, Gpt, Window, LocalWindow, Endpoint, Entry, Process, Schedule, Range, Discrim, KernLog, SysCtl}
 use Rattle.cap_format.specs.Kind.{is_counted}
 use Rattle.cap_format.specs.Capability.{Capability}
-use Rattle.object_store.specs.Store.{Store, size_of}
-use Rattle.schedules.specs.Queues.{QueuesValue, sleepers_of, stands_in}
+use Rattle.object_store.specs.Store.{size_of}
+use Rattle.schedules.specs.Queues.{sleepers_of, stands_in}
 use Rattle.machine_state.specs.State.{State}
-use Rattle.confine_check.specs.Breach.{is_range, places_in, cap_in}
+use Rattle.confine_check.specs.Breach.{is_range, is_sysctl, is_kernlog, places_in, cap_in}
 use Rattle.confine_check.proofs.Decided.{is_range-kind}
-use Rattle.separation_policy.specs.Policy.{PolicyValue, domain_of, domain_named, MayStand}
+use Rattle.separation_policy.specs.Policy.{PolicyValue, domain_of, domain_named, may_halt, may_log, MayStand}
 use Rattle.separation_check.specs.declared.crossing.Crossing.{Crossing}
-use Rattle.separation_check.specs.declared.crossing.Crossing.TheVariants.{Capability as CapabilityCrosses, Range as RangeStands, Sleeper}
-use Rattle.separation_check.specs.Crossings.{all_below, listed, may_name, crossing_with, crossing_by, object_crossings, kind_crossings, capability_crossings, sleeper_by, sleeper_on, process_crossings, sleeper_limit, sleeper_crossings, crossings_in}
-use Rattle.separation_check.specs.Each.{IsPlace, CapabilityStands, RangeStandsIn, SleepsAcross, IsSo, rank, PlaceBefore, Before, AreAll, AllLaw}
-use Rattle.separation_check.proofs.Allowed.{tested, none-may, may-none}
+use Rattle.separation_check.specs.declared.crossing.Crossing.TheVariants.{Capability as CapabilityCrosses, Range as RangeStands, Halts, Logs, Sleeper}
+use Rattle.separation_check.specs.Crossings.{listed, may_name, halts_by, logs_by, crosses_by, crossing_with, crossing_by, object_crossings, kind_crossings, capability_crossings, sleeper_by, sleeper_on, process_crossings, sleeper_limit, sleeper_crossings, crossings_in}
+use Rattle.separation_check.specs.Each.{IsPlace, CapabilityStands, RangeStandsIn, SysCtlStands, KernLogStands, SleepsAcross, IsSo, rank, Spot, spot, SpotBefore, spot_of, sleeper_of, SpotsBefore, Before, AllLaw}
+use Rattle.separation_check.proofs.Allowed.{is_sysctl-kind, is_kernlog-kind, denied, tested, none-may, may-none}
 use Rattle.separation_check.proofs.Most.{sleeps-there, below-limit}
-use Rattle.separation_check.proofs.Listed.{Across, below-has, has-below, listed-is, is-listed, pairs-append, pairs-below, pairs-listed}
+use Rattle.separation_check.proofs.Listed.{below-has, has-below, listed-is, is-listed, pairs-append, pairs-below, pairs-listed}
 
 module _ (policy : PolicyValue) (s : State) where
   -- what is told of a place, if anything
@@ -28,9 +28,7 @@ module _ (policy : PolicyValue) (s : State) where
 
   -- a crossing is of this place
   abbrev IsOf : CapKind → ℕ → ℕ → Crossing → Type 0
-  IsOf kind n i (CapabilityCrosses k m j c from to) = (k ≡ kind) × (m ≡ n) × (j ≡ i)
-  IsOf kind n i (RangeStands k m j domain) = (k ≡ kind) × (m ≡ n) × (j ≡ i)
-  IsOf kind n i (Sleeper p from to) = ⊥
+  IsOf kind n i x = spot_of x ≡ Some (spot kind n i)
 
   -- ---- places
 
@@ -38,49 +36,61 @@ module _ (policy : PolicyValue) (s : State) where
     abbrev held : Capability
     held = cap_in s.store kind n i
 
-    abbrev may : Bool
-    may = may_name policy (domain_of policy kind n) held
+    abbrev home : ℕ
+    home = domain_of policy kind n
 
-    -- the test by its three answers
-    tested-is : (range counted named : Bool) → is_range held.kind ≡ range → is_counted held.kind ≡ counted → may ≡ named
-        → told_at kind n i ≡ tested policy kind n i held range counted named
-    tested-is range counted named r k m =
-        ap (λ (b : Bool). tested policy kind n i held b (is_counted held.kind) may) r
-        ∙ (ap (λ (b : Bool). tested policy kind n i held range b may) k ∙ ap (λ (b : Bool). tested policy kind n i held range counted b) m)
+    abbrev answers : Bool → Bool → Bool → Bool → Option Crossing
+    answers range halts logs crosses = tested policy kind n i held range halts logs crosses
+
+    -- the test by its answers
+    tested-is : (range halts logs crosses : Bool) → is_range held.kind ≡ range → halts_by policy home held ≡ halts → logs_by policy home held ≡ logs → crosses_by policy home held ≡ crosses
+        → told_at kind n i ≡ answers range halts logs crosses
+    tested-is range halts logs crosses r h l x =
+        ap₂ (λ (b d : Bool). answers b d (logs_by policy home held) (crosses_by policy home held)) r h
+        ∙ ap₂ (λ (b d : Bool). answers range halts b d) l x
 
     -- what is told of a place is of that place
     place-of : (x : Crossing) → told_at kind n i ≡ Some x → IsOf kind n i x
-    place-of x e = by (is_range held.kind) (is_counted held.kind) may e
+    place-of x e = by (is_range held.kind) (halts_by policy home held) (logs_by policy home held) (crosses_by policy home held) e
       where
-        by : (range counted named : Bool) → tested policy kind n i held range counted named ≡ Some x → IsOf kind n i x
-        by true counted named e = let same : RangeStands kind n i (domain_of policy kind n) ≡ x = cc (e) in subst (λ (y : Crossing). IsOf kind n i y) same (refl, refl, refl)
-        by false false named e = absurd (cc (e))
-        by false true true e = absurd (cc (e))
-        by false true false e = let same : crossing_with policy kind n i held ≡ x = cc (e) in subst (λ (y : Crossing). IsOf kind n i y) same (refl, refl, refl)
+        at : (y : Crossing) → spot_of y ≡ Some (spot kind n i) → Some y ≡ Some x → IsOf kind n i x
+        at y here is = let same : y ≡ x = cc (is) in subst (λ (z : Crossing). IsOf kind n i z) same here
+
+        by : (range halts logs crosses : Bool) → answers range halts logs crosses ≡ Some x → IsOf kind n i x
+        by true halts logs crosses e = at (RangeStands kind n i home) refl e
+        by false true logs crosses e = at (Halts kind n i home) refl e
+        by false false true crosses e = at (Logs kind n i home) refl e
+        by false false false true e = at (crossing_with policy kind n i held) refl e
+        by false false false false e = absurd (cc (e))
 
     -- and is so
     place-so : (x : Crossing) → IsPlace s.store kind n i → told_at kind n i ≡ Some x → IsSo policy s x
-    place-so x place e = by (is_range held.kind) (is_counted held.kind) may refl refl refl
+    place-so x place e = by (is_range held.kind) (halts_by policy home held) (logs_by policy home held) (crosses_by policy home held) refl refl refl refl
       where
-        by : (range counted named : Bool) → is_range held.kind ≡ range → is_counted held.kind ≡ counted → may ≡ named → IsSo policy s x
-        by true counted named r k m =
-            let is = sym (tested-is true counted named r k m) ∙ e in
-            let same : RangeStands kind n i (domain_of policy kind n) ≡ x = cc (is) in
-            subst (λ (y : Crossing). IsSo policy s y) same (record { at = place; held = is_range-kind held.kind r; home = refl })
-        by false false named r k m = let is = sym (tested-is false false named r k m) ∙ e in absurd (cc (is))
-        by false true true r k m = let is = sym (tested-is false true true r k m) ∙ e in absurd (cc (is))
-        by false true false r k m =
-            let is = sym (tested-is false true false r k m) ∙ e in
-            let same : crossing_with policy kind n i held ≡ x = cc (is) in
-            subst (λ (y : Crossing). IsSo policy s y) same (record {
+        at : (y : Crossing) → IsSo policy s y → told_at kind n i ≡ Some y → IsSo policy s x
+        at y so is = let both = sym is ∙ e in let same : y ≡ x = cc (both) in subst (λ (z : Crossing). IsSo policy s z) same so
+
+        by : (range halts logs crosses : Bool) → is_range held.kind ≡ range → halts_by policy home held ≡ halts → logs_by policy home held ≡ logs → crosses_by policy home held ≡ crosses → IsSo policy s x
+        by true halts logs crosses r h l c =
+            at (RangeStands kind n i home) (record { at = place; held = is_range-kind held.kind r; home = refl }) (tested-is true halts logs crosses r h l c)
+        by false true logs crosses r h l c =
+            let parts = and_parts (is_sysctl held.kind) (not (may_halt policy home)) h in
+            at (Halts kind n i home) (record { at = place; held = is_sysctl-kind held.kind parts.0; forbidden = denied (may_halt policy home) parts.1; home = refl }) (tested-is false true logs crosses r h l c)
+        by false false true crosses r h l c =
+            let parts = and_parts (is_kernlog held.kind) (not (may_log policy home)) l in
+            at (Logs kind n i home) (record { at = place; held = is_kernlog-kind held.kind parts.0; forbidden = denied (may_log policy home) parts.1; home = refl }) (tested-is false false true crosses r h l c)
+        by false false false true r h l c =
+            let parts = and_parts (is_counted held.kind) (not (may_name policy home held)) c in
+            at (crossing_with policy kind n i held) (record {
               at = place;
               held = refl;
               no_range = λ range. let yes = ap (λ (j : CapKind). is_range j) range in absurd (cc (r, yes));
-              names = k;
+              names = parts.0;
               forbidden = λ stands. let none = may-none policy kind n i held stands in absurd (cc (none, e));
               domain = refl;
               other = refl;
-            })
+            }) (tested-is false false false true r h l c)
+        by false false false false r h l c = let is = sym (tested-is false false false false r h l c) ∙ e in absurd (cc (is))
 
     same_crossing : (c d : Capability) (from to : ℕ) → c ≡ d → from ≡ domain_of policy kind n → to ≡ domain_named policy c
         → Some (crossing_with policy kind n i d) ≡ Some (CapabilityCrosses kind n i c from to)
@@ -90,23 +100,43 @@ module _ (policy : PolicyValue) (s : State) where
 
     -- a capability that may not stand in a place is told
     capability-told : (c : Capability) (from to : ℕ) → CapabilityStands policy s.store kind n i c from to → told_at kind n i ≡ Some (CapabilityCrosses kind n i c from to)
-    capability-told c from to so = by (is_range held.kind) (is_counted held.kind) may refl refl refl
+    capability-told c from to so = by (is_range held.kind) (halts_by policy home held) (logs_by policy home held) (crosses_by policy home held) refl refl refl refl
       where
         kinds : c.kind ≡ held.kind
         kinds = ap (λ (c : Capability). c.kind) so.held
 
-        by : (range counted named : Bool) → is_range held.kind ≡ range → is_counted held.kind ≡ counted → may ≡ named → told_at kind n i ≡ Some (CapabilityCrosses kind n i c from to)
-        by true counted named r k m = absurd (so.no_range (kinds ∙ is_range-kind held.kind r))
-        by false false named r k m = let yes = sym (ap (λ (j : CapKind). is_counted j) kinds) ∙ so.names in absurd (cc (k, yes))
-        by false true true r k m =
-            absurd (so.forbidden (subst (λ (d : Capability). MayStand policy (domain_of policy kind n) d) (sym so.held) (none-may policy kind n i held (tested-is false true true r k m))))
-        by false true false r k m = tested-is false true false r k m ∙ same_crossing c held from to so.held so.domain so.other
+        free : (k : CapKind) → held.kind ≡ k → is_counted k ≡ false → told_at kind n i ≡ Some (CapabilityCrosses kind n i c from to)
+        free k is none = let yes = sym (ap (λ (j : CapKind). is_counted j) (kinds ∙ is)) ∙ so.names in absurd (cc (none, yes))
+
+        by : (range halts logs crosses : Bool) → is_range held.kind ≡ range → halts_by policy home held ≡ halts → logs_by policy home held ≡ logs → crosses_by policy home held ≡ crosses
+            → told_at kind n i ≡ Some (CapabilityCrosses kind n i c from to)
+        by true halts logs crosses r h l x = absurd (so.no_range (kinds ∙ is_range-kind held.kind r))
+        by false true logs crosses r h l x = free SysCtl (is_sysctl-kind held.kind (and_parts (is_sysctl held.kind) (not (may_halt policy home)) h).0) refl
+        by false false true crosses r h l x = free KernLog (is_kernlog-kind held.kind (and_parts (is_kernlog held.kind) (not (may_log policy home)) l).0) refl
+        by false false false true r h l x = tested-is false false false true r h l x ∙ same_crossing c held from to so.held so.domain so.other
+        by false false false false r h l x =
+            absurd (so.forbidden (subst (λ (d : Capability). MayStand policy home d) (sym so.held) (none-may policy kind n i held (tested-is false false false false r h l x))))
 
     -- and so is a Range
     range-told : (domain : ℕ) → RangeStandsIn policy s.store kind n i domain → told_at kind n i ≡ Some (RangeStands kind n i domain)
     range-told domain so =
-        ap (λ (b : Bool). tested policy kind n i held b (is_counted held.kind) may) (ap (λ (j : CapKind). is_range j) so.held)
+        ap (λ (b : Bool). answers b (halts_by policy home held) (logs_by policy home held) (crosses_by policy home held)) (ap (λ (j : CapKind). is_range j) so.held)
         ∙ ap (λ (d : ℕ). Some (RangeStands kind n i d)) (sym so.home)
+
+    -- and SysCtl
+    halts-told : (domain : ℕ) → SysCtlStands policy s.store kind n i domain → told_at kind n i ≡ Some (Halts kind n i domain)
+    halts-told domain so =
+        ap₂ (λ (b d : Bool). answers b d (logs_by policy home held) (crosses_by policy home held)) (ap (λ (j : CapKind). is_range j) so.held)
+        (ap₂ (λ (b d : Bool). b && not d) (ap is_sysctl so.held) (ap (may_halt policy) (sym so.home) ∙ so.forbidden))
+        ∙ ap (λ (d : ℕ). Some (Halts kind n i d)) (sym so.home)
+
+    -- and KernLog
+    logs-told : (domain : ℕ) → KernLogStands policy s.store kind n i domain → told_at kind n i ≡ Some (Logs kind n i domain)
+    logs-told domain so =
+        ap₂ (λ (b d : Bool). answers b d (logs_by policy home held) (crosses_by policy home held)) (ap (λ (j : CapKind). is_range j) so.held)
+        (ap (λ (j : CapKind). is_sysctl j && not (may_halt policy home)) so.held)
+        ∙ (ap (λ (b : Bool). answers false false b (crosses_by policy home held)) (ap₂ (λ (b d : Bool). b && not d) (ap is_kernlog so.held) (ap (may_log policy) (sym so.home) ∙ so.forbidden))
+        ∙ ap (λ (d : ℕ). Some (Logs kind n i d)) (sym so.home))
 
   -- ---- lists of places
 
@@ -183,8 +213,7 @@ module _ (policy : PolicyValue) (s : State) where
 
   -- a crossing is of this process
   abbrev IsOfSleeper : ℕ → Crossing → Type 0
-  IsOfSleeper p (Sleeper q from to) = q ≡ p
-  IsOfSleeper p _ = ⊥
+  IsOfSleeper p x = (spot_of x ≡ None) × (sleeper_of x ≡ p)
 
   record SleeperTold (x : Crossing) : Type 0 where
     process : ℕ
@@ -214,7 +243,7 @@ module _ (policy : PolicyValue) (s : State) where
           let is = found-is true false a b in
           let same : Sleeper p (domain_of policy Process p) (domain_of policy Process on) ≡ x = cc (is) in
           subst (λ (y : Crossing). IsSo policy s y × IsOfSleeper p y) same
-          (record { on = on; sleeps = a; domain = refl; other = refl; apart = λ equal. let yes = eq-eqb _ _ equal in absurd (cc (b, yes)) }, refl)
+          (record { on = on; sleeps = a; domain = refl; other = refl; apart = λ equal. let yes = eq-eqb _ _ equal in absurd (cc (b, yes)) }, (refl, refl))
 
   so-sleeper : (p from to : ℕ) → SleepsAcross policy s.queues p from to → Contains Sleepers (Sleeper p from to)
   so-sleeper p from to so =
@@ -240,42 +269,30 @@ module _ (policy : PolicyValue) (s : State) where
   so-told : (x : Crossing) → IsSo policy s x → Contains (crossings_in policy s) x
   so-told (CapabilityCrosses kind n i c from to) so = Contains-append_left OfPlaces Sleepers _ (told-places kind n i _ so.at (capability-told kind n i c from to so))
   so-told (RangeStands kind n i domain) so = Contains-append_left OfPlaces Sleepers _ (told-places kind n i _ so.at (range-told kind n i domain so))
+  so-told (Halts kind n i domain) so = Contains-append_left OfPlaces Sleepers _ (told-places kind n i _ so.at (halts-told kind n i domain so))
+  so-told (Logs kind n i domain) so = Contains-append_left OfPlaces Sleepers _ (told-places kind n i _ so.at (logs-told kind n i domain so))
   so-told (Sleeper p from to) so = Contains-append_right OfPlaces Sleepers _ (so-sleeper p from to so)
 
   -- ---- order
 
-  moved : (k l k' l' : CapKind) (m n j i m' n' j' i' : ℕ) → k ≡ l → m ≡ n → j ≡ i → k' ≡ l' → m' ≡ n' → j' ≡ i' → PlaceBefore l n i l' n' i' → PlaceBefore k m j k' m' j'
-  moved k l k' l' m n j i m' n' j' i' a b c a' b' c' h =
-      subst (λ (v : CapKind). PlaceBefore v m j k' m' j') (sym a)
-      (subst (λ (v : ℕ). PlaceBefore l v j k' m' j') (sym b)
-      (subst (λ (v : ℕ). PlaceBefore l n v k' m' j') (sym c)
-      (subst (λ (v : CapKind). PlaceBefore l n i v m' j') (sym a')
-      (subst (λ (v : ℕ). PlaceBefore l n i l' v j') (sym b')
-      (subst (λ (v : ℕ). PlaceBefore l n i l' n' v) (sym c') h)))))
-
   -- crossings are in the order of their places
-  in-order : (kind kind' : CapKind) (n i n' i' : ℕ) (x y : Crossing) → IsOf kind n i x → IsOf kind' n' i' y → PlaceBefore kind n i kind' n' i' → Before x y
-  in-order kind kind' n i n' i' (CapabilityCrosses k m j c f t) (CapabilityCrosses k' m' j' c' f' t') a b h = moved k kind k' kind' m n j i m' n' j' i' a.0 a.1 a.2 b.0 b.1 b.2 h
-  in-order kind kind' n i n' i' (CapabilityCrosses k m j c f t) (RangeStands k' m' j' d) a b h = moved k kind k' kind' m n j i m' n' j' i' a.0 a.1 a.2 b.0 b.1 b.2 h
-  in-order kind kind' n i n' i' (CapabilityCrosses k m j c f t) (Sleeper p f' t') a b h = absurd b
-  in-order kind kind' n i n' i' (RangeStands k m j d) (CapabilityCrosses k' m' j' c' f' t') a b h = moved k kind k' kind' m n j i m' n' j' i' a.0 a.1 a.2 b.0 b.1 b.2 h
-  in-order kind kind' n i n' i' (RangeStands k m j d) (RangeStands k' m' j' d') a b h = moved k kind k' kind' m n j i m' n' j' i' a.0 a.1 a.2 b.0 b.1 b.2 h
-  in-order kind kind' n i n' i' (RangeStands k m j d) (Sleeper p f' t') a b h = absurd b
-  in-order kind kind' n i n' i' (Sleeper p f t) y a b h = absurd a
+  in-order : (kind kind' : CapKind) (n i n' i' : ℕ) (x y : Crossing) → IsOf kind n i x → IsOf kind' n' i' y → SpotBefore (spot kind n i) (spot kind' n' i') → Before x y
+  in-order kind kind' n i n' i' x y a b h =
+      subst (λ (v : Option Spot). SpotsBefore v (spot_of y) (sleeper_of x) (sleeper_of y)) (sym a)
+      (subst (λ (v : Option Spot). SpotsBefore (Some (spot kind n i)) v (sleeper_of x) (sleeper_of y)) (sym b) h)
 
   before_sleeper : (kind : CapKind) (n i p : ℕ) (x y : Crossing) → IsOf kind n i x → IsOfSleeper p y → Before x y
-  before_sleeper kind n i p (CapabilityCrosses k m j c f t) (Sleeper q f' t') a b = tt
-  before_sleeper kind n i p (RangeStands k m j d) (Sleeper q f' t') a b = tt
-  before_sleeper kind n i p (Sleeper q f t) y a b = absurd a
-  before_sleeper kind n i p x (CapabilityCrosses k m j c f t) a b = absurd b
-  before_sleeper kind n i p x (RangeStands k m j d) a b = absurd b
+  before_sleeper kind n i p x y a b =
+      subst (λ (v : Option Spot). SpotsBefore v (spot_of y) (sleeper_of x) (sleeper_of y)) (sym a)
+      (subst (λ (v : Option Spot). SpotsBefore (Some (spot kind n i)) v (sleeper_of x) (sleeper_of y)) (sym b.0) tt)
 
   among_sleepers : (p q : ℕ) (x y : Crossing) → IsOfSleeper p x → IsOfSleeper q y → p ≤ q → Before x y
-  among_sleepers p q (Sleeper p' f t) (Sleeper q' f' t') a b h = let c : p' ≡ p = a in let d : q' ≡ q = b in omega (arith, c, d, h)
-  among_sleepers p q (CapabilityCrosses k m j c f t) y a b h = absurd a
-  among_sleepers p q (RangeStands k m j d) y a b h = absurd a
-  among_sleepers p q x (CapabilityCrosses k m j c f t) a b h = absurd b
-  among_sleepers p q x (RangeStands k m j d) a b h = absurd b
+  among_sleepers p q x y a b h =
+      let first = a.1 in
+      let second = b.1 in
+      let in_turn : sleeper_of x ≤ sleeper_of y = omega (arith, first, second, h) in
+      subst (λ (v : Option Spot). SpotsBefore v (spot_of y) (sleeper_of x) (sleeper_of y)) (sym a.0)
+      (subst (λ (v : Option Spot). SpotsBefore None v (sleeper_of x) (sleeper_of y)) (sym b.0) in_turn)
 
   object-order : (kind : CapKind) (n : ℕ) → AllPairs Before (object_crossings policy (cap_in s.store) kind n)
   object-order kind n =

@@ -1,20 +1,18 @@
 -- Nothing crosses exactly where the policy holds.
-use Rattle.std.proofs.Common.{◌≡◌, ◌↔◌, ℕ, ◌<◌, ◌==◌, ◌++◌, Bool, true, false, if◌then◌else◌, List, [], length, Some, None, refl, sym, ◌∙◌, ap, subst, eqb-true}
+use Rattle.std.proofs.Common.{◌≡◌, ◌↔◌, ℕ, ◌++◌, Bool, true, false, if◌then◌else◌, List, [], length, Some, None, refl, sym, ◌∙◌, ap, subst, eqb-true}
 use Rattle.std.proofs.lemmas.Bool.{eq-eqb}
 use Rattle.cap_format.specs.declared.kind.CapKind.{CapKind}
 use Rattle.cap_format.specs.declared.kind.CapKind.TheVariants.{CapPage, Gpt, Endpoint, Process}
-use Rattle.cap_format.specs.Capability.{Capability}
+use Rattle.cap_format.specs.Capability.{Capability, null}
 use Rattle.object_store.specs.Store.{Store, size_of}
-use Rattle.object_store.specs.Meaning.{meaning, state_map}
+use Rattle.object_store.specs.Meaning.{state_map}
 use Rattle.schedules.specs.Queues.{QueuesValue, sleepers_of, stands_in}
 use Rattle.operations.specs.System.{system}
-use Rattle.confinement.specs.Cut.{Cut, side_of, MayHold}
 use Rattle.confine_check.specs.Breach.{places_in, cap_in}
 use Rattle.confine_check.specs.Full.{AreFull}
-use Rattle.confine_check.proofs.Decided.{AllPlaces, each-held, held-all}
+use Rattle.confine_check.proofs.Holding.{PlacesHave, AllHave, each-has, has-all}
 use Rattle.confine_check.proofs.Found.{cap_in-state_map}
-use Rattle.separation_policy.specs.Policy.{PolicyValue, domain_of, MayStand, SleepAtHome, PolicyHolds, sees, domain_cut, view_cut}
-use Rattle.separation_policy.proofs.Cuts.{domain-held, view-held, held-may, apart-by, cuts_law}
+use Rattle.separation_policy.specs.Policy.{PolicyValue, domain_of, MayStand, EachMayStand, SleepAtHome, PolicyHolds}
 use Rattle.separation_check.specs.declared.crossing.Crossing.{Crossing}
 use Rattle.separation_check.specs.declared.crossing.Crossing.TheVariants.{Sleeper}
 use Rattle.separation_check.specs.Crossings.{listed, crossing_by, object_crossings, kind_crossings, capability_crossings, sleeper_by, sleeper_on, process_crossings, sleeper_limit, sleeper_crossings}
@@ -29,15 +27,25 @@ if_none false x e = absurd (cc (e))
 -- ---- capabilities
 
 module _ (policy : PolicyValue) (s : Store) where
+  -- a capability may stand in an object
+  abbrev Stands : CapKind → ℕ → Capability → Type 0
+  Stands kind n c = MayStand policy (domain_of policy kind n) c
+
+  -- Null may
+  nothing : (kind : CapKind) (n : ℕ) → Stands kind n null
+  nothing kind n = record {
+    no_range = λ is. cc (is);
+    halting = λ is. absurd (cc (is));
+    logging = λ is. absurd (cc (is));
+    named = λ counted. absurd (cc (counted));
+  }
+
   -- what each place of the objects of a kind holds may stand there
   abbrev PlacesStand : CapKind → Type 0
-  PlacesStand kind = (n i : ℕ) → n < size_of s.items kind → i < places_in kind → MayStand policy (domain_of policy kind n) (meaning s.items (cap_in s kind n i))
+  PlacesStand kind = PlacesHave Stands s kind
 
-  record AllStand : Type 0 where
-    cappages : PlacesStand CapPage
-    gpts : PlacesStand Gpt
-    endpoints : PlacesStand Endpoint
-    processes : PlacesStand Process
+  abbrev AllStand : Type 0
+  AllStand = AllHave Stands s
 
   -- what is told of the model's map, of a kind
   abbrev KindTold : CapKind → List Crossing
@@ -70,28 +78,21 @@ module _ (policy : PolicyValue) (s : Store) where
       (empty-both (KindTold Gpt) _ (kind-none Gpt all.gpts)
       (empty-both (KindTold Endpoint) (KindTold Process) (kind-none Endpoint all.endpoints) (kind-none Process all.processes)))
 
-  -- so each place holds what it may over a cut that lets stand what the policy does
-  over : (cut : Cut) → ((kind : CapKind) (n : ℕ) (c : Capability) → MayStand policy (domain_of policy kind n) c → MayHold cut (side_of cut kind n) c) → AllStand → AllPlaces cut s
-  over cut held all = record {
-    cappages = λ n i there place. held CapPage n _ (all.cappages n i there place);
-    gpts = λ n i there place. held Gpt n _ (all.gpts n i there place);
-    endpoints = λ n i there place. held Endpoint n _ (all.endpoints n i there place);
-    processes = λ n i there place. held Process n _ (all.processes n i there place);
-  }
+  -- so each capability of the map may stand where it does, and the other way round
+  each-stands : AreFull s → AllStand → EachMayStand policy (state_map s)
+  each-stands full all =
+      let each = each-has Stands nothing s full all in
+      record { slots = each.slots; cappages = each.cappages; capregs = each.capregs; process_slots = each.process_slots; recipients = each.recipients }
 
-  -- and back from both cuts of each domain
-  stand : ((a : ℕ) → AllPlaces (domain_cut policy a) s × AllPlaces (view_cut policy a) s) → AllStand
-  stand cuts = record {
-    cappages = λ n i there place. let two = cuts (domain_of policy CapPage n) in held-may policy CapPage n _ (two.0.cappages n i there place) (two.1.cappages n i there place);
-    gpts = λ n i there place. let two = cuts (domain_of policy Gpt n) in held-may policy Gpt n _ (two.0.gpts n i there place) (two.1.gpts n i there place);
-    endpoints = λ n i there place. let two = cuts (domain_of policy Endpoint n) in held-may policy Endpoint n _ (two.0.endpoints n i there place) (two.1.endpoints n i there place);
-    processes = λ n i there place. let two = cuts (domain_of policy Process n) in held-may policy Process n _ (two.0.processes n i there place) (two.1.processes n i there place);
-  }
+  stands-all : EachMayStand policy (state_map s) → AllStand
+  stands-all each =
+      has-all Stands nothing s
+      (record { slots = each.slots; cappages = each.cappages; capregs = each.capregs; process_slots = each.process_slots; recipients = each.recipients })
 
 -- ---- sleepers
 
 module _ (policy : PolicyValue) (q : QueuesValue) where
-  none-home : sleeper_crossings policy q ≡ [] → SleepAtHome policy q
+  pub none-home : sleeper_crossings policy q ≡ [] → SleepAtHome policy q
   none-home e on p there =
       let process = none-each (process_crossings policy q) (sleeper_limit q) e p (below-limit q on p there) in
       let at = none-each (λ on. listed (sleeper_on policy q p on)) (length q.sleepers) process on (sleeps-there q on p there) in
@@ -99,7 +100,7 @@ module _ (policy : PolicyValue) (q : QueuesValue) where
       let here : sleeper_by policy p on ≡ None = sym (ap (λ (b : Bool). if b then sleeper_by policy p on else None) there) ∙ none in
       eqb-true _ _ (if_none _ _ here)
 
-  home-none : SleepAtHome policy q → sleeper_crossings policy q ≡ []
+  pub home-none : SleepAtHome policy q → sleeper_crossings policy q ≡ []
   home-none home =
       each-none (process_crossings policy q) (sleeper_limit q) (λ p below.
       each-none (λ on. listed (sleeper_on policy q p on)) (length q.sleepers) (λ on there.
@@ -117,21 +118,8 @@ pub crossings-exactly : (policy : PolicyValue) (s : Store) (q : QueuesValue) →
 crossings-exactly policy s q full = (
   λ e.
       let both = both-empty (capability_crossings policy (cap_in (state_map s)) (state_map s)) (sleeper_crossings policy q) e in
-      let all = none-all policy s both.0 in
-      let home = none-home policy q both.1 in
-      let w = system (state_map s) q in
-      (cuts_law policy w).1 (λ a. (
-        record {
-          each = each-held (domain_cut policy a) s full (over policy s (domain_cut policy a) (λ kind n c. domain-held policy kind n c a) all);
-          sleepers = apart-by policy w (λ b. b == a) (λ side. true) home;
-        },
-        record {
-          each = each-held (view_cut policy a) s full (over policy s (view_cut policy a) (λ kind n c. view-held policy kind n c a) all);
-          sleepers = apart-by policy w (sees policy a) (view_cut policy a).weakly home;
-        },
-      )),
+      record { each = each-stands policy s full (none-all policy s both.0); sleepers = none-home policy q both.1 },
   λ holds.
-      let cuts = (cuts_law policy (system (state_map s) q)).0 holds in
-      let all = stand policy s (λ a. let two = cuts a in (held-all (domain_cut policy a) s two.0.each, held-all (view_cut policy a) s two.1.each)) in
-      empty-both (capability_crossings policy (cap_in (state_map s)) (state_map s)) (sleeper_crossings policy q) (all-none policy s all) (home-none policy q holds.sleepers),
+      empty-both (capability_crossings policy (cap_in (state_map s)) (state_map s)) (sleeper_crossings policy q)
+      (all-none policy s (stands-all policy s holds.each)) (home-none policy q holds.sleepers),
 )

@@ -4,5 +4,7 @@ pub mod Allowed
 pub mod Exactly
 pub mod Meant
 pub mod Marking
-mod Listed
+pub mod Listed
 mod Every
+pub mod Placed
+mod Remedies

@@ -3,7 +3,6 @@ use Rattle.std.proofs.Common.{◌≡◌, ℕ, ◌++◌, Bool, true, false, if◌
 use Rattle.std.proofs.lemmas.List.{map-append}
 use Rattle.cap_format.specs.declared.kind.CapKind.{CapKind}
 use Rattle.cap_format.specs.declared.kind.CapKind.TheVariants.{CapPage, Gpt, Endpoint, Process}
-use Rattle.cap_format.specs.Kind.{is_counted}
 use Rattle.cap_format.specs.Capability.{Capability, null, bare}
 use Rattle.object_store.specs.Store.{Items, Store, size_of}
 use Rattle.object_store.specs.Meaning.{is_live, live, meaning, state_map}
@@ -12,7 +11,7 @@ use Rattle.confine_check.specs.Breach.{is_range, places_in, cap_in}
 use Rattle.confine_check.proofs.Found.{cap_in-state_map}
 use Rattle.separation_policy.specs.Policy.{PolicyValue, domain_of}
 use Rattle.separation_check.specs.declared.crossing.Crossing.{Crossing}
-use Rattle.separation_check.specs.Crossings.{listed, stored_cap, may_name, crossing_by, object_crossings, kind_crossings, capability_crossings, sleeper_by, sleeper_on, process_crossings, sleeper_limit, sleeper_crossings, crossings_of, meant_crossing}
+use Rattle.separation_check.specs.Crossings.{listed, stored_cap, halts_by, logs_by, crosses_by, crossing_by, object_crossings, kind_crossings, capability_crossings, sleeper_by, sleeper_on, process_crossings, sleeper_limit, sleeper_crossings, crossings_of, meant_crossing}
 use Rattle.separation_check.proofs.Gathered.{below-map, listed-map}
 use Rattle.separation_check.proofs.Allowed.{tested}
 
@@ -21,14 +20,15 @@ module _ (policy : PolicyValue) where
   crossing-meant : (o : Items) (kind : CapKind) (n i : ℕ) (c : Capability) → crossing_by policy kind n i (meaning o c) ≡ option_map meant_crossing (crossing_by policy kind n i (live o c))
   crossing-meant o kind n i c = by (is_live o c)
     where
-      held : (range counted may : Bool) → tested policy kind n i (bare c) range counted may ≡ option_map meant_crossing (tested policy kind n i c range counted may)
-      held true counted may = refl
-      held false false may = refl
-      held false true true = refl
-      held false true false = refl
+      held : (range halts logs crosses : Bool) → tested policy kind n i (bare c) range halts logs crosses ≡ option_map meant_crossing (tested policy kind n i c range halts logs crosses)
+      held true halts logs crosses = refl
+      held false true logs crosses = refl
+      held false false true crosses = refl
+      held false false false true = refl
+      held false false false false = refl
 
       by : (b : Bool) → crossing_by policy kind n i (if b then bare c else null) ≡ option_map meant_crossing (crossing_by policy kind n i (if b then c else null))
-      by true = held (is_range c.kind) (is_counted c.kind) (may_name policy (domain_of policy kind n) c)
+      by true = held (is_range c.kind) (halts_by policy (domain_of policy kind n) c) (logs_by policy (domain_of policy kind n) c) (crosses_by policy (domain_of policy kind n) c)
       by false = refl
 
   module _ (s : Store) where

@@ -1,8 +1,8 @@
 -- All that a policy doesn't allow in a machine: capabilities in the order in which a state is printed, and then sleepers.
 -- (Own.)
-use Rattle.std.specs.Prelude.{ℕ, zero, suc, ◌+◌, max, ◌==◌, ◌&&◌, ◌||◌, Bool, if◌then◌else◌, List, [], ◌∷◌, ◌++◌, length, slice_index, Option, Some, None}
+use Rattle.std.specs.Prelude.{ℕ, zero, suc, ◌+◌, max, ◌==◌, ◌&&◌, ◌||◌, not, Bool, true, false, if◌then◌else◌, List, [], ◌∷◌, ◌++◌, length, slice_index, Option, Some, None}
 use Rattle.cap_format.specs.declared.kind.CapKind.{CapKind}
-use Rattle.cap_format.specs.declared.kind.CapKind.TheVariants.{CapPage, Gpt, Endpoint, Process}
+use Rattle.cap_format.specs.declared.kind.CapKind.TheVariants.{Page, CapPage, Gpt, Endpoint, Process}
 use Rattle.cap_format.specs.Kind.{is_counted}
 use Rattle.cap_format.specs.Capability.{Capability, bare}
 use Rattle.cap_format.specs.Weakening.{is_harmless}
@@ -10,10 +10,12 @@ use Rattle.object_store.specs.Store.{Store, size_of}
 use Rattle.object_store.specs.Meaning.{live}
 use Rattle.schedules.specs.Queues.{QueuesValue, sleepers_of, stands_in}
 use Rattle.machine_state.specs.State.{State}
-use Rattle.confine_check.specs.Breach.{is_range, places_in, cap_in}
-use Rattle.separation_policy.specs.Policy.{PolicyValue, domain_of, domain_named, sees}
+use Rattle.confine_check.specs.Breach.{is_range, is_sysctl, is_kernlog, places_in, cap_in}
+use Rattle.separation_policy.specs.Policy.{PolicyValue, domain_of, domain_named, may_write, may_halt, may_log, sees, sees_written}
 use Rattle.separation_check.specs.declared.crossing.Crossing.{Crossing}
-use Rattle.separation_check.specs.declared.crossing.Crossing.TheVariants.{Capability as CapabilityCrosses, Range as RangeStands, Sleeper}
+use Rattle.separation_check.specs.declared.crossing.Crossing.TheVariants.{Capability as CapabilityCrosses, Range as RangeStands, Halts, Logs, Sleeper}
+use Rattle.separation_check.specs.declared.remedy.Remedy.{Remedy}
+use Rattle.separation_check.specs.declared.remedy.Remedy.TheVariants.{Reads, Writes, Never}
 
 -- all that the numbers below `n` give, in their order
 unfoldable pub all_below : {A : Type 0} → (ℕ → List A) → ℕ → List A
@@ -31,9 +33,39 @@ listed (Some x) = x ∷ []
 abbrev pub stored_cap : Store → CapKind → ℕ → ℕ → Capability
 stored_cap s kind n i = live s.items (cap_in s kind n i)
 
--- whether a capability that names an object may stand in one of domain `a`
+-- whether a capability is a Page
+abbrev pub is_page : CapKind → Bool
+is_page Page = true
+is_page _ = false
+
+-- whether an object of domain `a` may hold a Page of domain `d`: it writes that, or the Page is harmless, and one that it
+-- reads writes that
+abbrev pub may_hold_page : PolicyValue → ℕ → ℕ → Bool → Bool
+may_hold_page policy a d harmless = may_write policy a d || (harmless && sees_written policy a d)
+
+-- whether a capability that names an object of domain `d` may stand in one of domain `a`
+abbrev pub may_name_of : PolicyValue → ℕ → ℕ → Capability → Bool
+may_name_of policy a d c = (d == a) || ((is_harmless c && sees policy a d) || (is_page c.kind && may_hold_page policy a d (is_harmless c)))
+
+-- the same by what it names
 abbrev pub may_name : PolicyValue → ℕ → Capability → Bool
-may_name policy a c = (domain_named policy c == a) || (is_harmless c && sees policy a (domain_named policy c))
+may_name policy a c = may_name_of policy a (domain_named policy c) c
+
+-- whether it is SysCtl, which objects of domain `a` may not hold
+abbrev pub halts_by : PolicyValue → ℕ → Capability → Bool
+halts_by policy a c = is_sysctl c.kind && not (may_halt policy a)
+
+-- whether it is KernLog, which they may not
+abbrev pub logs_by : PolicyValue → ℕ → Capability → Bool
+logs_by policy a c = is_kernlog c.kind && not (may_log policy a)
+
+-- whether it names an object, and may not stand in one of domain `a`
+abbrev pub crosses_by : PolicyValue → ℕ → Capability → Bool
+crosses_by policy a c = is_counted c.kind && not (may_name policy a c)
+
+-- what line would allow a capability that crosses: `reads` of one that is harmless, `writes` of another Page, or none
+abbrev pub remedy_of : Capability → Remedy
+remedy_of c = if is_harmless c then Reads else (if is_page c.kind then Writes else Never)
 
 -- the crossing of a capability that stands in this place of this object, and that means this
 abbrev pub crossing_with : PolicyValue → CapKind → ℕ → ℕ → Capability → Crossing
@@ -43,8 +75,9 @@ crossing_with policy kind n i c = CapabilityCrosses kind n i c (domain_of policy
 abbrev pub crossing_by : PolicyValue → CapKind → ℕ → ℕ → Capability → Option Crossing
 crossing_by policy kind n i c =
     if is_range c.kind then Some (RangeStands kind n i (domain_of policy kind n))
-    else (if is_counted c.kind then (if may_name policy (domain_of policy kind n) c then None else Some (crossing_with policy kind n i c))
-    else None)
+    else (if halts_by policy (domain_of policy kind n) c then Some (Halts kind n i (domain_of policy kind n))
+    else (if logs_by policy (domain_of policy kind n) c then Some (Logs kind n i (domain_of policy kind n))
+    else (if crosses_by policy (domain_of policy kind n) c then Some (crossing_with policy kind n i c) else None)))
 
 -- those of an object, of which each place holds a capability
 abbrev pub object_crossings : PolicyValue → (CapKind → ℕ → ℕ → Capability) → CapKind → ℕ → List Crossing
@@ -109,4 +142,6 @@ crossings_in policy s = capability_crossings policy (cap_in s.store) s.store ++ 
 abbrev pub meant_crossing : Crossing → Crossing
 meant_crossing (CapabilityCrosses kind n i c from to) = CapabilityCrosses kind n i (bare c) from to
 meant_crossing (RangeStands kind n i domain) = RangeStands kind n i domain
+meant_crossing (Halts kind n i domain) = Halts kind n i domain
+meant_crossing (Logs kind n i domain) = Logs kind n i domain
 meant_crossing (Sleeper p from to) = Sleeper p from to

@@ -1,3 +1,4 @@
 pub mod Crossings
 pub mod Each
+pub mod Placed
 pub mod Marks

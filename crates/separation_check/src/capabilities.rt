@@ -5,10 +5,11 @@ ghost use Rattle.object_store.specs.Store.{size_of};
 ghost use Rattle.confine_check.specs.Breach.{places_in, reads_in, object_reads};
 ghost use Rattle.separation_policy.specs.Closure.{IsClosure};
 ghost use Rattle.separation_check.specs.Marks.{object_marks, kind_marks, all_marks};
-ghost use Rattle.separation_check.specs.Crossings.{stored_cap, may_name, crossing_by, listed, object_crossings, kind_crossings, capability_crossings};
+ghost use Rattle.separation_check.specs.Crossings.{stored_cap, may_hold_page, may_name_of, crosses_by, halts_by, logs_by, crossing_by, listed, object_crossings, kind_crossings, capability_crossings};
 
 use crate::crossing::Crossing;
 use crate::marks::{Marks, marks_by};
+use crate::remedy::is_page;
 use cap_format::{Cap, CapKind, OutOfMemory, is_harmless};
 use confine_check::{cap_in, places, size};
 use object_store::Objects;
@@ -16,13 +17,53 @@ use separation_policy::{Closure, Policy};
 use std::sync::ledger::Ledger;
 use steps::Steps;
 
-/// Whether a capability that names an object may stand in one of a domain.
-fn may_name(policy: &Policy, closure: &Closure, domain: u8, cap: Cap) -> bool
+/// Whether an object of domain `a` may hold a Page of domain `d`.
+fn may_hold_page(policy: &Policy, closure: &Closure, a: u8, d: u8, harmless: bool) -> bool
     requires { IsClosure policy.now closure.now }
-    ensures { result ≡ may_name policy.now domain cap }
+    ensures { result ≡ may_hold_page policy.now a d harmless }
 {
+    policy.may_write(a, d) || (harmless && closure.sees_written(a, d))
+}
+
+/// Whether a capability that names an object of domain `d` may stand in one of domain `a`.
+fn may_name_of(policy: &Policy, closure: &Closure, a: u8, d: u8, cap: Cap) -> bool
+    requires { IsClosure policy.now closure.now }
+    ensures { result ≡ may_name_of policy.now a d cap }
+{
+    if d == a {
+        return true;
+    }
+    let harmless = is_harmless(cap);
+    if harmless && closure.sees(a, d) {
+        return true;
+    }
+    is_page(cap.kind()) && may_hold_page(policy, closure, a, d, harmless)
+}
+
+/// Whether a capability that names an object may not stand in one of a domain.
+fn crosses_by(policy: &Policy, closure: &Closure, domain: u8, cap: Cap) -> bool
+    requires { IsClosure policy.now closure.now }
+    ensures { result ≡ crosses_by policy.now domain cap }
+{
+    if !cap.kind().is_counted() {
+        return false;
+    }
     let named = policy.domain_of(cap.kind().object_kind(), cap.object());
-    named == domain || (is_harmless(cap) && closure.sees(domain, named))
+    !may_name_of(policy, closure, domain, named, cap)
+}
+
+/// Whether a capability is SysCtl, which objects of a domain may not hold.
+fn halts_by(policy: &Policy, domain: u8, cap: Cap) -> bool
+    ensures { result ≡ halts_by policy.now domain cap }
+{
+    cap.kind() == CapKind::SysCtl && !policy.may_halt(domain)
+}
+
+/// Whether it is KernLog, which they may not.
+fn logs_by(policy: &Policy, domain: u8, cap: Cap) -> bool
+    ensures { result ≡ logs_by policy.now domain cap }
+{
+    cap.kind() == CapKind::KernLog && !policy.may_log(domain)
 }
 
 /// What a capability crosses that stands in a place of an object.
@@ -46,7 +87,23 @@ pub fn crossing_by(
             domain,
         });
     }
-    if !cap.kind().is_counted() || may_name(policy, closure, domain, cap) {
+    if halts_by(policy, domain, cap) {
+        return Some(Crossing::Halts {
+            kind,
+            number: n,
+            place: i,
+            domain,
+        });
+    }
+    if logs_by(policy, domain, cap) {
+        return Some(Crossing::Logs {
+            kind,
+            number: n,
+            place: i,
+            domain,
+        });
+    }
+    if !crosses_by(policy, closure, domain, cap) {
         return None;
     }
     Some(Crossing::Capability {

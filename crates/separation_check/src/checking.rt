@@ -25,8 +25,8 @@ use walk_engine::Translator;
 /// of a GPT is read once, and at most once where memory is wanting.
 ///
 /// Where nothing is found the policy holds. Then whatever events follow, one that a process of a domain performs leaves
-/// all other domains as they are, and what a domain is told and has depends on no domain that it doesn't read, but for when
-/// turns come.
+/// all other domains as they are, but for the bytes of pages of those that it writes; and what a domain is told and has
+/// depends on no domain beyond its view, but for when turns come.
 pub fn crossings<T: Translator, L: Ledger>(
     alloc: Global,
     machine: &Machine<T>,

@@ -22,6 +22,20 @@ pub enum Crossing {
         place: u16,
         domain: u8,
     },
+    /// SysCtl in place `place` of object `number` of this kind, which is of domain `domain`, whose objects may not hold it.
+    Halts {
+        kind: CapKind,
+        number: u16,
+        place: u16,
+        domain: u8,
+    },
+    /// KernLog there, which they may not hold.
+    Logs {
+        kind: CapKind,
+        number: u16,
+        place: u16,
+        domain: u8,
+    },
     /// This process is of domain `from`, and sleeps on one of domain `to`.
     Sleeper {
         process: u16,

@@ -4,7 +4,7 @@ use Rattle.coy_io.specs.Limits.{line_limit}
 use Rattle.coy_text.specs.Line.{is_visible_line, is_skipped}
 use Rattle.coy_text.specs.Words.{words_of, field}
 use Rattle.listing_read.specs.Faults.{◌>>=◌, ensured}
-use Rattle.separation_policy.specs.Making.{with_assigned, with_made, with_reading}
+use Rattle.separation_policy.specs.Making.{with_assigned, with_halting, with_logging, with_made, with_reading, with_writing}
 use Rattle.separation_policy.specs.Policy.{PolicyValue, assigned_of}
 use Rattle.separation_lines.specs.Fields.{domain_from, domain_numbered, name_from, objects_from}
 use Rattle.listing_read.specs.declared.object_fault.PolicyFault.{PolicyFault}
@@ -14,7 +14,7 @@ use Rattle.separation_lines.specs.declared.fault.Untaken.TheVariants.{Refused}
 use Rattle.separation_lines.specs.declared.said.Next.{Next}
 use Rattle.separation_lines.specs.declared.said.Next.TheVariants.{Policy, Schedule}
 use Rattle.separation_lines.specs.declared.said.Said.{Said}
-use Rattle.separation_lines.specs.declared.said.Said.TheVariants.{Nothing, Objects, Reads, Ends}
+use Rattle.separation_lines.specs.declared.said.Said.TheVariants.{Nothing, Objects, Reads, Writes, Halts, Logs, Ends}
 
 -- `domain NAME KIND N` or `domain NAME KIND N M`
 unfoldable pub domain_line : PolicyValue → List (List ℕ) → Result Said PolicyFault
@@ -33,6 +33,32 @@ reads_line policy words = do
   read ← domain_from policy (field words 2)
   Ok (Reads reader read)
 
+-- `writes A B`
+unfoldable pub writes_line : PolicyValue → List (List ℕ) → Result Said PolicyFault
+writes_line policy words = do
+  _ ← ensured (length words == 3) WrongWords
+  writer ← domain_from policy (field words 1)
+  written ← domain_from policy (field words 2)
+  Ok (Writes writer written)
+
+-- the domain of a line `halts A` or `logs A`
+unfoldable pub alone_line : PolicyValue → List (List ℕ) → Result ℕ PolicyFault
+alone_line policy words = do
+  _ ← ensured (length words == 2) WrongWords
+  domain_from policy (field words 1)
+
+-- `halts A`
+unfoldable pub halts_line : PolicyValue → List (List ℕ) → Result Said PolicyFault
+halts_line policy words = do
+  domain ← alone_line policy words
+  Ok (Halts domain)
+
+-- `logs A`
+unfoldable pub logs_line : PolicyValue → List (List ℕ) → Result Said PolicyFault
+logs_line policy words = do
+  domain ← alone_line policy words
+  Ok (Logs domain)
+
 -- `end`
 unfoldable pub end_line : List (List ℕ) → Result Said PolicyFault
 end_line words = do
@@ -44,7 +70,10 @@ unfoldable pub said_by : PolicyValue → List (List ℕ) → Result Said PolicyF
 said_by policy words =
     if bytes_eq (field words 0) (codes "domain") then domain_line policy words
     else (if bytes_eq (field words 0) (codes "reads") then reads_line policy words
-    else (if bytes_eq (field words 0) (codes "end") then end_line words else Err UnknownPolicy))
+    else (if bytes_eq (field words 0) (codes "writes") then writes_line policy words
+    else (if bytes_eq (field words 0) (codes "halts") then halts_line policy words
+    else (if bytes_eq (field words 0) (codes "logs") then logs_line policy words
+    else (if bytes_eq (field words 0) (codes "end") then end_line words else Err UnknownPolicy)))))
 
 -- a line by its words
 abbrev pub policy_words : PolicyValue → List (List ℕ) → Result Said PolicyFault
@@ -65,6 +94,9 @@ with_named policy domain name = if nat_lt domain (length policy.domains) then po
 abbrev pub after_said : PolicyValue → Said → PolicyValue
 after_said policy (Objects domain name block) = with_assigned (with_named policy domain name) block.kind block.from block.to domain
 after_said policy (Reads reader read) = with_reading policy reader read
+after_said policy (Writes writer written) = with_writing policy writer written
+after_said policy (Halts domain) = with_halting policy domain
+after_said policy (Logs domain) = with_logging policy domain
 after_said policy _ = policy
 
 -- the policy after a line, as before where it is refused
@@ -92,4 +124,7 @@ abbrev pub IsSaid : PolicyValue → Said → Type 0
 IsSaid policy (Objects domain name block) =
     (domain < 64) × (domain ≤ length policy.domains) × (block.from ≤ block.to) × (block.to < length (assigned_of policy.assigned block.kind))
 IsSaid policy (Reads reader read) = (reader < length policy.domains) × (read < length policy.domains)
+IsSaid policy (Writes writer written) = (writer < length policy.domains) × (written < length policy.domains)
+IsSaid policy (Halts domain) = domain < length policy.domains
+IsSaid policy (Logs domain) = domain < length policy.domains
 IsSaid policy _ = Unit {0}

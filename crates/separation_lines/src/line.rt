@@ -1,7 +1,7 @@
 //! Lines of a policy.
 ghost use Rattle.std.specs.Prelude.{◌≡◌, ◌≢◌, ◌<◌, ◌≤◌, length, IfOk, OnOk, OnErr};
 ghost use Rattle.coy_text.specs.Words.{words_of};
-ghost use Rattle.separation_lines.specs.PolicyLine.{after_line, after_said, answered, as_untaken, domain_line, end_line, next_of, policy_line, reads_line, said_by, IsSaid};
+ghost use Rattle.separation_lines.specs.PolicyLine.{after_line, after_said, alone_line, answered, as_untaken, domain_line, end_line, halts_line, logs_line, next_of, policy_line, reads_line, said_by, writes_line, IsSaid};
 
 use crate::fault::Untaken;
 use crate::fields::{made, name, numbered, objects};
@@ -47,7 +47,19 @@ fn take_in(said: Said, policy: &mut Policy) -> Result<Next, Untaken>
             Err(_) => Err(Untaken::OutOfMemory),
         },
         Said::Reads { reader, read } => {
-            policy.allow(reader, read);
+            policy.allow_reading(reader, read);
+            Ok(Next::Policy)
+        }
+        Said::Writes { writer, written } => {
+            policy.allow_writing(writer, written);
+            Ok(Next::Policy)
+        }
+        Said::Halts(domain) => {
+            policy.allow_halting(domain);
+            Ok(Next::Policy)
+        }
+        Said::Logs(domain) => {
+            policy.allow_logging(domain);
             Ok(Next::Policy)
         }
         Said::Ends => Ok(Next::Schedule),
@@ -97,6 +109,15 @@ fn by_first_word(line: &[u8], policy: &Policy) -> Result<Said, PolicyFault>
     if first == b"reads".as_slice() {
         return reads(line, policy);
     }
+    if first == b"writes".as_slice() {
+        return writes(line, policy);
+    }
+    if first == b"halts".as_slice() {
+        return halts(line, policy);
+    }
+    if first == b"logs".as_slice() {
+        return logs(line, policy);
+    }
     if first == b"end".as_slice() {
         return end(line);
     }
@@ -133,6 +154,49 @@ fn reads(line: &[u8], policy: &Policy) -> Result<Said, PolicyFault>
     let reader = made(word(line, 1), policy)?;
     let read = made(word(line, 2), policy)?;
     Ok(Said::Reads { reader, read })
+}
+
+#[tactic(auto, unfolding(crate::specs::PolicyLine::writes_line))]
+fn writes(line: &[u8], policy: &Policy) -> Result<Said, PolicyFault>
+    ensures value { result ≡ writes_line policy.now (words_of line.now) }
+    ensures said { IfOk result (IsSaid policy.now) }
+{
+    if word_count(line) != 3 {
+        return Err(PolicyFault::WrongWords);
+    }
+    let writer = made(word(line, 1), policy)?;
+    let written = made(word(line, 2), policy)?;
+    Ok(Said::Writes { writer, written })
+}
+
+#[tactic(auto, unfolding(crate::specs::PolicyLine::halts_line))]
+fn halts(line: &[u8], policy: &Policy) -> Result<Said, PolicyFault>
+    ensures value { result ≡ halts_line policy.now (words_of line.now) }
+    ensures said { IfOk result (IsSaid policy.now) }
+{
+    let domain = alone(line, policy)?;
+    Ok(Said::Halts(domain))
+}
+
+#[tactic(auto, unfolding(crate::specs::PolicyLine::logs_line))]
+fn logs(line: &[u8], policy: &Policy) -> Result<Said, PolicyFault>
+    ensures value { result ≡ logs_line policy.now (words_of line.now) }
+    ensures said { IfOk result (IsSaid policy.now) }
+{
+    let domain = alone(line, policy)?;
+    Ok(Said::Logs(domain))
+}
+
+/// The domain of a line that names no other.
+#[tactic(auto, unfolding(crate::specs::PolicyLine::alone_line))]
+fn alone(line: &[u8], policy: &Policy) -> Result<u8, PolicyFault>
+    ensures value { result ≡ alone_line policy.now (words_of line.now) }
+    ensures there { IfOk result (λ domain. domain < length policy.now.domains) }
+{
+    if word_count(line) != 2 {
+        return Err(PolicyFault::WrongWords);
+    }
+    made(word(line, 1), policy)
 }
 
 #[tactic(auto, unfolding(crate::specs::PolicyLine::end_line))]

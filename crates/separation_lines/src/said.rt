@@ -27,6 +27,15 @@ pub enum Said {
         reader: u8,
         read: u8,
     },
+    /// One domain may write another.
+    Writes {
+        writer: u8,
+        written: u8,
+    },
+    /// Objects of this domain may hold SysCtl.
+    Halts(u8),
+    /// Objects of this domain may hold KernLog.
+    Logs(u8),
     /// The policy is over.
     Ends,
 }

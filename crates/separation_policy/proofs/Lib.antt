@@ -1,4 +1,7 @@
+pub mod Reaching
 pub mod Reading
+pub mod Bounded
 pub mod Cuts
-mod Closing
+pub mod Closing
+pub mod Allowing
 pub mod Theorems

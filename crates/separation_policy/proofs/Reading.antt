@@ -1,145 +1,171 @@
--- Who reads whom: what `sees` decides is the closure of what a policy says.
-use Rattle.std.proofs.Common.{◌≡◌, ℕ, zero, suc, ◌<◌, ◌≤◌, ◌==◌, ◌&&◌, ◌||◌, ◌⊎◌, inl, inr, Bool, true, false, length, refl, sym, ◌∙◌, ap, subst, arith, eqb-true}
-use Rattle.std.proofs.lemmas.Bool.{cases_lt, or_cases, or_left, or_right, and_parts, eq-eqb}
+-- Who reads whom, who is in whose view, and whom those write that one reads: what is decided of a policy.
+use Rattle.std.proofs.Common.{◌≡◌, ℕ, zero, suc, ◌<◌, ◌≤◌, ◌==◌, ◌&&◌, ◌||◌, inl, inr, Bool, true, false, length, refl, sym, ◌∙◌, ap, subst, arith}
+use mathlib.Core.Path.{fun_ext}
+use Rattle.std.proofs.lemmas.Bool.{cases_lt, ltb-true, or_cases, or_left, or_right, and_parts}
 use Rattle.std.proofs.lemmas.List.{get_or_past}
 use Rattle.std.proofs.lemmas.Nat.Bits.{bit_at-zero}
 use Rattle.separation_policy.specs.declared.policy.Domain.{Domain}
 use Rattle.separation_policy.specs.DomainSet.{has_domain}
-use Rattle.separation_policy.specs.Policy.{PolicyValue, unmade, may_read, Reads, sees, sees_below}
-use Rattle.separation_policy.specs.Policy.Reads.{Itself, Onward}
-use Rattle.separation_policy.specs.Laws.{ReadsLaw}
+use Rattle.separation_policy.specs.Policy.{PolicyValue, unmade, domain_at, may_read, may_write, may_learn, Reads, ReadsWriter, Views, reach_below, sees, written_below, sees_written, views}
+use Rattle.separation_policy.specs.Policy.Reach.{Itself, Onward}
+use Rattle.separation_policy.specs.Laws.{ReadsLaw, WriterLaw, ViewsLaw, PlainViewLaw}
+use Rattle.separation_policy.proofs.Reaching.{both, found-reach, reach-found, below-itself, onward-count, past-itself, leads-count}
 
--- two answers are one where each is yes when the other is
-pub same_answer : (x y : Bool) → (x ≡ true → y ≡ true) → (y ≡ true → x ≡ true) → x ≡ y
-same_answer true true there back = refl
-same_answer false false there back = refl
-same_answer true false there back = sym (there refl)
-same_answer false true there back = back refl
+or_false : (x y : Bool) → x ≡ false → y ≡ false → (x || y) ≡ false
+or_false x y a b = ap (λ (v : Bool). v || y) a ∙ b
 
-both : (x y : Bool) → x ≡ true → y ≡ true → (x && y) ≡ true
-both x y a b = ap (λ (v : Bool). v && y) a ∙ b
+and_false : (x y : Bool) → y ≡ false → (x && y) ≡ false
+and_false true y b = b
+and_false false y b = refl
 
 module _ (policy : PolicyValue) where
-  -- one reads on from whomever he reads
-  pub reads-then : {a b c : ℕ} → Reads policy a b → Reads policy b c → Reads policy a c
-  reads-then (Itself a) onward = onward
-  reads-then {c = c} (Onward a m b may rest) onward = Onward a m c may (reads-then rest onward)
+  abbrev count : ℕ
+  count = length policy.domains
 
-  -- ---- one step of the recursion
+  -- a domain that was never made may do nothing
+  past-unmade : (m : ℕ) → count ≤ m → domain_at policy m ≡ unmade
+  past-unmade m past = get_or_past policy.domains m unmade past
 
-  pub below_zero : (a b : ℕ) → sees_below policy zero a b ≡ ((a == b) || may_read policy a b)
-  unfolding sees_below
-  below_zero a b = refl
+  unmade_reads : (m b : ℕ) → count ≤ m → may_read policy m b ≡ false
+  unmade_reads m b past = ap (λ (d : Domain). has_domain d.reads b) (past-unmade m past) ∙ ap (λ (n : ℕ). n == 1) (bit_at-zero b)
 
-  pub below_suc : (k a b : ℕ) → sees_below policy (suc k) a b ≡ (sees_below policy k a b || (sees_below policy k a k && sees_below policy k k b))
-  unfolding sees_below
-  below_suc k a b = refl
+  pub unmade-writes : (m b : ℕ) → count ≤ m → may_write policy m b ≡ false
+  unmade-writes m b past = and_false _ _ (ap (λ (d : Domain). has_domain d.writes b) (past-unmade m past) ∙ ap (λ (n : ℕ). n == 1) (bit_at-zero b))
 
-  -- by way of domains below one more: as before, or by way of this one
-  cases_suc : (k a b : ℕ) → sees_below policy (suc k) a b ≡ true
-      → (sees_below policy k a b ≡ true) ⊎ ((sees_below policy k a k ≡ true) × (sees_below policy k k b ≡ true))
-  cases_suc k a b e = elim (or_cases (sees_below policy k a b) (sees_below policy k a k && sees_below policy k k b) (sym (below_suc k a b) ∙ e)) [
-    | inl before ↦ inl before
-    | inr both ↦ inr (and_parts (sees_below policy k a k) (sees_below policy k k b) both)
-  ]
+  -- and is written by none
+  pub written-made : (a b : ℕ) → may_write policy a b ≡ true → b < count
+  written-made a b may = ltb-true b count (and_parts _ _ may).0
 
-  suc_before : (k a b : ℕ) → sees_below policy k a b ≡ true → sees_below policy (suc k) a b ≡ true
-  suc_before k a b e = below_suc k a b ∙ or_left (sees_below policy k a b) _ e
-
-  suc_through : (k a b : ℕ) → sees_below policy k a k ≡ true → sees_below policy k k b ≡ true → sees_below policy (suc k) a b ≡ true
-  suc_through k a b to on = below_suc k a b ∙ or_right (sees_below policy k a b) _ (both _ _ to on)
-
-  -- ---- what is seen is read
-
-  seen_reads : (k a b : ℕ) → sees_below policy k a b ≡ true → Reads policy a b
-  seen_reads zero a b e = elim (or_cases (a == b) (may_read policy a b) (sym (below_zero a b) ∙ e)) [
-    | inl same ↦ subst (λ (n : ℕ). Reads policy a n) (eqb-true a b same) (Itself a)
-    | inr may ↦ Onward a b b may (Itself b)
-  ]
-  seen_reads (suc k) a b e = elim (cases_suc k a b e) [
-    | inl before ↦ seen_reads k a b before
-    | inr through ↦ reads-then (seen_reads k a k through.0) (seen_reads k k b through.1)
-  ]
-
-  -- ---- what is read is seen
-
-  grows : (k a b : ℕ) → sees_below policy zero a b ≡ true → sees_below policy k a b ≡ true
-  grows zero a b e = e
-  grows (suc k) a b e = suc_before k a b (grows k a b e)
-
-  -- each domain sees itself
-  below_itself : (k a : ℕ) → sees_below policy k a a ≡ true
-  below_itself k a = grows k a a (below_zero a a ∙ or_left (a == a) (may_read policy a a) (eq-eqb a a refl))
-
-  pub sees-itself : (a : ℕ) → sees policy a a ≡ true
-  sees-itself a = below_itself (length policy.domains) a
-
-  -- one sees on from each domain below `k`
-  onward_below : (k a m b : ℕ) → m < k → sees_below policy k a m ≡ true → sees_below policy k m b ≡ true → sees_below policy k a b ≡ true
-  onward_below zero a m b lt to on = absurd (omega (arith, lt))
-  onward_below (suc k) a m b lt to on = elim (cases_lt m k) [
-    | inl lower ↦ below (λ x y first second. onward_below k x m y lower first second) (cases_suc k a m to) (cases_suc k m b on)
-    | inr here ↦ let same : m ≡ k = omega (arith, lt, here) in
-        suc_through k a b
-        (at-last (cases_suc k a k (subst (λ (n : ℕ). sees_below policy (suc k) a n ≡ true) same to)))
-        (from-last (cases_suc k k b (subst (λ (n : ℕ). sees_below policy (suc k) n b ≡ true) same on)))
-  ]
+  unwritten : (a b : ℕ) → count ≤ b → may_write policy a b ≡ false
+  unwritten a b past = by (may_write policy a b) refl
     where
-      at-last : (sees_below policy k a k ≡ true) ⊎ ((sees_below policy k a k ≡ true) × (sees_below policy k k k ≡ true)) → sees_below policy k a k ≡ true
-      at-last (inl before) = before
-      at-last (inr through) = through.0
+      by : (x : Bool) → may_write policy a b ≡ x → x ≡ false
+      by true e = let lt = written-made a b e in absurd (omega (arith, lt, past))
+      by false e = refl
 
-      from-last : (sees_below policy k k b ≡ true) ⊎ ((sees_below policy k k k ≡ true) × (sees_below policy k k b ≡ true)) → sees_below policy k k b ≡ true
-      from-last (inl before) = before
-      from-last (inr through) = through.1
+  unmade_learns : (m b : ℕ) → count ≤ m → may_learn policy m b ≡ false
+  unmade_learns m b past = or_false _ _ (unmade_reads m b past) (or_false _ _ (unmade-writes m b past) (unwritten b m past))
 
-      below : ((x y : ℕ) → sees_below policy k x m ≡ true → sees_below policy k m y ≡ true → sees_below policy k x y ≡ true)
-          → (sees_below policy k a m ≡ true) ⊎ ((sees_below policy k a k ≡ true) × (sees_below policy k k m ≡ true))
-          → (sees_below policy k m b ≡ true) ⊎ ((sees_below policy k m k ≡ true) × (sees_below policy k k b ≡ true))
-          → sees_below policy (suc k) a b ≡ true
-      below lower (inl first) (inl second) = suc_before k a b (lower a b first second)
-      below lower (inl first) (inr second) = suc_through k a b (lower a k first second.0) second.1
-      below lower (inr first) (inl second) = suc_through k a b first.0 (lower k b first.1 second)
-      below lower (inr first) (inr second) = suc_through k a b first.0 second.1
-
-  -- a domain that was never made may read nobody
-  unmade_reads : (m b : ℕ) → length policy.domains ≤ m → may_read policy m b ≡ false
-  unmade_reads m b past = ap (λ (d : Domain). has_domain d.reads b) (get_or_past policy.domains m unmade past) ∙ ap (λ (n : ℕ). n == 1) (bit_at-zero b)
-
-  -- and sees itself alone
-  pub unmade-sees : (k m b : ℕ) → length policy.domains ≤ m → sees_below policy k m b ≡ true → m ≡ b
-  unmade-sees zero m b past e = elim (or_cases (m == b) (may_read policy m b) (sym (below_zero m b) ∙ e)) [
-    | inl same ↦ eqb-true m b same
-    | inr may ↦ absurd (cc (may, unmade_reads m b past))
-  ]
-  unmade-sees (suc k) m b past e = elim (cases_suc k m b e) [
-    | inl before ↦ unmade-sees k m b past before
-    | inr through ↦
-        let here : m ≡ k = unmade-sees k m k past through.0 in
-        unmade-sees k m b past (subst (λ (n : ℕ). sees_below policy k n b ≡ true) (sym here) through.1)
-  ]
-
-  -- one sees on from everybody
-  pub sees-then : (a m b : ℕ) → sees policy a m ≡ true → sees policy m b ≡ true → sees policy a b ≡ true
-  sees-then a m b to on = elim (cases_lt m (length policy.domains)) [
-    | inl made ↦ onward_below (length policy.domains) a m b made to on
-    | inr past ↦ subst (λ (n : ℕ). sees policy a n ≡ true) (unmade-sees (length policy.domains) m b past on) to
-  ]
-
-  -- whoever may be read is seen
-  sees_may : (a b : ℕ) → may_read policy a b ≡ true → sees policy a b ≡ true
-  sees_may a b may = grows (length policy.domains) a b (below_zero a b ∙ or_right (a == b) (may_read policy a b) may)
-
-  seen_of : {a b : ℕ} → Reads policy a b → sees policy a b ≡ true
-  seen_of (Itself a) = sees-itself a
-  seen_of (Onward a m b may rest) = sees-then a m b (sees_may a m may) (seen_of rest)
+  -- ---- reading
 
   pub reads-seen : (a b : ℕ) → Reads policy a b → sees policy a b ≡ true
-  reads-seen a b reads = seen_of reads
+  reads-seen a b reads = reach-found (may_read policy) count unmade_reads a b reads
 
   pub seen-reads : (a b : ℕ) → sees policy a b ≡ true → Reads policy a b
-  seen-reads a b e = seen_reads (length policy.domains) a b e
+  seen-reads a b e = found-reach (may_read policy) count a b e
+
+  pub sees-itself : (a : ℕ) → sees policy a a ≡ true
+  sees-itself a = below-itself (may_read policy) count a
+
+  pub sees-then : (a m b : ℕ) → sees policy a m ≡ true → sees policy m b ≡ true → sees policy a b ≡ true
+  sees-then a m b to on = onward-count (may_read policy) count unmade_reads a m b to on
+
+  pub unmade-sees : (m b : ℕ) → count ≤ m → sees policy m b ≡ true → m ≡ b
+  unmade-sees m b past e = past-itself (may_read policy) count unmade_reads count m b past e
+
+  -- ---- views
+
+  pub views-found : (a b : ℕ) → Views policy a b → views policy a b ≡ true
+  views-found a b reach = reach-found (may_learn policy) count unmade_learns a b reach
+
+  pub found-views : (a b : ℕ) → views policy a b ≡ true → Views policy a b
+  found-views a b e = found-reach (may_learn policy) count a b e
+
+  pub views-itself : (a : ℕ) → views policy a a ≡ true
+  views-itself a = below-itself (may_learn policy) count a
+
+  pub views-then : (a m b : ℕ) → views policy a m ≡ true → views policy m b ≡ true → views policy a b ≡ true
+  views-then a m b to on = onward-count (may_learn policy) count unmade_learns a m b to on
+
+  pub unmade-views : (m b : ℕ) → count ≤ m → views policy m b ≡ true → m ≡ b
+  unmade-views m b past e = past-itself (may_learn policy) count unmade_learns count m b past e
+
+  learns : (a b : ℕ) → may_learn policy a b ≡ true → views policy a b ≡ true
+  learns a b may = leads-count (may_learn policy) count unmade_learns a b may
+
+  -- whatever one may write is in his view
+  pub writes-view : (a b : ℕ) → may_write policy a b ≡ true → views policy a b ≡ true
+  writes-view a b may = learns a b (or_right (may_read policy a b) _ (or_left (may_write policy a b) _ may))
+
+  -- and whoever may write him
+  pub written-view : (a b : ℕ) → may_write policy b a ≡ true → views policy a b ≡ true
+  written-view a b may = learns a b (or_right (may_read policy a b) _ (or_right (may_write policy a b) _ may))
+
+  -- and whatever he reads
+  view_of : {a b : ℕ} → Reads policy a b → views policy a b ≡ true
+  view_of (Itself a) = views-itself a
+  view_of (Onward a m b may rest) = views-then a m b (learns a m (or_left (may_read policy a m) _ may)) (view_of rest)
+
+  pub reads-view : (a b : ℕ) → Reads policy a b → views policy a b ≡ true
+  reads-view a b reads = view_of reads
+
+  -- ---- who is written by those that one reads
+
+  written_zero : (a d : ℕ) → written_below policy zero a d ≡ false
+  unfolding written_below
+  written_zero a d = refl
+
+  pub written-suc : (k a d : ℕ) → written_below policy (suc k) a d ≡ (written_below policy k a d || (sees policy a k && may_write policy k d))
+  unfolding written_below
+  written-suc k a d = refl
+
+  pub written-none : (a d : ℕ) → written_below policy 0 a d ≡ false
+  written-none a d = written_zero a d
+
+  writer_of : (k a d : ℕ) → written_below policy k a d ≡ true → ReadsWriter policy a d
+  writer_of zero a d e = let no = written_zero a d in absurd (cc (e, no))
+  writer_of (suc k) a d e = elim (or_cases (written_below policy k a d) (sees policy a k && may_write policy k d) (sym (written-suc k a d) ∙ e)) [
+    | inl before ↦ writer_of k a d before
+    | inr here ↦ let parts = and_parts (sees policy a k) (may_write policy k d) here in
+        record { by = k; reads = seen-reads a k parts.0; writes = parts.1 }
+  ]
+
+  of_writer : (k a b d : ℕ) → b < k → sees policy a b ≡ true → may_write policy b d ≡ true → written_below policy k a d ≡ true
+  of_writer zero a b d lt saw writes = absurd (omega (arith, lt))
+  of_writer (suc k) a b d lt saw writes = written-suc k a d ∙ elim (cases_lt b k) [
+    | inl lower ↦ or_left (written_below policy k a d) _ (of_writer k a b d lower saw writes)
+    | inr here ↦
+        let same : b ≡ k = omega (arith, lt, here) in
+        or_right (written_below policy k a d) _ (subst (λ (n : ℕ). (sees policy a n && may_write policy n d) ≡ true) same (both _ _ saw writes))
+  ]
+
+  pub seen-writer : (a d : ℕ) → sees_written policy a d ≡ true → ReadsWriter policy a d
+  seen-writer a d e = writer_of count a d e
+
+  -- who writes was made
+  writer_made : (b d : ℕ) → may_write policy b d ≡ true → b < count
+  writer_made b d may = elim (cases_lt b count) [
+    | inl there ↦ there
+    | inr past ↦ let no = unmade-writes b d past in absurd (cc (may, no))
+  ]
+
+  pub writer-seen : (a d : ℕ) → ReadsWriter policy a d → sees_written policy a d ≡ true
+  writer-seen a d writer = of_writer count a writer.by d (writer_made writer.by d writer.writes) (reads-seen a writer.by writer.reads) writer.writes
+
+  -- whoever is so written is in the view
+  pub writer-view : (a d : ℕ) → ReadsWriter policy a d → views policy a d ≡ true
+  writer-view a d writer = views-then a writer.by d (reads-view a writer.by writer.reads) (writes-view writer.by d writer.writes)
 
 -- the law of closures
 pub reads_law : ReadsLaw
 reads_law policy a b = (seen-reads policy a b, reads-seen policy a b)
+
+-- the law of writers
+pub writer_law : WriterLaw
+writer_law policy a d = (seen-writer policy a d, writer-seen policy a d)
+
+-- the law of views
+pub views_law : ViewsLaw
+views_law policy a b = (found-views policy a b, views-found policy a b)
+
+-- where nobody writes, the view is what is read
+pub plain_view_law : PlainViewLaw
+plain_view_law policy none a b =
+    ap (λ (leads : ℕ → ℕ → Bool). reach_below leads (length policy.domains) a b) (fun_ext (λ x. fun_ext (λ y. alone x y)))
+  where
+    keeps : (x : Bool) → (x || false) ≡ x
+    keeps true = refl
+    keeps false = refl
+
+    alone : (x y : ℕ) → may_learn policy x y ≡ may_read policy x y
+    alone x y = ap (λ (v : Bool). may_read policy x y || v) (or_false _ _ (none x y) (none y x)) ∙ keeps (may_read policy x y)

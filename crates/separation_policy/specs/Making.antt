@@ -1,18 +1,19 @@
--- How a policy is made: first of one domain, then with more, with their objects and with who reads whom. (Own.)
-use Rattle.std.specs.Prelude.{ℕ, ◌+◌, ◌-◌, ◌==◌, Bool, true, false, not, List, [], ◌∷◌, ◌++◌, take, drop, replicate, codes, bytes_eq, slice_index_or, slice_set, position, Option, Some, None}
+-- How a policy is made: first of one domain, then with more, with their objects and with what each may do. (Own.)
+use Rattle.std.specs.Prelude.{ℕ, ◌+◌, ◌-◌, ◌==◌, Bool, true, false, not, List, [], ◌∷◌, ◌++◌, map, take, drop, replicate, codes, bytes_eq, slice_set, position, Option, Some, None}
 use Rattle.std.specs.List.{count_by, list_any}
 use Rattle.cap_format.specs.declared.kind.CapKind.{CapKind}
 use Rattle.cap_format.specs.declared.kind.CapKind.TheVariants.{Page, CapPage, Gpt, Endpoint, Process}
 use Rattle.object_store.specs.declared.sizes.Sizes.{Sizes}
 use Rattle.separation_policy.specs.declared.policy.Domain.{Domain}
+use Rattle.separation_policy.specs.declared.rights.Rights.{Rights}
 use Rattle.separation_policy.specs.declared.stage.Stage.{Stage}
 use Rattle.separation_policy.specs.declared.stage.Stage.TheVariants.{Empty, Open, Listed}
 use Rattle.separation_policy.specs.DomainSet.{no_domains, with_domain}
-use Rattle.separation_policy.specs.Policy.{Assigned, PolicyValue, assigned_of, domain_or_rest, unmade}
+use Rattle.separation_policy.specs.Policy.{Assigned, PolicyValue, assigned_of, domain_at, domain_or_rest}
 
--- a domain as it is made: it may read nobody
+-- a domain as it is made: it may do nothing beyond itself
 abbrev pub domain_with : List ℕ → Domain
-domain_with name = record { name = name; reads = no_domains }
+domain_with name = record { name = name; reads = no_domains; writes = no_domains; halts = false; logs = false }
 
 -- no object of a machine of these sizes was assigned a domain
 abbrev pub none_assigned : Sizes → Assigned
@@ -76,14 +77,74 @@ with_assigned policy kind from to d = record {
   stage = begun policy.stage;
 }
 
+-- the policy with domain `a` changed so
+abbrev pub with_domain_at : PolicyValue → ℕ → Domain → PolicyValue
+with_domain_at policy a domain = record {
+  domains = slice_set policy.domains a domain;
+  assigned = policy.assigned;
+  stage = begun policy.stage;
+}
+
 -- a domain that may read domain `b` too
 abbrev pub domain_reading : Domain → ℕ → Domain
-domain_reading domain b = record { name = domain.name; reads = with_domain domain.reads b }
+domain_reading domain b = record domain { reads = with_domain domain.reads b }
+
+-- one that may write domain `b` too
+abbrev pub domain_writing : Domain → ℕ → Domain
+domain_writing domain b = record domain { writes = with_domain domain.writes b }
+
+-- one whose objects may hold SysCtl
+abbrev pub domain_halting : Domain → Domain
+domain_halting domain = record domain { halts = true }
+
+-- one whose objects may hold KernLog
+abbrev pub domain_logging : Domain → Domain
+domain_logging domain = record domain { logs = true }
 
 -- the policy where domain `a` may read domain `b` too
 abbrev pub with_reading : PolicyValue → ℕ → ℕ → PolicyValue
-with_reading policy a b = record {
-  domains = slice_set policy.domains a (domain_reading (slice_index_or policy.domains a unmade) b);
+with_reading policy a b = with_domain_at policy a (domain_reading (domain_at policy a) b)
+
+-- where it may write domain `b` too
+abbrev pub with_writing : PolicyValue → ℕ → ℕ → PolicyValue
+with_writing policy a b = with_domain_at policy a (domain_writing (domain_at policy a) b)
+
+-- where its objects may hold SysCtl
+abbrev pub with_halting : PolicyValue → ℕ → PolicyValue
+with_halting policy a = with_domain_at policy a (domain_halting (domain_at policy a))
+
+-- where they may hold KernLog
+abbrev pub with_logging : PolicyValue → ℕ → PolicyValue
+with_logging policy a = with_domain_at policy a (domain_logging (domain_at policy a))
+
+-- what domain `a` may do
+abbrev pub rights_at : PolicyValue → ℕ → Rights
+rights_at policy a =
+    let domain = domain_at policy a in
+    record { reads = domain.reads; writes = domain.writes; halts = domain.halts; logs = domain.logs }
+
+-- a domain that may do this and no more
+abbrev pub domain_allowed : Rights → Domain → Domain
+domain_allowed rights domain = record {
+  name = domain.name;
+  reads = rights.reads;
+  writes = rights.writes;
+  halts = rights.halts;
+  logs = rights.logs;
+}
+
+-- the policy where domain `a` is such a one, and all else as it was
+abbrev pub with_rights : PolicyValue → ℕ → Rights → PolicyValue
+with_rights policy a rights = record policy { domains = slice_set policy.domains a (domain_allowed rights (domain_at policy a)) }
+
+-- a domain as it was made
+abbrev pub domain_bare : Domain → Domain
+domain_bare domain = domain_with domain.name
+
+-- the policy of the same domains and their objects where none may do anything beyond itself
+abbrev pub bare_policy : PolicyValue → PolicyValue
+bare_policy policy = record {
+  domains = map domain_bare policy.domains;
   assigned = policy.assigned;
   stage = begun policy.stage;
 }

@@ -1,6 +1,6 @@
 //! Sets of domains.
 ghost use Rattle.std.specs.Prelude.{ℕ, ◌≡◌, ◌<◌, ◌==◌, ◌||◌, false};
-ghost use Rattle.separation_policy.specs.DomainSet.{has_domain, no_domains, with_domain, both_domains};
+ghost use Rattle.separation_policy.specs.DomainSet.{has_domain, no_domains, with_domain, without_domain, both_domains};
 
 /// Domains by their numbers, which are below 64: bit `d` is set for domain `d`.
 #[derive(Clone, Copy)]
@@ -33,6 +33,19 @@ impl DomainSet {
     {
         DomainSet {
             bits: self.bits | (1 << domain),
+        }
+    }
+
+    /// The set without a domain, or as it is where that isn't in it.
+    pub fn without(self, domain: u8) -> DomainSet
+        requires { domain < 64 }
+        ensures { result ≡ without_domain self domain }
+    {
+        if !self.contains(domain) {
+            return self;
+        }
+        DomainSet {
+            bits: self.bits ^ (1 << domain),
         }
     }
 

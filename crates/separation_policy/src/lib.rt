@@ -1,5 +1,5 @@
-//! Policies of separation: the domain of each object and who may read whom, when a policy holds of a machine, and what
-//! holds of every run from there on: nobody writes across domains (integrity), and nobody sees across them, but who reads
+//! Policies of separation: the domain of each object and what each domain may do, when a policy holds of a machine, and what
+//! holds of every run from there on: nobody changes what he may not write (integrity), and nobody sees beyond his view
 //! (noninterference).
 //!
 //! Nothing here knows how lines give a policy, nor how it is found out whether one holds of a machine.
@@ -9,10 +9,15 @@ mod closure;
 mod domain_set;
 mod laws;
 mod policy;
+mod rights;
 mod stage;
 
 pub use closure::Closure;
 pub use domain_set::DomainSet;
-pub use laws::{cuts_law, integrity, noninterference, own_changes, reads_law};
+pub use laws::{
+    authority_law, integrity, noninterference, own_changes, plain_view_law, reads_law,
+    view_cut_law, views_law, writer_law,
+};
 pub use policy::{DOMAIN_LIMIT, Domain, Policy};
+pub use rights::Rights;
 pub use stage::Stage;

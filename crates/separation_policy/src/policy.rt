@@ -1,10 +1,11 @@
-//! Policies: domains, their objects, and who may read whom.
-ghost use Rattle.std.specs.Prelude.{ℕ, ◌≡◌, ◌≤◌, ◌<◌, ◌+◌, ◌==◌, ◌++◌, ◌∷◌, [], bytes_eq, codes, length, position, slice_index_or, IfOk, IfSome, OnOk, OnErr};
+//! Policies: domains, their objects, and what each may do.
+ghost use Rattle.std.specs.Prelude.{ℕ, ◌≡◌, ◌≤◌, ◌<◌, ◌+◌, ◌==◌, ◌++◌, ◌∷◌, [], bytes_eq, codes, length, map, position, IfOk, IfSome, OnOk, OnErr};
 ghost use Rattle.std.specs.List.{list_any};
-ghost use Rattle.separation_policy.specs.Policy.{assigned_of, domain_of, domain_or_rest, unmade};
-ghost use Rattle.separation_policy.specs.Making.{first_policy, with_first, with_listed, with_made, assigned_between, with_assigned, with_reading, domain_called, is_other, is_assigned_other, count_in, object_count, process_count};
+ghost use Rattle.separation_policy.specs.Policy.{assigned_of, domain_at, domain_of, domain_or_rest, may_halt, may_log, may_write};
+ghost use Rattle.separation_policy.specs.Making.{domain_with, first_policy, with_first, with_listed, with_made, assigned_between, with_assigned, with_halting, with_logging, with_reading, with_writing, with_rights, rights_at, domain_allowed, domain_bare, bare_policy, domain_called, is_other, is_assigned_other, count_in, object_count, process_count};
 
 use crate::domain_set::DomainSet;
+use crate::rights::Rights;
 use crate::stage::Stage;
 use cap_format::{CapKind, OutOfMemory};
 use cap_words::{Name, read_name};
@@ -15,14 +16,21 @@ use std::marker::Model;
 /// The most domains that a policy has, `rest` among them.
 pub const DOMAIN_LIMIT: usize = 64;
 
-/// A domain by its name, and whom it may read.
+/// A domain by its name, and what it may do.
 #[derive(Drop)]
 pub struct Domain {
     pub name: Name,
+    /// The domains of which its objects may hold harmless capabilities.
     pub reads: DomainSet,
+    /// The domains of which they may hold pages, to write them too.
+    pub writes: DomainSet,
+    /// Whether they may hold SysCtl.
+    pub halts: bool,
+    /// Whether they may hold KernLog.
+    pub logs: bool,
 }
 
-/// Which domain each object has, what the domains are called, and who may read whom. Domain 0 is `rest`, and has each
+/// Which domain each object has, what the domains are called, and what each may do. Domain 0 is `rest`, and has each
 /// object that was assigned to none.
 #[derive(Drop)]
 pub struct Policy {
@@ -55,10 +63,7 @@ impl Policy {
         ensures { IfOk result (λ policy. policy ≡ first_policy sizes) }
     {
         let mut domains = Vec::new(alloc);
-        domains.push(Domain {
-            name: rest_name(),
-            reads: DomainSet::empty(),
-        })?;
+        domains.push(domain_with(rest_name()))?;
         Ok(Policy {
             domains,
             pages: vec![in alloc; None; sizes.pages as usize]?,
@@ -87,7 +92,7 @@ impl Policy {
 
     /// The name of a domain. A domain that was never made has an empty one.
     pub fn name(&self, domain: u8) -> &[u8]
-        ensures { result.now ≡ (slice_index_or self.now.domains domain unmade).name }
+        ensures { result.now ≡ (domain_at self.now domain).name }
     {
         if domain as usize >= self.domains.len() {
             return &[];
@@ -95,14 +100,45 @@ impl Policy {
         self.domains[domain as usize].name.as_slice()
     }
 
-    /// Whom a domain may read, as lines say it: the closure is `Closure`.
+    /// Whom a domain may read, as lines say it: what follows is in `Closure`.
     pub fn reads(&self, domain: u8) -> DomainSet
-        ensures { result ≡ (slice_index_or self.now.domains domain unmade).reads }
+        ensures { result ≡ (domain_at self.now domain).reads }
     {
         if domain as usize >= self.domains.len() {
             return DomainSet::empty();
         }
         self.domains[domain as usize].reads
+    }
+
+    /// Whom a domain may write, as lines say it.
+    pub fn writes(&self, domain: u8) -> DomainSet
+        ensures { result ≡ (domain_at self.now domain).writes }
+    {
+        if domain as usize >= self.domains.len() {
+            return DomainSet::empty();
+        }
+        self.domains[domain as usize].writes
+    }
+
+    /// Whether one domain may write another, which was made.
+    pub fn may_write(&self, writer: u8, written: u8) -> bool
+        ensures { result ≡ may_write self.now writer written }
+    {
+        (written as usize) < self.domains.len() && self.writes(writer).contains(written)
+    }
+
+    /// Whether objects of a domain may hold SysCtl.
+    pub fn may_halt(&self, domain: u8) -> bool
+        ensures { result ≡ may_halt self.now domain }
+    {
+        (domain as usize) < self.domains.len() && self.domains[domain as usize].halts
+    }
+
+    /// Whether they may hold KernLog.
+    pub fn may_log(&self, domain: u8) -> bool
+        ensures { result ≡ may_log self.now domain }
+    {
+        (domain as usize) < self.domains.len() && self.domains[domain as usize].logs
     }
 
     /// The domain of this name, if it was made.
@@ -178,17 +214,14 @@ impl Policy {
         count_in(domain, &self.processes)
     }
 
-    /// Makes a domain behind the others, which has no object and may read nobody. The policy is as before where memory is
+    /// Makes a domain behind the others, which has no object and may do nothing beyond itself. The policy is as before where memory is
     /// wanting.
     pub fn make(&mut self, name: Name) -> Result<(), OutOfMemory>
         requires { length self.old.domains < 64 }
         ensures ok { OnOk result (self.new ≡ with_made self.old name) }
         ensures err { OnErr result (self.new ≡ self.old) }
     {
-        self.domains.push(Domain {
-            name,
-            reads: DomainSet::empty(),
-        })?;
+        self.domains.push(domain_with(name))?;
         Ok(())
     }
 
@@ -226,7 +259,7 @@ impl Policy {
     }
 
     /// Lets domain `reader` read domain `read` too.
-    pub fn allow(&mut self, reader: u8, read: u8)
+    pub fn allow_reading(&mut self, reader: u8, read: u8)
         requires reader { reader < length self.old.domains }
         requires read { read < length self.old.domains }
         ensures { self.new ≡ with_reading self.old reader read }
@@ -234,6 +267,105 @@ impl Policy {
         self.stage = self.stage.begun();
         let now = self.domains[reader as usize].reads;
         self.domains[reader as usize].reads = now.with(read);
+    }
+
+    /// Lets domain `writer` write domain `written` too.
+    pub fn allow_writing(&mut self, writer: u8, written: u8)
+        requires writer { writer < length self.old.domains }
+        requires written { written < length self.old.domains }
+        ensures { self.new ≡ with_writing self.old writer written }
+    {
+        self.stage = self.stage.begun();
+        let now = self.domains[writer as usize].writes;
+        self.domains[writer as usize].writes = now.with(written);
+    }
+
+    /// Lets objects of a domain hold SysCtl.
+    pub fn allow_halting(&mut self, domain: u8)
+        requires { domain < length self.old.domains }
+        ensures { self.new ≡ with_halting self.old domain }
+    {
+        self.stage = self.stage.begun();
+        self.domains[domain as usize].halts = true;
+    }
+
+    /// Lets objects of a domain hold KernLog.
+    pub fn allow_logging(&mut self, domain: u8)
+        requires { domain < length self.old.domains }
+        ensures { self.new ≡ with_logging self.old domain }
+    {
+        self.stage = self.stage.begun();
+        self.domains[domain as usize].logs = true;
+    }
+
+    /// What a domain may do, as lines say it.
+    pub fn rights(&self, domain: u8) -> Rights
+        ensures { result ≡ rights_at self.now domain }
+    {
+        Rights {
+            reads: self.reads(domain),
+            writes: self.writes(domain),
+            halts: self.may_halt(domain),
+            logs: self.may_log(domain),
+        }
+    }
+
+    /// Lets a domain do this and no more.
+    pub fn set_rights(&mut self, domain: u8, rights: Rights)
+        requires { domain < length self.old.domains }
+        ensures { self.new ≡ with_rights self.old domain rights }
+    {
+        allow(&mut self.domains[domain as usize], rights);
+    }
+
+    /// Lets no domain do anything beyond itself.
+    pub fn clear(&mut self)
+        ensures { self.new ≡ bare_policy self.old }
+    {
+        self.stage = self.stage.begun();
+        forbid_all(&mut self.domains);
+    }
+}
+
+/// Lets a domain do this and no more.
+fn allow(domain: &mut Domain, rights: Rights)
+    ensures { domain.new ≡ domain_allowed rights domain.old }
+{
+    domain.reads = rights.reads;
+    domain.writes = rights.writes;
+    domain.halts = rights.halts;
+    domain.logs = rights.logs;
+}
+
+/// Lets a domain do nothing beyond itself.
+fn forbid(domain: &mut Domain)
+    ensures { domain.new ≡ domain_bare domain.old }
+{
+    domain.reads = DomainSet::empty();
+    domain.writes = DomainSet::empty();
+    domain.halts = false;
+    domain.logs = false;
+}
+
+/// Lets none of these domains do anything beyond itself.
+fn forbid_all(domains: &mut [Domain])
+    ensures { domains.new ≡ map domain_bare domains.old }
+{
+    'each: for domain in domains.iter_mut() {
+        forbid(domain);
+    }
+}
+
+/// A domain as it is made: it may do nothing beyond itself.
+fn domain_with(name: Name) -> Domain
+    ensures { result ≡ domain_with name }
+{
+    Domain {
+        name,
+        reads: DomainSet::empty(),
+        writes: DomainSet::empty(),
+        halts: false,
+        logs: false,
     }
 }
 

@@ -4,4 +4,5 @@ mod Concluding
 mod Judges
 mod Slots
 pub mod Called
-mod ReadBelow
+mod Related
+mod Written

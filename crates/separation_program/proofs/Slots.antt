@@ -1,5 +1,5 @@
 -- How many slots a call read, from what its parts read.
-use Rattle.std.proofs.Common.{◌≡◌, ◌≢◌, ◌≤◌, ◌+◌, ◌*◌, ◌∙◌, ◌++◌, ℕ, List, Option, Some, None, IfSome, Ok, Err, refl, sym, ap, subst, arith}
+use Rattle.std.proofs.Common.{◌≡◌, ◌≢◌, ◌≤◌, ◌+◌, ◌∙◌, ◌++◌, ℕ, List, Option, Some, None, IfSome, Ok, Err, refl, sym, ap, subst, arith}
 use Rattle.coy_io.specs.Lines.{Part, parts_of}
 use Rattle.coy_io.specs.Reader.{Reader, ahead, new_reader}
 use Rattle.walk_engine.specs.declared.translator.Translator.{Ghosts as Translator}
@@ -34,7 +34,7 @@ use Rattle.courses.specs.declared.exit.Exit.{Exit}
 use Rattle.courses.specs.declared.exit.Exit.TheVariants as exits
 use Rattle.courses.proofs.Bytes.{on_listed}
 use Rattle.courses.proofs.Rests.{run-ends}
-use Rattle.separation_program.specs.Slots.{ended_slots, gpts_of, input_slots, judging_slots, listed_slots, stated_slots, walked}
+use Rattle.separation_program.specs.Slots.{ended_slots, input_slots, judged_slots, judging_slots, listed_slots, stated_slots, walked}
 use Rattle.separation_program.specs.Stated.{AreStated, Stated, StatesRest, stated, untaken_exit}
 use Rattle.separation_program.proofs.Judges.{on_stated}
 
@@ -46,7 +46,13 @@ no-more f n exit is = record { whole = λ given. absurd (given.read is); most = 
 pub none-read : (f : ℕ) (exit : Exit) → Fetches f f exit 0
 none-read f exit = record { whole = λ given. omega arith; most = omega arith }
 
-module _ {T : Type 0} (t : Translator T) (m n : MachineValue T) where
+-- so many were read, and then those of what is left, or no more of them
+fetched-behind : (f g h : ℕ) (exit : Exit) (some left : ℕ) → g ≡ f + some → Fetches g h exit left → Fetches f h exit (some + left)
+fetched-behind f g h exit some left counted last =
+    let most = last.most in
+    record { whole = λ given. let whole = last.whole given in omega (arith, counted, whole); most = omega (arith, counted, most) }
+
+module _ {T : Type 0} (t : Translator T) (m n : MachineValue T) (policy : PolicyValue) where
   -- how many slots touches read from what the translator keeps at first
   abbrev count : List Touch → ℕ
   count touches = spent t.cost t.after t.without (t.kept m.translator) touches
@@ -55,13 +61,13 @@ module _ {T : Type 0} (t : Translator T) (m n : MachineValue T) where
   s = state_of m
 
   -- the slots of a schedule are no fewer than those of its events
-  ended-most : (events : List Event) (ending : Ending) → count (run_touches s events) ≤ ended_slots count s events ending
+  ended-most : (events : List Event) (ending : Ending) → count (run_touches s events) ≤ ended_slots count policy s events ending
   ended-most events AtEnd = omega arith
   ended-most events (AtFault line fault) = omega arith
   ended-most events AtLimit = omega arith
 
   -- and those of its first events
-  front-most : (events rest : List Event) (all : Scheduled) → all.events ≡ events ++ rest → count (run_touches s events) ≤ judging_slots count s all
+  front-most : (events rest : List Event) (all : Scheduled) → all.events ≡ events ++ rest → count (run_touches s events) ≤ judging_slots count policy s all
   front-most events rest all is =
       let more = ap count (ap (run_touches s) is ∙ run_touches-append s events rest)
       ∙ spent-append t.cost t.after t.without (t.kept m.translator) (run_touches s events) (run_touches (run_state s events) rest) in
@@ -74,24 +80,21 @@ module _ {T : Type 0} (t : Translator T) (m n : MachineValue T) where
     sched parts = scheduled harts lines.number parts
 
     abbrev Reads : ℕ → Exit → Scheduled → Type 0
-    Reads h exit all = Fetches f h exit (judging_slots count s all)
+    Reads h exit all = Fetches f h exit (judging_slots count policy s all)
 
     accords-at : (a : Replayed) → answer ≡ a → OnParts (ahead lines held) (λ parts. Accords (run_answer s) a events (sched parts))
     accords-at a is = (subst (Follows (run_answer s) harts lines lines' held held' events) is follows).lines
 
-    -- all lines were read, and then all slots of the GPTs, or no more of them
-    pub slots-ended : (h : ℕ) (exit : Exit) (counts : Counts) → replay_exit answer ≡ Ok counts → Fetches g h exit (16 * gpts_of (state_of n))
+    -- all lines were read, and then the slots that judge the state, or no more of them
+    pub slots-ended : (h : ℕ) (exit : Exit) (counts : Counts) → replay_exit answer ≡ Ok counts → Fetches g h exit (judged_slots policy (state_of n))
         → OnParts (ahead lines held) (λ parts. Reads h exit (sched parts))
     slots-ended h exit counts given last = on_all (ahead lines held) _ _ (λ parts a. of_all (sched parts) a) (accords-at (answers.Ended counts) (run-ends counts answer given))
       where
         of_all : (all : Scheduled) → Accords (run_answer s) (answers.Ended counts) events all → Reads h exit all
         of_all all a =
-            subst (λ e. Fetches f h exit (ended_slots count s all.events e)) (sym (ended-at _ _ all.ending a.1))
-            (subst (λ es. Fetches f h exit (ended_slots count s es AtEnd)) a.0
-            (let counted = ran.counted in
-            let gpts = ap gpts_of ran.state in
-            let most = last.most in
-            record { whole = λ given. let whole = last.whole given in omega (arith, counted, gpts, whole); most = omega (arith, counted, gpts, most) }))
+            subst (λ e. Fetches f h exit (ended_slots count policy s all.events e)) (sym (ended-at _ _ all.ending a.1))
+            (subst (λ es. Fetches f h exit (ended_slots count policy s es AtEnd)) a.0
+            (fetched-behind f g h exit _ _ ran.counted (subst (λ state. Fetches g h exit (judged_slots policy state)) ran.state last)))
 
     -- the slots of these events were read, and they are all of them
     all-read : (exit : Exit) → Fetches f g exit (count (run_touches s events))
@@ -110,11 +113,11 @@ module _ {T : Type 0} (t : Translator T) (m n : MachineValue T) where
     slots-stopped taken sink_faults mid out exit given (answers.Ended counts) is written at c = cc
     slots-stopped taken sink_faults mid out exit given (answers.Refused line fault) is written at c =
         on_all (ahead lines held) _ _
-        (λ parts a. subst (λ e. Fetches f g exit (ended_slots count s (sched parts).events e)) (sym (refused-at line fault _ (sched parts).ending a.1))
+        (λ parts a. subst (λ e. Fetches f g exit (ended_slots count policy s (sched parts).events e)) (sym (refused-at line fault _ (sched parts).ending a.1))
         (subst (λ es. Fetches f g exit (count (run_touches s es))) a.0 (all-read exit))) (accords-at (answers.Refused line fault) is)
     slots-stopped taken sink_faults mid out exit given answers.TooLong is written at c =
         on_all (ahead lines held) _ _
-        (λ parts a. subst (λ e. Fetches f g exit (ended_slots count s (sched parts).events e)) (sym (past-at _ (sched parts).ending a.1))
+        (λ parts a. subst (λ e. Fetches f g exit (ended_slots count policy s (sched parts).events e)) (sym (past-at _ (sched parts).ending a.1))
         (subst (λ es. Fetches f g exit (count (run_touches s es))) a.0 (all-read exit))) (accords-at answers.TooLong is)
     slots-stopped taken sink_faults mid out exit given answers.ReadFault is written at c =
         let same : exits.ReadFault ≡ given = cc in
@@ -183,6 +186,6 @@ slots_wanting (Some bytes) f = record { whole = λ given. absurd (given.memory r
 
 -- what was read behind the lines of a policy, was read of what these state
 pub slots-over : (count : List Touch → ℕ) (first policy : PolicyValue) (s : State) (harts n k : ℕ) (old new : Option (List Part)) (f h : ℕ) (exit : Exit) → AreStated first n old policy k new
-    → OnParts new (λ rest. Fetches f h exit (judging_slots count s (scheduled harts k rest))) → OnParts old (λ parts. Fetches f h exit (stated_slots count s harts (stated first n parts)))
+    → OnParts new (λ rest. Fetches f h exit (judging_slots count policy s (scheduled harts k rest))) → OnParts old (λ parts. Fetches f h exit (stated_slots count s harts (stated first n parts)))
 slots-over count first policy s harts n k old new f h exit known is =
     on_stated first policy n k old new (λ (st : Stated). Fetches f h exit (stated_slots count s harts st)) known is

@@ -1,5 +1,5 @@
 -- Line by line, what the lines of a policy state.
-use Rattle.std.proofs.Common.{◌≡◌, ◌≢◌, ◌+◌, ◌∙◌, ◌∷◌, ◌++◌, [], Bool, ℕ, List, true, false, if◌then◌else◌, Option, Some, None, Result, Ok, Err, refl, sym, ap, subst, inl, inr}
+use Rattle.std.proofs.Common.{◌≡◌, ◌+◌, ◌∙◌, ◌∷◌, ◌++◌, [], Bool, ℕ, List, true, false, if◌then◌else◌, Option, Some, None, Result, Ok, Err, refl, sym, ap, subst, inl, inr}
 use Rattle.coy_io.specs.Lines.{Part, Line, LongLine, PastLimit}
 use Rattle.coy_io.specs.Reader.{Reader, Advances, Begins, IsDone, ahead}
 use Rattle.judged_lines.specs.Judged.{JudgesNext, Refuses}
@@ -38,6 +38,9 @@ said-unchanged : (first : PolicyValue) (told : Result Said PolicyFault) → answ
 said-unchanged first (Ok says.Nothing) ends = refl
 said-unchanged first (Ok (says.Objects domain name block)) ends = cc
 said-unchanged first (Ok (says.Reads reader read)) ends = cc
+said-unchanged first (Ok (says.Writes writer written)) ends = cc
+said-unchanged first (Ok (says.Halts domain)) ends = cc
+said-unchanged first (Ok (says.Logs domain)) ends = cc
 said-unchanged first (Ok says.Ends) ends = refl
 said-unchanged first (Err fault) ends = refl
 

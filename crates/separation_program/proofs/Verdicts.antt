@@ -1,5 +1,5 @@
 -- What is told of a state, by what was found.
-use Rattle.std.proofs.Common.{◌≡◌, ◌≢◌, ◌⊎◌, ◌++◌, ◌∙◌, ◌∷◌, [], ℕ, List, map, flat_map, true, inl, inr, refl, ap, ap₂, arith, sym}
+use Rattle.std.proofs.Common.{◌≡◌, ◌≢◌, ◌⊎◌, ◌==◌, false, ◌++◌, ◌∙◌, ◌∷◌, [], ℕ, List, length, map, flat_map, true, inl, inr, refl, ap, ap₂, arith, eqb-true, sym}
 use Rattle.std.proofs.lemmas.List.{length-map}
 use Rattle.kernel_core.specs.State.{State}
 use Rattle.separation_policy.specs.Policy.{PolicyValue}
@@ -8,17 +8,18 @@ use Rattle.separation_check.specs.Marks.{marks_in}
 use Rattle.separation_check.specs.declared.marks.Marks.{Marks}
 use Rattle.separation_check.specs.declared.crossing.Crossing.{Crossing}
 use Rattle.separation_check.specs.declared.crossing.Crossing.TheVariants as crossings
+use Rattle.policy_lines.specs.Unused.{unused_in}
 use Rattle.courses.specs.Exit.{is_finished}
-use Rattle.courses.specs.declared.exit.Exit.TheVariants.{Done, Crossings, OutOfMemory}
-use Rattle.courses.proofs.Lasts.{exits-differ}
-use Rattle.separation_program.specs.Text.{crossing_text, crossings_text, head_text, told, told_by, total_text}
+use Rattle.courses.specs.declared.exit.Exit.TheVariants.{Done, Crossings}
+use Rattle.separation_program.specs.Slots.{passed_by}
+use Rattle.separation_program.specs.Text.{crossing_text, crossings_text, head_text, separated_by, told, told_by, total_text}
 
 module _ (policy : PolicyValue) (s : State) where
   -- what is told of a state that was judged is of a call that did all
   pub told-finished : is_finished (told policy s).exit ≡ true
   told-finished = by (crossings_in policy s)
     where
-      by : (found : List Crossing) → is_finished (told_by policy (marks_in policy s) found).exit ≡ true
+      by : (found : List Crossing) → is_finished (told_by policy (marks_in policy s) (unused_in policy s) found).exit ≡ true
       by [] = refl
       by (first ∷ rest) = refl
 
@@ -26,7 +27,7 @@ module _ (policy : PolicyValue) (s : State) where
   pub told-verdict : ((told policy s).exit ≡ Done) ⊎ ((told policy s).exit ≡ Crossings)
   told-verdict = by (crossings_in policy s)
     where
-      by : (found : List Crossing) → ((told_by policy (marks_in policy s) found).exit ≡ Done) ⊎ ((told_by policy (marks_in policy s) found).exit ≡ Crossings)
+      by : (found : List Crossing) → ((told_by policy (marks_in policy s) (unused_in policy s) found).exit ≡ Done) ⊎ ((told_by policy (marks_in policy s) (unused_in policy s) found).exit ≡ Crossings)
       by [] = inl refl
       by (first ∷ rest) = inr refl
 
@@ -35,6 +36,8 @@ module _ (policy : PolicyValue) (s : State) where
   unfolding crossing_text head_text
   text-meant (crossings.Capability kind n place cap from to) = refl
   text-meant (crossings.Range kind n place domain) = refl
+  text-meant (crossings.Halts kind n place domain) = refl
+  text-meant (crossings.Logs kind n place domain) = refl
   text-meant (crossings.Sleeper process from to) = refl
 
   texts-meant : (found : List Crossing) → flat_map (crossing_text policy) found ≡ flat_map (crossing_text policy) (map meant_crossing found)
@@ -45,25 +48,29 @@ module _ (policy : PolicyValue) (s : State) where
   unfolding crossings_text
   all-meant found = ap₂ (λ (x : List ℕ) (n : ℕ). x ++ total_text n) (texts-meant found) (sym (length-map found meant_crossing))
 
-  -- what is told of what was found is what is told of the state
-  pub told-found : (marks : Marks) (found all : List Crossing) → marks ≡ marks_in policy s → map meant_crossing found ≡ all
-      → told_by policy marks found ≡ told_by policy (marks_in policy s) all
-  told-found marks [] all same means =
-      ap (λ (m : Marks). told_by policy m []) same ∙ ap (told_by policy (marks_in policy s)) means
-  told-found marks (first ∷ rest) all same means =
-      ap (λ text. record { text = text; exit = Crossings }) (all-meant (first ∷ rest)) ∙ ap (told_by policy (marks_in policy s)) means
+  -- what is told of crossings that were found is what is told of the state
+  pub told-some : (found : List Crossing) → map meant_crossing found ≡ crossings_in policy s → found ≢ [] → record { text = crossings_text policy found; exit = Crossings } ≡ told policy s
+  told-some [] means some = absurd (some refl)
+  told-some (first ∷ rest) means some =
+      ap (λ text. record { text = text; exit = Crossings }) (all-meant (first ∷ rest)) ∙ ap (told_by policy (marks_in policy s) (unused_in policy s)) means
 
-  -- it is told that the policy holds where nothing was found
-  pub found-none : (marks : Marks) (found : List Crossing) → (told_by policy marks found).exit ≡ Done → found ≡ []
-  found-none marks [] done = refl
-  found-none marks (first ∷ rest) done = absurd (exits-differ Crossings Done (λ n. let bad : 10 ≡ 0 = n in omega (arith, bad)) done)
+  -- and so is, where none were, that the policy holds
+  pub told-none : (marks : Marks) (found : List Crossing) → marks ≡ marks_in policy s → map meant_crossing found ≡ crossings_in policy s → found ≡ []
+      → record { text = separated_by policy marks (unused_in policy s); exit = Done } ≡ told policy s
+  told-none marks [] same means none =
+      ap (λ (m : Marks). told_by policy m (unused_in policy s) []) same ∙ ap (told_by policy (marks_in policy s) (unused_in policy s)) means
+  told-none marks (first ∷ rest) same means none = cc
 
-  -- and crossings where something was
-  pub found-some : (marks : Marks) (found : List Crossing) → (told_by policy marks found).exit ≡ Crossings → found ≢ []
-  found-some marks [] crossed none = exits-differ Done Crossings (λ n. let bad : 0 ≡ 10 = n in omega (arith, bad)) crossed
-  found-some marks (first ∷ rest) crossed none = cc
+  -- one passage judges a policy where something crosses
+  pub passed-some : (found : List Crossing) (n : ℕ) → map meant_crossing found ≡ crossings_in policy s → found ≢ [] → n ≡ passed_by policy (crossings_in policy s) n
+  passed-some [] n means some = absurd (some refl)
+  passed-some (first ∷ rest) n means some = ap (λ all. passed_by policy all n) means
 
--- what is told wants no memory
-pub told-given : (policy : PolicyValue) (marks : Marks) (found : List Crossing) → (told_by policy marks found).exit ≢ OutOfMemory
-told-given policy marks [] bad = cc
-told-given policy marks (first ∷ rest) bad = cc
+-- what the length of what was found tells
+pub some-found : (found : List Crossing) → (length found == 0) ≡ false → found ≢ []
+some-found [] some none = cc
+some-found (first ∷ rest) some none = cc
+
+pub none-found : (found : List Crossing) → (length found == 0) ≡ true → found ≡ []
+none-found [] none = refl
+none-found (first ∷ rest) none = let bad = eqb-true (length (first ∷ rest)) 0 none in absurd (omega (arith, bad))

@@ -4,3 +4,4 @@ pub mod Judged
 pub mod Slots
 pub mod Theorem
 pub mod Program
+pub mod Written

@@ -1,5 +1,5 @@
 -- How many slots of GPTs the program reads for its input (this project's own).
-use Rattle.std.specs.Prelude.{ℕ, ◌+◌, ◌*◌, List, length}
+use Rattle.std.specs.Prelude.{ℕ, ◌+◌, ◌*◌, List, [], ◌∷◌, length}
 use Rattle.coy_io.specs.Lines.{parts_of}
 use Rattle.machine_state.specs.declared.event.Event.{Event}
 use Rattle.machine_state.specs.Outcome.{Touch, spent, spent_at}
@@ -10,6 +10,10 @@ use Rattle.image_builder.specs.Boot.{booted}
 use Rattle.listing_read.specs.Listing.{Listed, Good, listing_of}
 use Rattle.listing_read.specs.declared.place.Place.TheVariants.{Header}
 use Rattle.separation_policy.specs.Making.{first_policy}
+use Rattle.separation_policy.specs.Policy.{PolicyValue}
+use Rattle.separation_check.specs.Crossings.{crossings_in}
+use Rattle.separation_check.specs.declared.crossing.Crossing.{Crossing}
+use Rattle.policy_lines.specs.Permission.{channels_of}
 use Rattle.schedule_replay.specs.Scheduled.{Ending, AtEnd, Scheduled, scheduled}
 use Rattle.separation_program.specs.Stated.{Stated, States, stated}
 
@@ -24,19 +28,29 @@ walked touches =
 abbrev pub gpts_of : State → ℕ
 gpts_of s = length s.store.items.counts.gpts
 
-module _ (count : List Touch → ℕ) where
-  -- those of the events of a schedule, and where no line of it is refused, all slots of the GPTs of the state that they lead to
-  abbrev pub ended_slots : State → List Event → Ending → ℕ
-  ended_slots s events AtEnd = count (run_touches s events) + 16 * gpts_of (run_state s events)
-  ended_slots s events _ = count (run_touches s events)
+-- those of one passage through all slots, by what crosses: where nothing does, there is one more for each line `reads` and
+-- `writes` without which the policy is tried
+abbrev pub passed_by : PolicyValue → List Crossing → ℕ → ℕ
+passed_by policy [] all = all + all * length (channels_of policy)
+passed_by policy (first ∷ rest) all = all
 
-  -- those of what the lines of a schedule ask for, from this state on
-  abbrev pub judging_slots : State → Scheduled → ℕ
-  judging_slots s all = ended_slots s all.events all.ending
+-- those that are read to judge a policy of a state
+abbrev pub judged_slots : PolicyValue → State → ℕ
+judged_slots policy s = passed_by policy (crossings_in policy s) (16 * gpts_of s)
+
+module _ (count : List Touch → ℕ) where
+  -- those of the events of a schedule, and where no line of it is refused, those that judge the state that they lead to
+  abbrev pub ended_slots : PolicyValue → State → List Event → Ending → ℕ
+  ended_slots policy s events AtEnd = count (run_touches s events) + judged_slots policy (run_state s events)
+  ended_slots policy s events _ = count (run_touches s events)
+
+  -- those of a policy and what the lines of a schedule ask for, from this state on
+  abbrev pub judging_slots : PolicyValue → State → Scheduled → ℕ
+  judging_slots policy s all = ended_slots policy s all.events all.ending
 
   -- those of a machine and what lines state: none where a line of the policy is refused
   abbrev pub stated_slots : State → ℕ → Stated → ℕ
-  stated_slots s harts (States policy last rest) = judging_slots s (scheduled harts last rest)
+  stated_slots s harts (States policy last rest) = judging_slots policy s (scheduled harts last rest)
   stated_slots s harts _ = 0
 
   -- those of a listing and the lines behind it

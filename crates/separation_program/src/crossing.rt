@@ -1,14 +1,14 @@
 //! What is told of crossings.
 ghost use Rattle.std.specs.Prelude.{◌≡◌, ◌≤◌, ◌<◌, ◌+◌, ◌++◌, [], length, flat_map, slice_index_or};
 ghost use Rattle.coy_io.specs.Written.{WroteTo};
-ghost use Rattle.separation_program.specs.Text.{capability_text, crossing_text, crossings_text, head_text, place_text, tail_text, total_text};
+ghost use Rattle.separation_program.specs.Text.{capability_text, crossing_text, crossings_text, head_text, place_text, remedy_text, tail_text, total_text};
 
 use crate::names::{put_own, put_pair};
 use cap_format::{Cap, CapKind};
 use cap_words::{kind_word, push_capability};
 use coy_io::{Sink, WriteFault, put_bytes};
 use coy_text::LineBuf;
-use separation_check::Crossing;
+use separation_check::{Crossing, Remedy, remedy_of};
 use separation_policy::Policy;
 
 /// Writes each crossing, and how many they are.
@@ -85,10 +85,19 @@ fn push_head(crossing: &Crossing, line: &mut LineBuf)
             number,
             place,
             ..
-        } => {
-            line.push_word("range ");
-            push_place(*kind, *number, *place, line);
-        }
+        } => push_at("range ", *kind, *number, *place, line),
+        Crossing::Halts {
+            kind,
+            number,
+            place,
+            ..
+        } => push_at("halts ", *kind, *number, *place, line),
+        Crossing::Logs {
+            kind,
+            number,
+            place,
+            ..
+        } => push_at("logs ", *kind, *number, *place, line),
         Crossing::Sleeper { process, .. } => {
             line.push_word("sleeper ");
             line.push_dec(*process as u64);
@@ -107,6 +116,16 @@ fn push_capability_at(kind: CapKind, number: u16, place: u16, cap: Cap, line: &m
     line.push_word(" ");
 }
 
+/// Appends a word, and the object and the place in which something stands.
+fn push_at(word: &str, kind: CapKind, number: u16, place: u16, line: &mut LineBuf)
+    requires empty { line.old ≡ [] }
+    requires short { length word.now ≤ 100 }
+    ensures { line.new ≡ word.now ++ place_text kind number place }
+{
+    line.push_word(word);
+    push_place(kind, number, place, line);
+}
+
 /// Appends the object and the place in which something stands.
 #[tactic(auto, using(coy_text::proofs::NumeralLaws::length_decimal))]
 fn push_place(kind: CapKind, number: u16, place: u16, line: &mut LineBuf)
@@ -122,15 +141,34 @@ fn push_place(kind: CapKind, number: u16, place: u16, line: &mut LineBuf)
     line.push_word(" ");
 }
 
-/// Writes the names of the domains of a crossing, and ends the line.
+/// Writes the names of the domains of a crossing and what line would allow it, and ends the line.
 fn put_tail<K: Sink>(policy: &Policy, crossing: &Crossing, output: &mut K) -> Result<(), WriteFault>
     ensures { WroteTo K.taken K.faults output.old output.new result
         (tail_text policy.now crossing.now) }
 {
     match crossing {
-        Crossing::Capability { from, to, .. } => put_pair(policy, *from, *to, output),
-        Crossing::Range { domain, .. } => put_own(policy, *domain, output),
-        Crossing::Sleeper { from, to, .. } => put_pair(policy, *from, *to, output),
+        Crossing::Capability { cap, from, to, .. } => {
+            put_pair(policy, *from, *to, remedy_word(remedy_of(*cap)), output)
+        }
+        Crossing::Range { domain, .. } => {
+            put_own(policy, *domain, remedy_word(Remedy::Never), output)
+        }
+        Crossing::Halts { domain, .. } => put_own(policy, *domain, "\n", output),
+        Crossing::Logs { domain, .. } => put_own(policy, *domain, "\n", output),
+        Crossing::Sleeper { from, to, .. } => {
+            put_pair(policy, *from, *to, remedy_word(Remedy::Never), output)
+        }
+    }
+}
+
+/// The end of a line that tells what line would allow what crosses.
+fn remedy_word(remedy: Remedy) -> &'static str
+    ensures { result.now ≡ remedy_text remedy }
+{
+    match remedy {
+        Remedy::Reads => " reads\n",
+        Remedy::Writes => " writes\n",
+        Remedy::Never => " never\n",
     }
 }
 

@@ -1,17 +1,19 @@
 //! A machine set up by its schedule, and judged.
-ghost use Rattle.std.specs.Prelude.{◌≡◌, ◌≢◌, ◌*◌, false, true};
+ghost use Rattle.std.specs.Prelude.{◌≡◌, ◌≢◌, ◌*◌, false, true, length};
 ghost use Rattle.coy_io.specs.Reader.{TellsEnd, ahead};
 ghost use Rattle.kernel_core.specs.Outcome.{spent};
 ghost use Rattle.kernel_core.specs.State.{state_of};
 ghost use Rattle.separation_policy.specs.Closure.{IsClosure};
+ghost use Rattle.policy_lines.specs.Permission.{channels_of};
+ghost use Rattle.policy_lines.specs.Unused.{unused_in};
 ghost use Rattle.schedule_replay.specs.Scheduled.{OnParts, scheduled};
 ghost use Rattle.courses.specs.Course.{cached, ends_in};
 ghost use Rattle.courses.specs.Ending.{EndsIn, Fetches};
 ghost use Rattle.courses.specs.Exit.{is_finished};
 ghost use Rattle.courses.specs.Taken.{TakesLines};
 ghost use Rattle.separation_program.specs.Judged.{HasJudged, judged_of, judging};
-ghost use Rattle.separation_program.specs.Slots.{gpts_of, judging_slots};
-ghost use Rattle.separation_program.specs.Text.{crossings_text, separated_by, told, told_by};
+ghost use Rattle.separation_program.specs.Slots.{gpts_of, judged_slots, judging_slots};
+ghost use Rattle.separation_program.specs.Text.{crossings_text, separated_by, told};
 ghost use Rattle.separation_program.specs.Theorem.{TellsOf};
 
 use crate::crossing::put_crossings;
@@ -20,6 +22,7 @@ use courses::{Exit, conclude, counts_or_exit};
 use coy_io::{LineReader, Sink, Source};
 use kept_pages::PageTranslator;
 use kernel_core::Machine;
+use policy_lines::{Permission, unused};
 use schedule_replay::{Mode, replay};
 use separation_check::{Crossing, Marks, crossings};
 use separation_policy::{Closure, Policy};
@@ -29,11 +32,11 @@ use steps::Steps;
 use walk_engine::Translator;
 
 /// Runs the lines of a schedule without a word, and tells whether the policy holds of the state behind them, or why they ended
-/// before.
+/// before. The policy is as it was.
 pub(crate) fn judge<T: PageTranslator, S: Source, K: Sink, L: Ledger>(
     alloc: Global,
     machine: &mut Machine<T>,
-    policy: &Policy,
+    policy: &mut Policy,
     lines: &mut LineReader,
     input: &mut S,
     output: &mut K,
@@ -44,14 +47,15 @@ pub(crate) fn judge<T: PageTranslator, S: Source, K: Sink, L: Ledger>(
     ensures course { let m = machine.old in
         TakesLines S.held S.faults K.taken K.faults lines.old lines.new
         input.old input.new output.old output.new 0 0 result cached (λ parts.
-        ends_in (judging policy.now (state_of m) (scheduled m.objects.harts lines.old.number parts))) }
+        ends_in (judging policy.old (state_of m) (scheduled m.objects.harts lines.old.number parts))) }
     ensures judged { let m = machine.old in is_finished result ≡ true →
         OnParts (ahead lines.old (S.held input.old)) (λ parts. HasJudged (TellsOf result)
-        (judged_of policy.now (state_of m) (scheduled m.objects.harts lines.old.number parts))) }
+        (judged_of policy.old (state_of m) (scheduled m.objects.harts lines.old.number parts))) }
     ensures fetched { let m = machine.old in
         OnParts (ahead lines.old (S.held input.old)) (λ parts. Fetches fetches.old fetches.new result
         (judging_slots (λ touches. spent T.cost T.after T.without (T.kept m.translator) touches)
-        (state_of m) (scheduled m.objects.harts lines.old.number parts))) }
+        policy.old (state_of m) (scheduled m.objects.harts lines.old.number parts))) }
+    ensures same { policy.new ≡ policy.old }
 {
     let replayed = replay(machine, lines, input, Mode::Silent, output, fetches);
     match counts_or_exit(replayed) {
@@ -60,61 +64,72 @@ pub(crate) fn judge<T: PageTranslator, S: Source, K: Sink, L: Ledger>(
     }
 }
 
-/// Tells whether the policy holds of a machine, or all that crosses.
+/// Tells whether the policy holds of a machine, or all that crosses. The policy is as before.
 fn tell<T: Translator, K: Sink, L: Ledger>(
     alloc: Global,
     machine: &Machine<T>,
-    policy: &Policy,
+    policy: &mut Policy,
     output: &mut K,
     fetches: &mut Steps<L>,
 ) -> Exit
     ensures ends { result ≢ Exit.OutOfMemory → EndsIn K.taken K.faults output.old output.new result
-        (told policy.now (state_of machine.now)) }
+        (told policy.old (state_of machine.now)) }
     ensures unwritten { result ≡ Exit.OutOfMemory → output.new ≡ output.old }
-    ensures tells { TellsOf result policy.now (state_of machine.now) }
-    ensures fetched { let all = 16 * gpts_of (state_of machine.now) in
+    ensures same { policy.new ≡ policy.old }
+    ensures tells { TellsOf result policy.old (state_of machine.now) }
+    ensures fetched { let all = judged_slots policy.old (state_of machine.now) in
         Fetches fetches.old fetches.new result all }
 {
     let Ok(found) = crossings(alloc, machine, policy, fetches) else {
         return Exit::OutOfMemory;
     };
+    let crossing = found.crossings.as_slice();
+    if !crossing.is_empty() {
+        return tell_crossings(policy, crossing, output);
+    }
+    tell_held(alloc, machine, policy, found.marks, output, fetches)
+}
+
+/// Tells that a policy holds, its domains, and its lines that are unused. The policy is as before.
+fn tell_held<T: Translator, K: Sink, L: Ledger>(
+    alloc: Global,
+    machine: &Machine<T>,
+    policy: &mut Policy,
+    marks: Marks,
+    output: &mut K,
+    fetches: &mut Steps<L>,
+) -> Exit
+    ensures ends { let text = separated_by policy.old marks (unused_in policy.old (state_of machine.now)) in
+        result ≢ Exit.OutOfMemory → EndsIn K.taken K.faults output.old output.new result
+        (record { text = text; exit = Exit.Done }) }
+    ensures unwritten { result ≡ Exit.OutOfMemory → output.new ≡ output.old }
+    ensures same { policy.new ≡ policy.old }
+    ensures crossed { result ≢ Exit.Crossings }
+    ensures fetched { let all = 16 * gpts_of (state_of machine.now) * length (channels_of policy.old) in
+        Fetches fetches.old fetches.new result all }
+{
+    let Ok(spare) = unused(alloc, machine, policy, fetches) else {
+        return Exit::OutOfMemory;
+    };
     let Ok(closure) = Closure::new(alloc, policy) else {
         return Exit::OutOfMemory;
     };
-    tell_found(
-        policy,
-        &closure,
-        found.marks,
-        found.crossings.as_slice(),
-        output,
-    )
+    tell_separated(policy, &closure, marks, spare.as_slice(), output)
 }
 
-/// Tells that a policy holds, or all crossings that were found.
-fn tell_found<K: Sink>(
+/// Tells that a policy holds, its domains, and these lines.
+fn tell_separated<K: Sink>(
     policy: &Policy,
     closure: &Closure,
     marks: Marks,
-    found: &[Crossing],
+    unused: &[Permission],
     output: &mut K,
 ) -> Exit
     requires { IsClosure policy.now closure.now }
-    ensures { EndsIn K.taken K.faults output.old output.new result
-        (told_by policy.now marks found.now) }
-{
-    match found {
-        [] => tell_separated(policy, closure, marks, output),
-        [_, ..] => tell_crossings(policy, found, output),
-    }
-}
-
-/// Tells that a policy holds, and its domains.
-fn tell_separated<K: Sink>(policy: &Policy, closure: &Closure, marks: Marks, output: &mut K) -> Exit
-    requires { IsClosure policy.now closure.now }
-    ensures { let text = separated_by policy.now marks in
+    ensures { let text = separated_by policy.now marks unused.now in
         EndsIn K.taken K.faults output.old output.new result (record { text = text; exit = Exit.Done }) }
 {
-    match put_separated(policy, closure, marks, output) {
+    match put_separated(policy, closure, marks, unused, output) {
         Ok(()) => Exit::Done,
         Err(_) => Exit::WriteFault,
     }

@@ -7,11 +7,15 @@
 mod crossing;
 mod input;
 mod judging;
+mod laws;
 mod lines;
 mod names;
 mod program;
+mod relation;
 mod telling;
+mod unused;
 mod words;
 
 pub use courses::Exit;
+pub use laws::judged_law;
 pub use program::separation;

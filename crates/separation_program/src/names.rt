@@ -2,8 +2,9 @@
 ghost use Rattle.std.specs.Prelude.{◌≡◌, ◌<◌, ◌≤◌, ◌+◌, ◌++◌, ◌∷◌, length, flat_map, slice_index_or};
 ghost use Rattle.coy_io.specs.Written.{WroteTo};
 ghost use Rattle.separation_policy.specs.Closure.{IsClosure};
-ghost use Rattle.separation_program.specs.Text.{further_text, name_of, names_text, one_if, own_text, pair_text, read_below, reads_other};
+ghost use Rattle.separation_program.specs.Text.{further_text, name_of, names_text, one_if, own_text, pair_text, related_below, related_other, relation_text};
 
+use crate::relation::{Relation, related};
 use arrayvec::ArrayVec;
 use coy_io::{Sink, WriteFault, put_bytes, put_text};
 use separation_policy::{Closure, Policy};
@@ -19,75 +20,74 @@ pub(crate) fn put_name<K: Sink>(
     put_bytes(policy.name(domain), output)
 }
 
-/// Writes from which domain to which something leads, and ends the line.
+/// Writes from which domain to which something leads, and how the line ends.
 pub(crate) fn put_pair<K: Sink>(
     policy: &Policy,
     from: u8,
     to: u8,
+    ending: &str,
     output: &mut K,
 ) -> Result<(), WriteFault>
-    ensures { WroteTo K.taken K.faults output.old output.new result (pair_text policy.now from to) }
+    ensures { WroteTo K.taken K.faults output.old output.new result
+        (pair_text policy.now from to ending.now) }
 {
     put_name(policy, from, output)?;
     put_text(" -> ", output)?;
     put_name(policy, to, output)?;
-    put_text("\n", output)
+    put_text(ending, output)
 }
 
-/// Writes a domain, and ends the line.
+/// Writes a domain, and how the line ends.
 pub(crate) fn put_own<K: Sink>(
     policy: &Policy,
     domain: u8,
+    ending: &str,
     output: &mut K,
 ) -> Result<(), WriteFault>
-    ensures { WroteTo K.taken K.faults output.old output.new result (own_text policy.now domain) }
+    ensures { WroteTo K.taken K.faults output.old output.new result
+        (own_text policy.now domain ending.now) }
 {
     put_name(policy, domain, output)?;
-    put_text("\n", output)
+    put_text(ending, output)
 }
 
-/// Writes the names of the domains that a domain reads, itself left out.
-pub(crate) fn put_read<K: Sink>(
+/// Writes the names of the domains to which a domain is so related, itself left out.
+pub(crate) fn put_related<K: Sink>(
     policy: &Policy,
     closure: &Closure,
+    relation: Relation,
     domain: u8,
     output: &mut K,
 ) -> Result<(), WriteFault>
     requires { IsClosure policy.now closure.now }
     ensures { WroteTo K.taken K.faults output.old output.new result
-        (names_text policy.now (read_below policy.now domain (length policy.now.domains))) }
+        (relation_text policy.now relation domain) }
 {
-    let mut read: ArrayVec<u8, 64> = ArrayVec::new();
+    let mut found: ArrayVec<u8, 64> = ArrayVec::new();
     'each: for other in 0..policy.len() as u8 {
-        push_if_read(policy, closure, domain, other, &mut read);
+        push_if_related(policy, closure, relation, domain, other, &mut found);
     }
-    put_names(policy, read.as_slice(), output)
+    put_names(policy, found.as_slice(), output)
 }
 
-/// Puts a domain down, where another reads it that is not the same.
-fn push_if_read(
+/// Puts a domain down, where another is so related to it that is not the same.
+fn push_if_related(
     policy: &Policy,
     closure: &Closure,
+    relation: Relation,
     domain: u8,
     other: u8,
-    read: &mut ArrayVec<u8, 64>,
+    found: &mut ArrayVec<u8, 64>,
 )
     requires closure { IsClosure policy.now closure.now }
-    requires room { length read.old.items < 64 }
-    ensures items { read.new.items ≡ read.old.items ++ one_if (reads_other policy.now domain other) other }
-    ensures few { length read.new.items ≤ length read.old.items + 1 }
+    requires room { length found.old.items < 64 }
+    ensures items { found.new.items ≡
+        found.old.items ++ one_if (related_other policy.now relation domain other) other }
+    ensures few { length found.new.items ≤ length found.old.items + 1 }
 {
-    if reads_other(policy, closure, domain, other) {
-        read.push(other);
+    if domain != other && related(policy, closure, relation, domain, other) {
+        found.push(other);
     }
-}
-
-/// Whether a domain reads another that is not the same.
-fn reads_other(policy: &Policy, closure: &Closure, domain: u8, other: u8) -> bool
-    requires { IsClosure policy.now closure.now }
-    ensures { result ≡ reads_other policy.now domain other }
-{
-    domain != other && closure.sees(domain, other)
 }
 
 /// Writes the names of domains, with commas between them.

@@ -1,29 +1,34 @@
-//! What is told of a policy that holds: each domain with what it has and reads.
+//! What is told of a policy that holds: each domain with what it has and may do.
 ghost use Rattle.std.specs.Prelude.{◌≡◌, ◌≤◌, ◌<◌, ◌+◌, ◌++◌, [], length};
 ghost use Rattle.coy_io.specs.Written.{WroteTo};
 ghost use Rattle.separation_policy.specs.Closure.{IsClosure};
-ghost use Rattle.separation_program.specs.Text.{count_text, counts_text, domain_text, domains_text, marks_text, said_if, separated_by};
+ghost use Rattle.separation_program.specs.Text.{count_text, counts_text, domain_text, domains_text, marks_text, relations_text, said_if, separated_by};
 
-use crate::names::{put_name, put_read};
+use crate::names::{put_name, put_related};
+use crate::relation::Relation;
+use crate::unused::put_unused;
 use coy_io::{Sink, WriteFault, put_bytes, put_text};
 use coy_text::LineBuf;
+use policy_lines::Permission;
 use separation_check::Marks;
 use separation_policy::{Closure, Policy};
 
-/// Writes how many domains there are, and a line for each.
+/// Writes how many domains there are, a line for each, and one for each line of the policy that is unused.
 #[tactic(auto, unfolding(crate::specs::Text::separated_by))]
 pub(crate) fn put_separated<K: Sink>(
     policy: &Policy,
     closure: &Closure,
     marks: Marks,
+    unused: &[Permission],
     output: &mut K,
 ) -> Result<(), WriteFault>
     requires { IsClosure policy.now closure.now }
     ensures { WroteTo K.taken K.faults output.old output.new result
-        (separated_by policy.now marks) }
+        (separated_by policy.now marks unused.now) }
 {
     put_count(policy.len() as u8, output)?;
-    put_domains(policy, closure, marks, output)
+    put_domains(policy, closure, marks, output)?;
+    put_unused(policy, unused, output)
 }
 
 /// Writes how many domains there are.
@@ -78,8 +83,27 @@ fn put_domain<K: Sink>(
     put_text("domain ", output)?;
     put_name(policy, domain, output)?;
     put_counts(policy, domain, output)?;
-    put_read(policy, closure, domain, output)?;
+    put_relations(policy, closure, domain, output)?;
     put_marks(marks, domain, output)
+}
+
+/// Writes whom a domain reads, whom it writes, and whom its view has.
+#[tactic(auto, unfolding(crate::specs::Text::relations_text))]
+fn put_relations<K: Sink>(
+    policy: &Policy,
+    closure: &Closure,
+    domain: u8,
+    output: &mut K,
+) -> Result<(), WriteFault>
+    requires { IsClosure policy.now closure.now }
+    ensures { WroteTo K.taken K.faults output.old output.new result
+        (relations_text policy.now domain) }
+{
+    put_related(policy, closure, Relation::Reads, domain, output)?;
+    put_text(" writes=", output)?;
+    put_related(policy, closure, Relation::Writes, domain, output)?;
+    put_text(" view=", output)?;
+    put_related(policy, closure, Relation::Views, domain, output)
 }
 
 /// Writes how many objects and processes a domain has.

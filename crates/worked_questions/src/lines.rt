@@ -110,6 +110,14 @@ BadName |domain A page 0|
 WrongWords |reads a|
 NoDomain |reads a b|
 question |reads rest a|
+question |writes a rest|
+WrongWords |writes a|
+NoDomain |writes a b|
+question |halts rest|
+BadName |halts A|
+WrongWords |halts|
+question |logs a|
+NoDomain |logs b|
 WrongWords |end 1|
 schedule |end|";
 

@@ -226,6 +226,38 @@ may step 0
 =>
 holds states=3 tried=3 depth=2
 ==
+10 none: who may not log holds the log
+coyotos 1
+machine 1 0 0 0 1 0
+capreg 0 1 kernlog
+end
+domain a process 0
+never crossing
+=>
+found 6 depth=0
+==
+0 none: who may
+coyotos 1
+machine 1 0 0 0 1 0
+capreg 0 1 kernlog
+end
+domain a process 0
+logs a
+never crossing
+=>
+holds states=1 tried=2 depth=0
+==
+0 none: a page that is written by a line of the policy
+coyotos 1
+machine 1 1 0 1 0 0
+slot 0 0 page:0@12/0
+end
+domain a gpt 0
+writes a rest
+never crossing
+=>
+holds states=1 tried=2 depth=0
+==
 11 none: no further than one choice
 coyotos 1
 machine 1 1 0 1 1 0

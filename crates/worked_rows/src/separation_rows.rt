@@ -19,7 +19,7 @@ end
 end
 =>
 separated domains=1
-domain rest objects=7 processes=2 reads=-
+domain rest objects=7 processes=2 reads=- writes=- view=-
 ==
 0 none: who reads, reads what those read whom he reads
 coyotos 1
@@ -36,11 +36,11 @@ reads c d
 end
 =>
 separated domains=5
-domain rest objects=2 processes=1 reads=-
-domain a objects=1 processes=1 reads=b,c,d
-domain b objects=1 processes=0 reads=c,d
-domain c objects=1 processes=0 reads=d
-domain d objects=1 processes=0 reads=-
+domain rest objects=2 processes=1 reads=- writes=- view=-
+domain a objects=1 processes=1 reads=b,c,d writes=- view=b,c,d
+domain b objects=1 processes=0 reads=c,d writes=- view=c,d
+domain c objects=1 processes=0 reads=d writes=- view=d
+domain d objects=1 processes=0 reads=- writes=- view=-
 ==
 10 none: each kind of place
 coyotos 1
@@ -58,12 +58,12 @@ domain a process 0
 domain a endpoint 0
 end
 =>
-crossing cappage 0 5 page:1@12/00000 a -> rest
-crossing gpt 0 3 page:1@12/00000+r a -> rest
-crossing endpoint 0 0 process:1 a -> rest
-crossing process 0 0 page:1@12/00000 a -> rest
-crossing process 0 34 process:1 a -> rest
-range process 1 5 rest
+crossing cappage 0 5 page:1@12/00000 a -> rest writes
+crossing gpt 0 3 page:1@12/00000+r a -> rest reads
+crossing endpoint 0 0 process:1 a -> rest never
+crossing process 0 0 page:1@12/00000 a -> rest writes
+crossing process 0 34 process:1 a -> rest never
+range process 1 5 rest never
 crossings 6
 ==
 0 none: a page that one writes and another reads
@@ -79,9 +79,50 @@ reads monitor sensor
 end
 =>
 separated domains=3
-domain rest objects=2 processes=2 reads=-
-domain sensor objects=2 processes=0 reads=-
-domain monitor objects=1 processes=0 reads=sensor
+domain rest objects=2 processes=2 reads=- writes=- view=-
+domain sensor objects=2 processes=0 reads=- writes=- view=-
+domain monitor objects=1 processes=0 reads=sensor writes=- view=sensor
+==
+0 none: a line reads that nothing needs
+coyotos 1
+machine 1 1 0 2 2 0
+slot 0 0 page:0@12/0
+slot 1 0 page:0@12/0+r
+end
+domain sensor gpt 0
+domain sensor page 0
+domain monitor gpt 1
+reads monitor sensor
+reads sensor monitor
+end
+=>
+separated domains=3
+domain rest objects=2 processes=2 reads=- writes=- view=-
+domain sensor objects=2 processes=0 reads=monitor writes=- view=monitor
+domain monitor objects=1 processes=0 reads=sensor writes=- view=sensor
+unused reads sensor monitor
+==
+0 none: two lines reads that stand for each other, each by itself, and one that is needed
+coyotos 1
+machine 1 1 0 2 0 0
+slot 0 0 page:0@12/0+r
+slot 1 0 page:0@12/0+r
+end
+domain a gpt 0
+domain b gpt 1
+domain c page 0
+reads b c
+reads a c
+reads a b
+end
+=>
+separated domains=4
+domain rest objects=0 processes=0 reads=- writes=- view=-
+domain a objects=1 processes=0 reads=b,c writes=- view=b,c
+domain b objects=1 processes=0 reads=c writes=- view=c
+domain c objects=1 processes=0 reads=- writes=- view=-
+unused reads a b
+unused reads a c
 ==
 10 none: to be read is not to read
 coyotos 1
@@ -95,7 +136,7 @@ domain monitor gpt 1
 reads sensor monitor
 end
 =>
-crossing gpt 1 0 page:0@12/00000+r monitor -> sensor
+crossing gpt 1 0 page:0@12/00000+r monitor -> sensor reads
 crossings 1
 ==
 0 none: two domains over one GPT
@@ -114,10 +155,10 @@ reads b code
 end
 =>
 separated domains=4
-domain rest objects=0 processes=0 reads=-
-domain code objects=2 processes=0 reads=-
-domain a objects=1 processes=1 reads=code
-domain b objects=1 processes=1 reads=code
+domain rest objects=0 processes=0 reads=- writes=- view=-
+domain code objects=2 processes=0 reads=- writes=- view=-
+domain a objects=1 processes=1 reads=code writes=- view=code
+domain b objects=1 processes=1 reads=code writes=- view=code
 ==
 10 none: one of them might ask its handlers
 coyotos 1
@@ -134,7 +175,7 @@ reads a code
 reads b code
 end
 =>
-crossing process 1 0 gpt:0@16/00000+rw b -> code
+crossing process 1 0 gpt:0@16/00000+rw b -> code never
 crossings 1
 ==
 10 none: an entry is a crossing, whoever reads
@@ -149,7 +190,7 @@ domain b endpoint 0
 reads a b
 end
 =>
-crossing process 0 4 entry:0:0000001f a -> b
+crossing process 0 4 entry:0:0000001f a -> b never
 crossings 1
 ==
 0 none: who halts and who logs
@@ -162,12 +203,140 @@ capreg 1 2 sysctl
 end
 domain a process 0
 domain b gpt 0
+halts a
+halts rest
+logs rest
+logs b
+logs b
 end
 =>
 separated domains=3
-domain rest objects=1 processes=1 reads=- halts logs
-domain a objects=1 processes=1 reads=- halts
-domain b objects=1 processes=0 reads=- logs
+domain rest objects=1 processes=1 reads=- writes=- view=- halts logs
+domain a objects=1 processes=1 reads=- writes=- view=- halts
+domain b objects=1 processes=0 reads=- writes=- view=- logs
+==
+10 none: SysCtl and KernLog where no line lets them stand
+coyotos 1
+machine 1 0 1 1 2 0
+cap 0 7 sysctl
+slot 0 2 kernlog
+capreg 0 1 sysctl
+capreg 0 2 range
+capreg 1 1 kernlog
+capreg 1 2 sysctl
+end
+domain a process 0
+domain b gpt 0
+halts rest
+logs a
+end
+=>
+logs gpt 0 2 b
+halts process 0 4 a
+range process 0 5 a never
+logs process 1 4 rest
+crossings 4
+==
+0 none: a page by which two domains talk
+coyotos 1
+machine 1 1 0 2 0 0
+slot 0 0 page:0@12/0
+slot 1 0 page:0@12/0
+end
+domain a gpt 0
+domain b gpt 1
+domain b page 0
+writes a b
+end
+=>
+separated domains=3
+domain rest objects=0 processes=0 reads=- writes=- view=-
+domain a objects=1 processes=0 reads=- writes=b view=b
+domain b objects=2 processes=0 reads=- writes=- view=a
+==
+0 none: a line writes that nothing needs, and a line reads beside one writes that is needed
+coyotos 1
+machine 1 1 0 2 0 0
+slot 0 0 page:0@12/0
+slot 1 0 page:0@12/0
+end
+domain a gpt 0
+domain b gpt 1
+domain b page 0
+writes b a
+writes a b
+reads a b
+halts b
+end
+=>
+separated domains=3
+domain rest objects=0 processes=0 reads=- writes=- view=-
+domain a objects=1 processes=0 reads=b writes=b view=b
+domain b objects=2 processes=0 reads=- writes=a view=a
+unused reads a b
+unused writes b a
+==
+10 none: a line writes lets pages through alone, and goes no further
+coyotos 1
+machine 1 2 1 2 0 0
+slot 0 0 page:0@12/0
+slot 0 1 cappage:0@12/0
+slot 0 2 gpt:1@16/0
+slot 0 3 page:1@12/0
+slot 0 4 cappage:0@12/0+rw
+end
+domain a gpt 0
+domain b page 0
+domain b cappage 0
+domain b gpt 1
+domain c page 1
+writes a b
+writes b c
+end
+=>
+crossing gpt 0 1 cappage:0@12/00000 a -> b never
+crossing gpt 0 2 gpt:1@16/00000 a -> b never
+crossing gpt 0 3 page:1@12/00000 a -> c writes
+crossing gpt 0 4 cappage:0@12/00000+rw a -> b reads
+crossings 4
+==
+0 none: who reads one that writes a page may look at the page
+coyotos 1
+machine 1 1 0 2 0 0
+slot 0 0 page:0@12/0+r
+slot 1 0 page:0@12/0
+end
+domain a gpt 0
+domain b gpt 1
+domain c page 0
+reads a b
+writes b c
+end
+=>
+separated domains=4
+domain rest objects=0 processes=0 reads=- writes=- view=-
+domain a objects=1 processes=0 reads=b writes=- view=b,c
+domain b objects=1 processes=0 reads=- writes=c view=c
+domain c objects=1 processes=0 reads=- writes=- view=b
+==
+10 none: and may not write it, nor look at what is no page
+coyotos 1
+machine 1 1 1 2 0 0
+slot 0 0 page:0@12/0
+slot 0 1 cappage:0@12/0+rw
+slot 1 0 page:0@12/0
+end
+domain a gpt 0
+domain b gpt 1
+domain c page 0
+domain c cappage 0
+reads a b
+writes b c
+end
+=>
+crossing gpt 0 0 page:0@12/00000 a -> c writes
+crossing gpt 0 1 cappage:0@12/00000+rw a -> c reads
+crossings 2
 ==
 10 none: an initialiser as the machine starts
 coyotos 1
@@ -188,8 +357,8 @@ domain init page 0
 domain b process 1
 end
 =>
-range process 0 4 init
-crossing process 1 4 process:0 b -> init
+range process 0 4 init never
+crossing process 1 4 process:0 b -> init never
 crossings 2
 ==
 0 none: it destroyed itself, with its Range, and what named it is dead
@@ -213,9 +382,9 @@ end
 step 0 1
 =>
 separated domains=3
-domain rest objects=2 processes=0 reads=-
-domain init objects=3 processes=1 reads=-
-domain b objects=1 processes=1 reads=-
+domain rest objects=2 processes=0 reads=- writes=- view=-
+domain init objects=3 processes=1 reads=- writes=- view=-
+domain b objects=1 processes=1 reads=- writes=- view=-
 ==
 10 none: a schedule of no event changes nothing
 coyotos 1
@@ -233,7 +402,7 @@ domain init gpt 0
 domain init page 0
 end
 =>
-range process 0 4 init
+range process 0 4 init never
 crossings 1
 ==
 0 none: an initialiser puts Null in the place of its Range
@@ -254,8 +423,8 @@ end
 step 0 1
 =>
 separated domains=2
-domain rest objects=1 processes=1 reads=-
-domain init objects=3 processes=1 reads=-
+domain rest objects=1 processes=1 reads=- writes=- view=-
+domain init objects=3 processes=1 reads=- writes=- view=-
 ==
 10 none: a process that sleeps on another domain's
 coyotos 1
@@ -277,8 +446,8 @@ domain b endpoint 0
 end
 step 0 1
 =>
-crossing endpoint 0 0 process:0 b -> a
-sleeper 1 b -> a
+crossing endpoint 0 0 process:0 b -> a never
+sleeper 1 b -> a never
 crossings 2
 ==
 0 none: lines that say nothing, a name twice, and a listing of version 2
@@ -295,8 +464,9 @@ reads a a
 end
 =>
 separated domains=2
-domain rest objects=1 processes=0 reads=-
-domain a objects=2 processes=0 reads=-
+domain rest objects=1 processes=0 reads=- writes=- view=-
+domain a objects=2 processes=0 reads=- writes=- view=-
+unused reads a a
 ==
 9 none
 coyotos 1
@@ -450,6 +620,102 @@ reads rest nobody
 =>
 refused 4 NoDomain
 ==
+9 none
+coyotos 1
+machine 1 2 0 0 0 0
+end
+writes rest
+=>
+refused 4 WrongWords
+==
+9 none
+coyotos 1
+machine 1 2 0 0 0 0
+end
+writes 1a nobody
+=>
+refused 4 BadName
+==
+9 none
+coyotos 1
+machine 1 2 0 0 0 0
+end
+writes nobody B
+=>
+refused 4 NoDomain
+==
+9 none
+coyotos 1
+machine 1 2 0 0 0 0
+end
+writes rest B
+=>
+refused 4 BadName
+==
+9 none
+coyotos 1
+machine 1 2 0 0 0 0
+end
+writes rest nobody
+=>
+refused 4 NoDomain
+==
+9 none
+coyotos 1
+machine 1 2 0 0 0 0
+end
+halts
+=>
+refused 4 WrongWords
+==
+9 none
+coyotos 1
+machine 1 2 0 0 0 0
+end
+halts rest rest
+=>
+refused 4 WrongWords
+==
+9 none
+coyotos 1
+machine 1 2 0 0 0 0
+end
+halts A
+=>
+refused 4 BadName
+==
+9 none
+coyotos 1
+machine 1 2 0 0 0 0
+end
+halts nobody
+=>
+refused 4 NoDomain
+==
+9 none
+coyotos 1
+machine 1 2 0 0 0 0
+end
+logs
+=>
+refused 4 WrongWords
+==
+9 none
+coyotos 1
+machine 1 2 0 0 0 0
+end
+logs 1a
+=>
+refused 4 BadName
+==
+9 none
+coyotos 1
+machine 1 2 0 0 0 0
+end
+logs nobody
+=>
+refused 4 NoDomain
+==
 9 none: there are 64, and a kind comes later
 coyotos 1
 machine 1 64 0 0 0 0
@@ -560,10 +826,12 @@ reads rest a
 end
 =>
 separated domains=4
-domain rest objects=1 processes=0 reads=a
-domain a objects=0 processes=0 reads=-
-domain b objects=0 processes=0 reads=-
-domain c objects=1 processes=0 reads=b
+domain rest objects=1 processes=0 reads=a writes=- view=a
+domain a objects=0 processes=0 reads=- writes=- view=-
+domain b objects=0 processes=0 reads=- writes=- view=-
+domain c objects=1 processes=0 reads=b writes=- view=b
+unused reads rest a
+unused reads c b
 ==
 9 none: a name that is not listed, before the kind
 coyotos 1

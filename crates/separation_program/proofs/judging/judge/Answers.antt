@@ -43,13 +43,13 @@ pub returns-in-Ok-clause-fetched : goal.returns-in-Ok-clause-fetched
 returns-in-Ok-clause-fetched g c =
     let e = c.replay-replayed.ensures in
     let given = sym c.counts_or_exit.ensures ∙ c.in-Ok.is in
-    slots-ended g.T.Translator c.args.machine.now c.replay-replayed.new.machine c.args.machine.now.objects.harts
+    slots-ended g.T.Translator c.args.machine.now c.replay-replayed.new.machine c.args.policy.now c.args.machine.now.objects.harts
     c.args.lines.now c.replay-replayed.new.lines _ _ e.replays.events _ _ c.replay-replayed.result e.replays.ran e.replays.follows _ c.tell.result c.in-Ok._counts given c.tell.ensures.fetched
 
 pub returns-in-Err-clause-fetched : goal.returns-in-Err-clause-fetched
 returns-in-Err-clause-fetched g c =
     let e = c.replay-replayed.ensures in
     let given = sym c.counts_or_exit.ensures ∙ c.in-Err.is in
-    slots-stopped g.T.Translator c.args.machine.now c.replay-replayed.new.machine c.args.machine.now.objects.harts
+    slots-stopped g.T.Translator c.args.machine.now c.replay-replayed.new.machine c.args.policy.now c.args.machine.now.objects.harts
     c.args.lines.now c.replay-replayed.new.lines _ _ e.replays.events _ _ c.replay-replayed.result e.replays.ran e.replays.follows g.K.Sink.taken g.K.Sink.faults _ _ _ c.in-Err.exit c.replay-replayed.result refl
     (no_write (state_of c.args.machine.now) _ _ e.replays.events c.replay-replayed.result e.replays.text) given c.conclude.ensures

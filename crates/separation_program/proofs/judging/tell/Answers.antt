@@ -1,31 +1,41 @@
-use Rattle.std.proofs.Common.{◌∙◌, ap, sym, subst}
+use Rattle.std.proofs.Common.{◌∙◌, ◌*◌, sym, subst, ap, arith, map}
 use Rattle.kernel_core.specs.State.{state_of}
-use Rattle.courses.specs.Ending.{Ends, Output}
-use Rattle.courses.specs.declared.exit.Exit.TheVariants.{Done, Crossings}
-use Rattle.courses.proofs.Lasts.{ends-own}
-use Rattle.separation_program.specs.Text.{told_by}
-use Rattle.separation_program.proofs.Verdicts.{found-none, found-some, told-found, told-given}
+use Rattle.courses.specs.Ending.{Ends, Fetches, Output}
+use Rattle.separation_check.specs.Crossings.{meant_crossing}
+use Rattle.separation_program.specs.Slots.{gpts_of}
+use Rattle.separation_program.proofs.Verdicts.{none-found, passed-some, some-found, told-none, told-some}
 use Rattle.separation_program.proofs.judging.tell.Goals as goal
+
+pub returns-then-not-is_empty-clause-ends : goal.returns-then-not-is_empty-clause-ends
+returns-then-not-is_empty-clause-ends g c = λ other.
+    let items = c.as_slice-crossing.result.now in
+    let means = ap (map meant_crossing) c.as_slice-crossing.ensures.value ∙ c.in-Ok.ensures.means in
+    let some = some-found items (sym c.is_empty.ensures ∙ c.if-not-is_empty.true) in
+    subst (λ (o : Output). Ends (g.K.Sink.taken c.args.output.now) (g.K.Sink.taken c.tell_crossings.new.output) (g.K.Sink.faults c.args.output.now) (g.K.Sink.faults c.tell_crossings.new.output) c.tell_crossings.result o)
+    (told-some c.args.policy.now (state_of c.args.machine.now) items means some) c.tell_crossings.ensures
+
+pub returns-then-not-is_empty-clause-fetched : goal.returns-then-not-is_empty-clause-fetched
+returns-then-not-is_empty-clause-fetched g c =
+    let items = c.as_slice-crossing.result.now in
+    let means = ap (map meant_crossing) c.as_slice-crossing.ensures.value ∙ c.in-Ok.ensures.means in
+    let some = some-found items (sym c.is_empty.ensures ∙ c.if-not-is_empty.true) in
+    let counted = c.in-Ok.ensures.counted in
+    subst (Fetches c.args.fetches.now c.crossings.new.fetches c.tell_crossings.result)
+    (passed-some c.args.policy.now (state_of c.args.machine.now) items (16 * gpts_of (state_of c.args.machine.now)) means some)
+    (record { whole = λ given. counted; most = omega (arith, counted) })
 
 pub returns-clause-ends : goal.returns-clause-ends
 returns-clause-ends g c = λ other.
-    subst (λ (o : Output). Ends (g.K.Sink.taken c.args.output.now) (g.K.Sink.taken c.tell_found.new.output) (g.K.Sink.faults c.args.output.now) (g.K.Sink.faults c.tell_found.new.output) c.tell_found.result o)
-    (ap (told_by c.args.policy.now c.in-Ok.found.marks) c.as_slice.ensures.value
-    ∙ told-found c.args.policy.now (state_of c.args.machine.now) c.in-Ok.found.marks c.in-Ok.found.crossings.items _ c.in-Ok.ensures.marks c.in-Ok.ensures.means)
-    c.tell_found.ensures
-
-pub returns-clause-unwritten : goal.returns-clause-unwritten
-returns-clause-unwritten g c = λ memory.
-    let own = ends-own _ _ _ _ _ _ c.tell_found.ensures _ (λ cut. cc) memory in
-    absurd (told-given c.args.policy.now c.in-Ok.found.marks c.as_slice.result.now own)
+    let items = c.as_slice-crossing.result.now in
+    let means = ap (map meant_crossing) c.as_slice-crossing.ensures.value ∙ c.in-Ok.ensures.means in
+    let none = none-found items (sym c.is_empty.ensures ∙ c.if-not-is_empty.false) in
+    subst (λ (o : Output). Ends (g.K.Sink.taken c.args.output.now) (g.K.Sink.taken c.tell_held.new.output) (g.K.Sink.faults c.args.output.now) (g.K.Sink.faults c.tell_held.new.output) c.tell_held.result o)
+    (told-none c.args.policy.now (state_of c.args.machine.now) c.in-Ok.found.marks items c.in-Ok.ensures.marks means none) (c.tell_held.ensures.ends other)
 
 pub returns-clause-tells : goal.returns-clause-tells
-returns-clause-tells g c = record {
-  separated = λ is.
-      let own = ends-own _ _ _ _ _ _ c.tell_found.ensures Done (λ cut. cc) is in
-      let none = sym c.as_slice.ensures.value ∙ found-none c.args.policy.now (state_of c.args.machine.now) c.in-Ok.found.marks c.as_slice.result.now own in
-      record { holds = c.in-Ok.ensures.exactly.0 none; integrity = c.in-Ok.ensures.integrity none; noninterference = c.in-Ok.ensures.noninterference none };
-  violated = λ is holds.
-      let own = ends-own _ _ _ _ _ _ c.tell_found.ensures Crossings (λ cut. cc) is in
-      found-some c.args.policy.now (state_of c.args.machine.now) c.in-Ok.found.marks c.as_slice.result.now own (c.as_slice.ensures.value ∙ c.in-Ok.ensures.exactly.1 holds);
-}
+returns-clause-tells g c =
+    let none = sym c.as_slice-crossing.ensures.value ∙ none-found c.as_slice-crossing.result.now (sym c.is_empty.ensures ∙ c.if-not-is_empty.false) in
+    record {
+      separated = λ is. record { holds = c.in-Ok.ensures.exactly.0 none; integrity = c.in-Ok.ensures.integrity none; noninterference = c.in-Ok.ensures.noninterference none };
+      violated = λ is. absurd (c.tell_held.ensures.crossed is);
+    }

@@ -15,14 +15,14 @@ unfolding domain_text
 returns-in_err-put_counts g c =
     go_on _ _ _ _ _ _ _ _ _ _ c.in_ok-put_text.ensures (go_on _ _ _ _ _ _ _ _ _ _ c.in_ok-put_name.ensures (stop _ _ _ _ _ _ _ _ c.from_residual-in_err-put_counts.ensures.0 c.in_err-put_counts.ensures))
 
-pub returns-in_err-put_read : goal.returns-in_err-put_read
+pub returns-in_err-put_relations : goal.returns-in_err-put_relations
 unfolding domain_text
-returns-in_err-put_read g c =
+returns-in_err-put_relations g c =
     go_on _ _ _ _ _ _ _ _ _ _ c.in_ok-put_text.ensures (go_on _ _ _ _ _ _ _ _ _ _ c.in_ok-put_name.ensures (go_on _ _ _ _ _ _ _ _ _ _ c.in_ok-put_counts.ensures
-    (stop _ _ _ _ _ _ _ _ c.from_residual-in_err-put_read.ensures.0 c.in_err-put_read.ensures)))
+    (stop _ _ _ _ _ _ _ _ c.from_residual-in_err-put_relations.ensures.0 c.in_err-put_relations.ensures)))
 
 pub returns : goal.returns
 unfolding domain_text
 returns g c =
     go_on _ _ _ _ _ _ _ _ _ _ c.in_ok-put_text.ensures (go_on _ _ _ _ _ _ _ _ _ _ c.in_ok-put_name.ensures (go_on _ _ _ _ _ _ _ _ _ _ c.in_ok-put_counts.ensures
-    (go_on _ _ _ _ _ _ _ _ _ _ c.in_ok-put_read.ensures c.put_marks.ensures)))
+    (go_on _ _ _ _ _ _ _ _ _ _ c.in_ok-put_relations.ensures c.put_marks.ensures)))

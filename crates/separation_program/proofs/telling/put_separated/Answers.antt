@@ -7,6 +7,14 @@ pub returns-in_err-put_count : goal.returns-in_err-put_count
 unfolding separated_by
 returns-in_err-put_count g c = stop _ _ _ _ _ _ _ _ c.from_residual.ensures.0 (same _ _ _ _ _ _ _ (ap count_text c.len.ensures.value) c.in_err-put_count.ensures)
 
+pub returns-in_err-put_domains : goal.returns-in_err-put_domains
+unfolding separated_by
+returns-in_err-put_domains g c =
+    go_on _ _ _ _ _ _ _ _ _ _ (same _ _ _ _ _ _ _ (ap count_text c.len.ensures.value) c.in_ok-put_count.ensures)
+    (stop _ _ _ _ _ _ _ _ c.from_residual-in_err-put_domains.ensures.0 c.in_err-put_domains.ensures)
+
 pub returns : goal.returns
 unfolding separated_by
-returns g c = go_on _ _ _ _ _ _ _ _ _ _ (same _ _ _ _ _ _ _ (ap count_text c.len.ensures.value) c.in_ok-put_count.ensures) c.put_domains.ensures
+returns g c =
+    go_on _ _ _ _ _ _ _ _ _ _ (same _ _ _ _ _ _ _ (ap count_text c.len.ensures.value) c.in_ok-put_count.ensures)
+    (go_on _ _ _ _ _ _ _ _ _ _ c.in_ok-put_domains.ensures c.put_unused.ensures)

@@ -1,0 +1,7 @@
+use Rattle.std.proofs.Common.{◌≡◌, ◌++◌}
+use Rattle.separation_check.specs.Crossings.{all_below, listed}
+use Rattle.policy_lines.specs.Permission.{halting_by}
+use Rattle.policy_lines.proofs.listing.push_halting.Given as goal
+
+abbrev pub invariant-each : goal.invariant-each
+invariant-each l = l.lines.items ≡ l.fn.lines.items ++ all_below (λ a. listed (halting_by l.policy a)) l.a

@@ -1,0 +1,13 @@
+//! The laws of lines. The calls change nothing: what they say holds for all policies and systems.
+ghost use Rattle.policy_lines.specs.Least.{MoreLaw, ThinnedLaw};
+
+/// Where a policy holds with some lines and no other, it holds with these among others.
+pub fn more_law()
+    ensures { MoreLaw }
+{}
+
+/// Of lines with which a policy holds, those that are left where each is tried by itself, and left out if the others do,
+/// are enough, and no fewer are.
+pub fn thinned_law()
+    ensures { ThinnedLaw }
+{}

@@ -1,0 +1,6 @@
+use Rattle.separation_policy.specs.Closure.{AreReachedBelow}
+use Rattle.separation_policy.specs.Policy.{may_read}
+use Rattle.separation_policy.proofs.closure.read_rows.Given as goal
+
+abbrev pub invariant-each : goal.invariant-each
+invariant-each l = AreReachedBelow (may_read l.policy) l.a 0 l.rows.items

@@ -1,0 +1,11 @@
+use Rattle.coy_io.proofs.Texts.{go_on, stop}
+use Rattle.separation_program.specs.Text.{unused_text}
+use Rattle.separation_program.proofs.unused.put_one_unused.Goals as goal
+
+pub returns-in_err-put_text : goal.returns-in_err-put_text
+unfolding unused_text
+returns-in_err-put_text g c = stop _ _ _ _ _ _ _ _ c.from_residual.ensures.0 c.in_err-put_text.ensures
+
+pub returns : goal.returns
+unfolding unused_text
+returns g c = go_on _ _ _ _ _ _ _ _ _ _ c.in_ok-put_text.ensures c.put_line.ensures

@@ -1,0 +1,19 @@
+//! The law of what is written. The call does nothing: what it says holds for every input.
+ghost use Rattle.separation_program.specs.Written.{JudgedLaw};
+
+use run_places::{places_at_start, places_of_runs};
+use separation_check::{all_law, exactly_law};
+use separation_policy::{integrity, noninterference};
+
+/// What the program writes of an input is so of the machine that its listing boots, set up by its schedule, and of the policy
+/// of its lines, whether the program was run on it or not.
+pub fn judged_law()
+    ensures { JudgedLaw }
+{
+    places_at_start();
+    places_of_runs();
+    exactly_law();
+    all_law();
+    integrity();
+    noninterference();
+}
