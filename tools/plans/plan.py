@@ -40,7 +40,7 @@ class Plan:
     def __init__(self, folder, directory):
         self.folder, self.directory = folder, directory
         self.at, self.harts, self.gpts, self.cappages = 0, 1, 0, 0
-        self.things, self.lines, self.domains, self.reads = {}, {}, {}, []
+        self.things, self.lines, self.domains, self.allowed = {}, {}, {}, []
         self.question = []
         self.pages, self.named_pages, self.schedule, self.mapped = [], [], [], []
         self.page_count = 0
@@ -270,14 +270,27 @@ class Plan:
                 made.members.append(found)
         self.wait("names", name)
 
-    def reads_line(self, words):
-        need(len(words) == 2, "reads A B")
+    def allow(self, line, words, form):
+        """A line of the policy that stands in it as it does in the plan, behind the domains."""
+        need(len(words) + 1 == len(form.split()), form)
 
         def name():
             for word in words:
                 need(word in self.domains or word == "rest", f"no domain was named {word}")
-            self.reads.append(words)
+            self.allowed.append(" ".join([line, *words]))
         self.wait("names", name)
+
+    def reads_line(self, words):
+        self.allow("reads", words, "reads A B")
+
+    def writes_line(self, words):
+        self.allow("writes", words, "writes A B")
+
+    def halts_line(self, words):
+        self.allow("halts", words, "halts A")
+
+    def logs_line(self, words):
+        self.allow("logs", words, "logs A")
 
     # -- what is asked of all its runs
 

@@ -32,11 +32,10 @@ def lines_of(plan, domain, words):
 
 
 def named_lines(plan):
-    """The lines of all domains, and of who reads whom."""
+    """The lines of all domains, and of what each may do."""
     for domain in plan.domains.values():
         yield from lines_of(plan, domain, f"domain {domain.name}")
-    for one, other in plan.reads:
-        yield f"reads {one} {other}"
+    yield from plan.allowed
 
 
 def policy_lines(plan, name):

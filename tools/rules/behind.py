@@ -18,7 +18,7 @@ def unknown(fault, word, forms, what):
     elif word in EVENTS:
         seen = "a schedule stands behind a line `end` of the policy" if what == "a policy" else \
             "a line of a schedule stands in no cut"
-    elif word in ("left", "domains", "domain", "reads"):
+    elif word in ("left", "domains", "domain", "reads", "writes", "halts", "logs"):
         seen = "a cut is for `confine`, and a policy for `separation`"
     elif word in ("may", "never", "ever", "depth", "states"):
         seen = "a question is for `explore`"
@@ -78,9 +78,11 @@ def cut(words, terms):
 class Policy:
     """The domains of a policy, as its lines make them."""
 
-    FORMS = {"domains": "domains A [B ..]", "domain": "domain NAME KIND N [M]", "reads": "reads A B", "end": "end"}
-    LEAST = {"domains": 2, "domain": 4, "reads": 3, "end": 1}
-    MOST = {"domains": 256, "domain": 5, "reads": 3, "end": 1}  # a line of 512 bytes has no more words than 256
+    FORMS = {"domains": "domains A [B ..]", "domain": "domain NAME KIND N [M]", "reads": "reads A B", "writes": "writes A B",
+             "halts": "halts A", "logs": "logs A", "end": "end"}
+    LEAST = {"domains": 2, "domain": 4, "reads": 3, "writes": 3, "halts": 2, "logs": 2, "end": 1}
+    # A line of 512 bytes has no more words than 256.
+    MOST = {"domains": 256, "domain": 5, "reads": 3, "writes": 3, "halts": 2, "logs": 2, "end": 1}
 
     def __init__(self, terms):
         self.terms, self.domains, self.assigned, self.first, self.are_listed = terms, ["rest"], [], None, False
@@ -94,7 +96,7 @@ class Policy:
             self.listed(words)
         elif words[0] == "domain":
             self.domain(words, number)
-        elif words[0] == "reads":
+        elif words[0] in ("reads", "writes", "halts", "logs"):
             for word in words[1:]:
                 self.known(word)
         self.first = self.first or number

@@ -152,4 +152,4 @@ def behind_of(data):
     if any(first in QUESTION and first not in Policy.FORMS for first in firsts):
         return "question"
     first = firsts[0] if firsts else ""
-    return "cut" if first == "left" else "policy" if first in ("domains", "domain", "reads") else "schedule"
+    return "cut" if first == "left" else "policy" if first in ("domains", "domain", "reads", "writes", "halts", "logs") else "schedule"

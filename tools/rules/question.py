@@ -6,7 +6,8 @@ from rules.statement import count_words, kind_of
 from rules.words import Refused, decimal_of, end_of, hexadecimal_of
 
 FORMS = {"may": "may step H [N], may run H, may tick H", "never": "never ATOM [and ATOM ..]", "ever": "ever ATOM [and ATOM ..]",
-         "count": "count ATOM [and ATOM ..]", "domain": "domain NAME KIND N [M]", "reads": "reads A B", "depth": "depth N",
+         "count": "count ATOM [and ATOM ..]", "domain": "domain NAME KIND N [M]", "reads": "reads A B", "writes": "writes A B",
+         "halts": "halts A", "logs": "logs A", "depth": "depth N",
          "states": "states N", "end": "end"}
 CHOICES = {"step": "may step H [N]", "run": "may run H", "tick": "may tick H"}
 # Each atom with its form, and with the least and the largest number of its words.
@@ -27,7 +28,7 @@ class Question:
 
     def line(self, words, number):
         """Judges a line; whether the question ends here."""
-        if words[0] in ("domain", "reads"):
+        if words[0] in ("domain", "reads", "writes", "halts", "logs"):
             self.policy.line(words, number)
         elif words[0] == "may":
             self.choice(words)

@@ -15,7 +15,8 @@ FORMS = {
     "count": "count KIND N C", "end": "end", "name": "name NAME KIND N", "region": "region N S COUNT PAGE [LETTERS]"}
 LATER = ("name", "region")
 PLACES = {"step": "the schedule", "tick": "the schedule", "round": "the schedule", "left": "a cut",
-          "domains": "a policy", "domain": "a policy", "reads": "a policy", "may": "a question", "never": "a question", "ever": "a question",
+          "domains": "a policy", "domain": "a policy", "reads": "a policy", "writes": "a policy", "halts": "a policy",
+          "logs": "a policy", "may": "a question", "never": "a question", "ever": "a question",
           "depth": "a question", "states": "a question"}
 STATE_ONLY = ("state", "hart", "ready", "sleepers", "halted", "map", "records")
 

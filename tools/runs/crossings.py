@@ -6,7 +6,9 @@ from runs.records import LIMITS
 SLOTS = ("its space", "its schedule", "its fault handler")
 COUNTED = {"page": "page", "cappage": "cappage", "gpt": "gpt", "endpoint": "endpoint", "entry": "endpoint",
            "process": "process"}
-FIRST = ("crossing ", "crossings ", "range ", "sleeper ", "separated ")
+FIRST = ("crossing ", "crossings ", "range ", "halts ", "logs ", "sleeper ", "separated ")
+REMEDIES = {"reads": "; a line `reads {} {}` would allow it", "writes": "; a line `writes {} {}` would allow it",
+            "never": "; no line would allow it"}
 
 
 def is_told(line):
@@ -36,22 +38,26 @@ def capability(word, programs):
 
 
 def crossing(words, programs):
-    """`crossing KIND N PLACE CAP NAME -> NAME`."""
-    kind, number, at, cap, one, _, other = words[1:]
+    """`crossing KIND N PLACE CAP NAME -> NAME REMEDY`."""
+    kind, number, at, cap, one, _, other, remedy = words[1:]
     held = programs.names["given"].get(int(number), {}).get(int(at) - 3) if kind == "process" else None
     told = f"{one} -> {other}: {programs.called(kind, int(number))} has {capability(cap, programs)} in {place(kind, int(at))}"
-    return told + (f", which the plan gave it as {held}" if held else "")
+    return told + (f", which the plan gave it as {held}" if held else "") + REMEDIES.get(remedy, "").format(one, other)
 
 
 def told(line, programs):
     """A line of `separation` in words; what says enough stands as it is."""
     words = line.split()
-    if words[0] == "crossing" and len(words) == 8:
+    if words[0] == "crossing" and len(words) == 9:
         return crossing(words, programs)
-    if words[0] == "range" and len(words) == 5:
+    if words[0] == "range" and len(words) == 6:
         return f"{words[4]}: {programs.called(words[1], int(words[2]))} holds a Range in " \
             f"{place(words[1], int(words[3]))}, and may make capabilities to anything"
-    if words[0] == "sleeper" and len(words) == 5:
+    if words[0] in ("halts", "logs") and len(words) == 5:
+        held, may = ("SysCtl", "halt the machine") if words[0] == "halts" else ("KernLog", "write to the log")
+        return f"{words[4]}: {programs.called(words[1], int(words[2]))} holds {held} in " \
+            f"{place(words[1], int(words[3]))}, and may {may}; a line `{words[0]} {words[4]}` would allow it"
+    if words[0] == "sleeper" and len(words) == 6:
         return f"{words[2]} -> {words[4]}: {programs.called('process', int(words[1]))} waits until a process of " \
             f"{words[4]} receives"
     if words[0] == "crossings":
@@ -60,13 +66,16 @@ def told(line, programs):
         return f"the policy holds, of {words[1].split('=')[1]} domains"
     if words[0] == "domain":
         return domain(words)
+    if words[0] == "unused" and len(words) == 4:
+        return f"the policy would hold as well without its line `{' '.join(words[1:])}`"
     return line
 
 
 def domain(words):
-    """`domain NAME objects=N processes=P reads=A,B [halts] [logs]`."""
-    objects, processes, reads = (word.split("=")[1] for word in words[2:5])
-    told = f"{words[1]}: {objects} objects, {processes} of them processes; reads " + \
-        ("nobody" if reads == "-" else reads.replace(",", ", "))
+    """`domain NAME objects=N processes=P reads=A,B writes=C view=A,B,C [halts] [logs]`."""
+    objects, processes, *related = (word.split("=")[1] for word in words[2:7])
+    told = f"{words[1]}: {objects} objects, {processes} of them processes" + "".join(
+        f"; {what} " + ("nobody" if names == "-" else names.replace(",", ", "))
+        for what, names in zip(("reads", "writes", "may learn of"), related))
     shared = {"halts": "may halt the machine", "logs": "may write to the log"}
-    return told + "".join(f"; {shared[word]}" for word in words[5:])
+    return told + "".join(f"; {shared[word]}" for word in words[7:])
