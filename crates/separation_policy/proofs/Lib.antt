@@ -5,3 +5,4 @@ pub mod Cuts
 pub mod Closing
 pub mod Allowing
 pub mod Theorems
+mod Ranges

@@ -8,6 +8,7 @@
 mod closure;
 mod domain_set;
 mod laws;
+mod object_domains;
 mod policy;
 mod rights;
 mod stage;

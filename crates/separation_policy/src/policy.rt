@@ -1,10 +1,10 @@
 //! Policies: domains, their objects, and what each may do.
-ghost use Rattle.std.specs.Prelude.{ℕ, ◌≡◌, ◌≤◌, ◌<◌, ◌+◌, ◌==◌, ◌++◌, ◌∷◌, [], bytes_eq, codes, length, map, position, IfOk, IfSome, OnOk, OnErr};
-ghost use Rattle.std.specs.List.{list_any};
-ghost use Rattle.separation_policy.specs.Policy.{assigned_of, domain_at, domain_of, domain_or_rest, may_halt, may_log, may_write};
-ghost use Rattle.separation_policy.specs.Making.{domain_with, first_policy, with_first, with_listed, with_made, assigned_between, with_assigned, with_halting, with_logging, with_reading, with_writing, with_rights, rights_at, domain_allowed, domain_bare, bare_policy, domain_called, is_other, is_assigned_other, count_in, object_count, process_count};
+ghost use Rattle.std.specs.Prelude.{ℕ, ◌≡◌, ◌≤◌, ◌<◌, ◌+◌, ◌==◌, ◌++◌, ◌∷◌, [], bytes_eq, codes, length, map, position, IfOk, IfSome, MatchOption, OnOk, OnErr};
+ghost use Rattle.separation_policy.specs.Policy.{assigned_of, domain_at, domain_of, may_halt, may_log, may_write};
+ghost use Rattle.separation_policy.specs.Making.{domain_with, first_policy, with_first, with_listed, with_made, with_assigned, with_halting, with_logging, with_reading, with_writing, with_rights, rights_at, domain_allowed, domain_bare, bare_policy, domain_called, is_assigned_other, object_count, process_count};
 
 use crate::domain_set::DomainSet;
+use crate::object_domains::ObjectDomains;
 use crate::rights::Rights;
 use crate::stage::Stage;
 use cap_format::{CapKind, OutOfMemory};
@@ -35,11 +35,11 @@ pub struct Domain {
 #[derive(Drop)]
 pub struct Policy {
     domains: Vec<Domain>,
-    pages: Vec<Option<u8>>,
-    cappages: Vec<Option<u8>>,
-    gpts: Vec<Option<u8>>,
-    processes: Vec<Option<u8>>,
-    endpoints: Vec<Option<u8>>,
+    pages: ObjectDomains,
+    cappages: ObjectDomains,
+    gpts: ObjectDomains,
+    processes: ObjectDomains,
+    endpoints: ObjectDomains,
     stage: Stage,
 }
 
@@ -50,11 +50,11 @@ impl Model for Policy {
 
     ghost Value = { PolicyValue };
 
-    ghost view = { λ p. policy_of p.domains.items (assigned_by_kind p.pages.items p.cappages.items p.gpts.items
-        p.processes.items p.endpoints.items) p.stage };
+    ghost view = { λ p. policy_of p.domains.items (assigned_by_kind p.pages p.cappages p.gpts p.processes p.endpoints)
+        p.stage };
 
-    ghost invariant = { λ p. IsPolicy (policy_of p.domains.items (assigned_by_kind p.pages.items p.cappages.items
-        p.gpts.items p.processes.items p.endpoints.items) p.stage) };
+    ghost invariant = { λ p. IsPolicy (policy_of p.domains.items (assigned_by_kind p.pages p.cappages p.gpts p.processes
+        p.endpoints) p.stage) };
 }
 
 impl Policy {
@@ -66,11 +66,11 @@ impl Policy {
         domains.push(domain_with(rest_name()))?;
         Ok(Policy {
             domains,
-            pages: vec![in alloc; None; sizes.pages as usize]?,
-            cappages: vec![in alloc; None; sizes.cappages as usize]?,
-            gpts: vec![in alloc; None; sizes.gpts as usize]?,
-            processes: vec![in alloc; None; sizes.processes as usize]?,
-            endpoints: vec![in alloc; None; sizes.endpoints as usize]?,
+            pages: ObjectDomains::new(alloc, sizes.pages)?,
+            cappages: ObjectDomains::new(alloc, sizes.cappages)?,
+            gpts: ObjectDomains::new(alloc, sizes.gpts)?,
+            processes: ObjectDomains::new(alloc, sizes.processes)?,
+            endpoints: ObjectDomains::new(alloc, sizes.endpoints)?,
             stage: Stage::Empty,
         })
     }
@@ -152,18 +152,18 @@ impl Policy {
         }
     }
 
-    /// The domains that were assigned to the objects of a kind, none where it is no kind of objects.
-    fn of(&self, kind: CapKind) -> &[Option<u8>]
-        ensures value { result.now ≡ assigned_of self.now.assigned kind }
-        ensures small { length result.now < 65536 }
+    /// The objects of a kind with their domains, where it is a kind of objects.
+    fn of(&self, kind: CapKind) -> Option<&ObjectDomains>
+        ensures { MatchOption result (assigned_of self.now.assigned kind ≡ [])
+            (λ objects. objects.now ≡ assigned_of self.now.assigned kind) }
     {
         match kind {
-            CapKind::Page => &self.pages,
-            CapKind::CapPage => &self.cappages,
-            CapKind::Gpt => &self.gpts,
-            CapKind::Process => &self.processes,
-            CapKind::Endpoint => &self.endpoints,
-            _ => &[],
+            CapKind::Page => Some(&self.pages),
+            CapKind::CapPage => Some(&self.cappages),
+            CapKind::Gpt => Some(&self.gpts),
+            CapKind::Process => Some(&self.processes),
+            CapKind::Endpoint => Some(&self.endpoints),
+            _ => None,
         }
     }
 
@@ -172,15 +172,18 @@ impl Policy {
         ensures value { result ≡ length (assigned_of self.now.assigned kind) }
         ensures small { result < 65536 }
     {
-        self.of(kind).len()
+        match self.of(kind) {
+            Some(objects) => objects.len(),
+            None => 0,
+        }
     }
 
     /// The domain of an object. One that the machine hasn't is of `rest`.
     pub fn domain_of(&self, kind: CapKind, number: u32) -> u8
         ensures { result ≡ domain_of self.now kind number }
     {
-        match self.of(kind).get(number as usize) {
-            Some(assigned) => assigned_or_rest(*assigned),
+        match self.of(kind) {
+            Some(objects) => objects.domain_of(number),
             None => 0,
         }
     }
@@ -191,27 +194,28 @@ impl Policy {
         requires there { to < length (assigned_of self.now.assigned kind) }
         ensures { result ≡ is_assigned_other self.now kind from to domain }
     {
-        self.of(kind)[from as usize..=to as usize]
-            .iter()
-            .any(|assigned| is_other(domain, *assigned))
+        match self.of(kind) {
+            Some(objects) => objects.is_assigned_other(from, to, domain),
+            None => false,
+        }
     }
 
     /// How many objects are of a domain.
     pub fn object_count(&self, domain: u8) -> u32
         ensures { result ≡ object_count self.now domain }
     {
-        count_in(domain, &self.pages)
-            + count_in(domain, &self.cappages)
-            + count_in(domain, &self.gpts)
-            + count_in(domain, &self.processes)
-            + count_in(domain, &self.endpoints)
+        self.pages.count_in(domain)
+            + self.cappages.count_in(domain)
+            + self.gpts.count_in(domain)
+            + self.processes.count_in(domain)
+            + self.endpoints.count_in(domain)
     }
 
     /// How many processes are of a domain.
     pub fn process_count(&self, domain: u8) -> u32
         ensures { result ≡ process_count self.now domain }
     {
-        count_in(domain, &self.processes)
+        self.processes.count_in(domain)
     }
 
     /// Makes a domain behind the others, which has no object and may do nothing beyond itself. The policy is as before where memory is
@@ -246,14 +250,12 @@ impl Policy {
         ensures { self.new ≡ with_assigned self.old kind from to domain }
     {
         self.stage = self.stage.begun();
-        let first = from as usize;
-        let last = to as usize;
         match kind {
-            CapKind::Page => put_between(&mut self.pages, first, last, domain),
-            CapKind::CapPage => put_between(&mut self.cappages, first, last, domain),
-            CapKind::Gpt => put_between(&mut self.gpts, first, last, domain),
-            CapKind::Process => put_between(&mut self.processes, first, last, domain),
-            CapKind::Endpoint => put_between(&mut self.endpoints, first, last, domain),
+            CapKind::Page => self.pages.assign(from, to, domain),
+            CapKind::CapPage => self.cappages.assign(from, to, domain),
+            CapKind::Gpt => self.gpts.assign(from, to, domain),
+            CapKind::Process => self.processes.assign(from, to, domain),
+            CapKind::Endpoint => self.endpoints.assign(from, to, domain),
             _ => {}
         }
     }
@@ -388,45 +390,4 @@ fn rest_name() -> Name
         Some(name) => name,
         None => unreachable!(),
     }
-}
-
-/// The domain that was assigned, or `rest`.
-fn assigned_or_rest(assigned: Option<u8>) -> u8
-    ensures { result ≡ domain_or_rest assigned }
-{
-    match assigned {
-        Some(domain) => domain,
-        None => 0,
-    }
-}
-
-/// Whether another domain than this was assigned.
-fn is_other(domain: u8, assigned: Option<u8>) -> bool
-    ensures { result ≡ is_other domain assigned }
-{
-    match assigned {
-        Some(other) => other != domain,
-        None => false,
-    }
-}
-
-/// How many of these objects are of a domain.
-fn count_in(domain: u8, assigned: &[Option<u8>]) -> u32
-    requires { length assigned.now < 65536 }
-    ensures value { result ≡ count_in domain assigned.now }
-    ensures most { result ≤ length assigned.now }
-{
-    assigned
-        .iter()
-        .filter(|one| assigned_or_rest(**one) == domain)
-        .count() as u32
-}
-
-/// Assigns a domain to the elements from `from` to `to`.
-fn put_between(assigned: &mut [Option<u8>], from: usize, to: usize, domain: u8)
-    requires order { from ≤ to }
-    requires there { to < length assigned.old }
-    ensures { assigned.new ≡ assigned_between assigned.old from to domain }
-{
-    assigned[from..=to].fill(Some(domain));
 }
