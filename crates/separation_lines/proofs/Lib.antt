@@ -1,1 +1,10 @@
 mod Listing
+mod Steps
+mod Saying
+mod Names
+mod Kept
+mod ReadBack
+mod Ending
+mod Bare
+mod Beside
+mod Replaced
