@@ -1,5 +1,5 @@
 -- What is decided of a policy is whether it holds.
-use Rattle.std.proofs.Common.{◌≡◌, ◌↔◌, ◌==◌, true, List, [], ◌∷◌, length, refl, sym, ap, subst, arith, eqb-true}
+use Rattle.std.proofs.Common.{◌≡◌, ◌↔◌, true, List, sym, subst}
 use Rattle.std.specs.List.{Contains}
 use Rattle.confine_check.specs.Full.{AreFull}
 use Rattle.confinement.specs.Acts.{system_of}
@@ -11,16 +11,14 @@ use Rattle.separation_check.proofs.Exactly.{crossings-exactly}
 use Rattle.policy_lines.specs.declared.permission.Permission.{Permission}
 use Rattle.policy_lines.specs.Permission.{channels_of, without}
 use Rattle.policy_lines.specs.Unused.{holds_in, unused_in, IsUnused}
-use Rattle.policy_lines.proofs.Filtered.{passed-is, is-passed}
-
-empty : {A : Type 0} (xs : List A) → (length xs == 0) ≡ true → xs ≡ []
-empty [] e = refl
-empty (x ∷ xs) e = let none = eqb-true (length (x ∷ xs)) 0 e in absurd (omega (arith, none))
-
-none : {A : Type 0} (xs : List A) → xs ≡ [] → (length xs == 0) ≡ true
-none xs e = ap (λ ys. length ys == 0) e
+use Rattle.policy_lines.specs.Needed.{IsExact}
+use Rattle.policy_lines.proofs.Filtered.{empty, none, passed-is, is-passed}
 
 module _ {T : Type 0} (m : MachineValue T) (full : AreFull m.objects) where
+  -- so it is of every policy
+  pub exact : IsExact (state_of m)
+  exact policy = crossings-exactly policy m.objects m.queues full
+
   pub decided : (policy : PolicyValue) → (holds_in policy (state_of m) ≡ true) ↔ PolicyHolds policy (system_of (state_of m))
   decided policy =
       let law = crossings-exactly policy m.objects m.queues full in

@@ -1,5 +1,5 @@
--- The elements of a list that pass a test, as a loop finds them.
-use Rattle.std.proofs.Common.{◌≡◌, ℕ, zero, suc, ◌+◌, ◌<◌, ◌⊎◌, inl, inr, ◌++◌, Bool, true, false, cond, List, [], ◌∷◌, take, length, get_or, refl, sym, ◌∙◌, ap, ap₂, subst, arith}
+-- The elements of a list that pass a test, as a loop finds them, and lists that have none.
+use Rattle.std.proofs.Common.{◌≡◌, ℕ, zero, suc, ◌+◌, ◌<◌, ◌==◌, ◌⊎◌, inl, inr, ◌++◌, Bool, true, false, cond, List, [], ◌∷◌, take, length, get_or, refl, sym, ◌∙◌, ap, ap₂, subst, arith, eqb-true}
 use Rattle.std.specs.List.{Contains, filter}
 use Rattle.std.proofs.lemmas.List.Elements.{filter_more}
 use Rattle.separation_check.proofs.Listed.{first-element, later-element}
@@ -13,13 +13,22 @@ module _ {A : Type 0} (p : A → Bool) where
       ∙ (ap₂ (λ (ys : List A) (b : Bool). ys ++ cond b (x ∷ []) []) so_far is
       ∙ (ap (λ (y : A). filter p (take i xs) ++ cond (p y) (y ∷ []) []) same ∙ sym (filter_more p xs i x there)))
 
+-- ---- lists without elements
+
+pub empty : {A : Type 0} (xs : List A) → (length xs == 0) ≡ true → xs ≡ []
+empty [] e = refl
+empty (x ∷ xs) e = let none = eqb-true (length (x ∷ xs)) 0 e in absurd (omega (arith, none))
+
+pub none : {A : Type 0} (xs : List A) → xs ≡ [] → (length xs == 0) ≡ true
+none xs e = ap (λ ys. length ys == 0) e
+
 -- ---- elements
 
 module _ {A : Type 0} where
-  of-none : (x : A) → Contains [] x → ⊥
+  pub of-none : (x : A) → Contains [] x → ⊥
   of-none x at = omega (arith, at.1)
 
-  one-of : (y : A) (xs : List A) (x : A) → Contains (y ∷ xs) x → (y ≡ x) ⊎ Contains xs x
+  pub one-of : (y : A) (xs : List A) (x : A) → Contains (y ∷ xs) x → (y ≡ x) ⊎ Contains xs x
   one-of y xs x (zero, lt, is) = inl is
   one-of y xs x (suc k, lt, is) = inr (k, omega (arith, lt), is)
 
@@ -38,6 +47,11 @@ module _ {A : Type 0} where
   kept-later : (b : Bool) (y : A) (xs : List A) (x : A) → Contains xs x → Contains (cond b (y ∷ xs) xs) x
   kept-later true y xs x at = later-element y xs x at
   kept-later false y xs x at = at
+
+-- a list of which nothing is an element is empty
+pub without-any : {A : Type 0} (xs : List A) → ((x : A) → Contains xs x → ⊥) → xs ≡ []
+without-any [] nothing = refl
+without-any (x ∷ xs) nothing = absurd (nothing x (first-element x xs))
 
 module _ {A : Type 0} (p : A → Bool) where
   -- an element of those that pass is one that passes

@@ -1,8 +1,15 @@
 pub mod Made
 mod Restoring
 mod Filtered
+mod Results
 mod Deciding
 mod More
 mod With
 mod Thinned
 mod Leaving
+mod Named
+mod Among
+mod Crossed
+mod Needing
+mod Adding
+mod Telling

@@ -1,6 +1,6 @@
 -- The lines of a policy are between domains that were made.
-use Rattle.std.proofs.Common.{ℕ, zero, suc, ◌<◌, ◌≤◌, Bool, true, false, if◌then◌else◌, List, [], length, Some, None, sym, subst, arith}
-use Rattle.std.specs.List.{All}
+use Rattle.std.proofs.Common.{ℕ, zero, suc, ◌<◌, ◌≤◌, Bool, true, false, cond, if◌then◌else◌, List, [], ◌∷◌, length, Some, None, sym, subst, arith}
+use Rattle.std.specs.List.{All, Contains}
 use Rattle.std.proofs.lemmas.List.Elements.{All-append}
 use Rattle.separation_policy.specs.Policy.{PolicyValue, may_read, may_write, may_halt, may_log}
 use Rattle.separation_check.specs.Crossings.{all_below, listed}
@@ -12,16 +12,25 @@ use Rattle.policy_lines.specs.Permission.{domain_of_line, IsMade, channel_by, ch
 -- ---- elements
 
 module _ {A : Type 0} (P : A → Type 0) where
-  all-none : All P []
+  pub all-none : All P []
   all-none k d lt = absurd (omega (arith, lt))
 
+  pub all-one : (x : A) → P x → All P (listed (Some x))
+  all-one x is zero d lt = is
+  all-one x is (suc k) d lt = absurd (omega (arith, lt))
+
   all-listed : (b : Bool) (x : A) → P x → All P (listed (if b then Some x else None))
-  all-listed true x is = one
-    where
-      one : All P (listed (Some x))
-      one zero d lt = is
-      one (suc k) d lt = absurd (omega (arith, lt))
+  all-listed true x is = all-one x is
   all-listed false x is = all-none
+
+  -- of one that is there or isn't
+  pub all-if : (b : Bool) (x : A) → P x → All P (cond b (x ∷ []) [])
+  all-if true x is = all-one x is
+  all-if false x is = all-none
+
+  -- what holds of all holds of an element
+  pub all-has : (xs : List A) (x : A) → All P xs → Contains xs x → P x
+  all-has xs x all at = subst P at.2 (all at.0 x at.1)
 
   all-below : (f : ℕ → List A) (n : ℕ) → ((j : ℕ) → j < n → All P (f j)) → All P (all_below f n)
   all-below f zero each = subst (λ (xs : List A). All P xs) (none-yet f []) all-none

@@ -1,5 +1,5 @@
 -- What is left of lines that are tried one by one is enough, and no fewer are.
-use Rattle.std.proofs.Common.{◌≡◌, ◌↔◌, inl, inr, ◌++◌, Bool, true, false, if◌then◌else◌, List, [], ◌∷◌, refl, sym, ◌∙◌, subst}
+use Rattle.std.proofs.Common.{◌≡◌, ◌↔◌, ℕ, ◌+◌, ◌<◌, inl, inr, ◌++◌, Bool, true, false, not, cond, if◌then◌else◌, List, [], ◌∷◌, drop, length, get_or, refl, sym, ◌∙◌, ap, ap₂, subst, add-one, drop-cons}
 use Rattle.std.specs.List.{Contains}
 use Rattle.std.proofs.lemmas.List.{append-nil, append_assoc}
 use Rattle.std.proofs.lemmas.List.Elements.{Contains-append_left, Contains-append_right, Contains-append_cases}
@@ -74,3 +74,18 @@ module _ (Enough : List Permission → Type 0) (enough : List Permission → Boo
           → Least (thinned enough (if b then kept else kept ++ line ∷ []) rest)
       by true tells left_out stays = left_out (λ fewer one within at missing is. before fewer one (λ other there. wider kept rest line other (within other there)) at missing is)
       by false tells left_out stays = stays (keeps kept rest line tells before)
+
+-- one line is tried, as a loop goes on
+pub one-thinned : (enough : List Permission → Bool) (lines : List Permission) (i : ℕ) (line : Permission) (passes : Bool) (kept after : List Permission) → i < length lines → line ≡ get_or lines i line
+    → passes ≡ enough (kept ++ drop (i + 1) lines) → after ≡ kept ++ cond (not passes) (line ∷ []) []
+    → thinned enough after (drop (i + 1) lines) ≡ thinned enough kept (drop i lines)
+one-thinned enough lines i line passes kept after there same is more =
+    ap (λ (ks : List Permission). thinned enough ks (drop (i + 1) lines)) (more ∙ (either passes ∙ ap (λ (b : Bool). if b then kept else kept ++ line ∷ []) is))
+    ∙ ap (λ (ls : List Permission). thinned enough kept ls) (sym split)
+  where
+    either : (b : Bool) → kept ++ cond (not b) (line ∷ []) [] ≡ (if b then kept else kept ++ line ∷ [])
+    either true = append-nil kept
+    either false = refl
+
+    split : drop i lines ≡ line ∷ drop (i + 1) lines
+    split = drop-cons lines i line there ∙ ap₂ (λ (l : Permission) (n : ℕ). l ∷ drop n lines) (sym same) (sym (add-one i))

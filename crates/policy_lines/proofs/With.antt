@@ -16,7 +16,7 @@ use Rattle.policy_lines.specs.declared.permission.Permission.{Permission}
 use Rattle.policy_lines.specs.declared.permission.Permission.TheVariants.{Reads, Writes, Halts, Logs}
 use Rattle.policy_lines.specs.Permission.{domain_of_line}
 use Rattle.policy_lines.specs.Least.{with_line, with_lines, only, MoreLaw}
-use Rattle.policy_lines.proofs.More.{holds-more}
+use Rattle.policy_lines.proofs.More.{AllowsAsMuch, holds-more}
 
 -- ---- domains
 
@@ -176,11 +176,11 @@ said-new policy line made =
 
 -- ---- several lines
 
-count-lines : (policy : PolicyValue) (lines : List Permission) → length (with_lines policy lines).domains ≡ length policy.domains
+pub count-lines : (policy : PolicyValue) (lines : List Permission) → length (with_lines policy lines).domains ≡ length policy.domains
 count-lines policy [] = refl
 count-lines policy (line ∷ lines) = count-lines (with_line policy line) lines ∙ count-after policy line
 
-assigned-lines : (policy : PolicyValue) (lines : List Permission) → (with_lines policy lines).assigned ≡ policy.assigned
+pub assigned-lines : (policy : PolicyValue) (lines : List Permission) → (with_lines policy lines).assigned ≡ policy.assigned
 assigned-lines policy [] = refl
 assigned-lines policy (line ∷ lines) = assigned-lines (with_line policy line) lines ∙ assigned-after policy line
 
@@ -188,7 +188,7 @@ lines-still : (policy : PolicyValue) (lines : List Permission) (other : Permissi
 lines-still policy [] other said = said
 lines-still policy (line ∷ lines) other said = lines-still (with_line policy line) lines other (said-still policy line other said)
 
-lines-say : (policy : PolicyValue) (lines : List Permission) (other : Permission) → domain_of_line other < length policy.domains → Contains lines other → says (with_lines policy lines) other ≡ true
+pub lines-say : (policy : PolicyValue) (lines : List Permission) (other : Permission) → domain_of_line other < length policy.domains → Contains lines other → says (with_lines policy lines) other ≡ true
 lines-say policy [] other made at = absurd (omega (arith, at.1))
 lines-say policy (line ∷ lines) other made (zero, lt, is) =
     lines-still (with_line policy line) lines other
@@ -197,7 +197,7 @@ lines-say policy (line ∷ lines) other made (suc k, lt, is) =
     let same = count-after policy line in
     lines-say (with_line policy line) lines other (omega (arith, same, made)) (k, omega (arith, lt), is)
 
-lines-are : (policy : PolicyValue) (lines : List Permission) (other : Permission) → says (with_lines policy lines) other ≡ true
+pub lines-are : (policy : PolicyValue) (lines : List Permission) (other : Permission) → says (with_lines policy lines) other ≡ true
     → (Contains lines other × (domain_of_line other < length policy.domains)) ⊎ (says policy other ≡ true)
 lines-are policy [] other said = inr said
 lines-are policy (line ∷ lines) other said = first (lines-are (with_line policy line) lines other said)
@@ -213,7 +213,7 @@ lines-are policy (line ∷ lines) other said = first (lines-are (with_line polic
 
 -- ---- these lines and no other
 
-bare-says : (policy : PolicyValue) (other : Permission) → says (bare_policy policy) other ≡ true → ⊥
+pub bare-says : (policy : PolicyValue) (other : Permission) → says (bare_policy policy) other ≡ true → ⊥
 bare-says policy other said =
     bare-none (domain_at policy (domain_of_line other)) other
     (ap (λ (d : Domain). domain_may d other) (sym (get_or-map domain_bare policy.domains (domain_of_line other) unmade)) ∙ said)
@@ -231,15 +231,17 @@ module _ (policy : PolicyValue) (fewer lines : List Permission) (within : (line 
       let parts = and_parts (nat_lt b (length (only policy fewer).domains)) (says (only policy fewer) (Writes a b)) may in
       both _ _ (ap (λ (n : ℕ). nat_lt b n) (count-lines (bare_policy policy) lines ∙ sym (count-lines (bare_policy policy) fewer)) ∙ parts.0) (says-more (Writes a b) parts.1)
 
+  pub allows-more : AllowsAsMuch (only policy fewer) (only policy lines)
+  allows-more = record {
+    assigned = assigned-lines (bare_policy policy) lines ∙ sym (assigned-lines (bare_policy policy) fewer);
+    reads = λ a b may. says-more (Reads a b) may;
+    writes = writes-more;
+    halts = λ a may. says-more (Halts a) may;
+    logs = λ a may. says-more (Logs a) may;
+  }
+
   pub more-holds : (w : System) → PolicyHolds (only policy fewer) w → PolicyHolds (only policy lines) w
-  more-holds w holds =
-      holds-more (only policy fewer) (only policy lines) (record {
-        assigned = assigned-lines (bare_policy policy) lines ∙ sym (assigned-lines (bare_policy policy) fewer);
-        reads = λ a b may. says-more (Reads a b) may;
-        writes = writes-more;
-        halts = λ a may. says-more (Halts a) may;
-        logs = λ a may. says-more (Logs a) may;
-      }) w holds
+  more-holds w holds = holds-more (only policy fewer) (only policy lines) allows-more w holds
 
 -- the law of more lines
 pub more_law : MoreLaw

@@ -1,3 +1,4 @@
 pub mod Permission
 pub mod Unused
 pub mod Least
+pub mod Needed

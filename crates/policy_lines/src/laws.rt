@@ -1,5 +1,8 @@
 //! The laws of lines. The calls change nothing: what they say holds for all policies and systems.
 ghost use Rattle.policy_lines.specs.Least.{MoreLaw, ThinnedLaw};
+ghost use Rattle.policy_lines.specs.Needed.{NeededLaw};
+
+use separation_check::{all_law, remedy_law};
 
 /// Where a policy holds with some lines and no other, it holds with these among others.
 pub fn more_law()
@@ -11,3 +14,12 @@ pub fn more_law()
 pub fn thinned_law()
     ensures { ThinnedLaw }
 {}
+
+/// What is found of a policy and a state whose objects have all of their places are the least lines with which it holds, or
+/// all that no line allows.
+pub fn needed_law()
+    ensures { NeededLaw }
+{
+    all_law();
+    remedy_law();
+}

@@ -1,5 +1,5 @@
 //! The lines that a policy has.
-ghost use Rattle.std.specs.Prelude.{◌≡◌, ◌++◌, length, IfOk, OnOk};
+ghost use Rattle.std.specs.Prelude.{◌≡◌, ◌<◌, ◌++◌, ◌∷◌, [], cond, length, slice_index_or, IfOk, OnOk};
 ghost use Rattle.std.specs.List.{All};
 ghost use Rattle.separation_check.specs.Crossings.{all_below, listed};
 ghost use Rattle.policy_lines.specs.Permission.{IsMade, reading_by, writing_by, channel_by, channels_from, channels_by, channels_of, halting_by, logging_by, lines_of};
@@ -43,12 +43,34 @@ fn channel_by(policy: &Policy, writes: bool, a: u8, b: u8) -> Option<Permission>
     }
 }
 
+/// The line at a place of a list.
+pub(crate) fn line_at(lines: &[Permission], place: usize) -> Permission
+    requires { place < length lines.now }
+    ensures { result ≡ slice_index_or lines.now place result }
+{
+    lines[place]
+}
+
 /// Puts down a line, if there is one.
-fn push(lines: &mut Vec<Permission>, line: Option<Permission>) -> Result<(), OutOfMemory>
+pub(crate) fn push(lines: &mut Vec<Permission>, line: Option<Permission>) -> Result<(), OutOfMemory>
     ensures { OnOk result (lines.new.items ≡ lines.old.items ++ listed line) }
 {
     if let Some(one) = line {
         lines.push(one)?;
+    }
+    Ok(())
+}
+
+/// Puts down a line, if it is one of those that are looked for.
+pub(crate) fn push_if(
+    found: &mut Vec<Permission>,
+    line: Permission,
+    yes: bool,
+) -> Result<(), OutOfMemory>
+    ensures { OnOk result (found.new.items ≡ found.old.items ++ cond yes (line ∷ []) []) }
+{
+    if yes {
+        found.push(line)?;
     }
     Ok(())
 }

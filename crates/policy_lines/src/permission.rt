@@ -1,6 +1,7 @@
 //! Lines of a policy as values.
-ghost use Rattle.std.specs.Prelude.{◌≡◌, length};
+ghost use Rattle.std.specs.Prelude.{◌≡◌, length, Some};
 ghost use Rattle.policy_lines.specs.Permission.{IsMade, domain_of_line, rights_without};
+ghost use Rattle.policy_lines.specs.Needed.{if_made, is_made};
 
 use separation_policy::{Policy, Rights};
 
@@ -28,6 +29,32 @@ impl Permission {
             Permission::Halts { domain } => domain,
             Permission::Logs { domain } => domain,
         }
+    }
+
+    /// Whether its domains are among so many.
+    fn is_made(self, count: usize) -> bool
+        ensures { result ≡ is_made count self }
+    {
+        match self {
+            Permission::Reads { reader, read } => {
+                (reader as usize) < count && (read as usize) < count
+            }
+            Permission::Writes { writer, written } => {
+                (writer as usize) < count && (written as usize) < count
+            }
+            Permission::Halts { domain } => (domain as usize) < count,
+            Permission::Logs { domain } => (domain as usize) < count,
+        }
+    }
+
+    /// The line itself, if they are.
+    pub(crate) fn if_made(self, count: usize) -> Option<Permission>
+        ensures { result ≡ if_made count (Some self) }
+    {
+        if self.is_made(count) {
+            return Some(self);
+        }
+        None
     }
 
     /// What a domain may do without this line.

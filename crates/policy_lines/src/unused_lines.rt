@@ -1,5 +1,5 @@
 //! Lines of a policy that it doesn't need.
-ghost use Rattle.std.specs.Prelude.{◌≡◌, ◌≤◌, ◌+◌, ◌*◌, ◌↔◌, ◌++◌, ◌∷◌, [], cond, length, IfOk, OnOk};
+ghost use Rattle.std.specs.Prelude.{◌≡◌, ◌≤◌, ◌+◌, ◌*◌, ◌↔◌, length, IfOk};
 ghost use Rattle.std.specs.List.{Contains};
 ghost use Rattle.cap_format.specs.declared.kind.CapKind.TheVariants.{Gpt};
 ghost use Rattle.object_store.specs.Store.{size_of};
@@ -9,7 +9,7 @@ ghost use Rattle.policy_lines.specs.Permission.{channels_of};
 ghost use Rattle.policy_lines.specs.Unused.{IsUnused, unused_in};
 
 use crate::holding::holds_without;
-use crate::listing::channels;
+use crate::listing::{channels, push_if};
 use crate::permission::Permission;
 use cap_format::OutOfMemory;
 use confine_check::tell_full;
@@ -64,14 +64,4 @@ fn all_unused<T: Translator, L: Ledger>(
         push_if(&mut found, line, yes)?;
     }
     Ok(found)
-}
-
-/// Puts down a line, if it is one of those that are looked for.
-fn push_if(found: &mut Vec<Permission>, line: Permission, yes: bool) -> Result<(), OutOfMemory>
-    ensures { OnOk result (found.new.items ≡ found.old.items ++ cond yes (line ∷ []) []) }
-{
-    if yes {
-        found.push(line)?;
-    }
-    Ok(())
 }
