@@ -3,6 +3,8 @@
 //! It joins what keeps states, what judges them, what finds quiet steps and what searches. Nothing here knows of lines and
 //! texts.
 
+mod asked;
+mod begun;
 mod choosing;
 mod exploring;
 mod limits;

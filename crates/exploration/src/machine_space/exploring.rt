@@ -6,16 +6,16 @@ ghost use Rattle.exploration.specs.Laws.{IsAnswerTo};
 ghost use Rattle.exploration.specs.Shown.{shown_of, told_path};
 
 use crate::asking;
+use crate::machine_space::asked::{Asked, asked_of};
+use crate::machine_space::begun::{Begun, begun_of};
 use crate::machine_space::limits::limits_of;
 use crate::machine_space::looks::Looks;
 use crate::machine_space::space::MachineSpace;
-use crate::machine_space::watching::watched_in;
 use crate::question::{Asks, Choice, Question};
 use breadth_first::{Explored, Watcher, explore};
 use cap_format::OutOfMemory;
 use machine_state::{Machine, Records};
-use separation_policy::{Closure, Policy};
-use state_parts::States;
+use separation_policy::Policy;
 use std::alloc::Global;
 use std::sync::ledger::Ledger;
 use steps::Steps;
@@ -64,14 +64,12 @@ fn space_of<'a, L: Ledger>(
     ensures policy { IfOk result (λ space. space.policy ≡ policy.now) }
     ensures start { IfOk result (λ space. space.start ≡ state_of machine) }
 {
-    let closure = Closure::new(alloc, policy)?;
-    let watched = watched_in(alloc, question.properties())?;
-    let choices = question.choices(alloc)?;
-    if choices.len() > u32::MAX as usize {
-        return Err(OutOfMemory);
-    }
-    let mut states = States::new(alloc, machine, fetches)?;
-    let start = states.key(fetches)?;
+    let Asked {
+        closure,
+        choices,
+        watched,
+    } = asked_of(alloc, question, policy)?;
+    let Begun { states, start } = begun_of(alloc, machine, fetches)?;
     Ok(MachineSpace {
         alloc,
         question,

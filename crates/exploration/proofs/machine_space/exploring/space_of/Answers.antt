@@ -1,7 +1,0 @@
-use Rattle.std.proofs.Common.{◌∙◌, ap}
-use Rattle.machine_state.specs.Machine.{MachineValue}
-use Rattle.machine_state.specs.State.{state_of}
-use Rattle.exploration.proofs.machine_space.exploring.space_of.Goals as goal
-
-pub returns-clause-start : goal.returns-clause-start
-returns-clause-start g c = c.in_ok-start.ensures.means ∙ ap (λ (m : MachineValue (Unit {0})). state_of m) c.in_ok-states.ensures.machine
