@@ -72,7 +72,8 @@ fn run_and_flush<S: Source, W: Write + Drop, L: Ledger>(
         GoesOutFor S.held S.faults W.contents input.old input.new output.old output.new result
         (bytes_for separation (asked_by words)) (out separation words) (sure separation words) }
 
-    // The theorem: where it told that the policy holds, so it does of the state that was judged.
+    // The theorem: where it told that the policy holds, so it does of the state that was judged; and where it told the least
+    // lines, these are, and it holds with them.
     ensures judges { Judges (map string_bytes words.now) (S.held input.old) result }
 
     // How much of the input is read, and to which words Usage is answered.

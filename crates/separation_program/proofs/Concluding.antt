@@ -29,52 +29,53 @@ use Rattle.courses.specs.declared.exit.Exit.TheVariants.{OutOfMemory, ReadFault,
 use Rattle.courses.proofs.Concluding.{Did, takes-wanting}
 use Rattle.courses.proofs.Rests.{TellsAlone, at, follows-rest, run-ends, stop-ended, stop-stopped}
 use Rattle.separation_program.specs.Judged.{HasJudged, judged_at, judged_of, judging}
-use Rattle.separation_program.specs.Text.{told}
+use Rattle.separation_program.specs.Text.{told_for}
+use Rattle.separation_program.specs.declared.words.Aim.{Aim}
 use Rattle.courses.proofs.Lasts.{finished-form, finished-given, memory-or}
 use Rattle.separation_program.proofs.Verdicts.{told-finished}
 
 -- where lines of a schedule are not all read, no more is told than why
-tells : (policy : PolicyValue) (start : State) (events : List Event)
-    → TellsAlone (λ all. ends_in (judging policy start all)) (at events AtEnd) (λ line fault. at events (AtFault line fault)) (at events AtLimit) ScheduleRefused
-tells policy start events = record {
+tells : (aim : Aim) (policy : PolicyValue) (start : State) (events : List Event)
+    → TellsAlone (λ all. ends_in (judging (told_for aim) policy start all)) (at events AtEnd) (λ line fault. at events (AtFault line fault)) (at events AtLimit) ScheduleRefused
+tells aim policy start events = record {
   refusal = λ line fault. refl;
   limit = refl;
   given = λ line fault. record { read = λ bad. cc; write = λ bad. cc; memory = λ bad. cc };
   form = λ line fault bad. cc;
   unfinished = λ line fault. refl;
-  going = told-finished policy (run_state start events);
+  going = told-finished policy (run_state start events) aim;
   records = refl;
   touches = refl;
 }
 
 module _ {S K : Type 0} (held : S → Option (List ℕ)) (source_faults : S → ℕ) (taken : K → Option (List ℕ)) (sink_faults : K → ℕ)
-    (policy : PolicyValue) (start : State) (harts : ℕ) (lines lines' : Reader) (old new : S) (mid out : K) (exit : Exit)
+    (aim : Aim) (policy : PolicyValue) (start : State) (harts : ℕ) (lines lines' : Reader) (old new : S) (mid out : K) (exit : Exit)
     (events : List Event) (answer : Replayed) (follows : Follows (run_answer start) harts lines lines' (held old) (held new) events answer) where
   abbrev sched : List Part → Scheduled
   sched parts = scheduled harts lines.number parts
 
   abbrev Did_here : Type 0
-  Did_here = Did held source_faults taken sink_faults lines lines' old new mid mid 0 0 cached (λ parts. ends_in (judging policy start (sched parts))) out 0 exit
+  Did_here = Did held source_faults taken sink_faults lines lines' old new mid mid 0 0 cached (λ parts. ends_in (judging (told_for aim) policy start (sched parts))) out 0 exit
 
   follows-at : (a : Replayed) → answer ≡ a → Follows (run_answer start) harts lines lines' (held old) (held new) events a
   follows-at a is = subst (Follows (run_answer start) harts lines lines' (held old) (held new) events) is follows
 
   -- all lines were read, and what they lead to was judged
   pub judge-ended : (counts : Counts) → replay_exit answer ≡ Ok counts → source_faults new ≡ source_faults old → IsAtEnd (held new) → (s : State) → s ≡ run_state start events
-      → (exit ≢ OutOfMemory → EndsIn taken sink_faults mid out exit (told policy s)) → (exit ≡ OutOfMemory → out ≡ mid) → Did_here
+      → (exit ≢ OutOfMemory → EndsIn taken sink_faults mid out exit (told_for aim policy s)) → (exit ≡ OutOfMemory → out ≡ mid) → Did_here
   judge-ended counts given quiet end s state e unwritten = by (memory-or exit)
     where
       by : (exit ≡ OutOfMemory) ⊎ (exit ≢ OutOfMemory) → Did_here
       by (inl same) =
-          takes-wanting held source_faults taken sink_faults lines lines' old new mid mid 0 0 cached (λ parts. ends_in (judging policy start (sched parts))) out 0 exit same (unwritten same) refl
+          takes-wanting held source_faults taken sink_faults lines lines' old new mid mid 0 0 cached (λ parts. ends_in (judging (told_for aim) policy start (sched parts))) out 0 exit same (unwritten same) refl
           (record { unwritten = refl; unspent = refl; quiet = quiet; still = refl })
       by (inr other) =
-          let finished = told-finished policy (run_state start events) in
-          stop-ended held source_faults taken sink_faults lines lines' old new mid 0 cached refl (scheduled harts lines.number) (λ all. ends_in (judging policy start all))
-          (at events AtEnd) (λ line fault. at events (AtFault line fault)) (at events AtLimit) ScheduleRefused (tells policy start events) stops.End
+          let finished = told-finished policy (run_state start events) aim in
+          stop-ended held source_faults taken sink_faults lines lines' old new mid 0 cached refl (scheduled harts lines.number) (λ all. ends_in (judging (told_for aim) policy start all))
+          (at events AtEnd) (λ line fault. at events (AtFault line fault)) (at events AtLimit) ScheduleRefused (tells aim policy start events) stops.End
           (follows-rest (λ (all : Scheduled). counts_of start all.events) harts lines lines' (held old) (held new) events counts stops.End (follows-at (answers.Ended counts) (run-ends counts answer given)))
           (λ bad. cc) (λ other. quiet) out 0 exit refl (finished-given _ finished) (finished-form _ finished)
-          (subst (λ t. EndsIn taken sink_faults mid out exit (told policy t)) state (e other)) (record { whole = λ given. refl; most = omega arith }) (λ same. end)
+          (subst (λ t. EndsIn taken sink_faults mid out exit (told_for aim policy t)) state (e other)) (record { whole = λ given. refl; most = omega arith }) (λ same. end)
 
   -- they were not, and why was told
   pub judge-stopped : (given : Exit) (a : Replayed) → answer ≡ a → replay_exit a ≡ Err given → (answer ≢ answers.WriteFault)
@@ -82,20 +83,20 @@ module _ {S K : Type 0} (held : S → Option (List ℕ)) (source_faults : S → 
       → Concludes taken sink_faults given mid out exit → Did_here
   judge-stopped given (answers.Ended counts) is at_exit whole rose quiet c = cc
   judge-stopped given (answers.Refused line fault) is at_exit whole rose quiet c =
-      stop-stopped held source_faults taken sink_faults lines lines' old new mid 0 cached refl (scheduled harts lines.number) (λ all. ends_in (judging policy start all))
-      (at events AtEnd) (λ line fault. at events (AtFault line fault)) (at events AtLimit) ScheduleRefused (tells policy start events) (stops.Refused line fault)
+      stop-stopped held source_faults taken sink_faults lines lines' old new mid 0 cached refl (scheduled harts lines.number) (λ all. ends_in (judging (told_for aim) policy start all))
+      (at events AtEnd) (λ line fault. at events (AtFault line fault)) (at events AtLimit) ScheduleRefused (tells aim policy start events) (stops.Refused line fault)
       (follows-rest (λ (all : Scheduled). counts_of start all.events) harts lines lines' (held old) (held new) events (events_alone 0) (stops.Refused line fault) (follows-at (answers.Refused line fault) is))
       (λ bad. cc) (λ other. quiet (λ same. let bad = sym is ∙ same in cc)) out 0 exit
       given (let same : ScheduleRefused line fault ≡ given = cc in ap Some same) c refl
   judge-stopped given answers.TooLong is at_exit whole rose quiet c =
-      stop-stopped held source_faults taken sink_faults lines lines' old new mid 0 cached refl (scheduled harts lines.number) (λ all. ends_in (judging policy start all))
-      (at events AtEnd) (λ line fault. at events (AtFault line fault)) (at events AtLimit) ScheduleRefused (tells policy start events) stops.TooLong
+      stop-stopped held source_faults taken sink_faults lines lines' old new mid 0 cached refl (scheduled harts lines.number) (λ all. ends_in (judging (told_for aim) policy start all))
+      (at events AtEnd) (λ line fault. at events (AtFault line fault)) (at events AtLimit) ScheduleRefused (tells aim policy start events) stops.TooLong
       (follows-rest (λ (all : Scheduled). counts_of start all.events) harts lines lines' (held old) (held new) events (events_alone 0) stops.TooLong (follows-at answers.TooLong is))
       (λ bad. cc) (λ other. quiet (λ same. let bad = sym is ∙ same in cc)) out 0 exit
       given (let same : TooLong ≡ given = cc in ap Some same) c refl
   judge-stopped given answers.ReadFault is at_exit whole rose quiet c =
-      stop-stopped held source_faults taken sink_faults lines lines' old new mid 0 cached refl (scheduled harts lines.number) (λ all. ends_in (judging policy start all))
-      (at events AtEnd) (λ line fault. at events (AtFault line fault)) (at events AtLimit) ScheduleRefused (tells policy start events) stops.ReadFault
+      stop-stopped held source_faults taken sink_faults lines lines' old new mid 0 cached refl (scheduled harts lines.number) (λ all. ends_in (judging (told_for aim) policy start all))
+      (at events AtEnd) (λ line fault. at events (AtFault line fault)) (at events AtLimit) ScheduleRefused (tells aim policy start events) stops.ReadFault
       (follows-rest (λ (all : Scheduled). counts_of start all.events) harts lines lines' (held old) (held new) events (events_alone 0) stops.ReadFault (follows-at answers.ReadFault is))
       (λ same. rose is) (λ other. absurd (other refl)) out 0 exit
       given (let same : ReadFault ≡ given = cc in ap Some same) c refl

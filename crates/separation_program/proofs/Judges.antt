@@ -27,6 +27,8 @@ use Rattle.courses.proofs.Concluding.{came-unread, came-wanting, takes-concluded
 use Rattle.courses.proofs.Rests.{TellsAlone, failed-unread, stop-stopped}
 use Rattle.separation_program.specs.Judged.{judging, stated_output}
 use Rattle.separation_program.specs.Stated.{AreStated, IsOver, PastEnd, RefusedAt, Stated, States, StatesRest, stated, untaken_exit}
+use Rattle.separation_program.specs.Text.{told_for}
+use Rattle.separation_program.specs.declared.words.Aim.{Aim}
 use Rattle.separation_program.proofs.Verdicts.{told-finished}
 
 -- what a call did with a sink it did with what that is known to be
@@ -44,14 +46,14 @@ on_stated first last n k (Some parts) None P all is = absurd all
 on_stated first last n k (Some parts) (Some rest) P all is = subst P (sym all) is
 
 -- where lines of a policy are not all read, no more is told than why
-tells : (s : State) (harts : ℕ) (policy : PolicyValue) (n : ℕ) → TellsAlone (λ st. ends_in (stated_output s harts st)) (States policy n []) RefusedAt PastEnd PolicyRefused
-tells s harts policy n = record {
+tells : (aim : Aim) (s : State) (harts : ℕ) (policy : PolicyValue) (n : ℕ) → TellsAlone (λ st. ends_in (stated_output (told_for aim) s harts st)) (States policy n []) RefusedAt PastEnd PolicyRefused
+tells aim s harts policy n = record {
   refusal = λ line fault. refl;
   limit = refl;
   given = λ line fault. record { read = λ bad. cc; write = λ bad. cc; memory = λ bad. cc };
   form = λ line fault bad. cc;
   unfinished = λ line fault. refl;
-  going = subst (λ (all : Scheduled). is_finished (judging policy s all).exit ≡ true) (sym (scheduled-end harts n)) (told-finished policy (run_state s []));
+  going = subst (λ (all : Scheduled). is_finished (judging (told_for aim) policy s all).exit ≡ true) (sym (scheduled-end harts n)) (told-finished policy (run_state s []) aim);
   records = refl;
   touches = refl;
 }
@@ -70,9 +72,9 @@ policy-open given stops.TooLong at = let same : TooLong ≡ given = cc in subst 
 policy-open given stops.ReadFault at = let same : ReadFault ≡ given = cc in subst (λ e. is_finished e ≡ false) same refl
 
 module _ {S K : Type 0} (held : S → Option (List ℕ)) (source_faults : S → ℕ) (taken : K → Option (List ℕ)) (sink_faults : K → ℕ)
-    (first policy : PolicyValue) (s : State) (harts : ℕ) (old new : Reader) (source source' : S) where
+    (aim : Aim) (first policy : PolicyValue) (s : State) (harts : ℕ) (old new : Reader) (source source' : S) where
   abbrev here : List Part → Course
-  here parts = ends_in (stated_output s harts (stated first old.number parts))
+  here parts = ends_in (stated_output (told_for aim) s harts (stated first old.number parts))
 
   -- the policy was not read to its end, and why was told
   pub policy-stopped : (out out' : K) (exit : Exit) (given : Exit) (stop : Stop Untaken) → StatesRest first policy old new (held source) (held source') stop
@@ -80,28 +82,28 @@ module _ {S K : Type 0} (held : S → Option (List ℕ)) (source_faults : S → 
       → Concludes taken sink_faults given out out' exit → TakesLines held source_faults taken sink_faults old new source source' out out' 0 0 exit cached here
   policy-stopped out out' exit given stops.End r at rose quiet c = cc
   policy-stopped out out' exit given (stops.Refused line (Refused fault)) r at rose quiet c =
-      stop-stopped held source_faults taken sink_faults old new source source' out 0 cached refl (stated first old.number) (λ st. ends_in (stated_output s harts st))
-      (States first 0 []) RefusedAt PastEnd PolicyRefused (tells s harts first 0) (stops.Refused line fault) r (λ bad. cc) (λ other. quiet (λ bad. cc)) out' 0 exit
+      stop-stopped held source_faults taken sink_faults old new source source' out 0 cached refl (stated first old.number) (λ st. ends_in (stated_output (told_for aim) s harts st))
+      (States first 0 []) RefusedAt PastEnd PolicyRefused (tells aim s harts first 0) (stops.Refused line fault) r (λ bad. cc) (λ other. quiet (λ bad. cc)) out' 0 exit
       given (let same : PolicyRefused line fault ≡ given = cc in ap Some same) c refl
   policy-stopped out out' exit given (stops.Refused line OutOfMemory) r at rose quiet c =
       takes-concluded held source_faults taken sink_faults old new source source' out out 0 0 cached here out' 0 exit given
       (came-wanting (let same : given ≡ exits.OutOfMemory = cc in same) (record { unwritten = refl; unspent = refl; quiet = quiet (λ bad. cc); still = refl })) c refl
   policy-stopped out out' exit given stops.TooLong r at rose quiet c =
-      stop-stopped held source_faults taken sink_faults old new source source' out 0 cached refl (stated first old.number) (λ st. ends_in (stated_output s harts st))
-      (States first 0 []) RefusedAt PastEnd PolicyRefused (tells s harts first 0) stops.TooLong r (λ bad. cc) (λ other. quiet (λ bad. cc)) out' 0 exit
+      stop-stopped held source_faults taken sink_faults old new source source' out 0 cached refl (stated first old.number) (λ st. ends_in (stated_output (told_for aim) s harts st))
+      (States first 0 []) RefusedAt PastEnd PolicyRefused (tells aim s harts first 0) stops.TooLong r (λ bad. cc) (λ other. quiet (λ bad. cc)) out' 0 exit
       given (let same : TooLong ≡ given = cc in ap Some same) c refl
   policy-stopped out out' exit given stops.ReadFault r at rose quiet c =
       takes-concluded held source_faults taken sink_faults old new source source' out out 0 0 cached here out' 0 exit given
       (came-unread (let same : given ≡ ReadFault = cc in same)
-      (failed-unread held source_faults taken sink_faults old new source source' out 0 cached refl (stated first old.number) (λ st. ends_in (stated_output s harts st))
+      (failed-unread held source_faults taken sink_faults old new source source' out 0 cached refl (stated first old.number) (λ st. ends_in (stated_output (told_for aim) s harts st))
       (RefusedAt (new.number + 1) NoEnd) r refl refl refl (rose refl))) c refl
 
   -- the policy was read, and the schedule behind it judged
   pub policy-over : (mid : Reader) (between : S) (out out' : K) (exit : Exit) → IsOver first policy old mid (held source) (held between) → source_faults between ≡ source_faults source
-      → TakesLines held source_faults taken sink_faults mid new between source' out out' 0 0 exit cached (λ parts. ends_in (judging policy s (scheduled harts mid.number parts)))
+      → TakesLines held source_faults taken sink_faults mid new between source' out out' 0 0 exit cached (λ parts. ends_in (judging (told_for aim) policy s (scheduled harts mid.number parts)))
       → TakesLines held source_faults taken sink_faults old new source source' out out' 0 0 exit cached here
   policy-over mid between out out' exit over quiet t = record {
-    comes = behind (λ st. ComesTo (taken out) (taken out') 0 0 exit cached (ends_in (stated_output s harts st))) t.comes;
+    comes = behind (λ st. ComesTo (taken out) (taken out') 0 0 exit cached (ends_in (stated_output (told_for aim) s harts st))) t.comes;
     end = t.end;
     sure = λ failed.
         let f = t.sure failed in
@@ -112,7 +114,7 @@ module _ {S K : Type 0} (held : S → Option (List ℕ)) (source_faults : S → 
           unfinished = f.unfinished;
           given = r.given ++ f.given;
           gives = GivesLines-trans (bytes_ahead old (held source)) (bytes_ahead mid (held between)) (bytes_ahead new (held source')) r.given f.given (r.bytes f.before) f.gives;
-          goes_on = subst (λ (st : Stated). AwaitsMore (stated_output s harts st).exit) (sym (r.makes f.given)) f.goes_on;
+          goes_on = subst (λ (st : Stated). AwaitsMore (stated_output (told_for aim) s harts st).exit) (sym (r.makes f.given)) f.goes_on;
           written = f.written;
           fetched = f.fetched;
         };

@@ -1,5 +1,6 @@
 mod Stating
 mod Verdicts
+mod Needing
 mod Concluding
 mod Judges
 mod Slots

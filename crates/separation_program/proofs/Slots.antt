@@ -36,6 +36,7 @@ use Rattle.courses.proofs.Bytes.{on_listed}
 use Rattle.courses.proofs.Rests.{run-ends}
 use Rattle.separation_program.specs.Slots.{ended_slots, input_slots, judged_slots, judging_slots, listed_slots, stated_slots, walked}
 use Rattle.separation_program.specs.Stated.{AreStated, Stated, StatesRest, stated, untaken_exit}
+use Rattle.separation_program.specs.declared.words.Aim.{Aim}
 use Rattle.separation_program.proofs.Judges.{on_stated}
 
 -- where a fault or want of memory ended a call, it read at most what was to be read
@@ -46,13 +47,17 @@ no-more f n exit is = record { whole = λ given. absurd (given.read is); most = 
 pub none-read : (f : ℕ) (exit : Exit) → Fetches f f exit 0
 none-read f exit = record { whole = λ given. omega arith; most = omega arith }
 
+-- so many were read
+pub exact-read : (f g : ℕ) (exit : Exit) (n : ℕ) → g ≡ f + n → Fetches f g exit n
+exact-read f g exit n counted = record { whole = λ given. counted; most = omega (arith, counted) }
+
 -- so many were read, and then those of what is left, or no more of them
 fetched-behind : (f g h : ℕ) (exit : Exit) (some left : ℕ) → g ≡ f + some → Fetches g h exit left → Fetches f h exit (some + left)
 fetched-behind f g h exit some left counted last =
     let most = last.most in
     record { whole = λ given. let whole = last.whole given in omega (arith, counted, whole); most = omega (arith, counted, most) }
 
-module _ {T : Type 0} (t : Translator T) (m n : MachineValue T) (policy : PolicyValue) where
+module _ {T : Type 0} (t : Translator T) (m n : MachineValue T) (slots : PolicyValue → State → ℕ) (policy : PolicyValue) where
   -- how many slots touches read from what the translator keeps at first
   abbrev count : List Touch → ℕ
   count touches = spent t.cost t.after t.without (t.kept m.translator) touches
@@ -61,13 +66,13 @@ module _ {T : Type 0} (t : Translator T) (m n : MachineValue T) (policy : Policy
   s = state_of m
 
   -- the slots of a schedule are no fewer than those of its events
-  ended-most : (events : List Event) (ending : Ending) → count (run_touches s events) ≤ ended_slots count policy s events ending
+  ended-most : (events : List Event) (ending : Ending) → count (run_touches s events) ≤ ended_slots count slots policy s events ending
   ended-most events AtEnd = omega arith
   ended-most events (AtFault line fault) = omega arith
   ended-most events AtLimit = omega arith
 
   -- and those of its first events
-  front-most : (events rest : List Event) (all : Scheduled) → all.events ≡ events ++ rest → count (run_touches s events) ≤ judging_slots count policy s all
+  front-most : (events rest : List Event) (all : Scheduled) → all.events ≡ events ++ rest → count (run_touches s events) ≤ judging_slots count slots policy s all
   front-most events rest all is =
       let more = ap count (ap (run_touches s) is ∙ run_touches-append s events rest)
       ∙ spent-append t.cost t.after t.without (t.kept m.translator) (run_touches s events) (run_touches (run_state s events) rest) in
@@ -80,21 +85,21 @@ module _ {T : Type 0} (t : Translator T) (m n : MachineValue T) (policy : Policy
     sched parts = scheduled harts lines.number parts
 
     abbrev Reads : ℕ → Exit → Scheduled → Type 0
-    Reads h exit all = Fetches f h exit (judging_slots count policy s all)
+    Reads h exit all = Fetches f h exit (judging_slots count slots policy s all)
 
     accords-at : (a : Replayed) → answer ≡ a → OnParts (ahead lines held) (λ parts. Accords (run_answer s) a events (sched parts))
     accords-at a is = (subst (Follows (run_answer s) harts lines lines' held held' events) is follows).lines
 
     -- all lines were read, and then the slots that judge the state, or no more of them
-    pub slots-ended : (h : ℕ) (exit : Exit) (counts : Counts) → replay_exit answer ≡ Ok counts → Fetches g h exit (judged_slots policy (state_of n))
+    pub slots-ended : (h : ℕ) (exit : Exit) (counts : Counts) → replay_exit answer ≡ Ok counts → Fetches g h exit (slots policy (state_of n))
         → OnParts (ahead lines held) (λ parts. Reads h exit (sched parts))
     slots-ended h exit counts given last = on_all (ahead lines held) _ _ (λ parts a. of_all (sched parts) a) (accords-at (answers.Ended counts) (run-ends counts answer given))
       where
         of_all : (all : Scheduled) → Accords (run_answer s) (answers.Ended counts) events all → Reads h exit all
         of_all all a =
-            subst (λ e. Fetches f h exit (ended_slots count policy s all.events e)) (sym (ended-at _ _ all.ending a.1))
-            (subst (λ es. Fetches f h exit (ended_slots count policy s es AtEnd)) a.0
-            (fetched-behind f g h exit _ _ ran.counted (subst (λ state. Fetches g h exit (judged_slots policy state)) ran.state last)))
+            subst (λ e. Fetches f h exit (ended_slots count slots policy s all.events e)) (sym (ended-at _ _ all.ending a.1))
+            (subst (λ es. Fetches f h exit (ended_slots count slots policy s es AtEnd)) a.0
+            (fetched-behind f g h exit _ _ ran.counted (subst (λ state. Fetches g h exit (slots policy state)) ran.state last)))
 
     -- the slots of these events were read, and they are all of them
     all-read : (exit : Exit) → Fetches f g exit (count (run_touches s events))
@@ -113,11 +118,11 @@ module _ {T : Type 0} (t : Translator T) (m n : MachineValue T) (policy : Policy
     slots-stopped taken sink_faults mid out exit given (answers.Ended counts) is written at c = cc
     slots-stopped taken sink_faults mid out exit given (answers.Refused line fault) is written at c =
         on_all (ahead lines held) _ _
-        (λ parts a. subst (λ e. Fetches f g exit (ended_slots count policy s (sched parts).events e)) (sym (refused-at line fault _ (sched parts).ending a.1))
+        (λ parts a. subst (λ e. Fetches f g exit (ended_slots count slots policy s (sched parts).events e)) (sym (refused-at line fault _ (sched parts).ending a.1))
         (subst (λ es. Fetches f g exit (count (run_touches s es))) a.0 (all-read exit))) (accords-at (answers.Refused line fault) is)
     slots-stopped taken sink_faults mid out exit given answers.TooLong is written at c =
         on_all (ahead lines held) _ _
-        (λ parts a. subst (λ e. Fetches f g exit (ended_slots count policy s (sched parts).events e)) (sym (past-at _ (sched parts).ending a.1))
+        (λ parts a. subst (λ e. Fetches f g exit (ended_slots count slots policy s (sched parts).events e)) (sym (past-at _ (sched parts).ending a.1))
         (subst (λ es. Fetches f g exit (count (run_touches s es))) a.0 (all-read exit))) (accords-at answers.TooLong is)
     slots-stopped taken sink_faults mid out exit given answers.ReadFault is written at c =
         let same : exits.ReadFault ≡ given = cc in
@@ -126,19 +131,19 @@ module _ {T : Type 0} (t : Translator T) (m n : MachineValue T) (policy : Policy
     slots-stopped taken sink_faults mid out exit given answers.WriteFault is written at c = absurd (written refl)
 
 -- lines of a policy that are not all read come to no slot
-pub slots-unstated : {O : Type 0} (count : List Touch → ℕ) (taken : O → Option (List ℕ)) (sink_faults : O → ℕ) (first policy : PolicyValue) (s : State) (harts : ℕ) (old new : Reader) (held held' : Option (List ℕ))
+pub slots-unstated : {O : Type 0} (count : List Touch → ℕ) (slots : PolicyValue → State → ℕ) (taken : O → Option (List ℕ)) (sink_faults : O → ℕ) (first policy : PolicyValue) (s : State) (harts : ℕ) (old new : Reader) (held held' : Option (List ℕ))
     (mid out : O) (exit given : Exit) (f : ℕ) (stop : Stop Untaken) → StatesRest first policy old new held held' stop → stop_exit untaken_exit stop ≡ Some given
-    → Concludes taken sink_faults given mid out exit → OnParts (ahead old held) (λ parts. Fetches f f exit (stated_slots count s harts (stated first old.number parts)))
-slots-unstated count taken sink_faults first policy s harts old new held held' mid out exit given f stops.End r at c = cc
-slots-unstated count taken sink_faults first policy s harts old new held held' mid out exit given f (stops.Refused line (Refused fault)) r at c =
-    on_all (ahead old held) _ _ (λ parts is. subst (λ (st : Stated). Fetches f f exit (stated_slots count s harts st)) (sym is) (none-read f exit)) r
-slots-unstated count taken sink_faults first policy s harts old new held held' mid out exit given f (stops.Refused line OutOfMemory) r at c =
+    → Concludes taken sink_faults given mid out exit → OnParts (ahead old held) (λ parts. Fetches f f exit (stated_slots count slots s harts (stated first old.number parts)))
+slots-unstated count slots taken sink_faults first policy s harts old new held held' mid out exit given f stops.End r at c = cc
+slots-unstated count slots taken sink_faults first policy s harts old new held held' mid out exit given f (stops.Refused line (Refused fault)) r at c =
+    on_all (ahead old held) _ _ (λ parts is. subst (λ (st : Stated). Fetches f f exit (stated_slots count slots s harts st)) (sym is) (none-read f exit)) r
+slots-unstated count slots taken sink_faults first policy s harts old new held held' mid out exit given f (stops.Refused line OutOfMemory) r at c =
     let same : exits.OutOfMemory ≡ given = cc in
     let told = subst (λ x. Concludes taken sink_faults x mid out exit) (sym same) c in
     on_each (ahead old held) _ (λ parts known. record { whole = λ given. absurd (given.memory told.0); most = omega arith })
-slots-unstated count taken sink_faults first policy s harts old new held held' mid out exit given f stops.TooLong r at c =
-    on_all (ahead old held) _ _ (λ parts is. subst (λ (st : Stated). Fetches f f exit (stated_slots count s harts st)) (sym is) (none-read f exit)) r
-slots-unstated count taken sink_faults first policy s harts old new held held' mid out exit given f stops.ReadFault r at c =
+slots-unstated count slots taken sink_faults first policy s harts old new held held' mid out exit given f stops.TooLong r at c =
+    on_all (ahead old held) _ _ (λ parts is. subst (λ (st : Stated). Fetches f f exit (stated_slots count slots s harts st)) (sym is) (none-read f exit)) r
+slots-unstated count slots taken sink_faults first policy s harts old new held held' mid out exit given f stops.ReadFault r at c =
     let same : exits.ReadFault ≡ given = cc in
     let told = subst (λ x. Concludes taken sink_faults x mid out exit) (sym same) c in
     on_each (ahead old held) _ (λ parts known. no-more f _ exit told.0)
@@ -146,46 +151,46 @@ slots-unstated count taken sink_faults first policy s harts old new held held' m
 -- ---- from the lines to the bytes
 
 -- what was read of the lines behind a listing, was read of the input
-pub slots-behind : (listing : ListingValue) (last : ℕ) (s : State) (harts : ℕ) (policy : PolicyValue) → s ≡ booted listing → harts ≡ listing.sizes.harts → policy ≡ first_policy listing.sizes
+pub slots-behind : (aim : Aim) (listing : ListingValue) (last : ℕ) (s : State) (harts : ℕ) (policy : PolicyValue) → s ≡ booted listing → harts ≡ listing.sizes.harts → policy ≡ first_policy listing.sizes
     → (held mid : Option (List ℕ)) (first middle : Reader) → middle.number ≡ last → first ≡ new_reader
     → IsListed Header (first.number + 1) (ahead first held) listing middle.number (ahead middle mid) → (f h : ℕ) (exit : Exit)
-    → OnParts (ahead middle mid) (λ parts. Fetches f h exit (stated_slots walked s harts (stated policy last parts))) → IfSome held (λ bytes. Fetches f h exit (input_slots bytes))
-slots-behind listing last s harts policy state sizes start held mid first middle number starts listed f h exit is =
-    on_listed held (ahead middle mid) listing last (λ listed. Fetches f h exit (listed_slots walked listed))
+    → OnParts (ahead middle mid) (λ parts. Fetches f h exit (stated_slots walked (judged_slots aim) s harts (stated policy last parts))) → IfSome held (λ bytes. Fetches f h exit (input_slots aim bytes))
+slots-behind aim listing last s harts policy state sizes start held mid first middle number starts listed f h exit is =
+    on_listed held (ahead middle mid) listing last (λ listed. Fetches f h exit (listed_slots walked (judged_slots aim) listed))
     (subst (λ n. IsListed Header 1 (ahead new_reader held) listing n (ahead middle mid)) number
     (subst (λ r. IsListed Header (r.number + 1) (ahead r held) listing middle.number (ahead middle mid)) starts listed))
     (on_behind (ahead middle mid) is)
   where
-    on_behind : (left : Option (List Part)) → OnParts left (λ parts. Fetches f h exit (stated_slots walked s harts (stated policy last parts)))
-        → OnParts left (λ parts. Fetches f h exit (stated_slots walked (booted listing) listing.sizes.harts (stated (first_policy listing.sizes) last parts)))
+    on_behind : (left : Option (List Part)) → OnParts left (λ parts. Fetches f h exit (stated_slots walked (judged_slots aim) s harts (stated policy last parts)))
+        → OnParts left (λ parts. Fetches f h exit (stated_slots walked (judged_slots aim) (booted listing) listing.sizes.harts (stated (first_policy listing.sizes) last parts)))
     on_behind left is = rw (state, sizes, start) at is
 
 -- a course that comes to these slots and to nothing else
-abbrev pub slots_course : Behind
-slots_course listing last rest =
-    record (ends_in (told_end exits.TooLong)) { last_fetches = stated_slots walked (booted listing) listing.sizes.harts (stated (first_policy listing.sizes) last rest) }
+abbrev pub slots_course : Aim → Behind
+slots_course aim listing last rest =
+    record (ends_in (told_end exits.TooLong)) { last_fetches = stated_slots walked (judged_slots aim) (booted listing) listing.sizes.harts (stated (first_policy listing.sizes) last rest) }
 
 -- an input of which no listing was read
-pub slots-unlisted : (held taken taken' : Option (List ℕ)) (f : ℕ) (exit : Exit) → IfSome held (λ bytes. ComesTo taken taken' f f exit cached (lines_course slots_course (parts_of bytes)))
-    → IfSome held (λ bytes. Fetches f f exit (input_slots bytes))
-slots-unlisted None taken taken' f exit comes = tt
-slots-unlisted (Some bytes) taken taken' f exit comes = by (listing_of Header 1 (parts_of bytes)) refl
+pub slots-unlisted : (aim : Aim) (held taken taken' : Option (List ℕ)) (f : ℕ) (exit : Exit) → IfSome held (λ bytes. ComesTo taken taken' f f exit cached (lines_course (slots_course aim) (parts_of bytes)))
+    → IfSome held (λ bytes. Fetches f f exit (input_slots aim bytes))
+slots-unlisted aim None taken taken' f exit comes = tt
+slots-unlisted aim (Some bytes) taken taken' f exit comes = by (listing_of Header 1 (parts_of bytes)) refl
   where
-    by : (listed : Listed) → listing_of Header 1 (parts_of bytes) ≡ listed → Fetches f f exit (listed_slots walked listed)
+    by : (listed : Listed) → listing_of Header 1 (parts_of bytes) ≡ listed → Fetches f f exit (listed_slots walked (judged_slots aim) listed)
     by (Good listing last rest) is =
-        let comes : ComesTo taken taken' f f exit cached (slots_course listing last rest) = rw (is) at comes in
+        let comes : ComesTo taken taken' f f exit cached (slots_course aim listing last rest) = rw (is) at comes in
         let most = comes.fetched.most in
         record { whole = λ given. let whole = comes.fetched.whole given in omega (arith, whole); most = omega (arith, most) }
     by (ListingRefused line fault) is = none-read f exit
     by Past is = none-read f exit
 
 -- or where memory was wanting before the lines behind it were read
-pub slots_wanting : (held : Option (List ℕ)) (f : ℕ) → IfSome held (λ bytes. Fetches f f exits.OutOfMemory (input_slots bytes))
-slots_wanting None f = tt
-slots_wanting (Some bytes) f = record { whole = λ given. absurd (given.memory refl); most = omega arith }
+pub slots_wanting : (aim : Aim) (held : Option (List ℕ)) (f : ℕ) → IfSome held (λ bytes. Fetches f f exits.OutOfMemory (input_slots aim bytes))
+slots_wanting aim None f = tt
+slots_wanting aim (Some bytes) f = record { whole = λ given. absurd (given.memory refl); most = omega arith }
 
 -- what was read behind the lines of a policy, was read of what these state
-pub slots-over : (count : List Touch → ℕ) (first policy : PolicyValue) (s : State) (harts n k : ℕ) (old new : Option (List Part)) (f h : ℕ) (exit : Exit) → AreStated first n old policy k new
-    → OnParts new (λ rest. Fetches f h exit (judging_slots count policy s (scheduled harts k rest))) → OnParts old (λ parts. Fetches f h exit (stated_slots count s harts (stated first n parts)))
-slots-over count first policy s harts n k old new f h exit known is =
-    on_stated first policy n k old new (λ (st : Stated). Fetches f h exit (stated_slots count s harts st)) known is
+pub slots-over : (count : List Touch → ℕ) (slots : PolicyValue → State → ℕ) (first policy : PolicyValue) (s : State) (harts n k : ℕ) (old new : Option (List Part)) (f h : ℕ) (exit : Exit) → AreStated first n old policy k new
+    → OnParts new (λ rest. Fetches f h exit (judging_slots count slots policy s (scheduled harts k rest))) → OnParts old (λ parts. Fetches f h exit (stated_slots count slots s harts (stated first n parts)))
+slots-over count slots first policy s harts n k old new f h exit known is =
+    on_stated first policy n k old new (λ (st : Stated). Fetches f h exit (stated_slots count slots s harts st)) known is

@@ -9,28 +9,42 @@ use Rattle.separation_check.specs.declared.marks.Marks.{Marks}
 use Rattle.separation_check.specs.declared.crossing.Crossing.{Crossing}
 use Rattle.separation_check.specs.declared.crossing.Crossing.TheVariants as crossings
 use Rattle.policy_lines.specs.Unused.{unused_in}
+use Rattle.policy_lines.specs.Needed.{NeededValue, LinesAre, BarredAre, needed_in}
 use Rattle.courses.specs.Exit.{is_finished}
+use Rattle.courses.specs.declared.exit.Exit.{Exit}
 use Rattle.courses.specs.declared.exit.Exit.TheVariants.{Done, Crossings}
 use Rattle.separation_program.specs.Slots.{passed_by}
-use Rattle.separation_program.specs.Text.{crossing_text, crossings_text, head_text, separated_by, told, told_by, total_text}
+use Rattle.separation_program.specs.Text.{crossing_text, crossings_text, head_text, separated_by, told, told_by, told_for, told_needed, total_text}
+use Rattle.separation_program.specs.declared.words.Aim.{Aim}
+use Rattle.separation_program.specs.declared.words.Aim.TheVariants.{Holds, Least}
+
+-- an exit tells that what was asked is so, or crossings
+abbrev pub IsVerdict : Exit → Type 0
+IsVerdict exit = (exit ≡ Done) ⊎ (exit ≡ Crossings)
 
 module _ (policy : PolicyValue) (s : State) where
-  -- what is told of a state that was judged is of a call that did all
-  pub told-finished : is_finished (told policy s).exit ≡ true
-  told-finished = by (crossings_in policy s)
+  -- what is told of a state that was judged is that it is as was asked, or crossings
+  pub told-verdict : (aim : Aim) → IsVerdict (told_for aim policy s).exit
+  told-verdict Holds = by (crossings_in policy s)
     where
-      by : (found : List Crossing) → is_finished (told_by policy (marks_in policy s) (unused_in policy s) found).exit ≡ true
-      by [] = refl
-      by (first ∷ rest) = refl
-
-  -- and it is that the policy holds, or crossings
-  pub told-verdict : ((told policy s).exit ≡ Done) ⊎ ((told policy s).exit ≡ Crossings)
-  told-verdict = by (crossings_in policy s)
-    where
-      by : (found : List Crossing) → ((told_by policy (marks_in policy s) (unused_in policy s) found).exit ≡ Done) ⊎ ((told_by policy (marks_in policy s) (unused_in policy s) found).exit ≡ Crossings)
+      by : (found : List Crossing) → IsVerdict (told_by policy (marks_in policy s) (unused_in policy s) found).exit
       by [] = inl refl
       by (first ∷ rest) = inr refl
+  told-verdict Least = by (needed_in policy s)
+    where
+      by : (needed : NeededValue) → IsVerdict (told_needed policy needed).exit
+      by (LinesAre lines) = inl refl
+      by (BarredAre found) = inr refl
 
+  -- so it is of a call that did all
+  pub told-finished : (aim : Aim) → is_finished (told_for aim policy s).exit ≡ true
+  told-finished aim = by (told-verdict aim)
+    where
+      by : IsVerdict (told_for aim policy s).exit → is_finished (told_for aim policy s).exit ≡ true
+      by (inl done) = ap is_finished done
+      by (inr crossed) = ap is_finished crossed
+
+module _ (policy : PolicyValue) where
   -- the same is told of a crossing and of what it means
   text-meant : (crossing : Crossing) → crossing_text policy crossing ≡ crossing_text policy (meant_crossing crossing)
   unfolding crossing_text head_text
@@ -44,15 +58,16 @@ module _ (policy : PolicyValue) (s : State) where
   texts-meant [] = refl
   texts-meant (first ∷ rest) = ap₂ (λ (x y : List ℕ). x ++ y) (text-meant first) (texts-meant rest)
 
-  all-meant : (found : List Crossing) → crossings_text policy found ≡ crossings_text policy (map meant_crossing found)
+  pub all-meant : (found : List Crossing) → crossings_text policy found ≡ crossings_text policy (map meant_crossing found)
   unfolding crossings_text
   all-meant found = ap₂ (λ (x : List ℕ) (n : ℕ). x ++ total_text n) (texts-meant found) (sym (length-map found meant_crossing))
 
+module _ (policy : PolicyValue) (s : State) where
   -- what is told of crossings that were found is what is told of the state
   pub told-some : (found : List Crossing) → map meant_crossing found ≡ crossings_in policy s → found ≢ [] → record { text = crossings_text policy found; exit = Crossings } ≡ told policy s
   told-some [] means some = absurd (some refl)
   told-some (first ∷ rest) means some =
-      ap (λ text. record { text = text; exit = Crossings }) (all-meant (first ∷ rest)) ∙ ap (told_by policy (marks_in policy s) (unused_in policy s)) means
+      ap (λ text. record { text = text; exit = Crossings }) (all-meant policy (first ∷ rest)) ∙ ap (told_by policy (marks_in policy s) (unused_in policy s)) means
 
   -- and so is, where none were, that the policy holds
   pub told-none : (marks : Marks) (found : List Crossing) → marks ≡ marks_in policy s → map meant_crossing found ≡ crossings_in policy s → found ≡ []

@@ -14,7 +14,6 @@ use Rattle.courses.specs.Ending.{Output, told_end}
 use Rattle.courses.specs.Listed.{Behind}
 use Rattle.courses.specs.declared.exit.Exit.TheVariants.{PolicyRefused, ScheduleRefused, TooLong}
 use Rattle.separation_program.specs.Stated.{Stated, States, RefusedAt, PastEnd, stated}
-use Rattle.separation_program.specs.Text.{told}
 
 -- ---- what is judged
 
@@ -48,26 +47,28 @@ judged bytes = judged_behind (listing_of Header 1 (parts_of bytes))
 
 -- ---- what is written
 
--- what is written behind the events of a schedule: what is told of the state that they lead to, or the refusal of a line
-abbrev pub ended_output : PolicyValue → State → Ending → Output
-ended_output policy s AtEnd = told policy s
-ended_output policy s (AtFault line fault) = told_end (ScheduleRefused line fault)
-ended_output policy s AtLimit = told_end TooLong
+-- by what is told of a policy and the state that is judged
+module _ (told : PolicyValue → State → Output) where
+  -- what is written behind the events of a schedule: what is told of the state that they lead to, or the refusal of a line
+  abbrev pub ended_output : PolicyValue → State → Ending → Output
+  ended_output policy s AtEnd = told policy s
+  ended_output policy s (AtFault line fault) = told_end (ScheduleRefused line fault)
+  ended_output policy s AtLimit = told_end TooLong
 
--- what is written of a policy and what the lines of a schedule ask for, from this state on
-abbrev pub judging : PolicyValue → State → Scheduled → Output
-judging policy s all = ended_output policy (run_state s all.events) all.ending
+  -- what is written of a policy and what the lines of a schedule ask for, from this state on
+  abbrev pub judging : PolicyValue → State → Scheduled → Output
+  judging policy s all = ended_output policy (run_state s all.events) all.ending
 
--- what is written of a machine and what lines state
-abbrev pub stated_output : State → ℕ → Stated → Output
-stated_output s harts (States policy last rest) = judging policy s (scheduled harts last rest)
-stated_output s harts (RefusedAt line fault) = told_end (PolicyRefused line fault)
-stated_output s harts PastEnd = told_end TooLong
+  -- what is written of a machine and what lines state
+  abbrev pub stated_output : State → ℕ → Stated → Output
+  stated_output s harts (States policy last rest) = judging policy s (scheduled harts last rest)
+  stated_output s harts (RefusedAt line fault) = told_end (PolicyRefused line fault)
+  stated_output s harts PastEnd = told_end TooLong
 
--- what the program comes to with a listing, the number of its line `end` and the lines behind that; which slots are fetched is no
--- part of it
-abbrev pub separation_course : Behind
-separation_course listing last rest = ends_in (stated_output (booted listing) listing.sizes.harts (stated (first_policy listing.sizes) last rest))
+  -- what the program comes to with a listing, the number of its line `end` and the lines behind that; which slots are fetched is no
+  -- part of it
+  abbrev pub separation_course : Behind
+  separation_course listing last rest = ends_in (stated_output (booted listing) listing.sizes.harts (stated (first_policy listing.sizes) last rest))
 
 -- ---- what is so of it
 

@@ -14,8 +14,11 @@ use Rattle.separation_policy.specs.Policy.{PolicyValue}
 use Rattle.separation_check.specs.Crossings.{crossings_in}
 use Rattle.separation_check.specs.declared.crossing.Crossing.{Crossing}
 use Rattle.policy_lines.specs.Permission.{channels_of}
+use Rattle.policy_lines.specs.Needed.{passages_in}
 use Rattle.schedule_replay.specs.Scheduled.{Ending, AtEnd, Scheduled, scheduled}
 use Rattle.separation_program.specs.Stated.{Stated, States, stated}
+use Rattle.separation_program.specs.declared.words.Aim.{Aim}
+use Rattle.separation_program.specs.declared.words.Aim.TheVariants.{Holds, Least}
 
 -- How many slots touches read where nothing is kept: each access of data is walked afresh, and reads what one of a capability
 -- does, which is always walked.
@@ -34,14 +37,16 @@ abbrev pub passed_by : PolicyValue → List Crossing → ℕ → ℕ
 passed_by policy [] all = all + all * length (channels_of policy)
 passed_by policy (first ∷ rest) all = all
 
--- those that are read to judge a policy of a state
-abbrev pub judged_slots : PolicyValue → State → ℕ
-judged_slots policy s = passed_by policy (crossings_in policy s) (16 * gpts_of s)
+-- those that are read to judge a policy of a state, or to find the least lines with which it would hold
+abbrev pub judged_slots : Aim → PolicyValue → State → ℕ
+judged_slots Holds policy s = passed_by policy (crossings_in policy s) (16 * gpts_of s)
+judged_slots Least policy s = 16 * gpts_of s * passages_in policy s
 
-module _ (count : List Touch → ℕ) where
+-- by how many slots touches read, and how many are read to judge a policy of a state
+module _ (count : List Touch → ℕ) (slots : PolicyValue → State → ℕ) where
   -- those of the events of a schedule, and where no line of it is refused, those that judge the state that they lead to
   abbrev pub ended_slots : PolicyValue → State → List Event → Ending → ℕ
-  ended_slots policy s events AtEnd = count (run_touches s events) + judged_slots policy (run_state s events)
+  ended_slots policy s events AtEnd = count (run_touches s events) + slots policy (run_state s events)
   ended_slots policy s events _ = count (run_touches s events)
 
   -- those of a policy and what the lines of a schedule ask for, from this state on
@@ -58,6 +63,6 @@ module _ (count : List Touch → ℕ) where
   listed_slots (Good listing last rest) = stated_slots (booted listing) listing.sizes.harts (stated (first_policy listing.sizes) last rest)
   listed_slots _ = 0
 
--- those of all bytes of an input, of which each access is walked afresh
-abbrev pub input_slots : List ℕ → ℕ
-input_slots bytes = listed_slots walked (listing_of Header 1 (parts_of bytes))
+-- those of all bytes of an input, by what is to be found of it; each access is walked afresh
+abbrev pub input_slots : Aim → List ℕ → ℕ
+input_slots aim bytes = listed_slots walked (judged_slots aim) (listing_of Header 1 (parts_of bytes))

@@ -17,10 +17,13 @@ use Rattle.separation_check.specs.declared.crossing.Crossing.TheVariants as cros
 use Rattle.separation_check.specs.declared.remedy.Remedy.{Remedy}
 use Rattle.separation_check.specs.declared.remedy.Remedy.TheVariants as remedies
 use Rattle.policy_lines.specs.Unused.{unused_in}
+use Rattle.policy_lines.specs.Needed.{NeededValue, LinesAre, BarredAre, needed_in}
 use Rattle.policy_lines.specs.declared.permission.Permission.{Permission}
 use Rattle.policy_lines.specs.declared.permission.Permission.TheVariants as permissions
 use Rattle.separation_program.specs.declared.relation.Relation.{Relation}
 use Rattle.separation_program.specs.declared.relation.Relation.TheVariants.{Reads, Writes, Views}
+use Rattle.separation_program.specs.declared.words.Aim.{Aim}
+use Rattle.separation_program.specs.declared.words.Aim.TheVariants.{Holds, Least}
 use Rattle.courses.specs.Ending.{Output}
 use Rattle.courses.specs.declared.exit.Exit.TheVariants.{Done, Crossings}
 
@@ -179,3 +182,25 @@ told_by policy marks unused (first ∷ rest) = record { text = crossings_text po
 -- what is told of a policy and a state
 abbrev pub told : PolicyValue → State → Output
 told policy s = told_by policy (marks_in policy s) (unused_in policy s) (crossings_in policy s)
+
+-- ---- the least lines
+
+-- these lines, as they stand in a policy
+abbrev pub lines_text : PolicyValue → List Permission → List ℕ
+lines_text policy lines = flat_map (line_text policy) lines
+
+-- what is told of what lines a policy needs: these, or all crossings that no line allows
+abbrev pub told_needed : PolicyValue → NeededValue → Output
+told_needed policy (LinesAre lines) = record { text = lines_text policy lines; exit = Done }
+told_needed policy (BarredAre found) = record { text = crossings_text policy found; exit = Crossings }
+
+-- what is told of what it needs for a state, whatever lines it has
+abbrev pub told_least : PolicyValue → State → Output
+told_least policy s = told_needed policy (needed_in policy s)
+
+-- ---- by what is to be found
+
+-- what is told of a policy and a state
+abbrev pub told_for : Aim → PolicyValue → State → Output
+told_for Holds policy s = told policy s
+told_for Least policy s = told_least policy s

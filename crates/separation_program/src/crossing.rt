@@ -1,19 +1,32 @@
 //! What is told of crossings.
 ghost use Rattle.std.specs.Prelude.{◌≡◌, ◌≤◌, ◌<◌, ◌+◌, ◌++◌, [], length, flat_map, slice_index_or};
 ghost use Rattle.coy_io.specs.Written.{WroteTo};
+ghost use Rattle.courses.specs.Ending.{EndsIn};
 ghost use Rattle.separation_program.specs.Text.{capability_text, crossing_text, crossings_text, head_text, place_text, remedy_text, tail_text, total_text};
 
 use crate::names::{put_own, put_pair};
 use cap_format::{Cap, CapKind};
 use cap_words::{kind_word, push_capability};
+use courses::Exit;
 use coy_io::{Sink, WriteFault, put_bytes};
 use coy_text::LineBuf;
 use separation_check::{Crossing, Remedy, remedy_of};
 use separation_policy::Policy;
 
+/// Tells crossings: each of them, and how many they are.
+pub(crate) fn tell_crossings<K: Sink>(policy: &Policy, found: &[Crossing], output: &mut K) -> Exit
+    ensures { let text = crossings_text policy.now found.now in
+        EndsIn K.taken K.faults output.old output.new result (record { text = text; exit = Exit.Crossings }) }
+{
+    match put_crossings(policy, found, output) {
+        Ok(()) => Exit::Crossings,
+        Err(_) => Exit::WriteFault,
+    }
+}
+
 /// Writes each crossing, and how many they are.
 #[tactic(auto, unfolding(crate::specs::Text::crossings_text))]
-pub(crate) fn put_crossings<K: Sink>(
+fn put_crossings<K: Sink>(
     policy: &Policy,
     found: &[Crossing],
     output: &mut K,

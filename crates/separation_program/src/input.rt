@@ -10,12 +10,14 @@ ghost use Rattle.courses.specs.Exit.{is_finished};
 ghost use Rattle.courses.specs.Stopped.{stop_exit};
 ghost use Rattle.courses.specs.Taken.{TakesLines, TakesListing};
 ghost use Rattle.separation_program.specs.Judged.{HasJudged, judged, judged_by, separation_course, stated_output};
-ghost use Rattle.separation_program.specs.Slots.{input_slots, stated_slots};
+ghost use Rattle.separation_program.specs.Slots.{input_slots, judged_slots, stated_slots};
 ghost use Rattle.separation_program.specs.Stated.{stated, untaken_exit};
+ghost use Rattle.separation_program.specs.Text.{told_for};
 ghost use Rattle.separation_program.specs.Theorem.{TellsOf};
 
 use crate::judging::judge;
 use crate::lines::read_policies;
+use crate::words::Aim;
 use courses::{Exit, conclude, read_head};
 use coy_io::{LineReader, Sink, Source};
 use image_builder::boot;
@@ -30,25 +32,27 @@ use steps::Steps;
 use walk_engine::Plain;
 
 /// Reads a listing, the lines of a policy and, behind its line `end`, a schedule, which sets the system up: it is run without
-/// a word, each access walked afresh. Tells of the state behind it that the policy holds, or every crossing.
+/// a word, each access walked afresh. Tells of the state behind it what is to be found: that the policy holds, or every
+/// crossing; or the least lines with which it would, or every crossing that no line allows.
 #[tactic(auto, using(crate::proofs::Slots::slots_wanting))]
 pub(crate) fn separate<S: Source, K: Sink, L: Ledger>(
     alloc: Global,
+    aim: Aim,
     input: &mut S,
     output: &mut K,
     fetches: &mut Steps<L>,
 ) -> Exit
     // What is done with the input; how many slots are read is a clause by itself.
     ensures course { TakesListing S.held S.faults K.taken K.faults
-        input.old input.new output.old output.new 0 0 result cached separation_course }
+        input.old input.new output.old output.new 0 0 result cached (separation_course (told_for aim)) }
 
     // What is so of the state that was judged.
     ensures judged { is_finished result ≡ true → IfSome (S.held input.old) (λ bytes.
-        HasJudged (TellsOf result) (judged bytes)) }
+        HasJudged (TellsOf aim result) (judged bytes)) }
 
     // How many slots are read.
     ensures fetched { IfSome (S.held input.old) (λ bytes.
-        Fetches fetches.old fetches.new result (input_slots bytes)) }
+        Fetches fetches.old fetches.new result (input_slots aim bytes)) }
 {
     let mut lines = LineReader::new();
     let listing = match read_head(alloc, &mut lines, input, output) {
@@ -63,6 +67,7 @@ pub(crate) fn separate<S: Source, K: Sink, L: Ledger>(
     };
     judge_lines(
         alloc,
+        aim,
         &mut machine,
         &mut policy,
         &mut lines,
@@ -75,6 +80,7 @@ pub(crate) fn separate<S: Source, K: Sink, L: Ledger>(
 /// Reads the lines of a policy and of a schedule, and judges the machine behind them, or tells why they ended before.
 fn judge_lines<T: PageTranslator, S: Source, K: Sink, L: Ledger>(
     alloc: Global,
+    aim: Aim,
     machine: &mut Machine<T>,
     policy: &mut Policy,
     lines: &mut LineReader,
@@ -87,18 +93,19 @@ fn judge_lines<T: PageTranslator, S: Source, K: Sink, L: Ledger>(
     ensures course { let m = machine.old in
         TakesLines S.held S.faults K.taken K.faults lines.old lines.new
         input.old input.new output.old output.new 0 0 result cached (λ parts.
-        ends_in (stated_output (state_of m) m.objects.harts (stated policy.old lines.old.number parts))) }
+        ends_in (stated_output (told_for aim) (state_of m) m.objects.harts
+        (stated policy.old lines.old.number parts))) }
     ensures judged { let m = machine.old in is_finished result ≡ true →
-        OnParts (ahead lines.old (S.held input.old)) (λ parts. HasJudged (TellsOf result)
+        OnParts (ahead lines.old (S.held input.old)) (λ parts. HasJudged (TellsOf aim result)
         (judged_by (state_of m) m.objects.harts (stated policy.old lines.old.number parts))) }
     ensures fetched { let m = machine.old in
         OnParts (ahead lines.old (S.held input.old)) (λ parts. Fetches fetches.old fetches.new result
-        (stated_slots (λ touches. spent T.cost T.after T.without (T.kept m.translator) touches)
+        (stated_slots (λ touches. spent T.cost T.after T.without (T.kept m.translator) touches) (judged_slots aim)
         (state_of m) m.objects.harts (stated policy.old lines.old.number parts))) }
 {
     let stop = read_policies(lines, input, policy);
     match policy_exit(stop) {
-        None => judge(alloc, machine, policy, lines, input, output, fetches),
+        None => judge(alloc, aim, machine, policy, lines, input, output, fetches),
         Some(exit) => conclude(exit, output),
     }
 }

@@ -13,28 +13,31 @@ ghost use Rattle.courses.specs.Exit.{is_finished};
 ghost use Rattle.courses.specs.Taken.{TakesLines};
 ghost use Rattle.separation_program.specs.Judged.{HasJudged, judged_of, judging};
 ghost use Rattle.separation_program.specs.Slots.{gpts_of, judged_slots, judging_slots};
-ghost use Rattle.separation_program.specs.Text.{crossings_text, separated_by, told};
+ghost use Rattle.separation_program.specs.Text.{separated_by, told, told_for};
 ghost use Rattle.separation_program.specs.Theorem.{TellsOf};
 
-use crate::crossing::put_crossings;
+use crate::crossing::tell_crossings;
+use crate::least_lines::tell_least;
 use crate::telling::put_separated;
+use crate::words::Aim;
 use courses::{Exit, conclude, counts_or_exit};
 use coy_io::{LineReader, Sink, Source};
 use kept_pages::PageTranslator;
 use kernel_core::Machine;
 use policy_lines::{Permission, unused};
 use schedule_replay::{Mode, replay};
-use separation_check::{Crossing, Marks, crossings};
+use separation_check::{Marks, crossings};
 use separation_policy::{Closure, Policy};
 use std::alloc::Global;
 use std::sync::ledger::Ledger;
 use steps::Steps;
 use walk_engine::Translator;
 
-/// Runs the lines of a schedule without a word, and tells whether the policy holds of the state behind them, or why they ended
-/// before. The policy is as it was.
+/// Runs the lines of a schedule without a word, and tells what is to be found of the policy and the state behind them, or why
+/// they ended before.
 pub(crate) fn judge<T: PageTranslator, S: Source, K: Sink, L: Ledger>(
     alloc: Global,
+    aim: Aim,
     machine: &mut Machine<T>,
     policy: &mut Policy,
     lines: &mut LineReader,
@@ -47,20 +50,44 @@ pub(crate) fn judge<T: PageTranslator, S: Source, K: Sink, L: Ledger>(
     ensures course { let m = machine.old in
         TakesLines S.held S.faults K.taken K.faults lines.old lines.new
         input.old input.new output.old output.new 0 0 result cached (λ parts.
-        ends_in (judging policy.old (state_of m) (scheduled m.objects.harts lines.old.number parts))) }
+        ends_in (judging (told_for aim) policy.old (state_of m)
+        (scheduled m.objects.harts lines.old.number parts))) }
     ensures judged { let m = machine.old in is_finished result ≡ true →
-        OnParts (ahead lines.old (S.held input.old)) (λ parts. HasJudged (TellsOf result)
+        OnParts (ahead lines.old (S.held input.old)) (λ parts. HasJudged (TellsOf aim result)
         (judged_of policy.old (state_of m) (scheduled m.objects.harts lines.old.number parts))) }
     ensures fetched { let m = machine.old in
         OnParts (ahead lines.old (S.held input.old)) (λ parts. Fetches fetches.old fetches.new result
-        (judging_slots (λ touches. spent T.cost T.after T.without (T.kept m.translator) touches)
+        (judging_slots (λ touches. spent T.cost T.after T.without (T.kept m.translator) touches) (judged_slots aim)
         policy.old (state_of m) (scheduled m.objects.harts lines.old.number parts))) }
-    ensures same { policy.new ≡ policy.old }
+    ensures same { aim ≡ Aim.Holds → policy.new ≡ policy.old }
 {
     let replayed = replay(machine, lines, input, Mode::Silent, output, fetches);
     match counts_or_exit(replayed) {
-        Ok(_counts) => tell(alloc, machine, policy, output, fetches),
+        Ok(_counts) => tell_for(alloc, aim, machine, policy, output, fetches),
         Err(exit) => conclude(exit, output),
+    }
+}
+
+/// Tells what is to be found of a policy and a machine.
+fn tell_for<T: Translator, K: Sink, L: Ledger>(
+    alloc: Global,
+    aim: Aim,
+    machine: &Machine<T>,
+    policy: &mut Policy,
+    output: &mut K,
+    fetches: &mut Steps<L>,
+) -> Exit
+    ensures ends { result ≢ Exit.OutOfMemory → EndsIn K.taken K.faults output.old output.new result
+        (told_for aim policy.old (state_of machine.now)) }
+    ensures unwritten { result ≡ Exit.OutOfMemory → output.new ≡ output.old }
+    ensures same { aim ≡ Aim.Holds → policy.new ≡ policy.old }
+    ensures tells { TellsOf aim result policy.old (state_of machine.now) }
+    ensures fetched { let all = judged_slots aim policy.old (state_of machine.now) in
+        Fetches fetches.old fetches.new result all }
+{
+    match aim {
+        Aim::Holds => tell(alloc, machine, policy, output, fetches),
+        Aim::Least => tell_least(alloc, machine, policy, output, fetches),
     }
 }
 
@@ -76,8 +103,8 @@ fn tell<T: Translator, K: Sink, L: Ledger>(
         (told policy.old (state_of machine.now)) }
     ensures unwritten { result ≡ Exit.OutOfMemory → output.new ≡ output.old }
     ensures same { policy.new ≡ policy.old }
-    ensures tells { TellsOf result policy.old (state_of machine.now) }
-    ensures fetched { let all = judged_slots policy.old (state_of machine.now) in
+    ensures tells { TellsOf Aim.Holds result policy.old (state_of machine.now) }
+    ensures fetched { let all = judged_slots Aim.Holds policy.old (state_of machine.now) in
         Fetches fetches.old fetches.new result all }
 {
     let Ok(found) = crossings(alloc, machine, policy, fetches) else {
@@ -131,17 +158,6 @@ fn tell_separated<K: Sink>(
 {
     match put_separated(policy, closure, marks, unused, output) {
         Ok(()) => Exit::Done,
-        Err(_) => Exit::WriteFault,
-    }
-}
-
-/// Tells all crossings.
-fn tell_crossings<K: Sink>(policy: &Policy, found: &[Crossing], output: &mut K) -> Exit
-    ensures { let text = crossings_text policy.now found.now in
-        EndsIn K.taken K.faults output.old output.new result (record { text = text; exit = Exit.Crossings }) }
-{
-    match put_crossings(policy, found, output) {
-        Ok(()) => Exit::Crossings,
         Err(_) => Exit::WriteFault,
     }
 }

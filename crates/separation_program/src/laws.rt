@@ -1,4 +1,4 @@
-//! The law of what is written. The call does nothing: what it says holds for every input.
+//! The laws of what is written. The calls do nothing: what they say holds for every input.
 ghost use Rattle.separation_program.specs.Written.{JudgedLaw};
 
 use run_places::{places_at_start, places_of_runs};

@@ -8,6 +8,7 @@ mod crossing;
 mod input;
 mod judging;
 mod laws;
+mod least_lines;
 mod lines;
 mod names;
 mod program;

@@ -15,8 +15,9 @@ use std::sync::ledger::Ledger;
 use steps::Steps;
 
 /// Judges the input: a listing, the lines of a policy and a schedule that sets the system up. It tells that the policy
-/// holds of the state behind the schedule, with the domains, or every crossing. With the lone word `--help`, and for words of
-/// no form, it tells how it is used.
+/// holds of the state behind the schedule, with the domains, or every crossing. With the lone word `least` it tells the least
+/// lines with which the policy would hold in the place of its own, or every crossing that no line allows. With the lone word
+/// `--help`, and for words of no form, it tells how it is used.
 pub fn separation<S: Source, K: Sink, L: Ledger>(
     alloc: Global,
     words: &[String],
@@ -37,7 +38,8 @@ pub fn separation<S: Source, K: Sink, L: Ledger>(
         Completes (K.taken output.old) (K.taken output.new) result (out separation words bytes)) }
 
     // The theorem: where it told that the policy holds, so it does of the state that was judged, and from there on nobody
-    // writes across domains, and nobody sees across them, but who reads; and it told so exactly where the policy holds.
+    // writes across domains, and nobody sees across them, but who reads; and it told so exactly where the policy holds. Where
+    // it told the least lines, so it is with these; and it told lines exactly where the policy holds with some.
     ensures judges { Judges (map string_bytes words.now) (S.held input.old) result }
 
     // Where reading failed, nothing was written, and no whole line that was read ended the call.
@@ -56,7 +58,7 @@ pub fn separation<S: Source, K: Sink, L: Ledger>(
     ensures unwritten { result ≡ Exit.OutOfMemory → K.taken output.new ≡ K.taken output.old }
 {
     match read_words(words) {
-        Some(Asked::Judge) => separate(alloc, input, output, fetches),
+        Some(Asked::Judge(aim)) => separate(alloc, aim, input, output, fetches),
         Some(Asked::Help) => usage(output, Exit::Done),
         None => usage(output, Exit::Usage),
     }
@@ -68,5 +70,5 @@ fn usage<K: Sink>(output: &mut K, exit: Exit) -> Exit
     ensures { EndsIn K.taken K.faults output.old output.new result
         (record { text = usage_text; exit = exit }) }
 {
-    end_with(b"usage: separation\n".as_slice(), exit, output)
+    end_with(b"usage: separation [least]\n".as_slice(), exit, output)
 }

@@ -24,7 +24,7 @@ pub(crate) fn put_unused<K: Sink>(
 }
 
 /// The line at a place of a list.
-fn line_at(lines: &[Permission], place: usize) -> Permission
+pub(crate) fn line_at(lines: &[Permission], place: usize) -> Permission
     requires { place < length lines.now }
     ensures { result ≡ slice_index_or lines.now place result }
 {
@@ -44,7 +44,11 @@ fn put_one_unused<K: Sink>(
 }
 
 /// Writes a line of a policy.
-fn put_line<K: Sink>(policy: &Policy, line: Permission, output: &mut K) -> Result<(), WriteFault>
+pub(crate) fn put_line<K: Sink>(
+    policy: &Policy,
+    line: Permission,
+    output: &mut K,
+) -> Result<(), WriteFault>
     ensures { WroteTo K.taken K.faults output.old output.new result (line_text policy.now line) }
 {
     match line {

@@ -943,17 +943,228 @@ step 1 1
 =>
 refused 5 NoHart
 ==
+0 least: a line for each kind of crossing that one allows; each is needed, since no other line lets its capability stand
+coyotos 1
+machine 1 2 1 1 2 0
+cap 0 5 page:0@12/0+r
+slot 0 0 page:0@12/0+r
+slot 0 1 page:1@12/0
+capreg 0 1 sysctl
+capreg 1 1 kernlog
+end
+domain a gpt 0
+domain a process 0
+domain b page 0
+domain c page 1
+domain c cappage 0
+end
+=>
+reads a b
+reads c b
+writes a c
+halts a
+logs rest
+==
+0 least: nothing is needed, since each capability names an object of the domain in which it stands
+coyotos 1
+machine 1 1 0 1 2 0
+slot 0 0 page:0@12/0
+process 0 0 gpt:0@16/0 schedule:3 null stop
+end
+domain a gpt 0
+domain a page 0
+domain a process 0
+end
+=>
+==
+0 least: a reads c, since it reads b and that reads c, so a line for it is left out
+coyotos 1
+machine 1 1 0 2 0 0
+slot 0 0 gpt:1@16/0+rwn
+slot 0 1 page:0@12/0+r
+slot 1 0 page:0@12/0+r
+end
+domain a gpt 0
+domain b gpt 1
+domain c page 0
+end
+=>
+reads a b
+reads b c
+==
+0 least: a may look at a page of c, since it reads b and that writes c
+coyotos 1
+machine 1 1 0 2 0 0
+slot 0 0 gpt:1@16/0+rwn
+slot 0 1 page:0@12/0+r
+slot 1 0 page:0@12/0
+end
+domain a gpt 0
+domain b gpt 1
+domain c page 0
+end
+=>
+reads a b
+writes b c
+==
+0 least: a may look at a page that it writes, so it need not read b
+coyotos 1
+machine 1 1 0 2 0 0
+slot 0 0 page:0@12/0+r
+slot 0 1 page:0@12/0
+end
+domain a gpt 0
+domain b page 0
+end
+=>
+writes a b
+==
+0 least: each has a page of the other that it writes, and one line doesn't allow both
+coyotos 1
+machine 1 2 0 2 0 0
+slot 0 0 page:1@12/0
+slot 1 0 page:0@12/0
+end
+domain a gpt 0
+domain a page 0
+domain b gpt 1
+domain b page 1
+end
+=>
+writes a b
+writes b a
+==
+0 least: lines of the policy count for nothing, neither those that would do in the place of others nor those that nothing needs
+coyotos 1
+machine 1 1 0 2 2 0
+slot 0 0 page:0@12/0
+slot 1 0 page:0@12/0+r
+end
+domain sensor gpt 0
+domain sensor page 0
+domain monitor gpt 1
+reads sensor monitor
+writes monitor sensor
+halts rest
+logs monitor
+end
+=>
+reads monitor sensor
+==
+9 least: but they are read, with their faults
+coyotos 1
+machine 1 2 0 0 0 0
+end
+domain a page 0
+reads a nobody
+=>
+refused 5 NoDomain
+==
+10 least: an entry and a Range, which no line allows; the page that one would is not told
+coyotos 1
+machine 1 1 0 1 2 1
+slot 0 0 page:0@12/0
+endpoint 0 process:1 0 0 plain
+capreg 0 1 entry:0:1f
+capreg 0 2 range
+end
+domain a gpt 0
+domain a process 0
+domain b page 0
+domain b process 1
+domain b endpoint 0
+reads a b
+writes a b
+end
+=>
+crossing process 0 4 entry:0:0000001f a -> b never
+range process 0 5 a never
+crossings 2
+==
+10 least: a process that sleeps on another domain's behind the schedule
+coyotos 1
+machine 1 2 0 2 2 1
+code 1 000 ecall
+slot 1 0 page:1@12/0
+endpoint 0 process:0 0 0 plain
+process 0 0 gpt:0@16/0 schedule:3 null run
+process 1 0 gpt:1@16/0 schedule:5 null run
+reg 1 10 00000021
+capreg 1 1 entry:0:00000007
+end
+domain a process 0
+domain a gpt 0
+domain a endpoint 0
+domain b process 1
+domain b gpt 1
+domain b page 1
+end
+step 0 1
+=>
+crossing process 1 4 entry:0:00000007 b -> a never
+sleeper 1 b -> a never
+crossings 2
+==
+0 least: the state behind the schedule counts, in which Null stands in the place of the Range
+coyotos 1
+machine 1 1 0 1 2 0
+code 0 000 ecall
+slot 0 0 page:0@12/0
+process 0 0 gpt:0@16/0 schedule:3 null run
+reg 0 10 0
+reg 0 11 1
+reg 0 17 3
+capreg 0 1 range
+capreg 1 1 sysctl
+end
+domain init process 0
+domain init gpt 0
+domain init page 0
+end
+step 0 1
+=>
+halts rest
+==
+9 least: the policy is to come
+coyotos 1
+machine 1 2 0 0 0 0
+end
+=>
+refused 4 NoEnd
+==
+2 least
+coyotos 3
+=>
+refused 1 BadHeader
+==
+3 least
+coyotos 1
+machine 1 2 0 0 0 0
+end
+end
+step 1 1
+=>
+refused 5 NoHart
+==
 0 --help
 =>
-usage: separation
+usage: separation [least]
 ==
 1 now
 =>
-usage: separation
+usage: separation [least]
+==
+1 Least
+=>
+usage: separation [least]
+==
+1 least least
+=>
+usage: separation [least]
 ==
 1 --help --help
 =>
-usage: separation
+usage: separation [least]
 ";
 
 /// The words of a row.

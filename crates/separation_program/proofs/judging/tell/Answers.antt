@@ -36,6 +36,6 @@ pub returns-clause-tells : goal.returns-clause-tells
 returns-clause-tells g c =
     let none = sym c.as_slice-crossing.ensures.value ∙ none-found c.as_slice-crossing.result.now (sym c.is_empty.ensures ∙ c.if-not-is_empty.false) in
     record {
-      separated = λ is. record { holds = c.in-Ok.ensures.exactly.0 none; integrity = c.in-Ok.ensures.integrity none; noninterference = c.in-Ok.ensures.noninterference none };
-      violated = λ is. absurd (c.tell_held.ensures.crossed is);
+      affirmed = λ is. record { holds = c.in-Ok.ensures.exactly.0 none; integrity = c.in-Ok.ensures.integrity none; noninterference = c.in-Ok.ensures.noninterference none };
+      denied = λ is. absurd (c.tell_held.ensures.crossed is);
     }

@@ -3,19 +3,19 @@ use Rattle.courses.specs.Course.{cached, course_output}
 use Rattle.courses.specs.Ending.{Outputs}
 use Rattle.courses.specs.Program.{whole_course}
 use Rattle.courses.proofs.Bytes.{known-output}
-use Rattle.courses.proofs.Lasts.{ends-own}
-use Rattle.courses.specs.declared.exit.Exit.TheVariants.{Crossings}
 use Rattle.separation_program.specs.Program.{asked_by, separation}
+use Rattle.separation_program.specs.declared.words.Aim.{Aim}
 use Rattle.separation_program.specs.declared.words.Asked.TheVariants.{Help, Judge}
-use Rattle.separation_program.proofs.Called.{completes-known, form-judge, judges-call, judges-none, known-words, sure-words}
+use Rattle.separation_program.proofs.Called.{completes-known, fetches-words, form-judge, judges-call, judges-none, known-words, sure-words}
 use Rattle.separation_program.proofs.program.separation.Goals as goal
 
 -- ---- the input is judged
 
 pub returns-in-Some-Judge-clause-answers : goal.returns-in-Some-Judge-clause-answers
 returns-in-Some-Judge-clause-answers g c =
-    let asked : asked_by (map string_bytes c.args.words.now) ≡ Some Judge = sym c.read_words.ensures ∙ c.in-Some-Judge.is ∙ ap Some c.in-Some-Judge.field-0-is in
-    known-words (λ course. Outputs (g.K.Sink.taken c.args.output.now) (g.K.Sink.taken c.separate.new.output) c.separate.result (course_output course)) (map string_bytes c.args.words.now) (Some Judge) asked _
+    let aim : Aim = c.in-Some-Judge.aim in
+    let asked : asked_by (map string_bytes c.args.words.now) ≡ Some (Judge aim) = sym c.read_words.ensures ∙ c.in-Some-Judge.is ∙ ap Some c.in-Some-Judge.field-0-is in
+    known-words (λ course. Outputs (g.K.Sink.taken c.args.output.now) (g.K.Sink.taken c.separate.new.output) c.separate.result (course_output course)) (map string_bytes c.args.words.now) (Some (Judge aim)) asked _
     (known-output _ _ _ 0 0 _ cached _ c.separate.ensures.course.comes)
 
 pub returns-in-Some-Judge-clause-complete : goal.returns-in-Some-Judge-clause-complete
@@ -24,25 +24,32 @@ returns-in-Some-Judge-clause-complete g c = λ read write.
 
 pub returns-in-Some-Judge-clause-judges : goal.returns-in-Some-Judge-clause-judges
 returns-in-Some-Judge-clause-judges g c =
-    judges-call (map string_bytes c.args.words.now) _ _ _ c.separate.result c.separate.ensures.course.comes c.separate.ensures.judged
+    let asked : asked_by (map string_bytes c.args.words.now) ≡ Some (Judge c.in-Some-Judge.aim) = sym c.read_words.ensures ∙ c.in-Some-Judge.is ∙ ap Some c.in-Some-Judge.field-0-is in
+    judges-call (map string_bytes c.args.words.now) c.in-Some-Judge.aim asked _ _ _ c.separate.result c.separate.ensures.course.comes c.separate.ensures.judged
 
 pub returns-in-Some-Judge-clause-sure : goal.returns-in-Some-Judge-clause-sure
 returns-in-Some-Judge-clause-sure g c = λ failed.
-    let asked : asked_by (map string_bytes c.args.words.now) ≡ Some Judge = sym c.read_words.ensures ∙ c.in-Some-Judge.is ∙ ap Some c.in-Some-Judge.field-0-is in
-    sure-words (map string_bytes c.args.words.now) asked _ _ _ _ (c.separate.ensures.course.sure failed).writes
+    let asked : asked_by (map string_bytes c.args.words.now) ≡ Some (Judge c.in-Some-Judge.aim) = sym c.read_words.ensures ∙ c.in-Some-Judge.is ∙ ap Some c.in-Some-Judge.field-0-is in
+    sure-words (map string_bytes c.args.words.now) c.in-Some-Judge.aim asked _ _ _ _ (c.separate.ensures.course.sure failed).writes
+
+pub returns-in-Some-Judge-clause-fetches : goal.returns-in-Some-Judge-clause-fetches
+returns-in-Some-Judge-clause-fetches g c =
+    let asked : asked_by (map string_bytes c.args.words.now) ≡ Some (Judge c.in-Some-Judge.aim) = sym c.read_words.ensures ∙ c.in-Some-Judge.is ∙ ap Some c.in-Some-Judge.field-0-is in
+    fetches-words (map string_bytes c.args.words.now) c.in-Some-Judge.aim asked _ _ _ c.separate.result c.separate.ensures.fetched
 
 pub returns-in-Some-Judge-clause-form : goal.returns-in-Some-Judge-clause-form
 returns-in-Some-Judge-clause-form g c =
-    form-judge (map string_bytes c.args.words.now) (sym c.read_words.ensures ∙ c.in-Some-Judge.is ∙ ap Some c.in-Some-Judge.field-0-is) c.separate.result c.separate.ensures.course.usage
+    let asked : asked_by (map string_bytes c.args.words.now) ≡ Some (Judge c.in-Some-Judge.aim) = sym c.read_words.ensures ∙ c.in-Some-Judge.is ∙ ap Some c.in-Some-Judge.field-0-is in
+    form-judge (map string_bytes c.args.words.now) c.in-Some-Judge.aim asked c.separate.result c.separate.ensures.course.usage
 
 -- ---- it is not
 
 pub returns-in-Some-Help-clause-judges : goal.returns-in-Some-Help-clause-judges
 returns-in-Some-Help-clause-judges g c =
-    judges-none (map string_bytes c.args.words.now) _ c.usage.result (λ crossed. let own = ends-own _ _ _ _ _ _ c.usage.ensures Crossings (λ cut. cc) crossed in cc)
-    (λ asked. let bad : Some Help ≡ Some Judge = sym (c.in-Some-Help.is ∙ ap Some c.in-Some-Help.field-0-is) ∙ c.read_words.ensures ∙ asked in cc)
+    judges-none (map string_bytes c.args.words.now) _ c.usage.result
+    (λ aim asked. let bad : Some Help ≡ Some (Judge aim) = sym (c.in-Some-Help.is ∙ ap Some c.in-Some-Help.field-0-is) ∙ c.read_words.ensures ∙ asked in cc)
 
 pub returns-in-None-clause-judges : goal.returns-in-None-clause-judges
 returns-in-None-clause-judges g c =
-    judges-none (map string_bytes c.args.words.now) _ c.usage-in-None.result (λ crossed. let own = ends-own _ _ _ _ _ _ c.usage-in-None.ensures Crossings (λ cut. cc) crossed in cc)
-    (λ asked. let bad : None ≡ Some Judge = sym c.in-None.is ∙ c.read_words.ensures ∙ asked in cc)
+    judges-none (map string_bytes c.args.words.now) _ c.usage-in-None.result
+    (λ aim asked. let bad : None ≡ Some (Judge aim) = sym c.in-None.is ∙ c.read_words.ensures ∙ asked in cc)
