@@ -3,7 +3,7 @@ mod Restoring
 mod Filtered
 mod Results
 mod Deciding
-mod More
+pub mod More
 mod With
 mod Thinned
 mod Leaving
