@@ -1,6 +1,7 @@
 //! The laws of what is written. The calls do nothing: what they say holds for every input.
-ghost use Rattle.separation_program.specs.Written.{JudgedLaw};
+ghost use Rattle.separation_program.specs.Written.{JudgedLaw, LeastLaw};
 
+use policy_lines::needed_law;
 use run_places::{places_at_start, places_of_runs};
 use separation_check::{all_law, exactly_law};
 use separation_policy::{integrity, noninterference};
@@ -14,6 +15,18 @@ pub fn judged_law()
     places_of_runs();
     exactly_law();
     all_law();
+    integrity();
+    noninterference();
+}
+
+/// So is what it writes with the word `least`.
+pub fn least_law()
+    ensures { LeastLaw }
+{
+    places_at_start();
+    places_of_runs();
+    exactly_law();
+    needed_law();
     integrity();
     noninterference();
 }
