@@ -7,3 +7,6 @@ mod Slots
 pub mod Called
 mod Related
 mod Written
+mod StatedBy
+mod WrittenText
+mod FedBack

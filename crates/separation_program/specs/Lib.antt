@@ -5,3 +5,4 @@ pub mod Slots
 pub mod Theorem
 pub mod Program
 pub mod Written
+pub mod FedBack

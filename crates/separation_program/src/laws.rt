@@ -1,9 +1,11 @@
 //! The laws of what is written. The calls do nothing: what they say holds for every input.
 ghost use Rattle.separation_program.specs.Written.{JudgedLaw, LeastLaw};
+ghost use Rattle.separation_program.specs.FedBack.{FedBackLaw};
 
 use policy_lines::needed_law;
 use run_places::{places_at_start, places_of_runs};
 use separation_check::{all_law, exactly_law};
+use separation_lines::{end_law, names_law, read_back_law, replaced_law};
 use separation_policy::{integrity, noninterference};
 
 /// What the program writes of an input is so of the machine that its listing boots, set up by its schedule, and of the policy
@@ -29,4 +31,15 @@ pub fn least_law()
     needed_law();
     integrity();
     noninterference();
+}
+
+/// Lines with which a policy holds, as the word `least` writes them, can be put in place of those that its input has: what the
+/// input states then holds.
+pub fn fed_back_law()
+    ensures { FedBackLaw }
+{
+    names_law();
+    read_back_law();
+    replaced_law();
+    end_law();
 }

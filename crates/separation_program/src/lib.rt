@@ -18,5 +18,5 @@ mod unused;
 mod words;
 
 pub use courses::Exit;
-pub use laws::{judged_law, least_law};
+pub use laws::{fed_back_law, judged_law, least_law};
 pub use program::separation;
