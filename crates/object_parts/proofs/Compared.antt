@@ -3,9 +3,10 @@ use Rattle.std.proofs.Common.{◌≡◌, ℕ, ◌+◌, ◌<◌, ◌↔◌, Bool,
 use Rattle.std.proofs.lemmas.List.{take_more, take_all, length-map, get_or-map}
 use Rattle.cap_format.specs.declared.kind.CapKind.{CapKind}
 use Rattle.cap_format.specs.declared.kind.CapKind.TheVariants.{Null}
-use Rattle.cap_format.specs.Kind.{is_memory, restr_limit, count_limit, object_limit, payload_limit, slot_limit}
+use Rattle.cap_format.specs.Kind.{number_of, is_memory, restr_limit, count_limit, object_limit, payload_limit, slot_limit}
 use Rattle.cap_format.specs.Guard.{no_guard}
 use Rattle.cap_format.specs.Capability.{Capability, IsCapability, capability, null}
+use Rattle.cap_format.proofs.KindNumbers.{kind_of_number}
 use Rattle.object_store.specs.Store.{Items}
 use Rattle.object_store.specs.Meaning.{live}
 use Rattle.object_parts.specs.Same.{same_caps}
@@ -60,3 +61,8 @@ null_kind c is kind = whole kind restr count (is.unguarded (ap is_memory kind)) 
 
     whole : c.kind ≡ Null → c.restr ≡ 0 → c.count ≡ 0 → c.guard ≡ no_guard → c.object ≡ 0 → c.payload ≡ 0 → c.slot ≡ 0 → by c ≡ null
     whole h1 h2 h3 h4 h5 h6 h7 = rw (h1, h2, h3, h4, h5, h6, h7) refl
+
+-- so are two whose kinds have numbers of which the sum is that of Null
+pub null_kinds : (a b : Capability) → IsCapability a → IsCapability b → number_of a.kind + number_of b.kind ≡ 0 → (a ≡ null) × (b ≡ null)
+null_kinds a b is is_too none =
+    (null_kind a is (kind_of_number a.kind Null (omega (arith, none))), null_kind b is_too (kind_of_number b.kind Null (omega (arith, none))))

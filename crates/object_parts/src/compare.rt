@@ -1,6 +1,7 @@
 //! Comparing parts.
 ghost use Rattle.std.specs.Prelude.{◌≡◌, ◌<◌, ◌≤◌, ◌↔◌, IsTrue, map, length};
 ghost use Rattle.cap_format.specs.Capability.{null};
+ghost use Rattle.process_objects.specs.Process.{capreg_of};
 ghost use Rattle.object_store.specs.Meaning.{live, process_map};
 ghost use Rattle.object_parts.specs.Same.{same_numbers, same_caps, same_wait, same_accept, same_doing, same_process, same_endpoint};
 
@@ -133,11 +134,31 @@ fn all_live_cap_registers_same(objects: &Objects, a: &Process, b: &Process) -> b
     a.tell_range();
     b.tell_range();
     for i in 0..32 {
-        if !same_live(objects, a.capreg(i), b.capreg(i)) {
+        if !same_live_cap_register(objects, a, b, i) {
             return false;
         }
     }
     true
+}
+
+/// Whether capability register c`i`, or Null where it is dead, is the same as another's. Most are Null, so that is looked at
+/// first, and by their kinds alone.
+fn same_live_cap_register(objects: &Objects, a: &Process, b: &Process, i: u8) -> bool
+    requires { i ≤ 31 }
+    ensures { IsTrue result ↔ (live objects.now.items (capreg_of a.now i) ≡ capreg_of b.now i) }
+{
+    if both_null(a.capreg(i), b.capreg(i)) {
+        return true;
+    }
+    same_live(objects, a.capreg(i), b.capreg(i))
+}
+
+/// Whether both capabilities are Null, by the numbers of their kinds.
+#[tactic(auto, using(crate::proofs::Compared::null_kinds))]
+fn both_null(a: Cap, b: Cap) -> bool
+    ensures { IsTrue result → (a ≡ null) × (b ≡ null) }
+{
+    a.kind().number() + b.kind().number() == 0
 }
 
 /// Whether a capability, or Null where it is dead, is the same as another.

@@ -61,7 +61,7 @@ impl<K: Kept> Table<K> {
     }
 
     /// What a query stands for, with its number, if it is in the table.
-    pub(crate) fn find<Q: Equivalent<K>>(&self, query: Q) -> Option<(u32, &K)>
+    pub fn find<Q: Equivalent<K>>(&self, query: Q) -> Option<(u32, &K)>
         ensures value { IfSome result (λ r. slice_get (map K.content self.now) r.0 ≡ Some (K.content r.1.now)) }
         ensures equal { IfSome result (λ r. IsTrue (Q.equivalent query r.1.now)) }
     {
