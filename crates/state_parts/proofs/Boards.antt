@@ -13,7 +13,7 @@ use Rattle.state_parts.specs.Looking.{no_name, AreMarked, HasAll, IsMore}
 use Rattle.state_parts.specs.Marking.{AddsThere, HasThere}
 use Rattle.state_parts.specs.Board.{IsBoard}
 use Rattle.state_parts.proofs.Whole.{named_or_past, past_same}
-use Rattle.state_parts.proofs.Brought.{stays_all, reads_at, there_in}
+use Rattle.state_parts.proofs.Brought.{stays_all, reads_at, there_in, bring_end}
 
 -- objects are there where each of their names is that of one
 pub there_of : (s : Store) (names : List ObjectName) → ((kind : CapKind) (n : ℕ) → IsAmong kind n names → n < size_of s.items kind) → AreThere s names
@@ -84,6 +84,21 @@ brought_stays T names old new desk target m changed even even_too sizes all read
     by : (kind : CapKind) (n : ℕ) → IsAmong kind n names ⊎ (size_of desk.items kind ≤ n) → IsAmong kind n changed ⊎ SameObject kind n target m
     by kind n (inl among) = let found = among_index names kind n among in at kind n found.0 found.1 found.2 (marked.each found.0 found.1)
     by kind n (inr past) = joined kind n (sym (past_same desk target kind n even even_too (sym sizes) past)) (stays.same kind n)
+
+-- where all numbers are the same, no name is to be marked
+pub marked_same : (n : ℕ) (names : List ObjectName) (old new : List ℕ) (marked : List ObjectName) → old ≡ new → AreMarked n names old new marked
+marked_same n names old new marked same = record { each = λ k within. inr (ap (λ (numbers : List ℕ). get_or numbers k 0) same) }
+
+-- and the objects are those of the target
+pub brought_same : (T : List ObjectValue) (names : List ObjectName) (old new : List ℕ) (desk target : Store) → old ≡ new → IsEven desk → IsEven target → sizes_of target ≡ sizes_of desk → AreAll (sizes_of desk) names
+    → Reads T old (objects_of names desk) → Reads T new (objects_of names target) → desk ≡ target
+brought_same T names old new desk target same even even_too sizes all reads_old reads_new =
+    bring_end target desk desk even_too sizes (record {
+      left = brought_stays T names old new desk target desk [] even even_too sizes all reads_old reads_new (marked_same (length names) names old new [] same) (record { same = λ kind n. inr refl });
+      mixed = record { each = λ kind n. inr refl };
+      even = even;
+      sizes = refl;
+    })
 
 -- ---- an event
 

@@ -1,16 +1,21 @@
 -- Numbers that are found for objects, one after the other.
-use Rattle.std.proofs.Common.{◌≡◌, ◌<◌, ◌++◌, ◌∷◌, [], ℕ, ◌+◌, List, take, length, get_or, ap, ◌∙◌}
-use Rattle.std.proofs.lemmas.List.{get_or-map, length-map, take_more}
+use Rattle.std.proofs.Common.{◌≡◌, ◌≢◌, ◌<◌, ◌⊎◌, inl, inr, ◌++◌, ◌∷◌, [], ℕ, suc, ◌+◌, List, map, take, length, get_or, slice_get, set, Some, refl, sym, ap, ◌∙◌, arith}
+use Rattle.std.proofs.lemmas.List.{get_or-map, length-map, take_more, length-set, get_or-set_same, get_or-set_other}
+use Rattle.std.proofs.lemmas.List.Elements.{All-cons}
+use Rattle.std.proofs.lemmas.Bool.{cases_eq}
 use Rattle.cap_format.specs.declared.kind.CapKind.TheVariants.{Null}
+use Rattle.cap_format.specs.Kind.{number_of}
+use Rattle.cap_format.proofs.KindNumbers.{kind_of_number}
 use Rattle.object_store.specs.Store.{Store}
-use Rattle.object_store.specs.Object.{ObjectName, ObjectValue}
+use Rattle.object_store.specs.Object.{ObjectName, ObjectValue, object_name, IsAmong}
 use Rattle.machine_state.specs.declared.taking.Name.{Name}
 use Rattle.machine_state.specs.Taking.{name_of, names_of}
 use Rattle.machine_state.proofs.Taken.{name_by}
 use Rattle.object_parts.specs.Table.{Grows}
-use Rattle.object_parts.proofs.Tables.{grown_twice}
-use Rattle.state_parts.specs.Keys.{objects_of, Reads}
-use Rattle.state_parts.specs.Looking.{no_name, AreRanged, ReadsLive}
+use Rattle.object_parts.specs.Live.{IsInRanges}
+use Rattle.object_parts.proofs.Tables.{grown_twice, grown_get}
+use Rattle.state_parts.specs.Keys.{named_in, objects_of, Reads}
+use Rattle.state_parts.specs.Looking.{no_name, AreKnown, AreRanged, IsPut, ReadsLive}
 use Rattle.state_parts.proofs.Brought.{reads_grown, reads_push, ranged_push}
 
 -- the numbers of the first objects are found
@@ -32,3 +37,110 @@ found_more old table grown found names s i number within before grows one =
       reads = rw front (reads_push grown found (take i (names_of names)) s number name (reads_grown table grown found (objects_of (take i (names_of names)) s) grows before.reads) one.value);
       ranged = rw front (ranged_push (take i (names_of names)) s name before.ranged one.ranges);
     }
+
+-- ---- numbers that are written in place of others
+
+-- none was written yet
+pub put_none : (names : List ObjectName) (name : ObjectName) (number : ℕ) (numbers : List ℕ) → IsPut 0 names name number numbers numbers
+put_none names name number numbers = record {
+  many = refl;
+  here = λ k below. absurd (omega (arith, below));
+  others = λ k not. refl;
+}
+
+-- the next place is of the name: the number is written there
+pub put_here : (names : List ObjectName) (name : ObjectName) (number i : ℕ) (old new : List ℕ) → i < length new → get_or names i no_name ≡ name → IsPut i names name number old new → IsPut (i + 1) names name number old (set new i number)
+put_here names name number i old new within same put = record {
+  many = length-set new i number ∙ put.many;
+  here = λ k below is. here k below is (cases_eq k i);
+  others = λ k not. others k not (cases_eq k i);
+}
+  where
+    here : (k : ℕ) → k < i + 1 → get_or names k no_name ≡ name → (k ≡ i) ⊎ (k ≢ i) → get_or (set new i number) k 0 ≡ number
+    here k below is (inl at) = rw at (get_or-set_same new i number 0 within)
+    here k below is (inr other) = get_or-set_other new i k number 0 other ∙ put.here k (omega (arith, below, other)) is
+
+    others : (k : ℕ) → (k < i + 1 → get_or names k no_name ≡ name → ⊥) → (k ≡ i) ⊎ (k ≢ i) → get_or (set new i number) k 0 ≡ get_or old k 0
+    others k not (inl at) = absurd (not (omega (arith, at)) (ap (λ (j : ℕ). get_or names j no_name) at ∙ same))
+    others k not (inr other) = get_or-set_other new i k number 0 other ∙ put.others k (λ below is. not (omega (arith, below)) is)
+
+-- the next place is of another name
+pub put_other : (names : List ObjectName) (name : ObjectName) (number i : ℕ) (old new : List ℕ) → (get_or names i no_name ≡ name → ⊥) → IsPut i names name number old new → IsPut (i + 1) names name number old new
+put_other names name number i old new other put = record {
+  many = put.many;
+  here = λ k below is. here k below is (cases_eq k i);
+  others = λ k not. put.others k (λ below is. not (omega (arith, below)) is);
+}
+  where
+    here : (k : ℕ) → k < i + 1 → get_or names k no_name ≡ name → (k ≡ i) ⊎ (k ≢ i) → get_or new k 0 ≡ number
+    here k below is (inl at) = absurd (other (sym (ap (λ (j : ℕ). get_or names j no_name) at) ∙ is))
+    here k below is (inr apart) = put.here k (omega (arith, below, apart)) is
+
+-- a name is another, or it isn't
+same_name : (a b : ObjectName) → (a ≡ b) ⊎ (a ≢ b)
+same_name a b = by (cases_eq (number_of a.kind) (number_of b.kind)) (cases_eq a.number b.number)
+  where
+    whole : a.kind ≡ b.kind → a.number ≡ b.number → object_name a.kind a.number ≡ object_name b.kind b.number
+    whole k n = rw (k, n) refl
+
+    by : (number_of a.kind ≡ number_of b.kind) ⊎ (number_of a.kind ≢ number_of b.kind) → (a.number ≡ b.number) ⊎ (a.number ≢ b.number) → (a ≡ b) ⊎ (a ≢ b)
+    by (inr k) n = inr (λ e. k (ap (λ (x : ObjectName). number_of x.kind) e))
+    by (inl k) (inr n) = inr (λ e. n (ap (λ (x : ObjectName). x.number) e))
+    by (inl k) (inl n) = inl (whole (kind_of_number a.kind b.kind k) n)
+
+-- numbers of which those are known whose objects aren't among these that are to come
+pub record AreGiven (old table : List ObjectValue) (s : Store) (changed names : List ObjectName) (found : List ℕ) : Type 0 where
+  pub grows : Grows old table
+  pub many : length found ≡ length names
+  pub known : AreKnown table s changed names found
+
+-- what a number stands for stays where the table grows
+reads_more : (table grown : List ObjectValue) (s : Store) (name : ObjectName) (number : ℕ) → Grows table grown → ReadsLive table s name number → ReadsLive grown s name number
+reads_more table grown s name number grows one = record { value = grown_get table grown number (named_in s name) grows one.value; ranges = one.ranges }
+
+-- the number of one of them was found, and written wherever it has to
+pub given_more : (old table grown : List ObjectValue) (s : Store) (name : ObjectName) (rest names : List ObjectName) (found put : List ℕ) (number : ℕ)
+    → AreGiven old table s (name ∷ rest) names found → Grows table grown → ReadsLive grown s name number → IsPut (length names) names name number found put → AreGiven old grown s rest names put
+given_more old table grown s name rest names found put number given grows one is = record {
+  grows = grown_twice old table grown given.grows grows;
+  many = is.many ∙ given.many;
+  known = record { each = λ k within. record { known = by k within (same_name (get_or names k no_name) name) (given.known.each k within).known } };
+}
+  where
+    Here : ℕ → Type 0
+    Here k = IsAmong (get_or names k no_name).kind (get_or names k no_name).number rest ⊎ ReadsLive grown s (get_or names k no_name) (get_or put k 0)
+
+    found_here : (k : ℕ) → k < length names → get_or names k no_name ≡ name → ReadsLive grown s (get_or names k no_name) (get_or put k 0)
+    found_here k within same = rw (same, is.here k within same) one
+
+    other : (k : ℕ) → k < length names → (get_or names k no_name ≡ name → ⊥) → IsAmong (get_or names k no_name).kind (get_or names k no_name).number (name ∷ rest) ⊎ ReadsLive table s (get_or names k no_name) (get_or found k 0) → Here k
+    other k within apart (inl (inl at)) = absurd (apart (named at.0 at.1))
+      where
+        named : (get_or names k no_name).kind ≡ name.kind → (get_or names k no_name).number ≡ name.number → object_name (get_or names k no_name).kind (get_or names k no_name).number ≡ object_name name.kind name.number
+        named a b = rw (a, b) refl
+    other k within apart (inl (inr later)) = inl later
+    other k within apart (inr reads) = inr (rw (is.others k (λ below same. apart same)) (reads_more table grown s (get_or names k no_name) (get_or found k 0) grows reads))
+
+    by : (k : ℕ) → k < length names → (get_or names k no_name ≡ name) ⊎ (get_or names k no_name ≡ name → ⊥) → IsAmong (get_or names k no_name).kind (get_or names k no_name).number (name ∷ rest) ⊎ ReadsLive table s (get_or names k no_name) (get_or found k 0) → Here k
+    by k within (inl same) before = inr (found_here k within same)
+    by k within (inr apart) before = other k within apart before
+
+-- at last each is known
+pub given_all : (table : List ObjectValue) (s : Store) (names : List ObjectName) (found : List ℕ) → length found ≡ length names → AreKnown table s [] names found → Reads table found (objects_of names s) × AreRanged (objects_of names s)
+given_all table s [] [] many known = (record { each = refl }, record { each = λ i d within. absurd (omega (arith, within)) })
+given_all table s [] (i ∷ is) many known = absurd (omega (arith, many))
+given_all table s (name ∷ names) [] many known = absurd (omega (arith, many))
+given_all table s (name ∷ names) (i ∷ is) many known = joined (first (known.each 0 (omega arith)).known) (given_all table s names is (omega (arith, many)) rest)
+  where
+    rest : AreKnown table s [] names is
+    rest = record { each = λ k within. known.each (suc k) (omega (arith, within)) }
+
+    first : IsAmong name.kind name.number [] ⊎ ReadsLive table s name i → ReadsLive table s name i
+    first (inl none) = elim none [ ]
+    first (inr reads) = reads
+
+    value : slice_get table i ≡ Some (named_in s name) → map (slice_get table) is ≡ map Some (objects_of names s) → slice_get table i ∷ map (slice_get table) is ≡ Some (named_in s name) ∷ map Some (objects_of names s)
+    value h t = rw (h, t) refl
+
+    joined : ReadsLive table s name i → Reads table is (objects_of names s) × AreRanged (objects_of names s) → Reads table (i ∷ is) (named_in s name ∷ objects_of names s) × AreRanged (named_in s name ∷ objects_of names s)
+    joined one all = (record { each = value one.value all.0.each }, record { each = All-cons IsInRanges (named_in s name) (objects_of names s) one.ranges all.1.each })

@@ -31,6 +31,12 @@ pub record IsKnown (table : List ObjectValue) (s : Store) (changed : List Object
 pub record AreKnown (table : List ObjectValue) (s : Store) (changed names : List ObjectName) (numbers : List ℕ) : Type 0 where
   pub each : (k : ℕ) → k < length names → IsKnown table s changed (slice_index_or names k no_name) (slice_index numbers k)
 
+-- a number was written where the name is this one, of the first `n`, and nowhere else
+pub record IsPut (n : ℕ) (names : List ObjectName) (name : ObjectName) (number : ℕ) (old new : List ℕ) : Type 0 where
+  pub many : length new ≡ length old
+  pub here : (k : ℕ) → k < n → slice_index_or names k no_name ≡ name → slice_index new k ≡ number
+  pub others : (k : ℕ) → (k < n → slice_index_or names k no_name ≡ name → ⊥) → slice_index new k ≡ slice_index old k
+
 -- each of the first `n` names is among those that are marked, or has one number in both lists
 pub record AreMarked (n : ℕ) (names : List ObjectName) (old new : List ℕ) (marked : List ObjectName) : Type 0 where
   pub each : (k : ℕ) → k < n → IsAmong (slice_index_or names k no_name).kind (slice_index_or names k no_name).number marked ⊎ (slice_index old k ≡ slice_index new k)

@@ -16,7 +16,7 @@ ghost use Rattle.state_parts.specs.Looking.{IsTarget, AreRanged};
 ghost use Rattle.state_parts.specs.Marking.{StandsStill};
 
 use crate::fetched::{Fetched, nothing_fetched};
-use crate::going::{bring, mark, mark_all};
+use crate::going::{bring_all, mark_all};
 use crate::look::{counts_same, look, look_anew};
 use crate::performing::perform_event;
 use crate::standing::Standing;
@@ -121,8 +121,7 @@ impl Board {
     {
         // Sizes that are read tell that there are as many objects as counts.
         let _sizes = self.desk.sizes();
-        mark(&mut self.changed, names, old, new)?;
-        bring(&mut self.desk, table, names, old, new);
+        bring_all(&mut self.changed, &mut self.desk, table, names, old, new)?;
         self.machine.take_objects(
             &self.desk,
             self.changed.as_slice(),

@@ -1,5 +1,5 @@
 //! Going from one state to another.
-ghost use Rattle.std.specs.Prelude.{◌≡◌, ◌<◌, ◌++◌, ◌∷◌, [], List, length, map, slice_get, Some, IfOk, OnOk};
+ghost use Rattle.std.specs.Prelude.{◌≡◌, ◌<◌, ◌++◌, ◌∷◌, [], List, length, map, slice_get, Some, IfOk, OnOk, OnErr};
 ghost use Rattle.object_store.specs.Store.{Store, size_of, sizes_of};
 ghost use Rattle.object_store.specs.Object.{ObjectName, ObjectValue, object_name, with_object, object_at, IsEven};
 ghost use Rattle.machine_state.specs.Taking.{names_of};
@@ -7,6 +7,7 @@ ghost use Rattle.object_parts.specs.Objects.{object_in, kind_in};
 ghost use Rattle.state_parts.specs.Keys.{AreAll, objects_of, values_of, Reads, store_by};
 ghost use Rattle.state_parts.specs.Looking.{AreMarked, HasAll, IsMarked, IsMore, IsTarget, kind_of};
 
+use crate::key::same_numbers;
 use crate::marking::mark_name;
 use cap_format::OutOfMemory;
 use machine_state::Name;
@@ -14,12 +15,7 @@ use object_parts::{Part, Table, put_part};
 use object_store::Objects;
 
 /// Marks the names whose numbers differ. Where memory is wanting some are marked.
-pub(crate) fn mark(
-    marked: &mut Vec<Name>,
-    names: &[Name],
-    old: &[u32],
-    new: &[u32],
-) -> Result<(), OutOfMemory>
+fn mark(marked: &mut Vec<Name>, names: &[Name], old: &[u32], new: &[u32]) -> Result<(), OutOfMemory>
     requires here { length old.now ≡ length names.now }
     requires there { length new.now ≡ length names.now }
     ensures grows { IsMore (names_of names.now) (names_of marked.old.items) (names_of marked.new.items) }
@@ -54,14 +50,40 @@ pub(crate) fn mark_all(marked: &mut Vec<Name>, names: &[Name]) -> Result<(), Out
     Ok(())
 }
 
-/// Puts the parts in place of the objects whose numbers differ.
-pub(crate) fn bring(
+/// Brings objects to others, by their numbers, and marks those whose numbers differ. Where memory is wanting the objects stay,
+/// and some are marked. Nothing is done where all numbers are the same: so it is where one state's choices are tried one
+/// after the other.
+pub(crate) fn bring_all(
+    marked: &mut Vec<Name>,
     objects: &mut Objects,
     table: &Table<Part>,
     names: &[Name],
     old: &[u32],
     new: &[u32],
-)
+) -> Result<(), OutOfMemory>
+    requires all { AreAll (sizes_of objects.old) (names_of names.now) }
+    requires here { length old.now ≡ length names.now }
+    requires there { length new.now ≡ length names.now }
+    requires old { Reads (map object_in table.now) old.now (objects_of (names_of names.now) objects.old) }
+    requires new { let target = store_by (sizes_of objects.old) (names_of names.now) (values_of (map object_in table.now) new.now) in
+        IsTarget (map object_in table.now) (names_of names.now) new.now (sizes_of objects.old) target }
+    ensures grows { IsMore (names_of names.now) (names_of marked.old.items) (names_of marked.new.items) }
+    ensures each { OnOk result (AreMarked (length names.now) (names_of names.now) old.now new.now (names_of marked.new.items)) }
+    ensures objects { OnOk result (objects.new ≡ store_by (sizes_of objects.old) (names_of names.now) (values_of (map object_in table.now) new.now)) }
+    ensures err { OnErr result (objects.new ≡ objects.old) }
+{
+    // Sizes that are read tell that there are as many objects as counts.
+    let _sizes = objects.sizes();
+    if same_numbers(old, new) {
+        return Ok(());
+    }
+    mark(marked, names, old, new)?;
+    bring(objects, table, names, old, new);
+    Ok(())
+}
+
+/// Puts the parts in place of the objects whose numbers differ.
+fn bring(objects: &mut Objects, table: &Table<Part>, names: &[Name], old: &[u32], new: &[u32])
     requires all { AreAll (sizes_of objects.old) (names_of names.now) }
     requires old { Reads (map object_in table.now) old.now (objects_of (names_of names.now) objects.old) }
     requires new { let target = store_by (sizes_of objects.old) (names_of names.now) (values_of (map object_in table.now) new.now) in

@@ -3,14 +3,15 @@ ghost use Rattle.std.specs.Prelude.{◌≡◌, ◌<◌, map, length, ◌↔◌, 
 ghost use Rattle.object_store.specs.Store.{size_of};
 ghost use Rattle.object_store.specs.Object.{object_name, IsAmong};
 ghost use Rattle.object_store.specs.Saved.{AreThere};
-ghost use Rattle.machine_state.specs.Taking.{names_of};
+ghost use Rattle.machine_state.specs.Taking.{name_of, names_of};
 ghost use Rattle.object_parts.specs.Live.{live_store};
 ghost use Rattle.object_parts.specs.Objects.{object_in};
 ghost use Rattle.object_parts.specs.Table.{Grows};
 ghost use Rattle.state_parts.specs.Keys.{objects_of, Reads};
-ghost use Rattle.state_parts.specs.Looking.{IsKnown, AreKnown, ReadsLive, AreRanged};
+ghost use Rattle.state_parts.specs.Looking.{AreKnown, IsPut, ReadsLive, AreRanged};
 ghost use Rattle.state_parts.specs.Marking.{HaveCounts};
 
+use crate::key::copy_numbers;
 use cap_format::OutOfMemory;
 use machine_state::Name;
 use object_parts::{Part, Table, number_of_part};
@@ -30,42 +31,38 @@ pub(crate) fn look<L: Ledger>(
     numbers: &[u32],
     fetches: &mut Steps<L>,
 ) -> Result<Vec<u32>, OutOfMemory>
-    requires there { AreThere objects.now (names_of names.now) }
+    requires there { AreThere objects.now (names_of changed.now) }
     requires many { length numbers.now ≡ length names.now }
     requires known { AreKnown (map object_in table.old) (live_store objects.now) (names_of changed.now) (names_of names.now) numbers.now }
     ensures grows { Grows (map object_in table.old) (map object_in table.new) }
     ensures reads { IfOk result (λ found. Reads (map object_in table.new) found.items (objects_of (names_of names.now) (live_store objects.now))) }
     ensures ranged { IfOk result (λ found. AreRanged (objects_of (names_of names.now) (live_store objects.now))) }
 {
-    let mut found = Vec::with_capacity(alloc, names.len())?;
-    for i in 0..names.len() {
-        let number = number_of(
-            alloc, table, objects, names[i], changed, numbers[i], fetches,
-        )?;
-        found.push(number)?;
+    let mut found = copy_numbers(alloc, numbers)?;
+    'each: for i in 0..changed.len() {
+        let number = new_look(alloc, table, objects, changed[i], fetches)?;
+        put_number(&mut found, names, changed[i], number);
     }
     Ok(found)
 }
 
-/// The number of one object's part: the one that is given, or of one of those that are named a new look.
-fn number_of<L: Ledger>(
-    alloc: Global,
-    table: &mut Table<Part>,
-    objects: &Objects,
-    name: Name,
-    changed: &[Name],
-    number: u32,
-    fetches: &mut Steps<L>,
-) -> Result<u32, OutOfMemory>
-    requires there { name.number < size_of objects.now.items name.kind }
-    requires known { IsKnown (map object_in table.old) (live_store objects.now) (names_of changed.now) (object_name name.kind name.number) number }
-    ensures grows { Grows (map object_in table.old) (map object_in table.new) }
-    ensures reads { IfOk result (λ found. ReadsLive (map object_in table.new) (live_store objects.now) (object_name name.kind name.number) found) }
+/// Writes a number wherever the name is the one that is given.
+fn put_number(numbers: &mut Vec<u32>, names: &[Name], name: Name, number: u32)
+    requires { length numbers.old.items ≡ length names.now }
+    ensures { IsPut (length names.now) (names_of names.now) (name_of name) number numbers.old.items numbers.new.items }
 {
-    if !is_named(changed, name) {
-        return Ok(number);
+    'each: for i in 0..names.len() {
+        if is_name(names[i], name) {
+            numbers[i] = number;
+        }
     }
-    new_look(alloc, table, objects, name, fetches)
+}
+
+/// Whether two names are the same.
+fn is_name(a: Name, b: Name) -> bool
+    ensures { IsTrue result ↔ (name_of a ≡ name_of b) }
+{
+    a.kind == b.kind && a.number == b.number
 }
 
 /// The numbers of all objects' parts, in the order of their names, each made anew.

@@ -55,6 +55,24 @@ impl Standing {
         })
     }
 
+    /// Whether it is of a machine of these sizes.
+    pub(crate) fn is_for(&self, sizes: Sizes) -> bool
+        ensures processes { IsTrue result → length self.now.queues.sleepers ≡ sizes.processes }
+        ensures harts { IsTrue result → length self.now.queues.harts ≡ sizes.harts }
+    {
+        self.processes == sizes.processes && self.harts == sizes.harts
+    }
+
+    /// Becomes a copy of other queues, for as many processes and harts.
+    pub(crate) fn write(&mut self, queues: &Queues, halted: bool)
+        requires processes { length self.old.queues.sleepers ≡ length queues.now.sleepers }
+        requires harts { length self.old.queues.harts ≡ length queues.now.harts }
+        ensures { standing_in self.new ≡ record { queues = queues.now; halted = halted } }
+    {
+        self.queues.copy_from(queues);
+        self.halted = halted;
+    }
+
     /// Whether the harts have the same processes.
     fn harts_same(&self, other: &Standing) -> bool
         ensures { IsTrue result ↔ (self.now.queues.harts ≡ other.now.queues.harts) }

@@ -37,6 +37,8 @@ pub struct States {
     at: Vec<u32>,
     /// The number of who stands where in the machine, if it is known.
     stands: Option<u32>,
+    /// Room for who stands where, to look it up.
+    spare: Option<Standing>,
 }
 
 impl Model for States {
@@ -82,6 +84,7 @@ impl States {
             board,
             at,
             stands: None,
+            spare: None,
         })
     }
 
@@ -104,7 +107,13 @@ impl States {
         machine.tell_kept();
         let _sizes = machine.objects().sizes();
         let _queues = machine.queues();
-        let standing = standing_number(self.alloc, &mut self.standings, machine, self.stands);
+        let standing = standing_number(
+            self.alloc,
+            &mut self.standings,
+            &mut self.spare,
+            machine,
+            self.stands,
+        );
         self.standings.tell_apart();
         let standing = standing?;
         self.stands = Some(standing);

@@ -1,14 +1,65 @@
-use Rattle.std.proofs.Common.{ℕ, ◌+◌, map, sym, subst, List}
+use Rattle.std.proofs.Common.{ℕ, ◌+◌, List, drop, get_or, map, length, sym, ap, ◌∙◌, subst}
+use Rattle.std.proofs.lemmas.List.{length-map}
+use Rattle.cap_format.specs.declared.kind.CapKind.TheVariants.{Null}
+use Rattle.machine_state.specs.Taking.{name_of, names_of}
+use Rattle.machine_state.proofs.Taken.{name_by, name_there, names_next, names_end}
+use Rattle.object_store.specs.Object.{ObjectName}
 use Rattle.object_parts.specs.Live.{live_store}
 use Rattle.object_parts.specs.Objects.{object_in}
-use Rattle.state_parts.proofs.Looked.{AreFound, found_more}
+use Rattle.object_parts.proofs.Tables.{grown_none}
+use Rattle.state_parts.specs.Looking.{AreKnown, IsPut}
+use Rattle.state_parts.proofs.Looked.{AreGiven, given_more, given_all}
 use Rattle.state_parts.proofs.look.look.Goals as goal
 
-pub loop-i-preserved : goal.loop-i-preserved
-loop-i-preserved g c =
-    let l = c.loop-i in
+pub each-init : goal.each-init
+each-init g c =
+    let T = map object_in c.args.table.now in
+    let names = names_of c.args.names.now in
+    let copied = c.in_ok-found.ensures in
+    let Known : List ℕ → Type 0 = λ xs. AreKnown T (live_store c.args.objects.now) (names_of c.args.changed.now) names xs in
+    record {
+      grows = grown_none T;
+      many = ap length copied ∙ c.requires.many ∙ sym (length-map c.args.names.now name_of);
+      known = subst Known (sym copied) c.requires.known;
+    }
+
+pub new_look-requires : goal.new_look-requires
+new_look-requires g c = name_there c.args.objects.now c.args.changed.now c.each.i (name_by Null 0) c.each-test.true c.requires.there
+
+pub put_number-requires : goal.put_number-requires
+put_number-requires g c = c.each.invariant.many ∙ length-map c.args.names.now name_of
+
+pub each-preserved : goal.each-preserved
+each-preserved g c =
+    let l = c.each in
     let s = live_store c.args.objects.now in
-    let T = map object_in c.number_of.new.table in
-    let Found : List ℕ → Type 0 = λ xs. AreFound (map object_in c.args.table.now) T xs c.args.names.now s (l.i + 1) in
-    subst Found (sym c.in_ok-push.ensures.items)
-    (found_more (map object_in c.args.table.now) (map object_in l.table) T l.found.items c.args.names.now s l.i c.in_ok-number.number c.loop-i-test.true l.invariant c.number_of.ensures.grows c.in_ok-number.ensures.reads)
+    let old = map object_in c.args.table.now in
+    let T = map object_in l.table in
+    let grown = map object_in c.new_look.new.table in
+    let names = names_of c.args.names.now in
+    let name = name_of (get_or c.args.changed.now l.i (name_by Null 0)) in
+    let rest = names_of (drop (l.i + 1) c.args.changed.now) in
+    let Left : List ObjectName → Type 0 = λ xs. AreGiven old T s xs names l.found.items in
+    let Put : ℕ → Type 0 = λ n. IsPut n names name c.in_ok-number.number l.found.items c.put_number.new.numbers.items in
+    given_more old T grown s name rest names l.found.items c.put_number.new.numbers.items c.in_ok-number.number
+    (subst Left (names_next c.args.changed.now l.i (name_by Null 0) c.each-test.true) l.invariant)
+    c.new_look.ensures.grows c.in_ok-number.ensures.reads
+    (subst Put (sym (length-map c.args.names.now name_of)) c.put_number.ensures)
+
+pub returns-clause-reads : goal.returns-clause-reads
+returns-clause-reads g c =
+    let l = c.each in
+    let T = map object_in l.table in
+    let s = live_store c.args.objects.now in
+    let names = names_of c.args.names.now in
+    let Known : List ObjectName → Type 0 = λ xs. AreKnown T s xs names l.found.items in
+    (given_all T s names l.found.items l.invariant.many (subst Known (names_end c.args.changed.now l.i c.each-test.false) l.invariant.known)).0
+
+pub returns-clause-ranged : goal.returns-clause-ranged
+returns-clause-ranged g c =
+    let l = c.each in
+    let T = map object_in l.table in
+    let s = live_store c.args.objects.now in
+    let names = names_of c.args.names.now in
+    let Known : List ObjectName → Type 0 = λ xs. AreKnown T s xs names l.found.items in
+    (given_all T s names l.found.items l.invariant.many (subst Known (names_end c.args.changed.now l.i c.each-test.false) l.invariant.known)).1

@@ -1,9 +1,11 @@
-use Rattle.std.proofs.Common.{map}
+use Rattle.std.proofs.Common.{drop, map}
+use Rattle.machine_state.specs.Taking.{names_of}
 use Rattle.object_parts.specs.Live.{live_store}
 use Rattle.object_parts.specs.Objects.{object_in}
-use Rattle.state_parts.proofs.Looked.{AreFound}
+use Rattle.state_parts.proofs.Looked.{AreGiven}
 use Rattle.state_parts.proofs.look.look.Given as goal
 
--- the numbers so far stand for the objects
-abbrev pub invariant-loop-i : goal.invariant-loop-i
-invariant-loop-i g l = AreFound (map object_in l.fn.table) (map object_in l.table) l.found.items l.names (live_store l.objects) l.i
+-- the numbers are known of all but those to come
+abbrev pub invariant-each : goal.invariant-each
+invariant-each g l =
+    AreGiven (map object_in l.fn.table) (map object_in l.table) (live_store l.objects) (names_of (drop l.i l.changed)) (names_of l.names) l.found.items

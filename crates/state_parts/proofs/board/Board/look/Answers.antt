@@ -31,8 +31,8 @@ counts_same-requires-clause-there g c =
 pub look-requires-clause-there : goal.look-requires-clause-there
 look-requires-clause-there g c =
     let i = c.self.inside in
-    let all = rw (← c.self.view_is) at c.requires.all in
-    rw c.objects-objects.ensures (there_same i.machine.objects i.desk (names_of c.args.names.now) c.self.invariant.sizes (names_there i.desk (names_of c.args.names.now) all))
+    let There : List Name → Type 0 = λ xs. AreThere i.machine.objects (names_of xs) in
+    rw c.objects-objects.ensures (subst There (sym c.as_slice-changed.ensures.value) (there_same i.machine.objects i.desk (names_of i.changed.items) c.self.invariant.sizes c.self.invariant.there))
 
 pub look-requires-clause-many : goal.look-requires-clause-many
 look-requires-clause-many g c =
