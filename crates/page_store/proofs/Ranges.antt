@@ -4,13 +4,7 @@ use Rattle.std.proofs.lemmas.List.{length-replicate, length-set}
 use Rattle.std.proofs.lemmas.List.Elements.{All-set, All-replicate}
 use Rattle.cap_format.specs.Capability.{Capability, IsCapability, null}
 use Rattle.cap_format.proofs.Ranges.{IsCapability-null, IsCapability-at}
-use Rattle.page_store.specs.Page.{IsPage, empty_page}
 use Rattle.page_store.specs.CapPage.{IsCapPage, cap_at, with_cap, empty_cappage}
-
--- the empty page has 4,096 bytes
-pub IsPage-empty_page : IsPage empty_page
-unfolding empty_page
-IsPage-empty_page = length-replicate {A = ℕ} 4096 0
 
 -- the empty capability page is in its ranges
 pub IsCapPage-empty_cappage : IsCapPage empty_cappage

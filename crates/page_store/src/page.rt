@@ -36,6 +36,14 @@ impl Page {
         let _bytes = &self.bytes;
     }
 
+    /// All bytes, as they stand.
+    pub fn bytes(&self) -> &[u8; 4096]
+        ensures bytes { result.now ≡ self.now }
+        ensures size { IsPage self.now }
+    {
+        &self.bytes
+    }
+
     /// Fills `into` with the bytes from offset `at` on.
     pub fn read(&self, at: u16, into: &mut [u8])
         requires { at + length into.old ≤ 4096 }
