@@ -1,6 +1,6 @@
 -- Lists that are compared one element after the other.
-use Rattle.std.proofs.Common.{◌≡◌, ℕ, ◌+◌, ◌<◌, ◌↔◌, Bool, true, false, IsTrue, List, [], ◌∷◌, ◌++◌, get_or, length, map, take, drop, refl, sym, ap, ◌∙◌, subst, arith}
-use Rattle.std.proofs.lemmas.List.{take_more, take_all, length-map, get_or-map}
+use Rattle.std.proofs.Common.{◌≡◌, ℕ, ◌+◌, ◌<◌, ◌↔◌, Bool, true, false, IsTrue, List, [], ◌∷◌, ◌++◌, get_or, length, map, take, refl, sym, ap, ◌∙◌, subst, arith}
+use Rattle.std.proofs.lemmas.List.{take_more, length-map, get_or-map}
 use Rattle.cap_format.specs.declared.kind.CapKind.{CapKind}
 use Rattle.cap_format.specs.declared.kind.CapKind.TheVariants.{Null}
 use Rattle.cap_format.specs.Kind.{number_of, is_memory, restr_limit, count_limit, object_limit, payload_limit, slot_limit}
@@ -20,10 +20,6 @@ caps_answer false a b exactly = by (same_caps a b) refl
     by : (t : Bool) → same_caps a b ≡ t → false ≡ t
     by true e = exactly.1 ((caps_decide a b).0 e)
     by false e = refl
-
--- all bytes of a page, read
-pub whole_page : (page bytes : List ℕ) (n : ℕ) → length page ≡ 4096 → n ≡ 4096 → bytes ≡ take n (drop 0 page) → bytes ≡ page
-whole_page page bytes n size all read = read ∙ take_all n page (omega (arith, size, all))
 
 -- one more element is the same
 pub same_more : {A : Type 0} (xs ys : List A) (i : ℕ) (d : A) → i < length xs → i < length ys → take i xs ≡ take i ys → get_or xs i d ≡ get_or ys i d → take (i + 1) xs ≡ take (i + 1) ys

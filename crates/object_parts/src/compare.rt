@@ -14,13 +14,7 @@ use process_objects::{Accept, Process, State, Wait};
 pub(crate) fn same_pages(a: &Page, b: &Page) -> bool
     ensures { result ≡ same_numbers a.now b.now }
 {
-    a.tell_range();
-    b.tell_range();
-    let mut bytes = [0; 4096];
-    let mut others = [0; 4096];
-    a.read(0, &mut bytes);
-    b.read(0, &mut others);
-    bytes == others
+    a.bytes() == b.bytes()
 }
 
 pub(crate) fn same_cap_pages(a: &CapPage, b: &CapPage) -> bool

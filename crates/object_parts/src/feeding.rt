@@ -17,10 +17,7 @@ pub(crate) fn feed_page<H: Hasher>(count: u32, page: &Page, state: &mut H)
 fn folded_page(count: u32, page: &Page) -> u64
     ensures { result ≡ folded_bytes count page.now 512 }
 {
-    page.tell_range();
-    let mut bytes = [0; 4096];
-    page.read(0, &mut bytes);
-    folded_bytes(u64::from(count), &bytes)
+    folded_bytes(u64::from(count), page.bytes())
 }
 
 /// A number with the bytes of a page folded into it, eight at a time.
