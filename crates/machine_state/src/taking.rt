@@ -1,5 +1,5 @@
 //! Taking objects over from a store that agrees with the machine's outside named objects.
-ghost use Rattle.std.specs.Prelude.{◌≡◌, ◌<◌};
+ghost use Rattle.std.specs.Prelude.{◌≡◌, ◌<◌, IsTrue};
 ghost use Rattle.object_store.specs.Store.{size_of, sizes_of};
 ghost use Rattle.object_store.specs.Meaning.{map_of};
 ghost use Rattle.object_store.specs.Object.{object_at, with_object, Stays, IsEven};
@@ -26,7 +26,8 @@ pub struct Name {
 
 impl<T: Translator> Machine<T> {
     /// Takes the named objects over from another store of the same sizes, in which all others are stored as here, and tells
-    /// the translator each of them. The queues become a copy of these, and the machine is halted or not as is said.
+    /// the translator each by which walks could change. The queues become a copy of these, and the machine is halted or not
+    /// as is said.
     pub fn take_objects<L: Ledger>(
         &mut self,
         from: &Objects,
@@ -52,6 +53,30 @@ impl<T: Translator> Machine<T> {
         );
         self.queues.copy_from(queues);
         self.halted = halted;
+    }
+
+    /// The same where nobody came or left: the queues, the harts and whether the machine is halted stay.
+    pub fn take_objects_alone<L: Ledger>(
+        &mut self,
+        from: &Objects,
+        names: &[Name],
+        fetches: &mut Steps<L>,
+    )
+        requires sizes { sizes_of self.old.objects ≡ sizes_of from.now }
+        requires there { AreThere from.now (names_of names.now) }
+        requires others { Stays (names_of names.now) from.now self.old.objects }
+        requires machine { IsMachine from.now self.old.queues }
+        ensures objects { self.new.objects ≡ from.now }
+        ensures queues { self.new.queues ≡ self.old.queues }
+        ensures halted { self.new.halted ≡ self.old.halted }
+    {
+        take_each(
+            &mut self.objects,
+            &mut self.translator,
+            from,
+            names,
+            fetches,
+        );
     }
 }
 
@@ -79,7 +104,7 @@ fn take_each<T: Translator, L: Ledger>(
     }
 }
 
-/// Takes one object over, and tells it in the same call.
+/// Takes one object over, and tells it in the same call, unless all walks are sure to stay.
 fn take_one<T: Translator, L: Ledger>(
     objects: &mut Objects,
     translator: &mut T,
@@ -95,6 +120,20 @@ fn take_one<T: Translator, L: Ledger>(
     ensures coherent { T.coherent translator.new (map_of objects.new.items) }
     ensures harts { T.harts translator.new ≡ T.harts translator.old }
 {
+    let leads_on = leads_on(objects, from, name);
     let item = objects.copy_object(name.kind, name.number, from, name.number, fetches);
-    translator.invalidate(item);
+    if !leads_on {
+        translator.invalidate(item);
+    }
+}
+
+/// Whether walks stay the same where an object becomes what it is in another store: no walk reads more of it than its count.
+fn leads_on(objects: &Objects, from: &Objects, name: Name) -> bool
+    requires there { name.number < size_of objects.now.items name.kind }
+    requires copy { name.number < size_of from.now.items name.kind }
+    ensures { IsTrue result →
+        (with_object objects.now name.number (object_at from.now name.kind name.number)).items ≡ objects.now.items }
+{
+    name.kind != CapKind::Gpt
+        && objects.count(name.kind, name.number) == from.count(name.kind, name.number)
 }
