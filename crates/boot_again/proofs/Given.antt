@@ -60,11 +60,6 @@ pick given f (suc n) k there others = elim (cases_lt k n) [
 
 -- ---- what stands in the end
 
--- nothing is given
-pub last_none : {A : Type 0} (given : Statement → Option A) (empty : A) (xs : List Statement) → Silent given xs → last_given given empty xs ≡ empty
-unfolding last_given
-last_none given empty xs silent = rw silent refl
-
 -- one statement alone may give something
 pub last_one : {A : Type 0} (given : Statement → Option A) (default v : A) (xs : List Statement) (empty : Bool) (x : Statement) → filter_map given xs ≡ filter_map given (unless_empty empty x) → given x ≡ Some v → last_given given default xs ≡ (if empty then default else v)
 unfolding last_given

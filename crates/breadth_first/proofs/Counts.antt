@@ -2,9 +2,8 @@
 use Rattle.std.proofs.Common.{◌≡◌, ℕ, zero, suc, ◌+◌, ◌<◌, ◌≤◌, ◌⊎◌, inl, inr, Bool, true, false, cond, List, [], ◌∷◌, ◌++◌, length, map, take, slice_get, get_or, Some, All, refl, sym, ap, ◌∙◌, subst, arith}
 use Rattle.std.proofs.lemmas.Bool.{cases_lt}
 use Rattle.std.proofs.lemmas.List.{length-map, length_push, get_or-map}
-use Rattle.std.proofs.lemmas.Option.{slice_get_within, get_or_from_slice_get, slice_get-map, same_Some}
+use Rattle.std.proofs.lemmas.Option.{slice_get_within, get_or_from_slice_get, same_Some}
 use Rattle.std.specs.List.{fold, count_by}
-use Rattle.std.specs.Option.{option_map}
 use Rattle.breadth_first.specs.System.{System, IsEquality}
 use Rattle.breadth_first.specs.Paths.{after}
 use Rattle.breadth_first.specs.Kept.{Keeps}
@@ -30,18 +29,6 @@ fold-map f h (x ∷ xs) a = fold-map f h xs (h a (f x))
 
 pub count-map : {A : Type 0} (f : A → Bool) (xs : List A) → count_by (λ mark. mark) (map f xs) ≡ count_by f xs
 count-map f xs = fold-map f (λ a x. a + cond x 1 0) xs 0
-
--- the mark of the next state
-pub mark-at : {K S : Type 0} {g h : System S} {held holds : K → Type 0} {means stands : K → S} → Keeps g held means h holds stands → (t : ℕ) (keys : List K) → (i : ℕ) (from : K) → slice_get keys i ≡ Some from → held from
-    → (passes : Bool) → passes ≡ h.test t (stands from) → slice_get (map (g.test t) (map means keys)) i ≡ Some passes
-mark-at {g = g} {means = means} {stands = stands} keeps t keys i from at h passes is =
-    let same : passes ≡ g.test t (means from) = is ∙ ap (λ s. s.test t (stands from)) keeps.system ∙ ap (g.test t) (keeps.stays from h) in
-    slice_get-map (g.test t) (map means keys) i ∙ ap (option_map (g.test t)) (slice_get-map means keys i ∙ ap (option_map means) at) ∙ ap Some (sym same)
-
--- a path to a state, at another moment
-pub path-same : {K S : Type 0} {g h : System S} {held holds : K → Type 0} {means stands : K → S} → Keeps g held means h holds stands → (keys : List K) → All held keys → (i : ℕ) (path : List ℕ) → IsPathTo h (map stands keys) i path → IsPathTo g (map means keys) i path
-path-same {g = g} {h = h} {means = means} {stands = stands} keeps keys all i path to =
-    subst (λ s. IsPathTo s (map means keys) i path) keeps.system (subst (λ l. IsPathTo h l i path) (keeps-map keeps keys all) to)
 
 module _ {S : Type 0} (test : S → Bool) (states : List S) (marks : List Bool) (are : marks ≡ map test states) where
   -- the mark of a state
@@ -86,7 +73,3 @@ counts-more g states tests counts n t count each many there is i u c at told = b
 pub opened-keeps : {K S : Type 0} {g h : System S} {held holds : K → Type 0} {means stands : K → S} → Keeps g held means h holds stands → (keys : List K) → All held keys → IsOpened g (map means keys) → IsOpened h (map stands keys)
 opened-keeps {g = g} {h = h} {means = means} {stands = stands} keeps keys all is =
     subst (λ s. IsOpened s (map stands keys)) (sym keeps.system) (subst (IsOpened g) (sym (keeps-map keeps keys all)) is)
-
-pub count-same : {K S : Type 0} {g h : System S} {held holds : K → Type 0} {means stands : K → S} → Keeps g held means h holds stands → (keys : List K) → All held keys → (t : ℕ) (count : Count) → IsCount h (map stands keys) t count → IsCount g (map means keys) t count
-count-same {g = g} {h = h} {means = means} {stands = stands} keeps keys all t count is =
-    subst (λ s. IsCount s (map means keys) t count) keeps.system (subst (λ l. IsCount h l t count) (keeps-map keeps keys all) is)

@@ -21,9 +21,6 @@ outputs_behind old now new exit front last memory written o = record {
 pub read-memory : ReadFault ≢ OutOfMemory
 read-memory same = let four : 4 ≡ 6 = ap status_of same in absurd (omega (arith, four))
 
-pub write-memory : WriteFault ≢ OutOfMemory
-write-memory same = let five : 5 ≡ 6 = ap status_of same in absurd (omega (arith, five))
-
 -- reading failed
 pub outputs_none : (now new : Option (List ℕ)) (o : Output) → Outputs now new ReadFault o
 outputs_none now new o = record {

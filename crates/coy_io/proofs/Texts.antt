@@ -44,10 +44,6 @@ failed (Err e) (Err f) a b c is was same cause =
 pub caused : {T E : Type 0} (r : Result T E) (a b c : ℕ) → b ≡ a → HasCause b c r → HasCause a c r
 caused r a b c same cause = subst (λ n. HasCause n c r) same cause
 
--- a text by another name
-pub same_text : (a b : Option (List ℕ)) (x y : List ℕ) → x ≡ y → Appends a b x → Appends a b y
-same_text a b x y same done = subst (Appends a b) same done
-
 pub same_cut : (a b : Option (List ℕ)) (x y : List ℕ) → x ≡ y → AppendsSome a b x → AppendsSome a b y
 same_cut a b x y same front = subst (AppendsSome a b) same front
 

@@ -41,12 +41,6 @@ any-added p old new d adds = same_tests (list_any p new) (p d || list_any p old)
       | inr there ↦ let found = any_has p old there in has_any p new found.0 (has-added old new d found.0 adds found.1.0) found.1.1
     ]
 
--- where the same records pass the test
-pub any-same : (p : Depend → Bool) (xs ys : List Depend) → ((d : Depend) → p d ≡ true → has xs d ≡ has ys d) → list_any p xs ≡ list_any p ys
-any-same p xs ys alike = same_tests (list_any p xs) (list_any p ys)
-    (λ holds. let found = any_has p xs holds in has_any p ys found.0 (sym (alike found.0 found.1.1) ∙ found.1.0) found.1.1)
-    (λ holds. let found = any_has p ys holds in has_any p xs found.0 (alike found.0 found.1.1 ∙ found.1.0) found.1.1)
-
 -- what was taken makes the old records again
 pub adds-taken : (old new : List Depend) (d : Depend) → Takes old new d → Adds new old d
 adds-taken old new d takes = record { records = λ e. records e (same d e) refl; count = count (has new d) (has-taken_itself old new d takes) }

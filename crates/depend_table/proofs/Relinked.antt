@@ -1,9 +1,8 @@
 -- Chains that are made anew, key by key.
-use Rattle.std.proofs.Common.{◌≡◌, ◌≢◌, inl, inr, ℕ, zero, suc, ◌+◌, ◌<◌, ◌≤◌, Bool, true, false, not, if◌then◌else◌, nat_lt, List, [], ◌∷◌, filter, length, get_or, set, replicate, sum_by, count_by, is_some, cond, Option, Some, None, refl, sym, ap, ◌∙◌, subst, arith, add-one}
+use Rattle.std.proofs.Common.{◌≡◌, ◌≢◌, inl, inr, ℕ, zero, suc, ◌+◌, ◌<◌, ◌≤◌, Bool, true, false, not, if◌then◌else◌, nat_lt, List, [], ◌∷◌, filter, length, get_or, set, sum_by, count_by, is_some, cond, Option, Some, None, refl, sym, ap, ◌∙◌, subst, arith, add-one}
 use Rattle.std.proofs.lemmas.Bool.Decides.{nat_tests}
 use Rattle.std.proofs.Math.Path.{fun_ext}
-use Rattle.std.proofs.lemmas.List.{get_or-set_same, get_or-set_other, length-replicate, length-set}
-use Rattle.std.proofs.lemmas.List.Folds.{sum_by-replicate}
+use Rattle.std.proofs.lemmas.List.{get_or-set_same, get_or-set_other, length-set}
 use Rattle.std.proofs.lemmas.List.Sums.{sum_by-set, sum_by-cons}
 use Rattle.slab.specs.Slab.{Slab, get, slab_len}
 use Rattle.guard_math.specs.Block.{BlockValue}
@@ -14,7 +13,6 @@ use Rattle.depend_table.specs.Depend.{Depend, is_within}
 use Rattle.depend_table.specs.Place.{place_of}
 use Rattle.depend_table.specs.Chain.{IsLinked, IsLinkedTo, IsTable, below, chain_at, count_below, linked_chain, no_chain, one_if, record_at, record_of, records_of, unless_within}
 use Rattle.depend_table.proofs.Linked.{linked-noted, one_or_not}
-use Rattle.depend_table.proofs.Tables.{chain_at-replicate, linked_none}
 
 -- ---- nodes below a key
 
@@ -137,17 +135,6 @@ records_left root block (x ∷ xs) (y ∷ ys) left = on x y (left 0) (records_le
         within false (Some m) e = let same : record_of m ≡ record_of n = cc in rw (same, rest) refl
 
 -- ---- at the start, at a key, at the end
-
-pub linked_start : (nodes : Slab Node) (old new : List Chain) → IsTable nodes old → new ≡ replicate (length old) no_chain → IsLinkedTo nodes new 0
-linked_start nodes old new table cleared = record {
-  most = table.most;
-  places = ap length cleared ∙ length-replicate (length old) no_chain ∙ table.places;
-  items = table.linked.items;
-  once = table.linked.once;
-  total = ap (sum_by (λ (c : Chain). c.length)) cleared ∙ sum_by-replicate (λ (c : Chain). c.length) (length old) no_chain ∙ omega arith;
-  linked = linked_none (below (get nodes) 0) (chain_at new) (λ k. below_past (get nodes) 0 k (omega arith))
-      (λ place. ap (λ (cs : List Chain). chain_at cs place) cleared ∙ chain_at-replicate (length old) place);
-}
 
 -- a chain is no longer than all records
 pub chain_short : (nodes : Slab Node) (chains : List Chain) (end place : ℕ) → IsLinkedTo nodes chains end → place < 23040 → (chain_at chains place).length ≤ 16384

@@ -1,5 +1,5 @@
 -- Looking for a record along the chain of its item.
-use Rattle.std.proofs.Common.{◌≡◌, inl, inr, ℕ, ◌+◌, ◌<◌, ◌≤◌, true, false, length, Option, Some, None, sym, ap, ◌∙◌, subst, arith}
+use Rattle.std.proofs.Common.{◌≡◌, ℕ, ◌<◌, ◌≤◌, true, false, length, Option, Some, None, sym, ap, ◌∙◌, subst, arith}
 use Rattle.slab.specs.Slab.{Slab, get}
 use Rattle.cap_format.specs.declared.item.Item.{Item}
 use Rattle.cap_format.specs.Item.{IsItem}
@@ -10,7 +10,7 @@ use Rattle.depend_table.specs.Depend.{Depend, depend, has}
 use Rattle.depend_table.specs.Place.{place_of}
 use Rattle.depend_table.specs.Chain.{IsLinked, record_of, records_of}
 use Rattle.depend_table.proofs.Listed.{has-none, has-noted}
-use Rattle.depend_table.proofs.Linked.{first_of, none_left, one_or_not}
+use Rattle.depend_table.proofs.Linked.{first_of, none_left}
 use Rattle.depend_table.proofs.Places.{item_of_place}
 
 -- no node of the item that is at least so high has this root and this block
@@ -23,18 +23,6 @@ unseen_first node chain place root block linked k n is at high here there =
     let low = linked.within k n is in
     let long : n.rest.length < (chain place).length = rw at at low in
     omega (arith, long, high)
-
--- one node further
-pub unseen_next : (node : ℕ → Option Node) (chain : ℕ → Chain) (place length root : ℕ) (block : BlockValue) (key : ℕ) (m : Node) → IsLinked node chain → node key ≡ Some m → place_of m.item ≡ place → length ≡ m.rest.length + 1 → (m.root ≡ root → m.block ≡ block → ⊥) → Unseen node place length root block → Unseen node place m.rest.length root block
-unseen_next node chain place length root block key m linked at of long differs unseen k n is also high here there =
-    elim (one_or_not n.rest.length m.rest.length) [
-      | inl level ↦
-          let one : k ≡ key = linked.apart k key n m is at (also ∙ sym of) level in
-          let this : node k ≡ Some m = ap node one ∙ at in
-          let same : n ≡ m = cc in
-          differs (sym (ap (λ (x : Node). x.root) same) ∙ here) (sym (ap (λ (x : Node). x.block) same) ∙ there)
-      | inr other ↦ unseen k n is also (omega (arith, high, other, long)) here there
-    ]
 
 -- at the end the record is not there
 pub unseen_all : (nodes : Slab Node) (item : Item) (root : ℕ) (block : BlockValue) → Unseen (get nodes) (place_of item) 0 root block → has (records_of nodes.slots) (depend item root block) ≡ false

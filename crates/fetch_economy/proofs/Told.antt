@@ -1,5 +1,5 @@
 -- Ages along touches: lists of touches one after the other, and changes that are told.
-use Rattle.std.proofs.Common.{inl, inr, List, [], ◌∷◌, ◌++◌, refl, sym, ◌∙◌}
+use Rattle.std.proofs.Common.{inl, inr, List, [], ◌∷◌, ◌++◌, sym, ◌∙◌}
 use Rattle.cap_format.specs.declared.item.Item.{Item}
 use Rattle.cap_format.specs.declared.item.Item.TheVariants.{Header, Slot}
 use Rattle.object_store.specs.Store.{Items}
@@ -31,7 +31,3 @@ ages-differ (Header kind n) o p differ k m = elim (differ.counts k m) [
   | inr same ↦ inr same
 ]
 ages-differ (Slot g i) o p differ k m = inr (differ.counts k m)
-
--- such a change, told
-pub told-changed : (item : Item) (o p : Items) → SameAgesBut item o p → AgesAreTold o (Changed item ∷ []) p
-told-changed item o p but = (p, but, λ kind n. refl)

@@ -1,12 +1,11 @@
 -- What keeps a GPT in its ranges, and what an empty one holds.
-use Rattle.std.proofs.Common.{ℕ, ◌≡◌, ◌⊎◌, inl, inr, ◌<◌, ◌≤◌, ◌∙◌, arith}
-use Rattle.std.proofs.lemmas.Bool.{cases_lt}
-use Rattle.std.proofs.lemmas.List.{get_or_past, get_or-replicate, length-set, length-replicate}
+use Rattle.std.proofs.Common.{ℕ, ◌∙◌, arith}
+use Rattle.std.proofs.lemmas.List.{length-set, length-replicate}
 use Rattle.std.proofs.lemmas.List.Elements.{All-set, All-replicate}
 use Rattle.cap_format.specs.Capability.{Capability, IsCapability, null}
 use Rattle.cap_format.proofs.Ranges.{IsCapability-null, IsCapability-at}
-use Rattle.gpt_objects.specs.Header.{HeaderValue, IsHeader, empty_header}
-use Rattle.gpt_objects.specs.Gpt.{GptValue, IsGpt, slot_of, with_header, with_slot, empty_slots, empty_gpt}
+use Rattle.gpt_objects.specs.Header.{IsHeader, empty_header}
+use Rattle.gpt_objects.specs.Gpt.{GptValue, IsGpt, slot_of, with_slot, empty_slots, empty_gpt}
 
 -- each read of a slot gives a capability in its ranges, also past the end
 pub IsCapability-slot_of : (gpt : GptValue) (i : ℕ) → IsGpt gpt → IsCapability (slot_of gpt i)
@@ -24,19 +23,6 @@ IsGpt-empty_gpt = record {
   sixteen = length-replicate 16 null;
   slots = All-replicate IsCapability 16 null IsCapability-null;
 }
-
--- each slot of the empty GPT is Null, also past the end
-pub slot_of-empty_gpt : (i : ℕ) → slot_of empty_gpt i ≡ null
-unfolding empty_slots
-slot_of-empty_gpt i = on (cases_lt i 16)
-  where
-    on : (i < 16) ⊎ (16 ≤ i) → slot_of empty_gpt i ≡ null
-    on (inl below) = get_or-replicate 16 i null null below
-    on (inr past) = get_or_past empty_slots i null past
-
--- a new header keeps a GPT in its ranges
-pub IsGpt-with_header : (gpt : GptValue) (header : HeaderValue) → IsHeader header → IsGpt gpt → IsGpt (with_header gpt header)
-IsGpt-with_header gpt header in_range is = record { header = in_range; sixteen = is.sixteen; slots = is.slots }
 
 -- a write to a slot keeps a GPT in its ranges
 pub IsGpt-with_slot : (gpt : GptValue) (i : ℕ) (cap : Capability) → IsCapability cap → IsGpt gpt → IsGpt (with_slot gpt i cap)

@@ -4,7 +4,7 @@ use Rattle.std.proofs.Math.Nat.{div-mul-le_self, lt-div-mul-add, div-div-eq-div-
 use Rattle.std.proofs.lemmas.Nat.{pow-add, pow_pos}
 use Rattle.std.proofs.Math.Bool.{and_comm}
 use Rattle.std.proofs.lemmas.Bool.Decides.{nat_tests}
-use Rattle.guard_math.specs.Block.{BlockValue, IsBlock, IsWithin, block_of, around, covers, end_of, first_page, holds, page_count}
+use Rattle.guard_math.specs.Block.{BlockValue, IsBlock, IsWithin, around, covers, end_of, first_page, holds, page_count}
 
 -- a size of a page or more, in pages
 pub pages_of_size : (l2 : ℕ) → 12 ≤ l2 → 2 ^ l2 ≡ 2 ^ (l2 - 12) * 4096
@@ -65,16 +65,6 @@ covers-around_self a l2 =
     let high = lt-div-mul-add {a = a} (pow_pos l2) in
     grind (arith, nat_tests, low, high)
 
--- a block that covers an address is the one round it
-pub around-covered : (b : BlockValue) (a : ℕ) → IsBlock b → covers b a ≡ true → around a b.l2 ≡ b
-around-covered b a is inside =
-    let low : b.base ≤ a = grind (arith, nat_tests, inside) in
-    let high : a < b.base + 2 ^ b.l2 = grind (arith, nat_tests, inside) in
-    let whole = quotient_of_multiple b.base (2 ^ b.l2) is.aligned in
-    let top : a < (b.base / 2 ^ b.l2 + 1) * 2 ^ b.l2 = omega (arith, high, whole, add-mul (b.base / 2 ^ b.l2) 1 (2 ^ b.l2)) in
-    let same : a / 2 ^ b.l2 ≡ b.base / 2 ^ b.l2 = div-eq_of_lt-le (2 ^ b.l2) (omega (arith, low, whole)) top in
-    ap (λ (q : ℕ). block_of (q * 2 ^ b.l2) b.l2) same ∙ ap (λ (n : ℕ). block_of n b.l2) (sym whole)
-
 -- blocks round one address lie within each other, by their sizes
 pub IsWithin-around : (a l m : ℕ) → l ≤ m → IsWithin (around a l) (around a m)
 IsWithin-around a l m smaller =
@@ -96,11 +86,6 @@ IsWithin-around a l m smaller =
         let right = add-mul (a / s / k * k) k s in
         let order = mul_comm s k in
         (omega (arith, base, low), omega (arith, base, high, left, right, order, product))
-
--- of two blocks that share an address the smaller lies within the larger
-pub IsWithin-shared : (b c : BlockValue) (a : ℕ) → IsBlock b → IsBlock c → covers b a ≡ true → covers c a ≡ true → b.l2 ≤ c.l2 → IsWithin b c
-IsWithin-shared b c a isb isc inb inc smaller =
-    rw (sym (around-covered b a isb inb), sym (around-covered c a isc inc)) (IsWithin-around a b.l2 c.l2 smaller)
 
 -- an address of the inner block is one of the outer
 pub covers-within : (b c : BlockValue) (a : ℕ) → IsWithin b c → covers b a ≡ (covers b a && covers c a)

@@ -22,7 +22,7 @@ use Rattle.object_store.proofs.Stays.{stays_then, stays_more, stays_endpoint, st
 use Rattle.invocation.specs.declared.message.Message.{Message}
 use Rattle.invocation.specs.Target.{is_receiving}
 use Rattle.invocation.specs.Delivery.{accepted, accepting, number_given, given, told, received, passed, passed_at, delivered, message_map, changed_by_message}
-use Rattle.invocation.proofs.Given.{given_map, given_each, given-slots, given-state, given-pc}
+use Rattle.invocation.proofs.Given.{given_map, given_each, given-slots}
 
 -- ---- the receiver
 
@@ -38,14 +38,6 @@ told-capregs process id number message = refl
 told-slots : (process : ProcessValue) (id number : ℕ) (message : Message) → (told process id number message).slots ≡ process.slots
 unfolding told
 told-slots process id number message = refl
-
-told-state : (process : ProcessValue) (id number : ℕ) (message : Message) → (told process id number message).state ≡ process.state
-unfolding told
-told-state process id number message = refl
-
-told-pc : (process : ProcessValue) (id number : ℕ) (message : Message) → (told process id number message).pc ≡ process.pc
-unfolding told
-told-pc process id number message = refl
 
 -- what a receiver means is what it meant, with the meaning of the message
 received_map : (f : Capability → Capability) → f null ≡ null → (process : ProcessValue) (id : ℕ) (message : Message) → process_map f (received process id message) ≡ received (process_map f process) id (message_map f message)
@@ -72,14 +64,6 @@ received_by process id message accept number accept_is range number_is =
 pub received-slots : (process : ProcessValue) (id : ℕ) (message : Message) → (received process id message).slots ≡ process.slots
 unfolding received
 received-slots process id message = given-slots _ _ _ ∙ told-slots process id _ message
-
-pub received-state : (process : ProcessValue) (id : ℕ) (message : Message) → (received process id message).state ≡ process.state
-unfolding received
-received-state process id message = given-state _ _ _ ∙ told-state process id _ message
-
-pub received-pc : (process : ProcessValue) (id : ℕ) (message : Message) → (received process id message).pc ≡ process.pc
-unfolding received
-received-pc process id message = given-pc _ _ _ ∙ told-pc process id _ message
 
 -- its capability registers have what they had, and capabilities of the message
 pub received_each : (P : Capability → Type 0) → P null → (process : ProcessValue) (id : ℕ) (message : Message) → All P message.caps → All P process.capregs → All P (received process id message).capregs
@@ -148,8 +132,3 @@ delivered_stays s e q message =
     stays_then (changed_by_message e q) s (passed_at s e) (with_process (passed_at s e) q (received (process_at s q) (endpoint_at s e).id message))
     (stays_endpoint (object_name Process q ∷ []) s e (passed (endpoint_at s e)))
     (stays_more (object_name Endpoint e) (object_name Process q ∷ []) (passed_at s e) _ (stays_process [] (passed_at s e) q (received (process_at s q) (endpoint_at s e).id message)))
-
--- no item changes, and the harts stay
-pub delivered-items : (s : Store) (e q : ℕ) (message : Message) → ((delivered s e q message).items ≡ s.items) × ((delivered s e q message).harts ≡ s.harts)
-unfolding delivered
-delivered-items s e q message = (refl, refl)

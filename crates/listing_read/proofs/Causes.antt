@@ -29,8 +29,3 @@ cause_past place n (Some parts) (rest, begins) = ap (listing_of place n) begins
 pub cause_read : (place : Place) (n : ℕ) (parts : Option (List Part)) → IsCause faults.ReadFault place n parts
 cause_read place n None = tt
 cause_read place n (Some parts) = tt
-
--- no memory was left
-pub cause_memory : (place : Place) (n : ℕ) (parts : Option (List Part)) → IsCause faults.OutOfMemory place n parts
-cause_memory place n None = tt
-cause_memory place n (Some parts) = tt

@@ -1,5 +1,5 @@
 -- The listing while it is read: what the lines given and any others make is what those others make behind these statements.
-use Rattle.std.proofs.Common.{ℕ, ◌≡◌, ◌+◌, ◌<◌, ◌^◌, refl, sym, ap, ◌∙◌, append_assoc, append-nil, length-append, List, [], ◌∷◌, ◌++◌, length, Option, Some, None, Result, Ok, Err, false, subst, arith}
+use Rattle.std.proofs.Common.{ℕ, ◌≡◌, ◌+◌, refl, sym, ap, ◌∙◌, append_assoc, append-nil, length-append, List, [], ◌∷◌, ◌++◌, length, Option, Some, None, Result, Ok, Err, false, subst, arith}
 use Rattle.std.specs.List.{All}
 use Rattle.std.proofs.lemmas.List.Elements.{All-append, All-cons, All-nil}
 use Rattle.coy_io.specs.Lines.{Part, Line}
@@ -16,8 +16,8 @@ use Rattle.listing_read.specs.declared.place.Place.TheVariants.{Header, Machine,
 use Rattle.listing_read.specs.declared.place.Said.{Said}
 use Rattle.listing_read.specs.declared.place.Said.TheVariants.{Nothing, Opens, Calls, Says, Ends}
 use Rattle.listing_read.specs.declared.statement.Statement.{Statement}
-use Rattle.listing_read.specs.Statement.{IsStatement, IsTyped, IsListing, ListingValue}
-use Rattle.listing_read.specs.Listing.{Listed, Good, Refused, Past, with_front, place_behind, place_with, listed_by, judged, listing_of, fault_at_end, IsListed, IsCause, IsPlace, IsSaid}
+use Rattle.listing_read.specs.Statement.{IsStatement, IsTyped, ListingValue}
+use Rattle.listing_read.specs.Listing.{Listed, Good, Refused, Past, with_front, place_behind, place_with, listed_by, judged, listing_of, fault_at_end, IsListed, IsCause, IsSaid}
 use Rattle.listing_read.specs.Reads.{ReadsLine, IsStopped, GivesListing, GivesFront}
 
 -- no statement in front
@@ -217,12 +217,6 @@ HoldsIn Header statements = statements ≡ []
 HoldsIn (Machine version) statements = statements ≡ []
 HoldsIn (Statements terms) statements = IsWithinLimits terms.sizes × All (IsStatement terms.sizes) statements × All IsTyped statements
 
--- the sizes of the place are within their limits
-pub place_held : (place : Place) (statements : List Statement) → HoldsIn place statements → IsPlace place
-place_held Header statements held = tt
-place_held (Machine version) statements held = tt
-place_held (Statements terms) statements held = held.0
-
 -- in the next place
 pub holds_opens : (place next : Place) (statements : List Statement) → IsSaid place (Opens next) → HoldsIn place statements → HoldsIn next statements
 holds_opens Header Header statements said held = absurd said
@@ -251,10 +245,3 @@ holds_says Header statements statement said typed held = absurd said
 holds_says (Machine version) statements statement said typed held = absurd said
 holds_says (Statements terms) statements statement said typed held =
     (held.0, all_with (IsStatement terms.sizes) statements statement held.1 said, all_with IsTyped statements statement held.2 typed)
-
--- at the end
-pub listing_kept : (place : Place) (statements : List Statement) (sizes : Sizes) → IsSaid place (Ends sizes) → HoldsIn place statements → length statements < 2 ^ 32
-    → IsListing (record { sizes = sizes; statements = statements })
-listing_kept Header statements sizes said held few = absurd said
-listing_kept (Machine version) statements sizes said held few = absurd said
-listing_kept (Statements terms) statements sizes said held few = subst (λ (z : Sizes). IsListing (record { sizes = z; statements = statements })) (sym said) (record { limits = held.0; statements = held.1; typed = held.2; few = few })

@@ -41,11 +41,6 @@ number_called-drop kind name namings place first =
     ∙ ap (λ found. option_or found rest) (find-untaken kind name (take place namings) first.not_before) in
     ap (option_map (λ naming. naming.number)) (sym whole)
 
--- a name was given where it is found
-pub is_taken-found : (name : List ℕ) (namings : List Naming) (found : Option ℕ) → IsFound name namings found → is_some found ≡ is_taken name namings
-is_taken-found name namings None free = sym free
-is_taken-found name namings (Some place) first = sym first.given
-
 module _ (name : List ℕ) (namings : List Naming) (naming : Naming) where
   -- whether it was given with one naming more
   taken_with : (before : Bool) → is_taken name namings ≡ before → is_taken name (namings ++ naming ∷ []) ≡ (before || (gives name naming || false))

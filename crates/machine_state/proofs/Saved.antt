@@ -1,5 +1,5 @@
 -- Copies of objects: each has a place of its own, and is that of its object while others are added.
-use Rattle.std.proofs.Common.{◌≡◌, ℕ, ◌+◌, ◌<◌, ◌≤◌, ◌==◌, cond, eqb, true, ◌⊎◌, inl, inr, List, [], ◌∷◌, ◌++◌, map, drop, get_or, length, refl, sym, ap, ◌∙◌, subst, arith}
+use Rattle.std.proofs.Common.{◌≡◌, ℕ, ◌+◌, ◌<◌, ◌≤◌, eqb, ◌⊎◌, inl, inr, List, [], ◌∷◌, ◌++◌, map, drop, get_or, length, refl, sym, ap, ◌∙◌, subst, arith}
 use Rattle.std.proofs.lemmas.List.{length-map}
 use Rattle.std.specs.List.{All}
 use Rattle.std.proofs.lemmas.Bool.{eq-eqb}
@@ -10,7 +10,7 @@ use Rattle.cap_format.specs.declared.kind.CapKind.{CapKind}
 use Rattle.cap_format.specs.declared.kind.CapKind.TheVariants.{Process}
 use Rattle.cap_format.specs.Kind.{number_of}
 use Rattle.object_store.specs.Store.{Store, size_of}
-use Rattle.object_store.specs.Object.{ObjectName, object_name, object_at, with_object, IsEven}
+use Rattle.object_store.specs.Object.{ObjectName, object_at, with_object, IsEven}
 use Rattle.object_store.specs.Saved.{saved_of, restored, AreThere, slots_copied}
 use Rattle.object_store.proofs.Lists.{map-map, map-same}
 use Rattle.object_store.proofs.Same.{object_at_with_object, object_at_with_object_here}
@@ -31,10 +31,6 @@ same_kind_here kind = rw (eq-eqb (number_of kind) (number_of kind) refl) refl
 pub used_push : (kind : CapKind) (places : List Place) (p : Place) → used kind (places ++ p ∷ []) ≡ used kind places + same_kind p.kind kind
 used_push kind [] p = omega arith
 used_push kind (x ∷ xs) p = let rest = used_push kind xs p in omega (arith, rest)
-
--- the step of a loop that counts them
-pub used_more : (kind : CapKind) (places : List Place) (i : ℕ) (d : Place) → i < length places → used kind (drop i places) ≡ same_kind (get_or places i d).kind kind + used kind (drop (i + 1) places)
-used_more kind places i d within = ap (used kind) (drop_more places i d within)
 
 -- ---- each has its own
 

@@ -6,22 +6,10 @@ use Rattle.walk_meaning.specs.declared.noted.Noted.{Noted}
 use Rattle.map_cache.specs.declared.key.Key.{Key}
 use Rattle.map_cache.specs.Key.{region_key, root_key, with_key}
 use Rattle.map_cache.specs.Kept.{KeptValue, added, fits, note_order, noted_all, nothing}
-use Rattle.depend_table.proofs.Tests.{left_false, over, right_false, within}
+use Rattle.depend_table.proofs.Tests.{over, right_false, within}
 use Rattle.depend_table.proofs.Coded.{with_key-grows}
 use Rattle.depend_table.proofs.Notes.{noted_all-most}
 use Rattle.map_cache.proofs.Codes.{key_coding, space_coding}
-
--- too many keys once the space has one
-pub over-root : (k : KeptValue) (space : Capability) (page : ℕ) (reads : List Noted) → 256 < length (with_key k.keys (root_key space)) → fits (added k space page reads) ≡ false
-over-root k space page reads more =
-    left_false (nat_le (length (with_key (with_key k.keys (root_key space)) (region_key space (page / 1024)))) 256) (nat_le (len (noted_all k.notes space reads)) 16384)
-    (over (length (with_key (with_key k.keys (root_key space)) (region_key space (page / 1024)))) 256 (omega (arith, more, (with_key-grows key_coding (with_key k.keys (root_key space)) (region_key space (page / 1024))).0)))
-
--- or once its region has one
-pub over-region : (k : KeptValue) (space : Capability) (page : ℕ) (reads : List Noted) → 256 < length (with_key (with_key k.keys (root_key space)) (region_key space (page / 1024))) → fits (added k space page reads) ≡ false
-over-region k space page reads more =
-    left_false (nat_le (length (with_key (with_key k.keys (root_key space)) (region_key space (page / 1024)))) 256) (nat_le (len (noted_all k.notes space reads)) 16384)
-    (over (length (with_key (with_key k.keys (root_key space)) (region_key space (page / 1024)))) 256 more)
 
 -- too many notes
 pub over-notes : (k : KeptValue) (space : Capability) (page : ℕ) (reads : List Noted) → 16384 < len (noted_all k.notes space reads) → fits (added k space page reads) ≡ false

@@ -22,8 +22,8 @@ use Rattle.depend_table.proofs.Members.{has-added, has-added_itself}
 use Rattle.walk_meaning.specs.declared.noted.Noted.{Noted}
 use Rattle.map_cache.specs.declared.key.Key.{Key}
 use Rattle.map_cache.specs.Key.{has_key, region_key, root_key, same_space, with_key}
-use Rattle.map_cache.specs.Kept.{added, fits, note_order, noted_all}
-use Rattle.map_cache.specs.Cache.{CacheValue, IsCache, cache_of, kept_of, leaf_for, leaf_in, note_of, notes_of, root_at, space_at, tlb_at}
+use Rattle.map_cache.specs.Kept.{added, note_order, noted_all}
+use Rattle.map_cache.specs.Cache.{CacheValue, IsCache, cache_of, leaf_for, leaf_in, note_of, notes_of, root_at, space_at, tlb_at}
 use Rattle.map_cache.specs.Coherent.{IsCoherent}
 use Rattle.map_cache.specs.Effects.{Keeps, NotesReads, RootsSpace, SetsPage}
 use Rattle.map_cache.proofs.Keyed.{none-root_at, root_at-is, root_at-some, space_at-at}
@@ -31,7 +31,6 @@ use Rattle.map_cache.proofs.Keyed.{notes_of-more}
 use Rattle.map_cache.proofs.Invariant.{alone, cache-fill, cache-install, cache-note, cache-root, if-false, if-true, region_keyed, root_made, root_within}
 use Rattle.map_cache.proofs.Leaves.{leaves-install, leaves-root, root_at-region}
 use Rattle.map_cache.proofs.Coherence.{coherent-install, coherent-more, coherent-root, each_map, fresh-recorded}
-use Rattle.map_cache.proofs.Economy.{over-notes, over-region, over-root}
 use Rattle.depend_table.proofs.Coded.{has-at}
 use Rattle.depend_table.proofs.Notes.{contains-note, noted_all-append, noted_all-grows, notes_of-added, notes_total}
 use Rattle.depend_table.proofs.Tests.{number_itself}
@@ -221,22 +220,6 @@ module _ (v w x : CacheValue) (root : ℕ) (reads : List Noted) (i : ℕ) (read 
       subst (λ (ns : List Noted). 16384 < len (noted_all (notes_of v.keys v.records) (space_at v.keys root) ns)) whole
       (reads-wanting v w (space_at v.keys root) root (take i reads) (read ∷ []) (drop (i + 1) reads) done
       (subst (λ (s : Capability). 16384 < len (noted_all (notes_of w.keys w.records) s (read ∷ []))) same_space_at more))
-
--- too many keys once the space has its root, too many notes then, and too many keys once its region has a frame
-pub root-too-many : (v0 : CacheValue) (space : Capability) (page : ℕ) (reads : List Noted) → 256 < length (with_key v0.keys (root_key space)) → fits (added (kept_of v0) space page reads) ≡ false
-root-too-many v0 space page reads more = over-root (kept_of v0) space page reads more
-
-pub notes-too-many : (v0 v1 : CacheValue) (root page : ℕ) (space : Capability) (reads : List Noted) → RootsSpace v0 v1 space root
-    → 16384 < len (noted_all (notes_of v1.keys v1.records) (space_at v1.keys root) reads) → fits (added (kept_of v0) space page reads) ≡ false
-notes-too-many v0 v1 root page space reads roots more =
-    over-notes (kept_of v0) space page reads
-    (subst (λ (n : ℕ). 16384 < n) (λ i. len (noted_all (roots.notes i) (space_at-at v1.keys root (root_key space) roots.here i) reads)) more)
-
-pub region-too-many : (v0 v1 v2 : CacheValue) (root page : ℕ) (space other : Capability) (reads more : List Noted) → RootsSpace v0 v1 space root → NotesReads v1 v2 other root more
-    → 256 < length (with_key v2.keys (region_key space (page / 1024))) → fits (added (kept_of v0) space page reads) ≡ false
-region-too-many v0 v1 v2 root page space other reads more roots notes much =
-    over-region (kept_of v0) space page reads
-    (subst (λ (ks : List Key). 256 < length (with_key ks (region_key space (page / 1024)))) (notes.keys ∙ roots.keys) much)
 
 -- the reads are recorded for a space that has its root
 module _ (v0 v1 v2 : CacheValue) (root page : ℕ) (space : Capability) (reads : List Noted)

@@ -9,7 +9,7 @@ use Rattle.sv32_tables.specs.declared.frame_use.FrameUse.TheVariants.{Root, Regi
 use Rattle.sv32_tables.proofs.Uses.{slice_get-more}
 use Rattle.depend_table.specs.Depend.{Depend, has}
 use Rattle.depend_table.specs.Keyed.{AreApart}
-use Rattle.depend_table.proofs.Coded.{frame_of-is, frame_of-new, frame_of-none, frame_of-other, frame_of-some, none-frame_of}
+use Rattle.depend_table.proofs.Coded.{frame_of-is, frame_of-new, frame_of-other, frame_of-some, none-frame_of}
 use Rattle.depend_table.proofs.Notes.{notes_of-same}
 use Rattle.map_cache.specs.declared.key.Key.{Key}
 use Rattle.map_cache.specs.Key.{has_key, no_key, region_key, root_key}
@@ -33,10 +33,6 @@ root_at-is keys space = frame_of-is key_coding keys (root_key space)
 -- and there its key stands
 pub root_at-some : (keys : List Key) (space : Capability) (f : ℕ) → root_at keys space ≡ Some f → slice_get keys f ≡ Some (root_key space)
 root_at-some keys space = frame_of-some key_coding keys (root_key space)
-
--- a space whose key stands nowhere has no root
-pub root_at-none : (keys : List Key) (space : Capability) → ((f : ℕ) → slice_get keys f ≢ Some (root_key space)) → root_at keys space ≡ None
-root_at-none keys space = frame_of-none key_coding keys (root_key space)
 
 -- a space whose root is not there has no key
 pub none-root_at : (keys : List Key) (space : Capability) → AreApart keys → root_at keys space ≡ None → has_key keys (root_key space) ≡ false

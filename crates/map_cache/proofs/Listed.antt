@@ -9,9 +9,8 @@ use Rattle.sv32_tables.specs.Pool.{PoolValue, leaf_at, word_at}
 use Rattle.sv32_tables.proofs.Leaves.{leaf_at-zero}
 use Rattle.map_cache.specs.declared.key.Key.{Key}
 use Rattle.map_cache.specs.declared.mapping.Mapping.{Mapping}
-use Rattle.map_cache.specs.declared.mapping.MappingPlace.{MappingPlace}
 use Rattle.map_cache.specs.Cache.{CacheValue}
-use Rattle.map_cache.specs.Mappings.{HasNext, entries_at, entries_from, entries_in, entries_under, page_entries, mapping_of, mappings_left, mappings_of, place_at, start}
+use Rattle.map_cache.specs.Mappings.{HasNext, entries_at, entries_from, entries_in, entries_under, page_entries, mapping_of, mappings_left, place_at, start}
 use Rattle.depend_table.proofs.Tests.{one_or_not}
 
 -- no page
@@ -105,10 +104,6 @@ entries_at-start : (t : PoolValue) (f : ℕ) (keys : List Key) → entries_at t 
 entries_at-start t f [] = refl
 entries_at-start t f (k ∷ keys) = refl
 
--- all entries are those left at the start
-pub mappings_left-start : (v : CacheValue) → mappings_left v start ≡ mappings_of v
-mappings_left-start v = entries_at-start v.tables 0 v.keys
-
 module _ (v : CacheValue) (frame page : ℕ) (k : Key) (at : slice_get v.keys frame ≡ Some k) where
   -- the entries left at a frame's place
   left-at : mappings_left v (place_at frame page) ≡ entries_under v.tables frame k.space page k.region ++ entries_in v.tables (suc frame) (drop (suc frame) v.keys)
@@ -156,27 +151,6 @@ left-end v frame page past = ap (entries_at v.tables frame page) (drop-all v.key
 pub no_region : (r : Option ℕ) → is_some r ≡ false → r ≡ None
 no_region None is = refl
 no_region (Some region) is = absurd (cc)
-
--- the n-th entry, one place further
-pub entry-next : (v : CacheValue) (place next : MappingPlace) (x : Mapping) (n i : ℕ) → i < n → mappings_left v place ≡ x ∷ mappings_left v next
-    → slice_get (mappings_left v place) (n - i) ≡ slice_get (mappings_left v next) (n - (i + 1))
-entry-next v place next x n i less is =
-    let count : n - i ≡ suc (n - (i + 1)) = omega (arith, less) in
-    (λ j. slice_get (is j) (count j))
-
--- the n-th entry, at its place
-pub entry-here : (v : CacheValue) (place next : MappingPlace) (x : Mapping) (n i : ℕ) → n ≤ i → mappings_left v place ≡ x ∷ mappings_left v next → slice_get (mappings_left v place) (n - i) ≡ Some x
-entry-here v place next x n i less is =
-    let count : n - i ≡ zero = omega (arith, less) in
-    (λ j. slice_get (is j) (count j))
-
--- no entry behind the last
-pub entry-none : (v : CacheValue) (place : MappingPlace) (k : ℕ) → mappings_left v place ≡ [] → slice_get (mappings_left v place) k ≡ None
-entry-none v place k is = ap (λ (ms : List Mapping). slice_get ms k) is
-
--- the n-th entry, at the start
-pub entry-start : (v : CacheValue) (n : ℕ) → slice_get (mappings_of v) n ≡ slice_get (mappings_left v start) (n - 0)
-entry-start v n = let count : n ≡ n - 0 = omega arith in (λ j. slice_get (sym (mappings_left-start v) j) (count j))
 
 -- a key that was read
 pub key-here : (keys held : List Key) (frame : ℕ) (k : Key) → held ≡ keys → frame < length keys → k ≡ get_or held frame k → slice_get keys frame ≡ Some k

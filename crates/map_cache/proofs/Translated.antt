@@ -1,5 +1,5 @@
 -- A translation: by a leaf that is there, and by a walk.
-use Rattle.std.proofs.Common.{◌≡◌, ℕ, ◌<◌, ◌/◌, ◌%◌, ◌^◌, Bool, true, false, ◌&&◌, nat_lt, if◌then◌else◌, List, [], Option, Some, None, Result, Ok, Err, is_some, refl, sym, ap, ◌∙◌, subst, arith}
+use Rattle.std.proofs.Common.{◌≡◌, ℕ, ◌<◌, ◌/◌, ◌%◌, ◌^◌, Bool, true, false, ◌&&◌, nat_lt, if◌then◌else◌, List, Option, Some, None, Result, Ok, Err, is_some, refl, sym, ap, ◌∙◌, subst, arith}
 use Rattle.std.specs.List.{AllByRecursion as Each}
 use Rattle.std.proofs.lemmas.Bool.Decides.{nat_tests}
 use Rattle.std.proofs.lemmas.Option.{none-some}
@@ -22,13 +22,13 @@ use Rattle.walk_meaning.specs.Walk.{access, is_data}
 use Rattle.walk_meaning.specs.Trail.{trail}
 use Rattle.walk_meaning.specs.Laws.{KindLaw, PageLaw, PlaceLaw, ReadsLaw}
 use Rattle.walk_engine.specs.Answer.{hit_of}
-use Rattle.map_cache.specs.Kept.{KeptValue, added, added_to, cost_of, counted, fits, is_reached, is_spared, kept_after, tlb_after}
+use Rattle.map_cache.specs.Kept.{KeptValue, cost_of, counted, is_reached, is_spared, kept_after, tlb_after}
 use Rattle.map_cache.specs.Cache.{CacheValue, IsCache, kept_of, leaf_for, leaf_in, root_at}
 use Rattle.map_cache.specs.Coherent.{IsCoherent, IsFresh, IsRecorded}
-use Rattle.map_cache.specs.Effects.{ChangesHart, IsWalked, Remembers, allows, reached_leaf}
+use Rattle.map_cache.specs.Effects.{IsWalked, allows, reached_leaf}
 use Rattle.map_cache.proofs.Keyed.{root_at-some, space_at-at}
 use Rattle.map_cache.proofs.Invariant.{root_made}
-use Rattle.map_cache.proofs.Accesses.{IsAdded, adds, changes-coherent, changes-kept, counted-reached, leaf-reaches, leaf-refuses, reads-items, spared, walked-fresh}
+use Rattle.map_cache.proofs.Accesses.{IsAdded, adds, counted-reached, leaf-reaches, leaf-refuses, reads-items, spared, walked-fresh}
 
 -- an access that a leaf serves
 pub record Served (items : Items) (space : Capability) (address : ℕ) (kind : Kind) (k : KeptValue) (leaf : Leaf) : Type 0 where
@@ -120,18 +120,3 @@ pub walk-items : ReadsLaw → (items : Items) → IsRanged items → (space : Ca
 walk-items reads_law items ranged space is address low kind reads same =
     subst (λ (ns : List Noted). Each (λ (n : Noted). IsItem n.item) ns) (sym same)
     (reads-items reads_law (map_of items) (meaning items space) address kind (IsRanged-map_of items ranged) (IsCapability-meaning items space is) low)
-
--- ---- one hart's cache changed before
-
--- what is kept and what the other harts hold, over what was there before
-pub remembers-over : (v w x : CacheValue) (hart page : ℕ) (space : Capability) (leaf : Leaf) (reads : List Noted) → ChangesHart v w hart → Remembers w x hart space page leaf reads → Remembers v x hart space page leaf reads
-remembers-over v w x hart page space leaf reads changes done = record {
-  kept = done.kept ∙ ap (λ (k : KeptValue). added_to k space page reads) same;
-  coherent = λ o walked coherent. done.coherent o walked (changes-coherent v w hart o changes coherent);
-  held = done.held;
-  others = λ k differs. done.others k differs ∙ (λ i. if fits (added (same i) space page reads) then changes.others k differs i else []);
-  harts = done.harts ∙ changes.harts;
-}
-  where
-    same : kept_of w ≡ kept_of v
-    same = changes-kept v w hart changes

@@ -44,10 +44,6 @@ live_gpt = live_kind Gpt refl
 pub live_endpoint : (o : Items) (c : Capability) → c.kind ≡ Endpoint → is_live o c ≡ true → c.object < size_of o Endpoint
 live_endpoint = live_kind Endpoint refl
 
--- a live entry has the number of an endpoint
-pub live_entry : (o : Items) (c : Capability) → c.kind ≡ Entry → is_live o c ≡ true → c.object < size_of o Endpoint
-live_entry = live_kind Entry refl
-
 -- a live capability to a process has the number of a process
 pub live_process : (o : Items) (c : Capability) → c.kind ≡ Process → is_live o c ≡ true → c.object < size_of o Process
 live_process = live_kind Process refl

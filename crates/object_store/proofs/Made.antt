@@ -1,5 +1,5 @@
 -- What a capability means that was made of another or of an object's number, whether it is live, and that it is not ahead.
-use Rattle.std.proofs.Common.{◌≡◌, ℕ, ◌<◌, Bool, true, false, if◌then◌else◌, refl, sym, ap, ◌∙◌, arith}
+use Rattle.std.proofs.Common.{◌≡◌, ℕ, ◌<◌, true, false, if◌then◌else◌, refl, sym, ap, ◌∙◌, arith}
 use Rattle.std.proofs.lemmas.Bool.{and_from, lt-ltb, eq-eqb}
 use Rattle.cap_format.specs.declared.kind.CapKind.{CapKind}
 use Rattle.cap_format.specs.declared.kind.CapKind.TheVariants.{Page, CapPage, Gpt, Endpoint, Process}
@@ -18,25 +18,9 @@ use Rattle.object_store.proofs.Live.{meaning_live, meaning-weakened, IsBehind-is
 pub meaning_reduced : (o : Items) (c : Capability) (more : ℕ) → is_live o c ≡ true → meaning o (reduced c more) ≡ reduced (meaning o c) more
 meaning_reduced o c more is = ap (λ b. if b then bare (reduced c more) else null) is ∙ ap (λ m. reduced m more) (sym (meaning_live o c is))
 
--- it is live as before
-pub is_live_reduced : (o : Items) (c : Capability) (more : ℕ) → is_live o (reduced c more) ≡ is_live o c
-is_live_reduced o c more = refl
-
--- it is not ahead, where it was not
-pub behind_reduced : (o : Items) (c : Capability) (more : ℕ) → IsBehind o c → IsBehind o (reduced c more)
-behind_reduced o c more behind = behind
-
 -- another guard on a live capability is another guard on its meaning
 pub meaning_guarded : (o : Items) (c : Capability) (guard : GuardValue) → is_live o c ≡ true → meaning o (with_guard c guard) ≡ with_guard (meaning o c) guard
 meaning_guarded o c guard is = ap (λ b. if b then bare (with_guard c guard) else null) is ∙ ap (λ m. with_guard m guard) (sym (meaning_live o c is))
-
--- it is live as before
-pub is_live_guarded : (o : Items) (c : Capability) (guard : GuardValue) → is_live o (with_guard c guard) ≡ is_live o c
-is_live_guarded o c guard = refl
-
--- it is not ahead, where it was not
-pub behind_guarded : (o : Items) (c : Capability) (guard : GuardValue) → IsBehind o c → IsBehind o (with_guard c guard)
-behind_guarded o c guard behind = behind
 
 -- what is left of a capability behind WK is what is left of its meaning, whether it is live or not
 pub meaning_weakened : (o : Items) (c : Capability) → meaning o (weakened c) ≡ weakened (meaning o c)
@@ -45,14 +29,6 @@ meaning_weakened o c = meaning-weakened o c
 -- it is not ahead, where the capability was not
 pub behind_weakened : (o : Items) (c : Capability) → IsBehind o c → IsBehind o (weakened c)
 behind_weakened o c behind = IsBehind-weakened o c behind
-
--- the live part of a capability means what the capability means
-pub meaning_of_live : (o : Items) (c : Capability) → meaning o (live o c) ≡ meaning o c
-meaning_of_live o c = by (is_live o c) refl
-  where
-    by : (b : Bool) → is_live o c ≡ b → meaning o (live o c) ≡ meaning o c
-    by true is = ap (λ b. meaning o (if b then c else null)) is
-    by false is = ap (λ b. meaning o (if b then c else null)) is ∙ sym (ap (λ b. if b then bare c else null) is)
 
 -- ---- of a kind that names no object
 
@@ -106,7 +82,3 @@ is_live_object o kind n is there = absurd (omega (arith, there))
 -- it means the capability to the object of the abstract machine
 pub meaning_object : (o : Items) (kind : CapKind) (n : ℕ) → is_object kind ≡ true → n < size_of o kind → meaning o (to_object kind n (count_of o kind n)) ≡ to_object kind n 0
 meaning_object o kind n is there = meaning_live o (to_object kind n (count_of o kind n)) (is_live_object o kind n is there)
-
--- it is not ahead
-pub behind_object : (o : Items) (kind : CapKind) (n : ℕ) → is_object kind ≡ true → n < size_of o kind → IsBehind o (to_object kind n (count_of o kind n))
-behind_object o kind n is there = IsBehind-is_live o (to_object kind n (count_of o kind n)) (is_live_object o kind n is there)

@@ -152,10 +152,6 @@ process_at-state_map s = process_at-store_map (meaning s.items) refl s
 pub endpoint_at-state_map : (s : Store) (n : ℕ) → endpoint_at (state_map s) n ≡ endpoint_map (meaning s.items) (endpoint_at s n)
 endpoint_at-state_map s = endpoint_at-store_map (meaning s.items) refl s
 
--- the map keeps the counts, so a capability means the same there
-pub meaning-map_of : (o : Items) (c : Capability) → meaning (map_of o) c ≡ meaning o c
-meaning-map_of o c = refl
-
 -- a slot that is written in the items is, as it means, written in the map
 pub map_of-set_slot : (o : Items) (g i : ℕ) (c : Capability) → map_of (set_slot o g i c) ≡ set_slot (map_of o) g i (meaning o c)
 map_of-set_slot o = items_map-set_slot (meaning o) refl o

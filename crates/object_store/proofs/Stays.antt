@@ -13,7 +13,7 @@ use Rattle.page_store.specs.CapPage.{empty_cappage}
 use Rattle.process_objects.specs.Process.{ProcessValue, empty_process}
 use Rattle.endpoint_objects.specs.declared.endpoint.Endpoint.{Endpoint as EndpointValue}
 use Rattle.endpoint_objects.specs.Endpoint.{empty_endpoint}
-use Rattle.object_store.specs.Store.{Store, count_of, gpt_at, process_at, set_gpt, set_slot, set_header, with_items, with_contents, with_page, with_cappage, with_process, with_endpoint, emptied}
+use Rattle.object_store.specs.Store.{Store, count_of, gpt_at, set_gpt, set_slot, set_header, with_items, with_page, with_cappage, with_process, with_endpoint, emptied}
 use Rattle.object_store.specs.Object.{ObjectName, object_name, SameObject, IsAmong, Stays}
 use Rattle.object_store.specs.Object.ObjectValue.{OfPage, OfCapPage, OfGpt, OfProcess, OfEndpoint}
 use Rattle.object_store.proofs.Lists.{get_or-set}
@@ -150,17 +150,6 @@ stays_slot names s g i c = stays_gpt names s g (with_slot (gpt_at s.items g) i c
 -- the header of a GPT
 pub stays_header : (names : List ObjectName) (s : Store) (g : ℕ) (h : HeaderValue) → Stays (object_name Gpt g ∷ names) s (with_items s (set_header s.items g h))
 stays_header names s g h = stays_gpt names s g (with_header (gpt_at s.items g) h)
-
--- processes of which only those named changed
-pub stays_processes : (names : List ObjectName) (s : Store) (processes : List ProcessValue) → ((n : ℕ) → IsAmong Process n names ⊎ (process_at s n ≡ get_or processes n empty_process)) → Stays names s (with_contents s (record s.contents { processes = processes }))
-stays_processes names s processes each = record { same = by }
-  where
-    by : (kind : CapKind) (n : ℕ) → IsAmong kind n names ⊎ SameObject kind n s (with_contents s (record s.contents { processes = processes }))
-    by Process n = elim (each n) [
-      | inl here ↦ inl here
-      | inr same ↦ inr (ap (OfProcess (count_of s.items Process n)) same)
-    ]
-    by kind n = inr refl
 
 -- an object emptied, its count one higher
 pub stays_emptied : (names : List ObjectName) (s : Store) (kind : CapKind) (n : ℕ) → Stays (object_name kind n ∷ names) s (emptied kind n s)

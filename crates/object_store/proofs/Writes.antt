@@ -3,14 +3,13 @@ use Rattle.std.proofs.Common.{◌≡◌, ℕ, List, refl, sym, ap, ◌∙◌}
 use Rattle.std.proofs.lemmas.List.{map-set}
 use Rattle.cap_format.specs.Capability.{Capability}
 use Rattle.gpt_objects.specs.Header.{HeaderValue}
-use Rattle.page_store.specs.CapPage.{cap_at, with_cap, empty_cappage}
+use Rattle.page_store.specs.CapPage.{cap_at, with_cap}
 use Rattle.process_objects.specs.declared.state.State.{State}
 use Rattle.process_objects.specs.Process.{ProcessValue, slot_of, capreg_of, with_pc, with_reg, with_regs, with_capreg, with_slot, with_state}
 use Rattle.endpoint_objects.specs.declared.endpoint.Endpoint.{Endpoint as EndpointValue}
-use Rattle.endpoint_objects.specs.Endpoint.{raised}
-use Rattle.object_store.specs.Store.{Store, header_at, slot_at, page_at, cappage_at, process_at, endpoint_at, set_slot, set_header, with_items, with_page, with_cappage, with_process, with_endpoint}
+use Rattle.object_store.specs.Store.{Store, header_at, slot_at, page_at, cappage_at, process_at, endpoint_at, set_slot, set_header, with_items, with_cappage, with_process, with_endpoint}
 use Rattle.object_store.specs.Meaning.{meaning, process_map, endpoint_map, state_map}
-use Rattle.object_store.proofs.Means.{header_at-map_of, slot_at-map_of, cappage_at-state_map, process_at-state_map, endpoint_at-state_map, cap_at-map, capreg_of-process_map, process_slot-process_map, process_map-with_capreg, process_map-with_slot, state_map-set_slot, state_map-set_header, state_map-with_cappage, state_map-with_process, state_map-with_endpoint, cappage_map-empty}
+use Rattle.object_store.proofs.Means.{header_at-map_of, slot_at-map_of, cappage_at-state_map, process_at-state_map, endpoint_at-state_map, cap_at-map, capreg_of-process_map, process_slot-process_map, process_map-with_capreg, process_map-with_slot, state_map-set_slot, state_map-set_header, state_map-with_cappage, state_map-with_process, state_map-with_endpoint}
 
 -- ---- what is read
 
@@ -34,10 +33,6 @@ slot_means s p i = sym (ap (λ q. slot_of q i) (process_at-state_map s p) ∙ pr
 pub capreg_means : (s : Store) (p i : ℕ) → meaning s.items (capreg_of (process_at s p) i) ≡ capreg_of (process_at (state_map s) p) i
 capreg_means s p i = sym (ap (λ q. capreg_of q i) (process_at-state_map s p) ∙ capreg_of-process_map (meaning s.items) refl (process_at s p) i)
 
--- what the recipient of endpoint `n` means is its recipient in the map
-pub recipient_means : (s : Store) (n : ℕ) → meaning s.items (endpoint_at s n).recipient ≡ (endpoint_at (state_map s) n).recipient
-recipient_means s n = sym (ap (λ (e : EndpointValue). e.recipient) (endpoint_at-state_map s n))
-
 -- a process of the map has the pc of the one that is stored
 pub pc_means : (s : Store) (p : ℕ) → (process_at s p).pc ≡ (process_at (state_map s) p).pc
 pc_means s p = sym (ap (λ (q : ProcessValue). q.pc) (process_at-state_map s p))
@@ -54,14 +49,6 @@ state_means s p = sym (ap (λ (q : ProcessValue). q.state) (process_at-state_map
 pub id_means : (s : Store) (n : ℕ) → (endpoint_at s n).id ≡ (endpoint_at (state_map s) n).id
 id_means s n = sym (ap (λ (e : EndpointValue). e.id) (endpoint_at-state_map s n))
 
--- .. its payload
-pub payload_means : (s : Store) (n : ℕ) → (endpoint_at s n).payload ≡ (endpoint_at (state_map s) n).payload
-payload_means s n = sym (ap (λ (e : EndpointValue). e.payload) (endpoint_at-state_map s n))
-
--- .. and whether payloads have to match
-pub matching_means : (s : Store) (n : ℕ) → (endpoint_at s n).matching ≡ (endpoint_at (state_map s) n).matching
-matching_means s n = sym (ap (λ (e : EndpointValue). e.matching) (endpoint_at-state_map s n))
-
 -- ---- a process
 
 -- where a process is replaced by one that means `u` of the process as it meant, the map has `u` of its process
@@ -72,10 +59,6 @@ put_process s p v u e = state_map-with_process s p v ∙ ap (with_process (state
 -- another pc
 pub put_pc : (s : Store) (p pc : ℕ) → state_map (with_process s p (with_pc (process_at s p) pc)) ≡ with_process (state_map s) p (with_pc (process_at (state_map s) p) pc)
 put_pc s p pc = put_process s p (with_pc (process_at s p) pc) (λ q. with_pc q pc) refl
-
--- another number in register `i`
-pub put_reg : (s : Store) (p i value : ℕ) → state_map (with_process s p (with_reg (process_at s p) i value)) ≡ with_process (state_map s) p (with_reg (process_at (state_map s) p) i value)
-put_reg s p i value = put_process s p (with_reg (process_at s p) i value) (λ q. with_reg q i value) refl
 
 -- other registers
 pub put_regs : (s : Store) (p : ℕ) (regs : List ℕ) → state_map (with_process s p (with_regs (process_at s p) regs)) ≡ with_process (state_map s) p (with_regs (process_at (state_map s) p) regs)
@@ -88,12 +71,6 @@ put_state s p state = put_process s p (with_state (process_at s p) state) (λ q.
 -- another capability in capability register `i`
 pub put_capreg : (s : Store) (p i : ℕ) (c : Capability) → state_map (with_process s p (with_capreg (process_at s p) i c)) ≡ with_process (state_map s) p (with_capreg (process_at (state_map s) p) i (meaning s.items c))
 put_capreg s p i c = put_process s p (with_capreg (process_at s p) i c) (λ q. with_capreg q i (meaning s.items c)) (process_map-with_capreg (meaning s.items) refl (process_at s p) i c)
-
--- a capability copied from one register of the process to another
-pub put_copy : (s : Store) (p from to : ℕ) → state_map (with_process s p (with_capreg (process_at s p) to (capreg_of (process_at s p) from))) ≡ with_process (state_map s) p (with_capreg (process_at (state_map s) p) to (capreg_of (process_at (state_map s) p) from))
-put_copy s p from to =
-    put_capreg s p to (capreg_of (process_at s p) from)
-    ∙ ap (λ c. with_process (state_map s) p (with_capreg (process_at (state_map s) p) to c)) (capreg_means s p from)
 
 -- another capability in slot `i`
 pub put_slot : (s : Store) (p i : ℕ) (c : Capability) → state_map (with_process s p (with_slot (process_at s p) i c)) ≡ with_process (state_map s) p (with_slot (process_at (state_map s) p) i (meaning s.items c))
@@ -109,33 +86,13 @@ put_gpt_slot s g i c = state_map-set_slot s g i c
 pub put_header : (s : Store) (g : ℕ) (h : HeaderValue) → state_map (with_items s (set_header s.items g h)) ≡ with_items (state_map s) (set_header (state_map s).items g h)
 put_header s g h = state_map-set_header s g h
 
--- a page that is written whole; bytes have no meaning but themselves
-pub put_page : (s : Store) (n : ℕ) (page : List ℕ) → state_map (with_page s n page) ≡ with_page (state_map s) n page
-put_page s n page = refl
-
--- a page copied from another is in the map the copy of that page of the map
-pub put_page_copy : (s : Store) (n from : ℕ) → state_map (with_page s n (page_at s from)) ≡ with_page (state_map s) n (page_at (state_map s) from)
-put_page_copy s n from = refl
-
 -- another capability in slot `i` of a capability page
 pub put_cap : (s : Store) (n i : ℕ) (c : Capability) → state_map (with_cappage s n (with_cap (cappage_at s n) i c)) ≡ with_cappage (state_map s) n (with_cap (cappage_at (state_map s) n) i (meaning s.items c))
 put_cap s n i c =
     state_map-with_cappage s n (with_cap (cappage_at s n) i c)
     ∙ ap (with_cappage (state_map s) n) (map-set (meaning s.items) (cappage_at s n) i c ∙ ap (λ page. with_cap page i (meaning s.items c)) (sym (cappage_at-state_map s n)))
 
--- a capability page that is erased
-pub put_erased : (s : Store) (n : ℕ) → state_map (with_cappage s n empty_cappage) ≡ with_cappage (state_map s) n empty_cappage
-put_erased s n = state_map-with_cappage s n empty_cappage ∙ ap (with_cappage (state_map s) n) (cappage_map-empty (meaning s.items) refl)
-
--- a capability page copied from another is in the map the copy of that page of the map
-pub put_cappage_copy : (s : Store) (n from : ℕ) → state_map (with_cappage s n (cappage_at s from)) ≡ with_cappage (state_map s) n (cappage_at (state_map s) from)
-put_cappage_copy s n from = state_map-with_cappage s n (cappage_at s from) ∙ ap (with_cappage (state_map s) n) (sym (cappage_at-state_map s from))
-
 -- where an endpoint is replaced by one that means `u` of the endpoint as it meant, the map has `u` of its endpoint
 pub put_endpoint : (s : Store) (n : ℕ) (v : EndpointValue) (u : EndpointValue → EndpointValue) → endpoint_map (meaning s.items) v ≡ u (endpoint_map (meaning s.items) (endpoint_at s n))
     → state_map (with_endpoint s n v) ≡ with_endpoint (state_map s) n (u (endpoint_at (state_map s) n))
 put_endpoint s n v u e = state_map-with_endpoint s n v ∙ ap (with_endpoint (state_map s) n) (e ∙ ap u (sym (endpoint_at-state_map s n)))
-
--- an endpoint that goes on to its next payload
-pub put_raised : (s : Store) (n : ℕ) → state_map (with_endpoint s n (raised (endpoint_at s n))) ≡ with_endpoint (state_map s) n (raised (endpoint_at (state_map s) n))
-put_raised s n = put_endpoint s n (raised (endpoint_at s n)) raised refl

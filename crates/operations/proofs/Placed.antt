@@ -1,20 +1,18 @@
 -- States and places agree once a process was stopped, written or destroyed.
-use Rattle.std.proofs.Common.{◌≡◌, ◌≢◌, ◌⊎◌, inl, inr, ℕ, ◌+◌, ◌<◌, ◌==◌, eqb, true≢false, cond, Bool, true, false, List, [], ◌∷◌, length, get_or, set, refl, sym, ap, ◌∙◌, subst, arith}
+use Rattle.std.proofs.Common.{◌≡◌, ◌≢◌, ◌⊎◌, inl, inr, ℕ, ◌+◌, ◌<◌, ◌==◌, eqb, cond, true, false, List, [], ◌∷◌, length, get_or, set, refl, sym, ap, ◌∙◌, arith}
 use Rattle.std.proofs.Math.ListN.{length-set}
 use Rattle.std.proofs.lemmas.List.{get_or-set_same, get_or-set_other}
 use Rattle.std.proofs.lemmas.Bool.Decides.{eqb_tells}
-use Rattle.cap_format.specs.declared.kind.CapKind.{CapKind}
 use Rattle.cap_format.specs.declared.kind.CapKind.TheVariants.{Process}
 use Rattle.process_objects.specs.Process.{ProcessValue, empty_process}
 use Rattle.object_store.specs.Store.{Store, process_at, with_process, emptied}
 use Rattle.object_store.proofs.Lists.{get_or-set}
-use Rattle.object_store.specs.Object.{ObjectValue, object_at, IsAmong, Stays, SameObject}
+use Rattle.object_store.specs.Object.{ObjectValue, IsAmong, Stays}
 use Rattle.object_store.specs.Object.ObjectValue.{OfPage, OfCapPage, OfGpt, OfProcess, OfEndpoint, OfNone}
 use Rattle.schedules.specs.Queues.{QueuesValue, sleepers_of}
 use Rattle.schedules.specs.Standing.{standing, times_in}
 use Rattle.schedules.specs.Ready.{Runs, runs, runs_of, process_in, places_due, process_names, Agrees, AgreesBut}
 use Rattle.schedules.proofs.Kept.{standing-unslept}
-use Rattle.operations.specs.Control.{is_process}
 
 -- another process with the state of the one before
 state_same : (ps : List ProcessValue) (p x : ℕ) (v : ProcessValue) → v.state ≡ (get_or ps p empty_process).state → (get_or (set ps p v) x empty_process).state ≡ (get_or ps x empty_process).state
@@ -48,11 +46,6 @@ nowhere_stopped r p agrees there due = agrees.each p there ∙ due
 -- where all agree, all others do
 pub agrees_but : (r : Runs) (p : ℕ) → Agrees r → standing r.queues p ≡ 0 → AgreesBut p r
 agrees_but r p agrees nowhere = record { sizes = agrees.sizes; nowhere = nowhere; each = λ x h other. agrees.each x h }
-
--- nobody's state changes where another object is destroyed
-pub runs_of-emptied : (kind : CapKind) (n : ℕ) (s : Store) (q : QueuesValue) → is_process kind ≡ false → runs_of (emptied kind n s) q ≡ runs_of s q
-runs_of-emptied Process n s q e = absurd (true≢false e)
-runs_of-emptied kind n s q e = refl
 
 -- a process that stands nowhere is destroyed
 pub agrees_emptied : (s : Store) (q : QueuesValue) (p : ℕ) → p < length s.contents.processes → standing q p ≡ 0 → Agrees (runs_of s q) → Agrees (runs_of (emptied Process p s) q)

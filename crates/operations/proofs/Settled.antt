@@ -1,11 +1,10 @@
 -- What holds of every row by its shape.
-use Rattle.std.proofs.Common.{◌≡◌, ◌≢◌, Bool, true, false, if◌then◌else◌, List, [], ◌∷◌, map, Option, Some, None, refl, sym, ap, ◌∙◌, subst}
+use Rattle.std.proofs.Common.{◌≡◌, ◌≢◌, Bool, true, false, List, [], ◌∷◌, map, Option, Some, None, refl, ap}
 use Rattle.std.proofs.lemmas.Bool.{cond_both}
 use Rattle.cap_format.specs.declared.code.Code.{Code}
-use Rattle.cap_format.specs.declared.code.Code.TheVariants.{Ok as OkCode, UnknownRequest, NoAccess, RequestError, CountSpent}
-use Rattle.cap_format.specs.declared.item.Item.{Item}
+use Rattle.cap_format.specs.declared.code.Code.TheVariants.{Ok as OkCode, NoAccess, RequestError, CountSpent}
 use Rattle.cap_format.specs.Capability.{Capability}
-use Rattle.operations.specs.Change.{Change, PageIs, CapPageIs, SlotIs, HeaderIs, EndpointIs, ProcessIs, Left, Readied, Woken, Destroyed, item_of, first_item, item_in}
+use Rattle.operations.specs.Change.{Change, PageIs, CapPageIs, SlotIs, HeaderIs, EndpointIs, ProcessIs, Left, Readied, Woken, Destroyed, item_of, item_in}
 use Rattle.operations.specs.Row.{Row, Answer, Settled, nothing, refused, granted, settled, settled_row, reply_of}
 use Rattle.operations.specs.Meaning.{reply_map}
 use Rattle.operations.proofs.Mapped.{change_map, answer_map, settled_map}
@@ -38,16 +37,6 @@ refused_nothing row = by_row (λ s. s.code ≢ OkCode → s.answer ≡ nothing) 
 pub refused_row : (row : Option Row) → (settled_row row).code ≢ OkCode → (settled_row row).answer ≡ nothing
 refused_row None not = refl
 refused_row (Some row) not = refused_nothing row not
-
--- NoAccess comes before all else, RequestError before CountSpent
-pub access_first : (row : Row) → row.no_access ≡ true → settled row ≡ refused NoAccess
-access_first row e = rw e refl
-
-pub error_next : (row : Row) → row.no_access ≡ false → row.request_error ≡ true → settled row ≡ refused RequestError
-error_next row a e = rw (a, e) refl
-
-pub spent_last : (row : Row) → row.no_access ≡ false → row.request_error ≡ false → row.count_spent ≡ true → settled row ≡ refused CountSpent
-spent_last row a b e = rw (a, b, e) refl
 
 -- a change is of the item that its meaning is of
 pub item_of-map : (f : Capability → Capability) (change : Change) → item_of (change_map f change) ≡ item_of change

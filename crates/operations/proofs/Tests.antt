@@ -1,5 +1,5 @@
 -- What the tests of the rows say of guards and of offsets.
-use Rattle.std.proofs.Common.{◌≡◌, ◌≢◌, ℕ, ◌<◌, ◌%◌, ◌^◌, Bool, true, false, refl, arith}
+use Rattle.std.proofs.Common.{◌≡◌, ◌≢◌, ℕ, ◌%◌, ◌^◌, Bool, true, false, refl}
 use Rattle.std.proofs.lemmas.Bool.{le-leb, leb-true, lt-ltb, ltb-true, and_from, and_parts, eq-eqb, eqb-true}
 use Rattle.cap_format.specs.Guard.{IsGuard, guard_of}
 use Rattle.operations.specs.Memory.{is_guard, is_multiple}
@@ -24,10 +24,6 @@ is_guard_false l2g matches none = by (is_guard l2g matches) (λ e. none (is_guar
     by : (b : Bool) → (b ≡ true → ⊥) → b ≡ false
     by true no_test = absurd (no_test refl)
     by false no_test = refl
-
--- no guard has more than 32 bits
-pub is_guard_high : (l2g matches : ℕ) → 32 < l2g → is_guard l2g matches ≡ false
-is_guard_high l2g matches high = is_guard_false l2g matches (λ is. let low = is.high in omega (arith, low, high))
 
 -- a multiple passes the test
 pub is_multiple_true : (l2g offset : ℕ) → offset % 2 ^ l2g ≡ 0 → is_multiple l2g offset ≡ true

@@ -1,6 +1,5 @@
 -- What is found step by step is what is needed.
 use Rattle.std.proofs.Common.{◌≡◌, ℕ, ◌+◌, ◌*◌, ◌≤◌, ◌==◌, true, false, List, [], ◌∷◌, map, length, refl, sym, ◌∙◌, ap, ap₂, subst, arith}
-use Rattle.std.proofs.Math.Nat.{le-mul_of_pos_right}
 use Rattle.machine_state.specs.State.{State}
 use Rattle.separation_policy.specs.Policy.{PolicyValue}
 use Rattle.separation_policy.specs.Making.{bare_policy}
@@ -72,13 +71,6 @@ once policy s = by (barred_in policy s)
     by : (xs : List Crossing) → 1 ≤ passages_by (length (candidates policy s)) xs
     by [] = omega arith
     by (x ∷ xs) = omega arith
-
--- so what is read once at most is within it
-pub within-once : (policy : PolicyValue) (s : State) (start after k : ℕ) → after ≤ start + k → after ≤ start + k * passages_in policy s
-within-once policy s start after k le =
-    let some = once policy s in
-    let more : k ≤ k * passages_in policy s = le-mul_of_pos_right {m = passages_in policy s} k (omega (arith, some)) in
-    omega (arith, le, more)
 
 -- ---- what is read
 

@@ -95,10 +95,6 @@ behind-in_front : (done : List Atom) (atom : Atom) (read : Result (List Atom) Qu
 behind-in_front done atom (Ok atoms) = ap Ok (sym (append_assoc done (atom ∷ []) atoms))
 behind-in_front done atom (Err fault) = refl
 
-pub behind-nil : (read : Result (List Atom) QuestionFault) → behind [] read ≡ read
-behind-nil (Ok atoms) = refl
-behind-nil (Err fault) = refl
-
 module _ (sizes : Sizes) (words : List (List ℕ)) (old : List Atom) where
   -- the first part, and what is left behind it
   first_part : (k : ℕ) → k ≡ before_and words → behind old (atoms_from sizes words) ≡ behind old (each_atom sizes (take k words ∷ behind_and words k))

@@ -18,7 +18,7 @@ use Rattle.schedules.proofs.OnHart.{in-list, on_hart}
 use Rattle.machine_state.specs.State.{State, process}
 use Rattle.quiet_runs.specs.Reaching.{is_alone, names, reached_by}
 use Rattle.quiet_runs.specs.Finding.{has_process, is_below, is_far_reaching, is_only_on, is_own, is_secluded, is_watched, runs, some_held}
-use Rattle.quiet_finding.specs.Reaching.{IsReaching, ReachingValue, names_process, to_page}
+use Rattle.quiet_finding.specs.Reaching.{IsReaching, ReachingValue, names_process}
 use Rattle.quiet_finding.specs.Watched.{WatchedValue, watch_of}
 use Rattle.quiet_finding.proofs.Folding.{is_below-false, is_below-suc, is_below-zero}
 
@@ -85,10 +85,6 @@ secluded-is s p hart r is run only =
     ∙ ap₂ (λ (a b : Bool). not a && not b) (sym (is.named p)) (sym is.far)
 
 -- ---- pages of its own
-
--- a page is its own where the tables say so
-pub own-is : (s : State) (p n : ℕ) (r : ReachingValue) → IsReaching s.store r → is_own s p n ≡ (nat_lt n (length s.store.contents.pages) && is_alone p (to_page r n))
-own-is s p n r is = ap (λ b. nat_lt n (length s.store.contents.pages) && is_alone p b) (sym (is.pages n))
 
 both_ways : (a b : Bool) → (a ≡ true → b ≡ true) → (b ≡ true → a ≡ true) → a ≡ b
 both_ways true true f g = refl

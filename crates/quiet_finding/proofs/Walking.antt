@@ -1,6 +1,5 @@
 -- Walks that are kept: why they lead where they do, and how long.
-use Rattle.std.proofs.Common.{◌≡◌, ◌<◌, ◌/◌, ◌%◌, ℕ, Bool, true, false, nat_lt, ◌&&◌, length, Option, Some, None, IfSome, Result, Ok, Err, refl, sym, ap, ap₂, ◌∙◌, subst}
-use Rattle.std.proofs.lemmas.Bool.{and_parts, false≢true, ltb-true}
+use Rattle.std.proofs.Common.{◌≡◌, ◌/◌, ◌%◌, ℕ, true, nat_lt, ◌&&◌, Option, Some, None, IfSome, Result, Ok, Err, refl, sym, ap, ap₂, ◌∙◌, subst}
 use Rattle.cap_format.specs.Capability.{IsCapability}
 use Rattle.cap_format.specs.declared.kind.CapKind.TheVariants.{Page}
 use Rattle.object_store.specs.Ranges.{IsRanged}
@@ -15,8 +14,8 @@ use Rattle.walk_engine.specs.declared.hit.Hit.{Hit}
 use Rattle.walk_engine.specs.Answer.{hit_of}
 use Rattle.machine_state.specs.State.{State, space_of}
 use Rattle.machine_state.specs.DataAccess.{data_access}
-use Rattle.quiet_runs.specs.Reaching.{is_alone, reached_by}
-use Rattle.quiet_runs.specs.Finding.{is_own, is_quiet_fetch, reaches_own}
+use Rattle.quiet_runs.specs.Reaching.{is_alone}
+use Rattle.quiet_runs.specs.Finding.{is_own}
 use Rattle.quiet_runs.specs.Laws.{LookAlike}
 use Rattle.quiet_finding.specs.declared.walks.OwnPage.{OwnPage}
 use Rattle.quiet_finding.specs.declared.walks.KeptWalks.{KeptWalks}
@@ -52,10 +51,6 @@ none-kept s hart kept fetch load store p on = (
   subst (λ (o : Option OwnPage). IfSome o (LeadsToOwn s p Load)) (sym load) tt,
   subst (λ (o : Option OwnPage). IfSome o (LeadsToOwn s p Store)) (sym store) tt,
 )
-
--- one process is on a hart
-pub kept-here : (s : State) (hart p : ℕ) (kept : KeptWalks) → hart_of s.queues hart ≡ Some p → AreKept s p kept → AreKeptOn s hart kept
-kept-here s hart p kept here are q on = let same : p ≡ q = cc (here, on) in subst (λ (r : ℕ). AreKept s r kept) same are
 
 module _ (s t : State) (alike : LookAlike s t) (p : ℕ) where
   leads-after : (kind : Kind) (kept : OwnPage) → LeadsToOwn s p kind kept → LeadsToOwn t p kind kept

@@ -3,27 +3,22 @@ use Rattle.std.proofs.Common.{◌≡◌, ◌≢◌, ℕ, ◌<◌, true, false, �
 use Rattle.std.specs.Prelude.{IfSome}
 use Rattle.std.proofs.lemmas.List.Elements.{All-cons, All-push}
 use Rattle.cap_format.specs.declared.kind.CapKind.{CapKind}
-use Rattle.cap_format.specs.declared.kind.CapKind.TheVariants.{Page, CapPage, Gpt, Endpoint, Process}
-use Rattle.object_store.specs.declared.sizes.Sizes.{Sizes}
-use Rattle.object_store.specs.Sizes.{size_in}
+use Rattle.cap_format.specs.declared.kind.CapKind.TheVariants.{Page, Process}
 use Rattle.object_store.specs.Store.{Store, size_of, sizes_of}
-use Rattle.object_store.specs.Ranges.{IsStore}
 use Rattle.object_store.specs.Object.{ObjectName, object_name, IsAmong}
 use Rattle.object_store.specs.Saved.{AreThere}
 use Rattle.object_store.proofs.Stays.{among_front, among_back}
-use Rattle.object_store.proofs.Same.{size_in_store}
-use Rattle.machine_state.specs.declared.places.Place.{Place}
 use Rattle.machine_state.specs.Machine.{MachineValue}
 use Rattle.machine_state.specs.declared.event.Event.{Event}
 use Rattle.machine_state.specs.State.{State, state_of}
 use Rattle.machine_state.specs.Outcome.{process_name, page_name}
-use Rattle.machine_state.specs.Past.{PastValue, names_in, used, same_kind, next_place, room_of, IsFor, Holds}
+use Rattle.machine_state.specs.Past.{PastValue, names_in, same_kind, IsFor, Holds}
 use Rattle.kernel_core.specs.Event.{event_of}
 use Rattle.event_reach.specs.Reach.{Covers}
 use Rattle.event_reach.specs.Looked.{Looked}
 use Rattle.event_reach.specs.declared.plain.PlainInsn.{PlainInsn}
 use Rattle.event_reach.specs.Plain.{stored_names, plain_names, IsThere}
-use Rattle.reverse_run.specs.Remembered.{MementoValue, StandsFor, LeadsBack, Remembers, HasPlace, queues_before, halted_before}
+use Rattle.reverse_run.specs.Remembered.{MementoValue, StandsFor, LeadsBack, Remembers, queues_before, halted_before}
 
 -- ---- places
 
@@ -36,34 +31,6 @@ other_kind k other = refl
 pub no_page : (k : CapKind) → k ≢ Page → same_kind Page k ≡ 0
 no_page Page other = absurd (other refl)
 no_page k other = refl
-
--- where none of the other kinds is kept, there is a place for one more of any
-pub place_for : (places : List Place) → ((k : CapKind) → k ≢ Process → used k places ≡ 0) → (kind : CapKind) → HasPlace kind places
-place_for places none Process = tt
-place_for places none kind = let here : used kind places ≡ 0 = none kind (λ e. absurd cc) in omega (arith, here)
-
--- the next place is one of those that there are
-pub place_there : (past : PastValue) (sizes : Sizes) (kind : CapKind) (number : ℕ) → IsFor past sizes → number < size_in sizes kind → HasPlace kind past.places → next_place kind number past.places < size_of past.copies.items kind
-place_there past sizes kind number is there place =
-    let size : size_in (room_of sizes) kind ≡ size_of past.copies.items kind = ap (λ (z : Sizes). size_in z kind) (sym is.copies) ∙ size_in_store past.copies kind in
-    subst (λ (n : ℕ). next_place kind number past.places < n) size (by kind there place)
-  where
-    by : (kind : CapKind) → number < size_in sizes kind → HasPlace kind past.places → next_place kind number past.places < size_in (room_of sizes) kind
-    by Process there place = there
-    by Page there place = place
-    by CapPage there place = place
-    by Gpt there place = place
-    by Endpoint there place = place
-    by kind there place = absurd (omega (arith, there))
-
--- an object that is there has a small number
-pub small_number : (s : Store) (kind : CapKind) (n : ℕ) → IsStore s → n < size_of s.items kind → n < 65536
-small_number s Page n is there = let most = is.ranged.counts.pages.size in omega (arith, there, most)
-small_number s CapPage n is there = let most = is.ranged.counts.cappages.size in omega (arith, there, most)
-small_number s Gpt n is there = let most = is.ranged.counts.gpts.size in omega (arith, there, most)
-small_number s Process n is there = let most = is.ranged.counts.processes.size in omega (arith, there, most)
-small_number s Endpoint n is there = let most = is.ranged.counts.endpoints.size in omega (arith, there, most)
-small_number s kind n is there = absurd (omega (arith, there))
 
 -- ---- one more
 
@@ -88,26 +55,12 @@ among_kept past more kind n names = rw names (among_back kind n (names_in past) 
 
 -- ---- which objects are remembered
 
--- none
-pub remembers_none : (past : PastValue) (s : Store) → Remembers past s []
-remembers_none past s = record { each = λ kind n there among. elim among [ ] }
-
 -- the one that was kept
 pub remembers_one : (past more : PastValue) (s : Store) (kind : CapKind) (number : ℕ) → names_in more ≡ names_in past ++ object_name kind number ∷ [] → Remembers more s (object_name kind number ∷ [])
 remembers_one past more s kind number names = record { each = by }
   where
     by : (k : CapKind) (n : ℕ) → n < size_of s.items k → IsAmong k n (object_name kind number ∷ []) → IsAmong k n (names_in more)
     by k n there (inl here) = rw (here.0, here.1) (among_kept past more kind number names)
-    by k n there (inr later) = elim later [ ]
-
--- one that is not there
-pub remembers_absent : (past : PastValue) (s : Store) (kind : CapKind) (number : ℕ) → (number < size_of s.items kind → ⊥) → Remembers past s (object_name kind number ∷ [])
-remembers_absent past s kind number absent = record { each = by }
-  where
-    by : (k : CapKind) (n : ℕ) → n < size_of s.items k → IsAmong k n (object_name kind number ∷ []) → IsAmong k n (names_in past)
-    by k n there (inl here) =
-        let Within : CapKind → ℕ → Type 0 = λ k n. n < size_of s.items k in
-        absurd (absent (subst (λ (m : ℕ). m < size_of s.items kind) here.1 (subst (λ (j : CapKind). n < size_of s.items j) here.0 there)))
     by k n there (inr later) = elim later [ ]
 
 -- what was remembered still is

@@ -7,10 +7,10 @@ use Rattle.std.proofs.lemmas.List.Folds.{list_all_at, list_all_more}
 use Rattle.cap_format.specs.Capability.{Capability, null, bare}
 use Rattle.gpt_objects.specs.Gpt.{slot_of}
 use Rattle.page_store.specs.CapPage.{cap_at}
-use Rattle.process_objects.specs.Process.{ProcessValue, capreg_of, slot_of as process_slot}
+use Rattle.process_objects.specs.Process.{capreg_of}
 use Rattle.object_store.specs.Store.{Items, Store, gpt_at, slot_at, cappage_at, process_at, endpoint_at}
 use Rattle.object_store.specs.Meaning.{meaning, process_map, endpoint_map, map_of, state_map}
-use Rattle.object_store.proofs.Means.{slot_at-map_of, header_at-map_of, cappage_at-state_map, process_at-state_map, endpoint_at-state_map, cap_at-map, capreg_of-process_map, process_slot-process_map}
+use Rattle.object_store.proofs.Means.{slot_at-map_of, header_at-map_of, cappage_at-state_map, process_at-state_map, endpoint_at-state_map, cap_at-map, capreg_of-process_map}
 use Rattle.run_text.specs.Objects.{is_null}
 
 -- slots of capability pages and GPTs, and headers
@@ -26,9 +26,6 @@ header_means o n = header_at-map_of o n
 -- processes, their slots and capability registers, and endpoints
 pub process_means : (s : Store) (n : ℕ) → process_at (state_map s) n ≡ process_map (meaning s.items) (process_at s n)
 process_means s n = process_at-state_map s n
-
-pub held_means : (o : Items) (p : ProcessValue) (i : ℕ) → process_slot (process_map (meaning o) p) i ≡ meaning o (process_slot p i)
-held_means o p i = process_slot-process_map (meaning o) refl p i
 
 pub register_means : (s : Store) (n i : ℕ) → capreg_of (process_at (state_map s) n) i ≡ meaning s.items (capreg_of (process_at s n) i)
 register_means s n i = ap (λ p. capreg_of p i) (process_at-state_map s n) ∙ capreg_of-process_map (meaning s.items) refl (process_at s n) i

@@ -1,8 +1,7 @@
 -- Facts about every step, for the crates above.
-use Rattle.std.proofs.Common.{◌≡◌, ℕ, ◌%◌, List, Bool, true, false, ℤ, refl, arith, inl, inr, length, sym}
-use Rattle.std.specs.Prelude.{slice_index, if◌then◌else◌, ◌==◌}
+use Rattle.std.proofs.Common.{◌≡◌, ℕ, ◌%◌, List, Bool, true, false, ℤ, refl, arith, inl, inr}
+use Rattle.std.specs.Prelude.{if◌then◌else◌}
 use Rattle.std.proofs.lemmas.Bool.Decides.{eqb_tells}
-use Rattle.std.proofs.lemmas.List.{get_or-set_other, length-set}
 use Rattle.rv32_decode.specs.declared.insn.Insn.{Insn}
 use Rattle.rv32_decode.specs.declared.insn.Insn.TheVariants.{Lb, Lh, Lw, Lbu, Lhu, Jalr, Sb, Sh, Sw, Beq, Bne, Blt, Bge, Bltu, Bgeu, Jal, Ecall, Ebreak}
 use Rattle.rv32_decode.specs.InRange.{InRange}
@@ -10,10 +9,10 @@ use Rattle.rv32_user.specs.declared.effect.Effect.{Effect}
 use Rattle.rv32_user.specs.declared.effect.Effect.TheVariants.{Next, Load, Store, Syscall, Break, Misaligned}
 use Rattle.rv32_user.specs.declared.action.Action.{Action}
 use Rattle.rv32_user.specs.declared.action.Action.TheVariants.{Write, Link, Only}
-use Rattle.rv32_user.specs.Word.{plus, next_of, extended, is_aligned}
+use Rattle.rv32_user.specs.Word.{plus, next_of, is_aligned}
 use Rattle.rv32_user.specs.Registers.{with_register}
 use Rattle.rv32_user.specs.Table.{action_of, arrival, branch}
-use Rattle.rv32_user.specs.Step.{effect_in, registers_in, effect_of, registers_after, loaded}
+use Rattle.rv32_user.specs.Step.{effect_in, registers_in, effect_of, registers_after}
 use Rattle.rv32_user.specs.Answers.{IsEffect, IsAlignedNext, ChangesOnlyAtNext, ComesFrom}
 
 -- what holds of both ends of a choice holds of the chosen one
@@ -111,54 +110,6 @@ ComesFrom-effect_of x pc (Jal rd off) = arrival-ComesFrom (Jal rd off) _
 ComesFrom-effect_of x pc Ecall = refl
 ComesFrom-effect_of x pc Ebreak = refl
 ComesFrom-effect_of x pc _ = tt
-
--- nothing is written to x0
-with_register-zero : (x : List ℕ) (rd value : ℕ) → slice_index (with_register x rd value) 0 ≡ slice_index x 0
-with_register-zero x rd value =
-    elim (eqb_tells rd 0) [
-      | inl zero ↦ rw zero.0 refl
-      | inr other ↦ rw other.0 (get_or-set_other x rd 0 value 0 (λ same. other.1 (sym same)))
-    ]
-
--- a write adds and removes no register
-length-with_register : (x : List ℕ) (rd value : ℕ) → length (with_register x rd value) ≡ length x
-length-with_register x rd value =
-    elim (eqb_tells rd 0) [ inl zero ↦ rw zero.0 refl | inr other ↦ rw other.0 (length-set x rd value) ]
-
--- what holds of the registers and of them with any one written holds after an action
-after_action : (P : List ℕ → Type 0) (x : List ℕ) (pc : ℕ) (action : Action) → P x →
-    ((rd value : ℕ) → P (with_register x rd value)) → P (registers_in x pc action)
-after_action P x pc (Write rd value) before written = written rd value
-after_action P x pc (Link rd target) before written =
-    elim (target % 4 == 0) as (λ v. P (if v then with_register x rd (next_of pc) else x))
-    [ true ↦ written rd (next_of pc) | false ↦ before ]
-after_action P x pc (Only effect) before written = before
-
--- x0 is as before
-pub registers_after-zero : (x : List ℕ) (pc : ℕ) (insn : Insn) →
-    slice_index (registers_after x pc insn) 0 ≡ slice_index x 0
-unfolding registers_after
-registers_after-zero x pc insn =
-    after_action (λ y. slice_index y 0 ≡ slice_index x 0) x pc (action_of x pc insn) refl (with_register-zero x)
-
--- and so it is after a load
-pub loaded-zero : (x : List ℕ) (rd size : ℕ) (is_signed : Bool) (value : ℕ) →
-    slice_index (loaded x rd size is_signed value) 0 ≡ slice_index x 0
-unfolding loaded
-loaded-zero x rd size is_signed value = with_register-zero x rd (extended size is_signed value)
-
--- there are as many registers as before
-pub length-registers_after : (x : List ℕ) (pc : ℕ) (insn : Insn) →
-    length (registers_after x pc insn) ≡ length x
-unfolding registers_after
-length-registers_after x pc insn =
-    after_action (λ y. length y ≡ length x) x pc (action_of x pc insn) refl (length-with_register x)
-
--- and so there are after a load
-pub length-loaded : (x : List ℕ) (rd size : ℕ) (is_signed : Bool) (value : ℕ) →
-    length (loaded x rd size is_signed value) ≡ length x
-unfolding loaded
-length-loaded x rd size is_signed value = length-with_register x rd (extended size is_signed value)
 
 -- registers that no action touched are as before, whatever the effect
 unchanged_by : (x : List ℕ) (effect : Effect) → ChangesOnlyAtNext effect x x

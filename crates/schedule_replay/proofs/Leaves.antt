@@ -1,9 +1,9 @@
 -- How a text that is written in pieces comes to its end.
-use Rattle.std.proofs.Common.{◌≡◌, ◌<◌, ◌+◌, ℕ, List, [], ◌++◌, Option, Result, Ok, Err, OnOk, OnErr, length, take, refl, sym, ap, ◌∙◌, subst, append_assoc, append-nil, arith}
+use Rattle.std.proofs.Common.{◌≡◌, ◌<◌, ◌+◌, ℕ, List, [], ◌++◌, Option, Result, Ok, Err, OnOk, OnErr, length, take, sym, ap, ◌∙◌, subst, append_assoc, append-nil, arith}
 use Rattle.std.proofs.Math.Seq.{take-append-add}
 use Rattle.std.proofs.lemmas.List.{take-append-le, length-append}
 use Rattle.std.specs.Io.KnownBytes.{Appends}
-use Rattle.std.proofs.KnownBytes.{Appends-nil, Appends-trans}
+use Rattle.std.proofs.KnownBytes.{Appends-trans}
 use Rattle.coy_io.specs.Pieces.{AppendsSome}
 use Rattle.coy_io.specs.Written.{Writes}
 use Rattle.schedule_replay.specs.Leaves.{Leaves}
@@ -32,14 +32,6 @@ leaves_some old now new whole piece rest l some =
     (length l.front + n, omega arith, subst (Appends old new) (sym same) (Appends-trans old now new l.front (take n piece) l.written some.2))
 
 -- ---- where a part of the text is kept back, to be written with what comes behind it
-
--- nothing was written yet
-pub leaves_yet : (now : Option (List ℕ)) (whole : List ℕ) → Leaves now now whole whole
-leaves_yet now whole = record { front = []; written = Appends-nil now; split = refl }
-
--- all was written
-pub leaves_all : (old new : Option (List ℕ)) (whole : List ℕ) → Appends old new whole → Leaves old new whole []
-leaves_all old new whole done = record { front = whole; written = done; split = sym (append-nil whole) }
 
 -- more text comes behind
 pub leaves_more : (old now : Option (List ℕ)) (whole rest more : List ℕ) → Leaves old now whole rest → Leaves old now (whole ++ more) (rest ++ more)

@@ -121,7 +121,3 @@ waking-end s0 q0 target s q w =
 -- all agree again once all were made ready
 pub agrees-end : (r : Runs) → AgreesApart [] r → Agrees r
 agrees-end r apart = record { sizes = apart.sizes; each = λ p h. omega (arith, apart.each p h) }
-
--- none is ready yet, and all are among the others
-pub agrees-start : (processes : List ProcessValue) (q n : QueuesValue) (xs : List ℕ) → length n.sleepers ≡ length q.sleepers → ((x : ℕ) → standing n x + times_in x xs ≡ standing q x) → Agrees (runs processes q) → AgreesApart xs (runs processes n)
-agrees-start processes q n xs long split agrees = record { sizes = agrees.sizes ∙ sym long; each = λ p h. split p ∙ agrees.each p h }

@@ -117,10 +117,6 @@ each_drop P zero ns all = all
 each_drop P (suc k) [] all = tt
 each_drop P (suc k) (n ∷ ns) all = each_drop P k ns all.1
 
-pub background-few : (b : Option Background) → length (background_reads b) ≤ 1
-background-few None = omega arith
-background-few (Some b) = omega arith
-
 -- ---- a walk that reached
 
 module _ (page_law : PageLaw) (kind_law : KindLaw) (reads_law : ReadsLaw) (join_law : JoinLaw) (region_law : RegionLaw)

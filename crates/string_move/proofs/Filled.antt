@@ -1,9 +1,9 @@
 -- Room that is filled with the bytes of pieces, one after the other.
-use Rattle.std.proofs.Common.{◌≡◌, ℕ, ◌+◌, ◌-◌, ◌<◌, ◌≤◌, min, inl, inr, List, [], ◌∷◌, ◌++◌, length, get_or, take, drop, refl, sym, ap, ◌∙◌, arith, append_assoc, append-nil}
+use Rattle.std.proofs.Common.{◌≡◌, ℕ, ◌+◌, ◌-◌, ◌<◌, ◌≤◌, min, inl, inr, List, ◌∷◌, ◌++◌, length, get_or, take, drop, refl, sym, ap, ◌∙◌, arith, append_assoc, append-nil}
 use borrow.Rule.Slice.PartMut.{put_mid}
 use Rattle.std.proofs.Math.Seq.{take-append-add}
 use Rattle.std.proofs.lemmas.Bool.{cases_lt}
-use Rattle.std.proofs.lemmas.List.{length-take, length-take-le, length-drop, length-append, take-take, take_all, take-append-le, at_drop_more, at_drop_all}
+use Rattle.std.proofs.lemmas.List.{length-take, length-take-le, length-drop, length-append, take-take, take_all, take-append-le, at_drop_more}
 use Rattle.std.proofs.lemmas.Slice.{take-put_mid}
 use Rattle.std.proofs.lemmas.List.Sums.{sum_by-drop_more}
 use Rattle.object_store.specs.Store.{Store, page_at}
@@ -31,14 +31,6 @@ take_parts m xs ys = elim (cases_lt m (length xs)) [
 gathered_cons : (s : Store) (piece : Piece) (pieces : List Piece) → gathered s (piece ∷ pieces) ≡ piece_bytes s piece ++ gathered s pieces
 unfolding gathered
 gathered_cons s piece pieces = refl
-
-gathered_nil : (s : Store) → gathered s [] ≡ []
-unfolding gathered
-gathered_nil s = refl
-
--- at the start
-pub filled_none : (s : Store) (pieces : List Piece) (room : List ℕ) → length room ≤ size_of_pieces pieces → IsFilled s pieces 0 0 room
-filled_none s pieces room enough = record { fits = omega arith; rest = omega (arith, enough); same = ap (λ n. take n (gathered s pieces)) (omega arith) }
 
 -- one piece more, up to its end or the end of the room
 filled_more : (s : Store) (pieces : List Piece) (i filled end : ℕ) (room new : List ℕ) (d : Piece) → i < length pieces
@@ -124,14 +116,3 @@ filled_by s pieces i filled end room into page d there page_is long inside end_i
       filled = filled_more s pieces i filled end room (put_mid filled n room into) d there page_long inside end_is same_length taken is;
       size = same_length;
     }
-
--- at the end
-pub filled_all : (s : Store) (pieces : List Piece) (i filled : ℕ) (room : List ℕ) → length pieces ≤ i → IsFilled s pieces i filled room → room ≡ take (length room) (gathered s pieces)
-filled_all s pieces i filled room past is =
-    let none : size_of_pieces (drop i pieces) ≡ 0 = at_drop_all size_of_pieces pieces i past in
-    let full : filled ≡ length room = omega (arith, none, is.fits, is.rest) in
-    let nothing : length room - filled ≡ 0 = omega (arith, full) in
-    sym (take_all filled room (omega (arith, full)))
-    ∙ (sym (append-nil (take filled room))
-    ∙ (sym (ap (λ k. take filled room ++ take k (gathered s (drop i pieces))) nothing)
-    ∙ is.same))

@@ -92,18 +92,3 @@ shared-made words uses u pool fits =
         → IsWordOf (uses ++ u ∷ []) v (word_at words frame index)
     on frame index v inside (inl made) = more v (word_at words frame index) (pool.word frame index v made inside)
     on frame index v inside (inr last) = zero_word v (word_at words frame index) (pool.spare (frame * 1024 + index) (omega (arith, last.0)))
-
--- the words of the next frame are 0
-pub shared-next : (words : List ℕ) (uses : List SharedUse) (frame index : ℕ) → IsShared words uses → frame ≡ length uses → word_at words frame index ≡ 0
-shared-next words uses frame index pool last = pool.spare (frame * 1024 + index) (omega (arith, last))
-
--- a pool whose words are all 0 and whose frames are all unused is one
-pub shared-empty : (words : List ℕ) (uses : List SharedUse) → length words ≡ 262144 → uses ≡ [] → ((k : ℕ) → slice_index words k ≡ 0) → IsShared words uses
-shared-empty words uses size unused zeros =
-    let nothing : length uses ≡ 0 = ap (λ (us : List SharedUse). length us) unused in
-    record {
-      size = size;
-      room = omega (arith, nothing);
-      spare = λ k past. zeros k;
-      word = λ frame index u made inside. absurd (none-some u (ap (λ (us : List SharedUse). slice_get us frame) (sym unused) ∙ made));
-    }

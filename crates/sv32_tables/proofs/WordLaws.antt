@@ -1,5 +1,5 @@
 -- What the words of pointers and leaves say.
-use Rattle.std.proofs.Common.{◌≡◌, ◌≢◌, ℕ, ◌+◌, ◌-◌, Some, None, if◌then◌else◌, refl, ap, arith, Bool, true, false}
+use Rattle.std.proofs.Common.{◌≡◌, ℕ, ◌+◌, ◌-◌, Some, None, if◌then◌else◌, refl, ap, arith, Bool, true, false}
 use Rattle.std.proofs.lemmas.Bool.Decides.{nat_tests}
 use Rattle.sv32_tables.specs.declared.leaf.Leaf.{Leaf}
 use Rattle.sv32_tables.specs.Word.{has, is_valid, leaf_of, leaf_word, number_of, pointer, table_of}
@@ -15,10 +15,6 @@ table_of-pointer frame =
     on b n valid there =
         let less : n - 4096 ≡ frame = omega arith in
         rw valid (ap (λ (k : ℕ). Some k) less)
-
--- no pointer is 0
-pub pointer-positive : (frame : ℕ) → pointer frame ≢ 0
-pointer-positive frame e = omega (arith, e)
 
 -- the flags and the number of a leaf's word
 pub record SaysLeaf (word page : ℕ) (write execute : Bool) : Type 0 where

@@ -20,14 +20,6 @@ without_page_is es r p is = IsTlb-filter (λ a b. not ((a == r) && (b == p))) es
 pub without_block_is : (es : List Entry) (r : ℕ) (block : BlockValue) → IsTlb es → IsTlb (without_block es r block)
 without_block_is es r block is = IsTlb-filter (λ a b. not (a == r) || not (holds block b)) es is
 
-pub room_is : (es : List Entry) → IsTlb es → IsTlb (room es)
-room_is [] is = is
-room_is (e ∷ es) is = on (nat_lt (length (e ∷ es)) 64)
-  where
-    on : (b : Bool) → IsTlb (if b then e ∷ es else drop 1 (e ∷ es))
-    on true = is
-    on false = record { size = omega (arith, is.size); single = is.single.1 }
-
 pub push_is : (es : List Entry) (e : Entry) → IsTlb es → length es < 64 → look es e.root e.page ≡ None → IsTlb (es ++ e ∷ [])
 push_is es e is space none =
     record { size = omega (arith, space, length-append es (e ∷ [])); single = IsSingle_push es e is.single none }

@@ -76,10 +76,6 @@ abbrev pub Falls : ℕ → List Noted → Type 0
 Falls top [] = Unit {0}
 Falls top (x ∷ xs) = (x.block.l2 ≤ top) × Falls x.block.l2 xs
 
-falls-below : (l m : ℕ) (xs : List Noted) → l ≤ m → Falls l xs → Falls m xs
-falls-below l m [] le falls = tt
-falls-below l m (x ∷ xs) le falls = (le_trans falls.0 le, falls.1)
-
 falls-header : (b : Bool) (x : Noted) (xs : List Noted) → Falls x.block.l2 xs → Falls x.block.l2 ((if b then x ∷ [] else []) ++ xs)
 falls-header true x xs falls = (le_refl x.block.l2, falls)
 falls-header false x xs falls = falls

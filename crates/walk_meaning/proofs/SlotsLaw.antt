@@ -36,7 +36,3 @@ module _ (o : Items) (kind : Kind) where
 -- an access reads at most 32 slots
 pub slots_law : SlotsLaw
 slots_law o c address kind = omega (arith, slots_from-most o kind 32 c (start_at address))
-
--- and so at most 33
-pub slots-most_33 : (o : Items) (c : Capability) (address : ℕ) (kind : Kind) → slots o c address kind ≤ 33
-slots-most_33 o c address kind = omega (arith, slots_law o c address kind)
