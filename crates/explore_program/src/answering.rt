@@ -15,15 +15,15 @@ use exploration::question::Asks;
 use exploration::{asking, explored_laws};
 use interleavings::{ever_stepwise_law, never_stepwise_law, within_stepwise_law};
 use machine_state::Machine;
+use map_cache::MapCache;
 use std::alloc::Global;
 use std::sync::ledger::Ledger;
 use steps::Steps;
-use walk_engine::Plain;
 
 /// Goes through the states that a machine can come to by the choices of a question, and tells its answer.
 pub(crate) fn answer<K: Sink, W: Watcher, L: Ledger>(
     alloc: Global,
-    machine: Machine<Plain>,
+    machine: Machine<MapCache>,
     asked: &Asked,
     output: &mut K,
     watcher: &mut W,

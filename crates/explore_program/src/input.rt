@@ -20,11 +20,11 @@ use coy_io::{LineReader, Sink, Source};
 use image_builder::boot;
 use judged_lines::Stop;
 use machine_state::Machine;
+use map_cache::MapCache;
 use question_lines::Untaken;
 use std::alloc::Global;
 use std::sync::ledger::Ledger;
 use steps::Steps;
-use walk_engine::Plain;
 
 /// Reads a listing, the lines of a question and, behind a line `end`, a schedule, which sets the machine up: it is run without
 /// a word. Goes through the states to which the question's choices lead from there, and tells what that comes to.
@@ -45,7 +45,10 @@ pub(crate) fn explore_input<S: Source, K: Sink, W: Watcher, L: Ledger>(
         Ok(listing) => listing,
         Err(exit) => return exit,
     };
-    let Ok(machine) = boot(alloc, &listing, Plain::new()) else {
+    let Ok(cache) = MapCache::new(alloc, listing.sizes().harts) else {
+        return Exit::OutOfMemory;
+    };
+    let Ok(machine) = boot(alloc, &listing, cache) else {
         return Exit::OutOfMemory;
     };
     let Ok(asked) = Asked::new(alloc, listing.sizes()) else {
@@ -59,7 +62,7 @@ pub(crate) fn explore_input<S: Source, K: Sink, W: Watcher, L: Ledger>(
 /// Reads the lines of a question and of a schedule, and explores the machine behind them, or tells why they ended before.
 fn ask_lines<S: Source, K: Sink, W: Watcher, L: Ledger>(
     alloc: Global,
-    machine: Machine<Plain>,
+    machine: Machine<MapCache>,
     mut asked: Asked,
     lines: &mut LineReader,
     input: &mut S,

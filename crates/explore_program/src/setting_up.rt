@@ -15,16 +15,16 @@ use breadth_first::Watcher;
 use courses::{Exit, conclude, counts_or_exit};
 use coy_io::{LineReader, Sink, Source};
 use machine_state::Machine;
+use map_cache::MapCache;
 use schedule_replay::{Mode, replay};
 use std::alloc::Global;
 use std::sync::ledger::Ledger;
 use steps::Steps;
-use walk_engine::Plain;
 
 /// Runs the lines of a schedule without a word, and explores the machine behind them, or tells why they ended before.
 pub(crate) fn set_up<S: Source, K: Sink, W: Watcher, L: Ledger>(
     alloc: Global,
-    mut machine: Machine<Plain>,
+    mut machine: Machine<MapCache>,
     asked: &Asked,
     lines: &mut LineReader,
     input: &mut S,

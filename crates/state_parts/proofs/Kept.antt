@@ -28,10 +28,6 @@ use Rattle.state_parts.specs.Looking.{AreRanged}
 use Rattle.state_parts.specs.Space.{IsKept}
 use Rattle.state_parts.specs.Standing.{StandingValue}
 
--- no object comes or goes
-pub live_sizes : (s : Store) → sizes_of (live_store s) ≡ sizes_of s
-live_sizes s = refl
-
 -- there are as many objects as counts
 pub live_even : (s : Store) → IsEven s → IsEven (live_store s)
 live_even s even = record {

@@ -40,14 +40,6 @@ found_more old table grown found names s i number within before grows one =
 
 -- ---- numbers that are written in place of others
 
--- none was written yet
-pub put_none : (names : List ObjectName) (name : ObjectName) (number : ℕ) (numbers : List ℕ) → IsPut 0 names name number numbers numbers
-put_none names name number numbers = record {
-  many = refl;
-  here = λ k below. absurd (omega (arith, below));
-  others = λ k not. refl;
-}
-
 -- the next place is of the name: the number is written there
 pub put_here : (names : List ObjectName) (name : ObjectName) (number i : ℕ) (old new : List ℕ) → i < length new → get_or names i no_name ≡ name → IsPut i names name number old new → IsPut (i + 1) names name number old (set new i number)
 put_here names name number i old new within same put = record {

@@ -191,10 +191,6 @@ has_all names old new i past same = record { each = λ k n here. by k n (among_b
     by : (k : CapKind) (n : ℕ) → IsAmong k n (names_of old ++ names_of names) → IsAmong k n (names_of new)
     by k n here = let Named : List ObjectName → Type 0 = λ xs. IsAmong k n xs in subst Named (sym whole) here
 
--- among fewer names it is among more
-pub has_within : (names old new : List ObjectName) → IsMore names old new → HasAll names old → HasAll names new
-has_within names old new more has = record { each = λ k n here. more.before k n (has.each k n here) }
-
 -- ---- marked before an event
 
 module _ (s : Store) where

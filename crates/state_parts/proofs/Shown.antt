@@ -1,8 +1,7 @@
 -- What records show was performed, and it changed no more than its process and the page of its store.
-use Rattle.std.proofs.Common.{◌≡◌, ℕ, ◌<◌, ◌≤◌, ◌⊎◌, inl, inr, ◌%◌, ◌==◌, Bool, true, false, if◌then◌else◌, List, [], ◌∷◌, Option, Some, None, Result, Ok, Err, IsTrue, refl, sym, ap, ◌∙◌, subst, slice_get, length, arith}
+use Rattle.std.proofs.Common.{◌≡◌, ℕ, ◌<◌, ◌≤◌, ◌⊎◌, inl, inr, ◌%◌, ◌==◌, Bool, true, false, if◌then◌else◌, List, [], ◌∷◌, Option, Some, None, Result, Ok, Err, refl, sym, ap, ◌∙◌, subst, slice_get, length, arith}
 use Rattle.std.specs.Prelude.{IfSome, MatchOption}
 use Rattle.std.proofs.lemmas.List.{length-map}
-use Rattle.std.specs.Option.{is_some}
 use Rattle.cap_format.specs.declared.kind.CapKind.{CapKind}
 use Rattle.cap_format.specs.declared.kind.CapKind.TheVariants.{Process}
 use Rattle.cap_format.specs.declared.fault.FaultCode.{FaultCode}
@@ -21,6 +20,7 @@ use Rattle.walk_meaning.specs.declared.place.WalkFault.{WalkFault}
 use Rattle.walk_engine.specs.declared.hit.Hit.{Hit}
 use Rattle.fault_path.specs.declared.outcome.Outcome.{Outcome as Became}
 use Rattle.fault_path.specs.declared.outcome.Outcome.TheVariants.{Delivered, MustWait, Unheard}
+use Rattle.map_cache.specs.Cache.{CacheValue}
 use Rattle.machine_state.specs.declared.event.Event.{Event}
 use Rattle.machine_state.specs.declared.event.Event.TheVariants.{Step}
 use Rattle.machine_state.specs.declared.record.Record.{Record}
@@ -39,7 +39,7 @@ use Rattle.event_reach.specs.declared.plain.PlainInsn.{PlainInsn}
 use Rattle.event_reach.specs.Plain.{stored_names}
 use Rattle.state_parts.specs.Keys.{AreAll}
 use Rattle.state_parts.specs.Looking.{HasAll, IsMore}
-use Rattle.state_parts.specs.Marking.{AddsThere, HasThere, StandsStill}
+use Rattle.state_parts.specs.Marking.{AddsThere, HasThere}
 use Rattle.state_parts.specs.Shown.{shown_load, shown_store, shown_effect, shown_insn, shown_plain, IsStepOf, IsShown}
 use Rattle.state_parts.proofs.Marked.{has_then, has_both}
 use Rattle.state_parts.proofs.Boards.{among_index}
@@ -157,7 +157,7 @@ step_shown s hart p goes is =
     subst (λ (halted : Bool). Shown (if halted then done s else event_by s (Step hart))) (sym goes) there
 
 -- what the records of such a step show was performed
-pub event_shown : (m : MachineValue (Unit {0})) (e : Event) (p : ℕ) → IsStepOf p m e → IfSome (shown_plain p (process (state_of m) p).regs (pc_of (state_of m) p) (event_of (state_of m) e).records) (IsShown p (state_of m) (event_of (state_of m) e))
+pub event_shown : (m : MachineValue CacheValue) (e : Event) (p : ℕ) → IsStepOf p m e → IfSome (shown_plain p (process (state_of m) p).regs (pc_of (state_of m) p) (event_of (state_of m) e).records) (IsShown p (state_of m) (event_of (state_of m) e))
 event_shown m e p is = rw is.step (step_shown (state_of m) is.hart p is.goes is.here)
 
 -- ---- what is marked of it
@@ -173,11 +173,6 @@ has_shown s t o p names before after (Some i) all has adds marked shown = subst 
 
     changed : o.changed ≡ process_name p ∷ stored_names i.page
     changed = shown.alone.changed ∙ ap (λ (n : ℕ). process_name n ∷ stored_names i.page) shown.process
-
--- it leaves the queues and the harts
-pub still_shown : (t : State) (o : Outcome) (p : ℕ) (plain : Option PlainInsn) → IsTrue (is_some plain) → IfSome plain (IsShown p t o) → StandsStill t o.state
-still_shown t o p None some shown = cc
-still_shown t o p (Some i) some shown = record { queues = shown.alone.queues; halted = shown.alone.halted }
 
 -- in a store of as many objects
 pub has_sizes : (s t : Objects) (names marked : List ObjectName) → sizes_of t ≡ sizes_of s → HasThere t names marked → HasThere s names marked

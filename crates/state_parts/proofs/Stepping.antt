@@ -6,12 +6,13 @@ use Rattle.object_store.specs.Store.{Store, sizes_of}
 use Rattle.object_store.specs.Meaning.{state_map}
 use Rattle.object_store.specs.Object.{ObjectName, ObjectValue, IsEven}
 use Rattle.schedules.specs.Queues.{QueuesValue}
+use Rattle.map_cache.specs.Cache.{CacheValue}
 use Rattle.machine_state.specs.Machine.{MachineValue, IsMachine}
 use Rattle.machine_state.specs.State.{State, state_of}
 use Rattle.object_parts.specs.Live.{live_store}
 use Rattle.object_parts.specs.Table.{AreApart, Grows}
 use Rattle.object_parts.proofs.Revived.{live_itself}
-use Rattle.object_parts.proofs.Tables.{grown_get, grown_none}
+use Rattle.object_parts.proofs.Tables.{grown_get}
 use Rattle.state_parts.specs.declared.key.Key.{Key}
 use Rattle.state_parts.specs.Keys.{objects_of, values_of, Reads, store_by}
 use Rattle.state_parts.specs.Looking.{IsTarget}
@@ -20,10 +21,6 @@ use Rattle.state_parts.specs.Space.{TablesValue, AreTables, Held, store_of, stan
 use Rattle.state_parts.specs.States.{tables_of, IsDesk, IsStanding, GrowTables}
 use Rattle.state_parts.proofs.Brought.{reads_grown}
 use Rattle.state_parts.proofs.Holding.{means_live}
-
--- tables that stay
-pub grown_tables_none : (t : TablesValue) → AreTables t → GrowTables t t
-grown_tables_none t tables = record { sizes = refl; names = refl; objects = grown_none t.objects; standings = grown_none t.standings; tables = tables }
 
 module _ (z : Sizes) (names : List ObjectName) (T T' : List ObjectValue) (S S' : List StandingValue) (grows : Grows T T') (grows_too : Grows S S') (apart : AreApart T') (apart_too : AreApart S') where
   -- they are tables still
@@ -39,23 +36,19 @@ module _ (z : Sizes) (names : List ObjectName) (T T' : List ObjectValue) (S S' :
   desk_grown desk at is = record { same = is.same; reads = reads_grown T T' at (objects_of names desk) grows is.reads; live = is.live; ranges = is.ranges }
 
   -- and so has who stands where
-  pub standing_grown : (known : Option ℕ) (m : MachineValue (Unit {0})) → IsStanding (tables_of z names T S) known m → IsStanding (tables_of z names T' S') known m
+  pub standing_grown : (known : Option ℕ) (m : MachineValue CacheValue) → IsStanding (tables_of z names T S) known m → IsStanding (tables_of z names T' S') known m
   standing_grown known m is = record { each = λ n e. grown_get S S' n (standing_at m) grows_too (is.each n e) }
 
 -- a standing that is known
-pub standing_some : (t : TablesValue) (n : ℕ) (m : MachineValue (Unit {0})) → slice_get t.standings n ≡ Some (standing_at m) → IsStanding t (Some n) m
+pub standing_some : (t : TablesValue) (n : ℕ) (m : MachineValue CacheValue) → slice_get t.standings n ≡ Some (standing_at m) → IsStanding t (Some n) m
 standing_some t n m at = record { each = λ k e. by k e }
   where
     by : (k : ℕ) → Some n ≡ Some k → slice_get t.standings k ≡ Some (standing_at m)
     by k e = let same : n ≡ k = cc in rw (← same) at
 
 -- none is known
-pub standing_none : (t : TablesValue) (m : MachineValue (Unit {0})) → IsStanding t None m
+pub standing_none : (t : TablesValue) (m : MachineValue CacheValue) → IsStanding t None m
 standing_none t m = record { each = λ k e. cc }
-
--- that of a machine where nobody came or left is known as before
-pub standing_stays : (t : TablesValue) (known : Option ℕ) (m n : MachineValue (Unit {0})) → n.queues ≡ m.queues → n.halted ≡ m.halted → IsStanding t known m → IsStanding t known n
-standing_stays t known m n queues halted is = record { each = λ k e. rw (queues, halted) (is.each k e) }
 
 -- ---- going to a key
 
@@ -82,7 +75,7 @@ module _ (t : TablesValue) (key : Key) (held : Held t key) where
   desk_of = record { same = held.kept.sizes; reads = held.reads; live = live_itself (store_of t key) held.kept.live; ranges = held.kept.ranges }
 
   -- a machine with it is in the state of the key
-  pub state_there : (m : MachineValue (Unit {0})) (standing : StandingValue) → m.objects ≡ store_of t key → slice_get t.standings key.standing ≡ Some standing → m.queues ≡ standing.queues → m.halted ≡ standing.halted → state_of m ≡ state_in t key
+  pub state_there : (m : MachineValue CacheValue) (standing : StandingValue) → m.objects ≡ store_of t key → slice_get t.standings key.standing ≡ Some standing → m.queues ≡ standing.queues → m.halted ≡ standing.halted → state_of m ≡ state_in t key
   state_there m standing objects at queues halted = joined objects (queues ∙ ap (λ (x : StandingValue). x.queues) (sym (standing_there standing at))) (halted ∙ ap (λ (x : StandingValue). x.halted) (sym (standing_there standing at)))
     where
       by : Store → QueuesValue → Bool → State
@@ -92,7 +85,7 @@ module _ (t : TablesValue) (key : Key) (held : Held t key) where
       joined h1 h2 h3 = rw (h1, h2, h3) refl
 
 -- a machine with a standing has it
-pub standing_same : (m : MachineValue (Unit {0})) (standing : StandingValue) → m.queues ≡ standing.queues → m.halted ≡ standing.halted → standing_at m ≡ standing
+pub standing_same : (m : MachineValue CacheValue) (standing : StandingValue) → m.queues ≡ standing.queues → m.halted ≡ standing.halted → standing_at m ≡ standing
 standing_same m standing queues halted = joined queues halted
   where
     by : QueuesValue → Bool → StandingValue
@@ -106,7 +99,7 @@ pub store_by_same : {z y : Sizes} {xs ys : List ObjectName} {ns ks : List ℕ} (
 store_by_same T h1 h2 h3 = rw (h1, h2, h3) refl
 
 -- a machine with the objects and the standing of a key is in its state
-pub still_means : (t : TablesValue) (key : Key) (desk : Store) (at : List ℕ) (known : Option ℕ) (m : MachineValue (Unit {0})) → AreTables t → IsDesk t desk at → IsStanding t known m → IsEven m.objects → m.objects ≡ desk
+pub still_means : (t : TablesValue) (key : Key) (desk : Store) (at : List ℕ) (known : Option ℕ) (m : MachineValue CacheValue) → AreTables t → IsDesk t desk at → IsStanding t known m → IsEven m.objects → m.objects ≡ desk
     → at ≡ key.parts.items → known ≡ Some key.standing → state_of m ≡ state_in t key
 still_means t key desk at known m tables is stands even objects same standing =
     let At : List ℕ → Type 0 = λ ns. Reads t.objects ns (objects_of t.names desk) in

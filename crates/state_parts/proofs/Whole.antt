@@ -16,7 +16,7 @@ use Rattle.object_store.specs.Store.{Store, size_of, sizes_of, empty_store}
 use Rattle.object_store.specs.Object.{ObjectName, ObjectValue, object_at, SameObject, IsAmong, IsEven}
 use Rattle.object_store.specs.Object.ObjectValue.{OfPage, OfCapPage, OfGpt, OfProcess, OfEndpoint, OfNone}
 use Rattle.object_store.specs.Saved.{Saved, saved_of, restored, AreThere}
-use Rattle.object_store.proofs.Same.{same_stores, size_in_store}
+use Rattle.object_store.proofs.Same.{size_in_store}
 use Rattle.object_store.proofs.Restored.{restored_same, size_of_same}
 use Rattle.state_parts.specs.Keys.{AreAll, named_in, objects_of, values_of, saved_by, store_by}
 
@@ -66,14 +66,6 @@ among_same s t (name ∷ names) kind n same (inr later) = among_same s t names k
   where
     rest : objects_of names s ≡ objects_of names t
     rest = cc
-
--- stores of the same objects are one
-pub same_by_objects : (s t : Store) (names : List ObjectName) → IsEven s → IsEven t → sizes_of s ≡ sizes_of t → AreAll (sizes_of s) names → objects_of names s ≡ objects_of names t → s ≡ t
-same_by_objects s t names even even_too sizes all same = same_stores s t even even_too sizes (λ kind n. by kind n (named_or_past s names kind n all))
-  where
-    by : (kind : CapKind) (n : ℕ) → IsAmong kind n names ⊎ (size_of s.items kind ≤ n) → SameObject kind n s t
-    by kind n (inl among) = among_same s t names kind n same among
-    by kind n (inr past) = past_same s t kind n even even_too sizes past
 
 -- ---- the store of its objects
 

@@ -3,11 +3,12 @@ use Rattle.std.specs.Prelude.{◌≡◌, List}
 use Rattle.object_store.specs.Store.{Store, sizes_of}
 use Rattle.object_store.specs.Object.{ObjectName, Stays}
 use Rattle.object_store.specs.Saved.{AreThere}
+use Rattle.map_cache.specs.Cache.{CacheValue}
 use Rattle.machine_state.specs.Machine.{MachineValue}
 
 -- the machine, the objects from which it started, and the names of those that may have changed since
 pub record BoardValue : Type 0 where
-  pub machine : MachineValue (Unit {0})
+  pub machine : MachineValue CacheValue
   pub desk : Store
   pub changed : List ObjectName
 

@@ -6,6 +6,7 @@ use Rattle.schedules.specs.Queues.{hart_of}
 use Rattle.rv32_user.specs.declared.effect.Effect.{Effect}
 use Rattle.rv32_user.specs.declared.effect.Effect.TheVariants.{Next, Load, Store as StoreOf}
 use Rattle.rv32_user.specs.Step.{effect_of}
+use Rattle.map_cache.specs.Cache.{CacheValue}
 use Rattle.machine_state.specs.declared.event.Event.{Event}
 use Rattle.machine_state.specs.declared.event.Event.TheVariants.{Step}
 use Rattle.machine_state.specs.declared.record.Record.{Record}
@@ -44,7 +45,7 @@ unfoldable pub shown_plain : ℕ → List ℕ → ℕ → List Record → Option
 shown_plain p regs pc records = shown_insn p regs pc (slice_get records 2) (slice_get records 1)
 
 -- the event is a step of a hart on which process `p` stands, of a machine that is not halted
-pub record IsStepOf (p : ℕ) (m : MachineValue (Unit {0})) (e : Event) : Type 0 where
+pub record IsStepOf (p : ℕ) (m : MachineValue CacheValue) (e : Event) : Type 0 where
   pub hart : ℕ
   pub step : e ≡ Step hart
   pub here : hart_of m.queues hart ≡ Some p

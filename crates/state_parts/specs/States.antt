@@ -5,6 +5,7 @@ use Rattle.object_store.specs.declared.sizes.Sizes.{Sizes}
 use Rattle.object_store.specs.Store.{Store, sizes_of}
 use Rattle.object_store.specs.Ahead.{EachCapability}
 use Rattle.object_store.specs.Object.{ObjectName, ObjectValue}
+use Rattle.map_cache.specs.Cache.{CacheValue}
 use Rattle.machine_state.specs.Machine.{MachineValue}
 use Rattle.object_parts.specs.Live.{live_store}
 use Rattle.object_parts.specs.Table.{Grows}
@@ -15,7 +16,7 @@ use Rattle.state_parts.specs.Space.{TablesValue, AreTables}
 -- the tables, and the machine as it is now
 pub record StatesValue : Type 0 where
   pub tables : TablesValue
-  pub machine : MachineValue (Unit {0})
+  pub machine : MachineValue CacheValue
 
 -- tables by their parts
 abbrev pub tables_of : Sizes → List ObjectName → List ObjectValue → List StandingValue → TablesValue
@@ -29,7 +30,7 @@ pub record IsDesk (t : TablesValue) (desk : Store) (at : List ℕ) : Type 0 wher
   pub ranges : EachCapability IsCapability desk
 
 -- a number that is known is that of who stands where in the machine
-pub record IsStanding (t : TablesValue) (known : Option ℕ) (m : MachineValue (Unit {0})) : Type 0 where
+pub record IsStanding (t : TablesValue) (known : Option ℕ) (m : MachineValue CacheValue) : Type 0 where
   pub each : (n : ℕ) → known ≡ Some n → slice_get t.standings n ≡ Some (standing_at m)
 
 -- tables of the same objects, to which was added behind what was there

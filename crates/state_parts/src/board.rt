@@ -14,6 +14,8 @@ ghost use Rattle.object_parts.specs.Table.{Grows};
 ghost use Rattle.state_parts.specs.Keys.{AreAll, objects_of, values_of, Reads, store_by};
 ghost use Rattle.state_parts.specs.Looking.{IsTarget, AreRanged};
 ghost use Rattle.state_parts.specs.Marking.{StandsStill};
+ghost use Rattle.state_parts.specs.Standing.{standing_at};
+ghost use Rattle.state_parts.specs.StandingLaws.{standing_in};
 
 use crate::fetched::{Fetched, nothing_fetched};
 use crate::going::{bring_all, mark_all};
@@ -22,18 +24,18 @@ use crate::performing::perform_event;
 use crate::standing::Standing;
 use cap_format::OutOfMemory;
 use machine_state::{Event, Machine, Name, Records};
+use map_cache::MapCache;
 use object_parts::{Part, Table};
 use object_store::Objects;
 use std::alloc::Global;
 use std::marker::Model;
 use std::sync::ledger::Ledger;
 use steps::Steps;
-use walk_engine::Plain;
 
 /// A machine, and a second copy of its objects as they were when events began.
 #[derive(Drop)]
 pub(crate) struct Board {
-    machine: Machine<Plain>,
+    machine: Machine<MapCache>,
     desk: Objects,
     /// What may have changed since.
     changed: Vec<Name>,
@@ -54,7 +56,11 @@ impl Model for Board {
 
 impl Board {
     /// A machine with room for a second copy of its objects, which is empty at first.
-    pub fn new(alloc: Global, machine: Machine<Plain>, names: &[Name]) -> Result<Board, OutOfMemory>
+    pub fn new(
+        alloc: Global,
+        machine: Machine<MapCache>,
+        names: &[Name],
+    ) -> Result<Board, OutOfMemory>
         requires { AreAll (sizes_of machine.objects) (names_of names.now) }
         ensures machine { IfOk result (λ board. board.machine ≡ machine) }
         ensures desk { IfOk result (λ board. board.desk ≡ empty_store (sizes_of machine.objects)) }
@@ -72,7 +78,7 @@ impl Board {
         })
     }
 
-    pub fn machine(&self) -> &Machine<Plain>
+    pub fn machine(&self) -> &Machine<MapCache>
         ensures value { result.now ≡ self.now.machine }
         ensures sizes { sizes_of self.now.machine.objects ≡ sizes_of self.now.desk }
     {
@@ -97,8 +103,8 @@ impl Board {
         self.changed.as_slice().is_empty()
     }
 
-    /// Brings the machine to a state: to the objects of these numbers, and to this standing. Where memory is wanting the
-    /// objects from which events start stay as they are.
+    /// Brings the machine to a state: to the objects of these numbers, and to this standing, which it is known to have where
+    /// nobody came or left (`stays`). Where memory is wanting the objects from which events start stay as they are.
     pub fn go<L: Ledger>(
         &mut self,
         table: &Table<Part>,
@@ -106,12 +112,14 @@ impl Board {
         old: &[u32],
         new: &[u32],
         standing: &Standing,
+        stays: bool,
         fetches: &mut Steps<L>,
     ) -> Result<(), OutOfMemory>
         requires all { AreAll (sizes_of self.old.desk) (names_of names.now) }
         requires old { Reads (map object_in table.now) old.now (objects_of (names_of names.now) self.old.desk) }
         requires new { IsTarget (map object_in table.now) (names_of names.now) new.now (sizes_of self.old.desk) (store_by (sizes_of self.old.desk) (names_of names.now) (values_of (map object_in table.now) new.now)) }
         requires machine { IsMachine (store_by (sizes_of self.old.desk) (names_of names.now) (values_of (map object_in table.now) new.now)) standing.now.queues }
+        requires stays { IsTrue stays → standing_at self.old.machine ≡ standing_in standing.now }
         ensures desk { OnOk result (self.new.desk ≡ store_by (sizes_of self.old.desk) (names_of names.now) (values_of (map object_in table.now) new.now)) }
         ensures objects { OnOk result (self.new.machine.objects ≡ self.new.desk) }
         ensures queues { OnOk result (self.new.machine.queues ≡ standing.now.queues) }
@@ -122,13 +130,19 @@ impl Board {
         // Sizes that are read tell that there are as many objects as counts.
         let _sizes = self.desk.sizes();
         bring_all(&mut self.changed, &mut self.desk, table, names, old, new)?;
-        self.machine.take_objects(
-            &self.desk,
-            self.changed.as_slice(),
-            &standing.queues,
-            standing.halted,
-            fetches,
-        );
+        let changed = self.changed.as_slice();
+        if stays {
+            self.machine
+                .take_objects_alone(&self.desk, changed, fetches);
+        } else {
+            self.machine.take_objects(
+                &self.desk,
+                changed,
+                &standing.queues,
+                standing.halted,
+                fetches,
+            );
+        }
         self.changed.clear();
         Ok(())
     }

@@ -18,11 +18,11 @@ use crate::look::is_named;
 use cap_format::{CapKind, OutOfMemory};
 use event_reach::{PlainInsn, Reach, plain_of_event, reach_of_event};
 use machine_state::{Event, Machine, Name};
+use map_cache::MapCache;
 use object_store::Objects;
 use std::sync::ledger::Ledger;
 use steps::Steps;
 use string_move::Pieces;
-use walk_engine::Plain;
 
 /// Marks all that an event may change, before it is performed, and tells whether the queues and the harts are sure to stay.
 /// Where memory is wanting some is marked.
@@ -30,7 +30,7 @@ use walk_engine::Plain;
 /// A plain instruction changes its process and the page of its store; any other event may change every process, and what
 /// is reached by it.
 pub(crate) fn mark_event<L: Ledger>(
-    machine: &mut Machine<Plain>,
+    machine: &mut Machine<MapCache>,
     event: Event,
     marked: &mut Vec<Name>,
     fetches: &mut Steps<L>,

@@ -15,17 +15,17 @@ ghost use Rattle.state_parts.specs.Marking.{AddsThere, HasThere, StandsStill};
 ghost use Rattle.event_reach.specs.Plain.{stored_names};
 ghost use Rattle.state_parts.specs.Shown.{IsStepOf, IsShown};
 
-use crate::fetched::{Fetched, note_fetch, seems_plain};
+use crate::fetched::{Fetched, note_fetch, note_stumble, seems_plain};
 use crate::look::is_named;
 use crate::marking::{mark_event, mark_object};
 use crate::showing::plain_shown;
 use cap_format::{CapKind, OutOfMemory};
 use event_reach::PlainInsn;
 use machine_state::{Event, Machine, Name, Records};
+use map_cache::MapCache;
 use object_store::Objects;
 use std::sync::ledger::Ledger;
 use steps::Steps;
-use walk_engine::Plain;
 
 /// Performs an event, marks all that it may change, and tells whether the queues and the harts are sure to have stayed.
 /// Where memory is wanting it wasn't performed, and some is marked.
@@ -33,7 +33,7 @@ use walk_engine::Plain;
 /// Where the next instruction seems to be plain there is no look ahead: the records tell afterwards whether it was. If not,
 /// all objects are marked.
 pub(crate) fn perform_event<L: Ledger>(
-    machine: &mut Machine<Plain>,
+    machine: &mut Machine<MapCache>,
     event: Event,
     names: &[Name],
     marked: &mut Vec<Name>,
@@ -57,8 +57,12 @@ pub(crate) fn perform_event<L: Ledger>(
 {
     if let Some(p) = stepping(machine, event) {
         if seems_plain(machine, p, fetched.as_slice()) {
+            let pc = machine.pc(p);
             let still = perform_plainly(machine, event, p, names, marked, records, fetches)?;
             note_fetch(fetched, records);
+            if !still {
+                note_stumble(fetched, p, pc);
+            }
             return Ok(still);
         }
     }
@@ -68,7 +72,7 @@ pub(crate) fn perform_event<L: Ledger>(
 }
 
 /// The process that a step of a machine that is not halted finds on its hart.
-fn stepping(machine: &Machine<Plain>, event: Event) -> Option<u16>
+fn stepping(machine: &Machine<MapCache>, event: Event) -> Option<u16>
     requires { hart_in event < machine.now.objects.harts }
     ensures { IfSome result (λ p. IsStepOf p machine.now event) }
 {
@@ -83,7 +87,7 @@ fn stepping(machine: &Machine<Plain>, event: Event) -> Option<u16>
 
 /// The same by a look ahead.
 fn perform_marked<L: Ledger>(
-    machine: &mut Machine<Plain>,
+    machine: &mut Machine<MapCache>,
     event: Event,
     marked: &mut Vec<Name>,
     records: &mut Records,
@@ -109,7 +113,7 @@ fn perform_marked<L: Ledger>(
 
 /// The same of a step of a process, by what the records tell of it.
 fn perform_plainly<L: Ledger>(
-    machine: &mut Machine<Plain>,
+    machine: &mut Machine<MapCache>,
     event: Event,
     p: u16,
     names: &[Name],
@@ -156,7 +160,7 @@ fn mark_process(
 
 /// Performs a step of a process, and tells the plain instruction that its records show.
 fn perform_shown<L: Ledger>(
-    machine: &mut Machine<Plain>,
+    machine: &mut Machine<MapCache>,
     event: Event,
     p: u16,
     records: &mut Records,

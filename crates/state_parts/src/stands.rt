@@ -7,9 +7,9 @@ ghost use Rattle.state_parts.specs.StandingLaws.{standing_in};
 use crate::standing::Standing;
 use cap_format::OutOfMemory;
 use machine_state::Machine;
+use map_cache::MapCache;
 use object_parts::Table;
 use std::alloc::Global;
-use walk_engine::Plain;
 
 /// The number of who stands where in a machine: the one that is known, or that of a copy. A copy that isn't kept in the table
 /// is kept aside, and written again the next time.
@@ -17,7 +17,7 @@ pub(crate) fn standing_number(
     alloc: Global,
     standings: &mut Table<Standing>,
     spare: &mut Option<Standing>,
-    machine: &Machine<Plain>,
+    machine: &Machine<MapCache>,
     known: Option<u32>,
 ) -> Result<u32, OutOfMemory>
     requires { (n : ℕ) → known ≡ Some n →
@@ -43,7 +43,7 @@ pub(crate) fn standing_number(
 fn standing_now(
     alloc: Global,
     spare: Option<Standing>,
-    machine: &Machine<Plain>,
+    machine: &Machine<MapCache>,
 ) -> Result<Standing, OutOfMemory>
     ensures { IfOk result (λ standing. standing_in standing ≡ standing_at machine.now) }
 {

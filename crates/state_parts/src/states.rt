@@ -1,10 +1,11 @@
 //! The states of a machine that were seen.
-ghost use Rattle.std.specs.Prelude.{◌≡◌, ◌<◌, map, IsTrue, IfOk, OnOk, OnErr};
+ghost use Rattle.std.specs.Prelude.{◌≡◌, ◌<◌, Some, map, slice_get, IsTrue, IfOk, OnOk, OnErr};
 ghost use Rattle.object_store.specs.Store.{sizes_of};
 ghost use Rattle.machine_state.specs.Machine.{hart_in};
 ghost use Rattle.machine_state.specs.State.{state_of};
 ghost use Rattle.kernel_core.specs.Event.{event_of};
 ghost use Rattle.state_parts.specs.Space.{Held, state_in};
+ghost use Rattle.state_parts.specs.Standing.{standing_at};
 ghost use Rattle.state_parts.specs.States.{GrowTables};
 
 use crate::board::Board;
@@ -15,13 +16,13 @@ use crate::standing::Standing;
 use crate::stands::standing_number;
 use cap_format::OutOfMemory;
 use machine_state::{Event, Machine, Name, Records};
+use map_cache::MapCache;
 use object_parts::{Part, Table};
 use object_store::Sizes;
 use std::alloc::Global;
 use std::marker::Model;
 use std::sync::ledger::Ledger;
 use steps::Steps;
-use walk_engine::Plain;
 
 /// A machine, and the parts of all its states that were seen.
 #[derive(Drop)]
@@ -61,7 +62,7 @@ impl States {
     /// A machine of which no state was seen yet.
     pub fn new<L: Ledger>(
         alloc: Global,
-        machine: Machine<Plain>,
+        machine: Machine<MapCache>,
         fetches: &mut Steps<L>,
     ) -> Result<States, OutOfMemory>
         ensures machine { IfOk result (λ states. states.machine ≡ machine) }
@@ -89,7 +90,7 @@ impl States {
     }
 
     /// The machine as it is now: in the state of the last key, or after the events that were performed since.
-    pub fn machine(&self) -> &Machine<Plain>
+    pub fn machine(&self) -> &Machine<MapCache>
         ensures value { result.now ≡ self.now.machine }
         ensures sizes { sizes_of self.now.machine.objects ≡ self.now.tables.sizes }
     {
@@ -142,6 +143,7 @@ impl States {
         if self.is_at(key) {
             return Ok(());
         }
+        let stays = self.stands_at(key.standing);
         let standing = self.standings.get(key.standing);
         self.board.go(
             &self.parts,
@@ -149,11 +151,23 @@ impl States {
             self.at.as_slice(),
             key.parts.as_slice(),
             standing,
+            stays,
             fetches,
         )?;
         write_numbers(&mut self.at, key.parts.as_slice());
         self.stands = Some(key.standing);
         Ok(())
+    }
+
+    /// Whether this is sure to be the number of who stands where in the machine.
+    fn stands_at(&self, standing: u32) -> bool
+        ensures { IsTrue result →
+            slice_get self.now.tables.standings standing ≡ Some (standing_at self.now.machine) }
+    {
+        match self.stands {
+            Some(known) => known == standing,
+            None => false,
+        }
     }
 
     /// Whether the machine is sure to be in the state of a key: it was brought there, and performed no event since.

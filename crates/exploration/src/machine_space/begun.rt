@@ -6,11 +6,11 @@ ghost use Rattle.state_parts.specs.Space.{Held, state_in};
 
 use cap_format::OutOfMemory;
 use machine_state::Machine;
+use map_cache::MapCache;
 use state_parts::{Key, States};
 use std::alloc::Global;
 use std::sync::ledger::Ledger;
 use steps::Steps;
-use walk_engine::Plain;
 
 /// The states that were seen of a machine, and the key of the one from which choices start.
 #[derive(Drop)]
@@ -22,7 +22,7 @@ pub(crate) struct Begun {
 /// The states of a machine: the one in which it is was seen.
 pub(crate) fn begun_of<L: Ledger>(
     alloc: Global,
-    machine: Machine<Plain>,
+    machine: Machine<MapCache>,
     fetches: &mut Steps<L>,
 ) -> Result<Begun, OutOfMemory>
     ensures sizes { IfOk result (λ begun. begun.states.tables.sizes ≡ sizes_of machine.objects) }

@@ -18,13 +18,13 @@ use crate::machine_space::looks::{Looks, kept_of};
 use crate::question::Choice;
 use cap_format::OutOfMemory;
 use machine_state::{Event, Machine, Records};
+use map_cache::MapCache;
 use quiet_finding::{KeptWalks, Reaching, Watched, is_quiet};
 use quiet_runs::held_law;
 use state_parts::{Key, States};
 use std::alloc::Global;
 use std::sync::ledger::Ledger;
 use steps::Steps;
-use walk_engine::Plain;
 
 /// How many quiet steps a run takes at most after its first step.
 const QUIET_MOST: u32 = 4096;
@@ -178,7 +178,7 @@ fn perform_quiet<L: Ledger>(
 }
 
 /// Whether the machine is halted, or nobody is on the hart: then its next step isn't quiet.
-fn is_idle(machine: &Machine<Plain>, hart: u8) -> bool
+fn is_idle(machine: &Machine<MapCache>, hart: u8) -> bool
     requires { hart < machine.now.objects.harts }
     ensures { result ≡ (machine.now.halted || not (is_some (hart_of machine.now.queues hart))) }
 {

@@ -15,11 +15,11 @@ use crate::question::{Asks, Choice, Question};
 use breadth_first::{Explored, Watcher, explore};
 use cap_format::OutOfMemory;
 use machine_state::{Machine, Records};
+use map_cache::MapCache;
 use separation_policy::Policy;
 use std::alloc::Global;
 use std::sync::ledger::Ledger;
 use steps::Steps;
-use walk_engine::Plain;
 
 /// The answer to a question.
 #[derive(Drop)]
@@ -33,7 +33,7 @@ pub struct Answered {
 /// memory, or there were more than 2^32 states or choices.
 pub fn explore_machine<'a, W: Watcher, L: Ledger>(
     alloc: Global,
-    machine: Machine<Plain>,
+    machine: Machine<MapCache>,
     question: &'a Question,
     policy: &'a Policy,
     watcher: &mut W,
@@ -54,7 +54,7 @@ pub fn explore_machine<'a, W: Watcher, L: Ledger>(
 /// The space of a machine's states.
 fn space_of<'a, L: Ledger>(
     alloc: Global,
-    machine: Machine<Plain>,
+    machine: Machine<MapCache>,
     question: &'a Question,
     policy: &'a Policy,
     fetches: &'a mut Steps<L>,

@@ -18,7 +18,7 @@ returns-in-Err g c =
       so = e.takes (explore_course nothing_told) cached refl 0;
     }
 
--- or no memory for the machine or the question
+-- or no memory for the cache, the machine or the question
 pub returns-in_default : goal.returns-in_default
 returns-in_default g c = record {
   told = nothing_told;
@@ -35,16 +35,24 @@ returns-in_default-new g c = record {
   so = takes-none g.S.Source.held g.S.Source.faults g.K.Sink.taken g.K.Sink.faults _ _ _ _ nothing_told c.in-Ok.ensures.silent c.in-Ok.ensures.quiet;
 }
 
+pub returns-in_default-boot : goal.returns-in_default-boot
+returns-in_default-boot g c = record {
+  told = nothing_told;
+  finished = refl;
+  answers = λ read memory. absurd (memory refl);
+  so = takes-none g.S.Source.held g.S.Source.faults g.K.Sink.taken g.K.Sink.faults _ _ _ _ nothing_told c.in-Ok.ensures.silent c.in-Ok.ensures.quiet;
+}
+
 -- the machine has the sizes of the question
 pub ask_lines-requires-clause-sizes : goal.ask_lines-requires-clause-sizes
 ask_lines-requires-clause-sizes g c =
-    let start = c.in-Ok-new.ensures ∙ ap first_asked c.sizes.ensures.value in
+    let start = c.in-Ok-new-2.ensures ∙ ap first_asked c.sizes-2.ensures.value in
     ap (λ a. a.question.sizes) start ∙ sym c.in-Ok-boot.ensures.sizes
 
 pub returns : goal.returns
 returns g c =
     let harts = ap (λ sizes. sizes.harts) c.in-Ok-boot.ensures.sizes in
-    let start = c.in-Ok-new.ensures ∙ ap first_asked c.sizes.ensures.value in
+    let start = c.in-Ok-new-2.ensures ∙ ap first_asked c.sizes-2.ensures.value in
     let t = c.ask_lines.ensures in
     record {
       told = t.told;

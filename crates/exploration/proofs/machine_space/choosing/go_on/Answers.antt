@@ -2,6 +2,7 @@ use Rattle.std.proofs.Common.{◌∙◌, ◌||◌, not, is_some, sym, ap, subst}
 use Rattle.object_store.specs.Store.{Store}
 use Rattle.object_store.specs.Meaning.{state_map}
 use Rattle.schedules.specs.Queues.{hart_of}
+use Rattle.map_cache.specs.Cache.{CacheValue}
 use Rattle.machine_state.specs.Machine.{MachineValue}
 use Rattle.machine_state.specs.State.{state_of}
 use Rattle.quiet_finding.specs.Reaching.{IsReaching, ReachingValue}
@@ -13,7 +14,7 @@ use Rattle.exploration.proofs.machine_space.choosing.go_on.Goals as goal
 pub returns-then-is_idle-clause-count : goal.returns-then-is_idle-clause-count
 returns-then-is_idle-clause-count g c =
     let w = watch_of c.args.watched.now in
-    let idle = ap (λ (m : MachineValue (Unit {0})). m.halted || not (is_some (hart_of m.queues c.args.hart))) (sym c.machine-machine.ensures.value) ∙ sym c.is_idle.ensures ∙ c.if-is_idle.true in
+    let idle = ap (λ (m : MachineValue CacheValue). m.halted || not (is_some (hart_of m.queues c.args.hart))) (sym c.machine-machine.ensures.value) ∙ sym c.is_idle.ensures ∙ c.if-is_idle.true in
     went-none w c.args.hart (state_of c.args.states.now.machine) (idle-not_quiet w c.args.hart (state_of c.args.states.now.machine) idle)
 
 pub returns-then-is_idle-clause-state : goal.returns-then-is_idle-clause-state
@@ -23,7 +24,7 @@ pub perform_quiet-steps-requires-clause-reaching : goal.perform_quiet-steps-requ
 perform_quiet-steps-requires-clause-reaching g c =
     subst (λ (r : ReachingValue). IsReaching (state_of c.args.states.now.machine).store r) (sym c.reaching.ensures)
     (subst (λ (s : Store). IsReaching (state_map s) c.in_ok-kept.kept.reaching)
-    (c.objects.ensures ∙ ap (λ (m : MachineValue (Unit {0})). m.objects) c.machine-machine.ensures.value) c.in_ok-kept.ensures)
+    (c.objects.ensures ∙ ap (λ (m : MachineValue CacheValue). m.objects) c.machine-machine.ensures.value) c.in_ok-kept.ensures)
 
 pub perform_quiet-steps-requires-clause-walks : goal.perform_quiet-steps-requires-clause-walks
 perform_quiet-steps-requires-clause-walks g c =

@@ -1,5 +1,6 @@
 use Rattle.std.proofs.Common.{◌≡◌, ◌∙◌, ℕ, refl, sym, ap, subst, arith}
 use Rattle.object_store.specs.declared.sizes.Sizes.{Sizes}
+use Rattle.map_cache.specs.Cache.{CacheValue}
 use Rattle.machine_state.specs.Machine.{MachineValue}
 use Rattle.machine_state.specs.State.{state_of}
 use Rattle.quiet_runs.specs.Finding.{is_quiet}
@@ -21,23 +22,23 @@ quiet-init g c = record {
 
 pub is_quiet-requires-clause-hart : goal.is_quiet-requires-clause-hart
 is_quiet-requires-clause-hart g c =
-    let here = ap (λ (m : MachineValue (Unit {0})). m.objects.harts) c.machine.ensures.value in
+    let here = ap (λ (m : MachineValue CacheValue). m.objects.harts) c.machine.ensures.value in
     let sizes = ap (λ (z : Sizes). z.harts) c.machine.ensures.sizes in
     let same = ap (λ (t : TablesValue). t.sizes.harts) c.quiet.invariant.tables in
     omega (arith, here, sizes, same, c.requires.hart)
 
 pub is_quiet-requires-clause-reaching : goal.is_quiet-requires-clause-reaching
 is_quiet-requires-clause-reaching g c =
-    subst (λ (m : MachineValue (Unit {0})). IsReaching (state_of m).store c.args.reaching.now) (sym c.machine.ensures.value) c.quiet.invariant.reaching
+    subst (λ (m : MachineValue CacheValue). IsReaching (state_of m).store c.args.reaching.now) (sym c.machine.ensures.value) c.quiet.invariant.reaching
 
 pub is_quiet-requires-clause-walks : goal.is_quiet-requires-clause-walks
 is_quiet-requires-clause-walks g c =
-    subst (λ (m : MachineValue (Unit {0})). AreKeptOn (state_of m) c.args.hart c.quiet.walks) (sym c.machine.ensures.value) c.quiet.invariant.walks
+    subst (λ (m : MachineValue CacheValue). AreKeptOn (state_of m) c.args.hart c.quiet.walks) (sym c.machine.ensures.value) c.quiet.invariant.walks
 
 pub returns-then-not-is_quiet-clause-count : goal.returns-then-not-is_quiet-clause-count
 returns-then-not-is_quiet-clause-count g c =
     let w = watch_of c.args.watched.now in
-    let next = ap (λ (m : MachineValue (Unit {0})). is_quiet w (state_of m) c.args.hart) (sym c.machine.ensures.value) ∙ sym c.is_quiet.ensures.value ∙ c.if-not-is_quiet.true in
+    let next = ap (λ (m : MachineValue CacheValue). is_quiet w (state_of m) c.args.hart) (sym c.machine.ensures.value) ∙ sym c.is_quiet.ensures.value ∙ c.if-not-is_quiet.true in
     gone-quiet w c.args.hart 4096 (state_of c.args.states.now.machine) (state_of c.quiet.states.machine) c.quiet.performed c.quiet.invariant.gone next
 
 pub returns-then-not-is_quiet-clause-tables : goal.returns-then-not-is_quiet-clause-tables
@@ -60,12 +61,12 @@ quiet-preserved g c =
     let w = watch_of c.args.watched.now in
     let s = state_of c.quiet.states.machine in
     let t = state_of c.perform.new.self.machine in
-    let next = ap (λ (m : MachineValue (Unit {0})). is_quiet w (state_of m) c.args.hart) (sym c.machine.ensures.value) ∙ sym c.is_quiet.ensures.value ∙ c.if-not-is_quiet.false in
+    let next = ap (λ (m : MachineValue CacheValue). is_quiet w (state_of m) c.args.hart) (sym c.machine.ensures.value) ∙ sym c.is_quiet.ensures.value ∙ c.if-not-is_quiet.false in
     record {
       tables = c.perform.ensures.tables ∙ c.quiet.invariant.tables;
       reaching = stays_after w c.args.hart c.held_law.ensures s t c.args.reaching.now next c.in_ok-perform.ensures.state c.quiet.invariant.reaching;
       walks = walks_after w c.args.hart c.held_law.ensures s t c.is_quiet.new.walks next c.in_ok-perform.ensures.state
-          (subst (λ (m : MachineValue (Unit {0})). AreKeptOn (state_of m) c.args.hart c.is_quiet.new.walks) c.machine.ensures.value c.is_quiet.ensures.walks);
+          (subst (λ (m : MachineValue CacheValue). AreKeptOn (state_of m) c.args.hart c.is_quiet.new.walks) c.machine.ensures.value c.is_quiet.ensures.walks);
       gone =
           gone-more w c.args.hart 4096 (state_of c.args.states.now.machine) s t c.quiet.performed c.quiet.invariant.gone c.quiet-test.true next
           c.in_ok-perform.ensures.state;

@@ -1,4 +1,5 @@
 use Rattle.std.proofs.Common.{◌≡◌, ℕ, List, Some, map, length, sym, ap, ◌∙◌, subst}
+use Rattle.std.proofs.lemmas.Option.{same_Some}
 use Rattle.object_store.specs.Store.{Store, sizes_of}
 use Rattle.machine_state.specs.Taking.{names_of}
 use Rattle.object_parts.specs.Objects.{object_in}
@@ -59,3 +60,10 @@ write_numbers-requires g c =
     let t = tables_of i.sizes names T (map standing_in i.standings) in
     let held = rw (← c.self.view_is) at c.requires in
     numbers_many T i.at.items names i.board.desk c.self.invariant.1.reads ∙ sym (numbers_many T key.parts.items names (store_of t key) held.reads) ∙ sym (ap length c.as_slice-4.ensures.value)
+
+pub go-requires-clause-stays : goal.go-requires-clause-stays
+go-requires-clause-stays g c =
+    let i = c.self.inside in
+    λ stays.
+    let known = rw (← c.self.view_is) at c.stands_at-stays.ensures stays in
+    same_Some (standing_at i.board.machine) (standing_in c.get-standing.result.now) (sym known ∙ c.get-standing.ensures.value)
