@@ -1,5 +1,5 @@
 //! Policies: domains, their objects, and what each may do.
-ghost use Rattle.std.specs.Prelude.{ℕ, ◌≡◌, ◌≤◌, ◌<◌, ◌+◌, ◌==◌, ◌++◌, ◌∷◌, [], bytes_eq, codes, length, map, position, IfOk, IfSome, MatchOption, OnOk, OnErr};
+ghost use Rattle.std.specs.Prelude.{ℕ, ◌≡◌, ◌≤◌, ◌<◌, ◌+◌, ◌==◌, ◌++◌, ◌∷◌, [], bytes_eq, codes, length, map, position, IfOk, IfSome, MatchOption};
 ghost use Rattle.separation_policy.specs.Policy.{assigned_of, domain_at, domain_of, may_halt, may_log, may_write};
 ghost use Rattle.separation_policy.specs.Making.{domain_with, first_policy, with_first, with_listed, with_made, with_assigned, with_halting, with_logging, with_reading, with_writing, with_rights, rights_at, domain_allowed, domain_bare, bare_policy, domain_called, is_assigned_other, object_count, process_count};
 
@@ -31,7 +31,7 @@ pub struct Domain {
 }
 
 /// Which domain each object has, what the domains are called, and what each may do. Domain 0 is `rest`, and has each
-/// object that was assigned to none.
+/// object that was assigned to none. There is room for all domains from the first on.
 #[derive(Drop)]
 pub struct Policy {
     domains: Vec<Domain>,
@@ -44,6 +44,8 @@ pub struct Policy {
 }
 
 impl Model for Policy {
+    ghost use Rattle.std.specs.Prelude.{◌≤◌};
+    ghost use Rattle.std.specs.Vec.{vec_capacity};
     ghost use Rattle.separation_policy.specs.Policy.{PolicyValue};
     ghost use Rattle.separation_policy.specs.Making.{assigned_by_kind, policy_of};
     ghost use Rattle.separation_policy.specs.Bounds.{IsPolicy};
@@ -53,17 +55,17 @@ impl Model for Policy {
     ghost view = { λ p. policy_of p.domains.items (assigned_by_kind p.pages p.cappages p.gpts p.processes p.endpoints)
         p.stage };
 
-    ghost invariant = { λ p. IsPolicy (policy_of p.domains.items (assigned_by_kind p.pages p.cappages p.gpts p.processes
-        p.endpoints) p.stage) };
+    ghost invariant = { λ p. (64 ≤ vec_capacity p.domains) × IsPolicy (policy_of p.domains.items (assigned_by_kind
+        p.pages p.cappages p.gpts p.processes p.endpoints) p.stage) };
 }
 
 impl Policy {
-    /// The policy of one domain, `rest`, for a machine of these sizes: each object is of it.
+    /// The policy of one domain, `rest`, for a machine of these sizes: each object is of it. No other call takes memory.
     pub fn new(alloc: Global, sizes: Sizes) -> Result<Policy, OutOfMemory>
         ensures { IfOk result (λ policy. policy ≡ first_policy sizes) }
     {
-        let mut domains = Vec::new(alloc);
-        domains.push(domain_with(rest_name()))?;
+        let mut domains = Vec::with_capacity(alloc, DOMAIN_LIMIT)?;
+        domains.push_reserved(domain_with(rest_name()));
         Ok(Policy {
             domains,
             pages: ObjectDomains::new(alloc, sizes.pages)?,
@@ -218,15 +220,12 @@ impl Policy {
         self.processes.count_in(domain)
     }
 
-    /// Makes a domain behind the others, which has no object and may do nothing beyond itself. The policy is as before where memory is
-    /// wanting.
-    pub fn make(&mut self, name: Name) -> Result<(), OutOfMemory>
+    /// Makes a domain behind the others, which has no object and may do nothing beyond itself.
+    pub fn make(&mut self, name: Name)
         requires { length self.old.domains < 64 }
-        ensures ok { OnOk result (self.new ≡ with_made self.old name) }
-        ensures err { OnErr result (self.new ≡ self.old) }
+        ensures { self.new ≡ with_made self.old name }
     {
-        self.domains.push(domain_with(name))?;
-        Ok(())
+        self.domains.push_reserved(domain_with(name));
     }
 
     /// Keeps the first domains alone, as many as these.
