@@ -3,10 +3,11 @@
 use Rattle.std.specs.Prelude.{◌≡◌, ◌≢◌, ℕ, ◌+◌, false, List, [], ◌∷◌, Option, Some, None, Result, Ok, Err, ⊤}
 use Rattle.coy_io.specs.Lines.{Part, Line, LongLine, PastLimit}
 use Rattle.coy_io.specs.Reader.{Reader, ahead}
+use Rattle.coy_text.specs.Words.{words_of}
 use Rattle.object_store.specs.declared.sizes.Sizes.{Sizes}
 use Rattle.separation_policy.specs.Making.{first_policy}
 use Rattle.exploration.specs.question.Question.{nothing_asked}
-use Rattle.question_lines.specs.QuestionLine.{as_untaken, line_answer, line_policy, line_question}
+use Rattle.question_lines.specs.QuestionLine.{as_untaken, is_of_policy, line_answer, line_policy, line_question}
 use Rattle.listing_read.specs.declared.object_fault.QuestionFault.{QuestionFault}
 use Rattle.listing_read.specs.declared.object_fault.QuestionFault.TheVariants.{LineTooLong}
 use Rattle.question_lines.specs.declared.fault.Untaken.{Untaken}
@@ -56,11 +57,13 @@ stated asked n (PastLimit ∷ parts) = PastEnd
 stated asked n (Line line ∷ parts) =
     stated_with (line_asked asked (n + 1) line) (n + 1) parts (answer_to asked (n + 1) line) (stated (line_asked asked (n + 1) line) (n + 1) parts)
 
--- how line `n` is judged by itself: what is told of it, and what is asked after it, which is as before where memory is wanting
+-- how line `n` is judged by itself: what is told of it, and what is asked after it, which is as before where memory is wanting.
+-- It is never wanting for a line of the policy.
 pub record JudgesQuestionLine (n : ℕ) (asked : Asked) (line : List ℕ) (told : Result Next Untaken) (asked' : Asked) : Type 0 where
   pub answer : told ≢ Err OutOfMemory → told ≡ as_untaken (answer_to asked n line)
   pub after : told ≢ Err OutOfMemory → asked' ≡ line_asked asked n line
   pub before : told ≡ Err OutOfMemory → asked' ≡ asked
+  pub wanting : told ≡ Err OutOfMemory → is_of_policy (words_of line) ≡ false
 
 -- ---- lines as they are read
 

@@ -1,5 +1,5 @@
 //! Lines of a question.
-ghost use Rattle.std.specs.Prelude.{◌≡◌, ◌≢◌, ◌<◌, ◌≤◌, ◌==◌, ◌||◌, length, IfOk, IfErr, OnOk, OnErr};
+ghost use Rattle.std.specs.Prelude.{◌≡◌, ◌≢◌, ◌<◌, ◌≤◌, ◌==◌, ◌||◌, false, length, IfOk, IfErr, OnOk, OnErr};
 ghost use Rattle.coy_text.specs.Words.{words_of};
 ghost use Rattle.object_store.specs.declared.sizes.Sizes.{Sizes};
 ghost use Rattle.exploration.specs.question.Choice.{IsChoiceOf};
@@ -16,12 +16,12 @@ use coy_text::{is_skipped, is_visible, word, word_count, words_from};
 use exploration::question::{Asks, Choice, Property, Question};
 use listing_read::QuestionFault;
 use object_store::Sizes;
-use separation_lines::{Untaken as UntakenPolicy, read_policy};
+use separation_lines::read_policy;
 use separation_policy::Policy;
 use std::alloc::Global;
 
 /// Takes line `n` in, and answers what the next line belongs to. After a fault, and where memory is wanting, the question
-/// and its policy are as before; so they are after a line that is skipped.
+/// and its policy are as before; so they are after a line that is skipped. A line of the policy takes no memory.
 pub fn read_question(
     alloc: Global,
     line: &[u8],
@@ -31,14 +31,15 @@ pub fn read_question(
 ) -> Result<Next, Untaken>
     ensures answer { result ≢ Err Untaken.OutOfMemory →
         result ≡ as_untaken (line_answer policy.old question.old n line.now) }
-    ensures policy { result ≢ Err Untaken.OutOfMemory → policy.new ≡ line_policy policy.old line.now }
+    ensures policy { policy.new ≡ line_policy policy.old line.now }
     ensures question { result ≢ Err Untaken.OutOfMemory →
         question.new ≡ line_question question.old n line.now }
     ensures before { result ≡ Err Untaken.OutOfMemory →
         (policy.new ≡ policy.old) × (question.new ≡ question.old) }
+    ensures wanting { result ≡ Err Untaken.OutOfMemory → is_of_policy (words_of line.now) ≡ false }
 {
     if is_of_policy(line) {
-        return state_policy(line, policy);
+        return Ok(state_policy(line, policy)?);
     }
     match said(alloc, question.sizes(), n, line) {
         Ok(said) => take_in(said, question),
@@ -59,17 +60,13 @@ fn is_of_policy(line: &[u8]) -> bool
 }
 
 /// Takes a line of the policy in.
-fn state_policy(line: &[u8], policy: &mut Policy) -> Result<Next, Untaken>
-    ensures answer { result ≢ Err Untaken.OutOfMemory →
-        result ≡ as_untaken (policy_answered (policy_line policy.old line.now)) }
-    ensures after { result ≢ Err Untaken.OutOfMemory →
-        policy.new ≡ policy_after_line policy.old (policy_line policy.old line.now) }
-    ensures before { result ≡ Err Untaken.OutOfMemory → policy.new ≡ policy.old }
+fn state_policy(line: &[u8], policy: &mut Policy) -> Result<Next, QuestionFault>
+    ensures answer { result ≡ policy_answered (policy_line policy.old line.now) }
+    ensures after { policy.new ≡ policy_after_line policy.old (policy_line policy.old line.now) }
 {
     match read_policy(line, policy) {
         Ok(_) => Ok(Next::Question),
-        Err(UntakenPolicy::Refused(fault)) => Err(Untaken::Refused(QuestionFault::OfPolicy(fault))),
-        Err(UntakenPolicy::OutOfMemory) => Err(Untaken::OutOfMemory),
+        Err(fault) => Err(QuestionFault::OfPolicy(fault)),
     }
 }
 

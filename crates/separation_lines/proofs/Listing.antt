@@ -8,9 +8,7 @@ use Rattle.listing_read.specs.declared.object_fault.PolicyFault.TheVariants.{Bad
 use Rattle.separation_policy.specs.declared.policy.Domain.{Domain}
 use Rattle.separation_policy.specs.Making.{domain_called, domain_with, with_first, with_made}
 use Rattle.separation_policy.specs.Policy.{PolicyValue}
-use Rattle.separation_lines.specs.declared.fault.Untaken.{Untaken}
-use Rattle.separation_lines.specs.declared.fault.Untaken.TheVariants.{Refused, OutOfMemory}
-use Rattle.separation_lines.specs.DomainsLine.{Untakes, is_called, listed_each, listed_one}
+use Rattle.separation_lines.specs.DomainsLine.{is_called, listed_each, listed_one}
 
 -- ---- the words of a line
 
@@ -27,16 +25,10 @@ pub listed-taken : (policy one : PolicyValue) (word : List ℕ) (words : List (L
 listed-taken policy one word words is =
     listed-more policy word words ∙ ap (λ (r : Result PolicyValue PolicyFault). r >>= λ one. listed_each one words) is
 
--- or it is refused
-listed-refused : (policy : PolicyValue) (word : List ℕ) (words : List (List ℕ)) (fault : PolicyFault) → listed_one policy word ≡ Err fault → listed_each policy (word ∷ words) ≡ Err fault
+-- or it is refused, and so is the line
+pub listed-refused : (policy : PolicyValue) (word : List ℕ) (words : List (List ℕ)) (fault : PolicyFault) → listed_one policy word ≡ Err fault → listed_each policy (word ∷ words) ≡ Err fault
 listed-refused policy word words fault is =
     listed-more policy word words ∙ ap (λ (r : Result PolicyValue PolicyFault). r >>= λ one. listed_each one words) is
-
--- and so is the line
-pub untakes-behind : (policy : PolicyValue) (word : List ℕ) (words : List (List ℕ)) (whole : Result PolicyValue PolicyFault) (untaken : Untaken) → whole ≡ listed_each policy (word ∷ words)
-    → Untakes (listed_one policy word) untaken → Untakes whole untaken
-untakes-behind policy word words whole (Refused fault) is why = is ∙ listed-refused policy word words fault why
-untakes-behind policy word words whole OutOfMemory is why = tt
 
 -- ---- what was there stays
 

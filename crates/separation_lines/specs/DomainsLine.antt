@@ -1,6 +1,6 @@
 -- The line that lists all domains of a policy: what the policy is after it, or its first fault; and any line of a policy that may
 -- begin with one. (Own.)
-use Rattle.std.specs.Prelude.{ℕ, ◌≡◌, ⊤, nat_le, nat_lt, Bool, true, false, not, if◌then◌else◌, List, [], ◌∷◌, length, drop, bytes_eq, codes, Option, Some, None, Result, Ok, Err}
+use Rattle.std.specs.Prelude.{ℕ, nat_le, nat_lt, Bool, true, false, not, if◌then◌else◌, List, [], ◌∷◌, length, drop, bytes_eq, codes, Option, Some, None, Result, Ok, Err}
 use Rattle.coy_io.specs.Limits.{line_limit}
 use Rattle.coy_text.specs.Line.{is_visible_line}
 use Rattle.coy_text.specs.Words.{words_of, field}
@@ -11,8 +11,6 @@ use Rattle.separation_lines.specs.Fields.{name_from}
 use Rattle.separation_lines.specs.PolicyLine.{after_line, answered, policy_line}
 use Rattle.listing_read.specs.declared.object_fault.PolicyFault.{PolicyFault}
 use Rattle.listing_read.specs.declared.object_fault.PolicyFault.TheVariants.{LineTooLong, BadByte, WrongWords, TooManyDomains, NameTaken, NotFirst}
-use Rattle.separation_lines.specs.declared.fault.Untaken.{Untaken}
-use Rattle.separation_lines.specs.declared.fault.Untaken.TheVariants.{Refused, OutOfMemory}
 use Rattle.separation_lines.specs.declared.said.Next.{Next}
 use Rattle.separation_lines.specs.declared.said.Next.TheVariants.{Policy}
 
@@ -50,11 +48,6 @@ domains_line policy line = do
   _ ← ensured (nat_le (length line) line_limit) LineTooLong
   _ ← ensured (is_visible_line line) BadByte
   domains_words policy (words_of line)
-
--- why such a line is not taken in: it is refused with its fault, or memory is wanting
-abbrev pub Untakes : {A : Type 0} → Result A PolicyFault → Untaken → Type 0
-Untakes said (Refused fault) = said ≡ Err fault
-Untakes said OutOfMemory = ⊤
 
 -- ---- any line
 

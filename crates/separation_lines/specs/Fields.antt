@@ -11,7 +11,7 @@ use Rattle.listing_read.specs.declared.object_fault.FieldFault.{FieldFault}
 use Rattle.listing_read.specs.ObjectFaults.{policy_fault}
 use Rattle.confine_check.specs.Fields.{kind_of, named_block}
 use Rattle.listing_read.specs.declared.object_fault.PolicyFault.{PolicyFault}
-use Rattle.listing_read.specs.declared.object_fault.PolicyFault.TheVariants.{BadName, TooManyDomains, BadValue, BadNumber, NoObject, BadOrder, Taken, NoDomain}
+use Rattle.listing_read.specs.declared.object_fault.PolicyFault.TheVariants.{BadName, TooManyDomains, Taken, NoDomain}
 
 -- NAME: a name as version 2 of listings has them
 abbrev pub name_from : List ℕ → Result (List ℕ) PolicyFault

@@ -9,8 +9,6 @@ use Rattle.separation_policy.specs.Policy.{PolicyValue, assigned_of}
 use Rattle.separation_lines.specs.Fields.{domain_from, domain_numbered, name_from, objects_from}
 use Rattle.listing_read.specs.declared.object_fault.PolicyFault.{PolicyFault}
 use Rattle.listing_read.specs.declared.object_fault.PolicyFault.TheVariants.{LineTooLong, BadByte, UnknownPolicy, WrongWords}
-use Rattle.separation_lines.specs.declared.fault.Untaken.{Untaken}
-use Rattle.separation_lines.specs.declared.fault.Untaken.TheVariants.{Refused}
 use Rattle.separation_lines.specs.declared.said.Next.{Next}
 use Rattle.separation_lines.specs.declared.said.Next.TheVariants.{Policy, Schedule}
 use Rattle.separation_lines.specs.declared.said.Said.{Said}
@@ -113,11 +111,6 @@ next_of _ = Policy
 abbrev pub answered : Result Said PolicyFault → Result Next PolicyFault
 answered (Ok said) = Ok (next_of said)
 answered (Err fault) = Err fault
-
--- the same, as it is told of a line that is read by itself
-abbrev pub as_untaken : Result Next PolicyFault → Result Next Untaken
-as_untaken (Ok next) = Ok next
-as_untaken (Err fault) = Err (Refused fault)
 
 -- what is so of what a line says: a domain that was made or is the next, and objects that there are, in their order
 abbrev pub IsSaid : PolicyValue → Said → Type 0

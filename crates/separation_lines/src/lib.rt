@@ -4,14 +4,12 @@
 #![tactic(auto)]
 
 mod domains;
-mod fault;
 mod fields;
 mod laws;
 mod line;
 mod said;
 
 pub use domains::read_listed;
-pub use fault::Untaken;
 pub use laws::{
     end_law, lines_read_back_law, names_law, next_names_law, read_back_law, replaced_law,
 };

@@ -1,12 +1,10 @@
 //! Lines of a policy.
-ghost use Rattle.std.specs.Prelude.{◌≡◌, ◌≢◌, ◌<◌, ◌≤◌, length, IfOk, OnOk, OnErr};
+ghost use Rattle.std.specs.Prelude.{◌≡◌, ◌<◌, ◌≤◌, length, IfOk};
 ghost use Rattle.coy_text.specs.Words.{words_of};
-ghost use Rattle.separation_lines.specs.PolicyLine.{after_line, after_said, alone_line, answered, as_untaken, domain_line, end_line, halts_line, logs_line, next_of, policy_line, reads_line, said_by, writes_line, IsSaid};
+ghost use Rattle.separation_lines.specs.PolicyLine.{after_line, after_said, alone_line, answered, domain_line, end_line, halts_line, logs_line, next_of, policy_line, reads_line, said_by, writes_line, IsSaid};
 
-use crate::fault::Untaken;
 use crate::fields::{made, name, numbered, objects};
 use crate::said::{Next, Said};
-use cap_format::OutOfMemory;
 use cap_words::Name;
 use confine_check::Block;
 use coy_io::LINE_LIMIT;
@@ -14,69 +12,61 @@ use coy_text::{is_skipped, is_visible, word, word_count};
 use listing_read::PolicyFault;
 use separation_policy::Policy;
 
-/// Takes a line in, and answers what the next line belongs to. After a fault, and where memory is wanting, the policy is as
-/// before; so it is after a line that is skipped.
-pub fn read_policy(line: &[u8], policy: &mut Policy) -> Result<Next, Untaken>
-    ensures answer { result ≢ Err Untaken.OutOfMemory →
-        result ≡ as_untaken (answered (policy_line policy.old line.now)) }
-    ensures after { result ≢ Err Untaken.OutOfMemory →
-        policy.new ≡ after_line policy.old (policy_line policy.old line.now) }
-    ensures before { result ≡ Err Untaken.OutOfMemory → policy.new ≡ policy.old }
+/// Takes a line in, and answers what the next line belongs to. After a fault the policy is as before; so it is after a line
+/// that is skipped.
+pub fn read_policy(line: &[u8], policy: &mut Policy) -> Result<Next, PolicyFault>
+    ensures answer { result ≡ answered (policy_line policy.old line.now) }
+    ensures after { policy.new ≡ after_line policy.old (policy_line policy.old line.now) }
 {
-    match said(line, policy) {
-        Ok(said) => take_in(said, policy),
-        Err(fault) => Err(Untaken::Refused(fault)),
-    }
+    let said = said(line, policy)?;
+    Ok(take_in(said, policy))
 }
 
 /// Does with a policy what a line says.
-fn take_in(said: Said, policy: &mut Policy) -> Result<Next, Untaken>
+fn take_in(said: Said, policy: &mut Policy) -> Next
     requires { IsSaid policy.old said }
-    ensures answer { result ≢ Err Untaken.OutOfMemory → result ≡ Ok (next_of said) }
-    ensures after { result ≢ Err Untaken.OutOfMemory → policy.new ≡ after_said policy.old said }
-    ensures before { result ≡ Err Untaken.OutOfMemory → policy.new ≡ policy.old }
+    ensures answer { result ≡ next_of said }
+    ensures after { policy.new ≡ after_said policy.old said }
 {
     match said {
-        Said::Nothing => Ok(Next::Policy),
+        Said::Nothing => Next::Policy,
         Said::Objects {
             domain,
             name,
             block,
-        } => match assign(domain, name, block, policy) {
-            Ok(()) => Ok(Next::Policy),
-            Err(_) => Err(Untaken::OutOfMemory),
-        },
+        } => {
+            assign(domain, name, block, policy);
+            Next::Policy
+        }
         Said::Reads { reader, read } => {
             policy.allow_reading(reader, read);
-            Ok(Next::Policy)
+            Next::Policy
         }
         Said::Writes { writer, written } => {
             policy.allow_writing(writer, written);
-            Ok(Next::Policy)
+            Next::Policy
         }
         Said::Halts(domain) => {
             policy.allow_halting(domain);
-            Ok(Next::Policy)
+            Next::Policy
         }
         Said::Logs(domain) => {
             policy.allow_logging(domain);
-            Ok(Next::Policy)
+            Next::Policy
         }
-        Said::Ends => Ok(Next::Schedule),
+        Said::Ends => Next::Schedule,
     }
 }
 
 /// Assigns objects to a domain, which is made where there is none of its number yet.
-fn assign(domain: u8, name: Name, block: Block, policy: &mut Policy) -> Result<(), OutOfMemory>
+fn assign(domain: u8, name: Name, block: Block, policy: &mut Policy)
     requires { IsSaid policy.old (Said.Objects domain name block) }
-    ensures ok { OnOk result (policy.new ≡ after_said policy.old (Said.Objects domain name block)) }
-    ensures err { OnErr result (policy.new ≡ policy.old) }
+    ensures { policy.new ≡ after_said policy.old (Said.Objects domain name block) }
 {
     if domain as usize >= policy.len() {
-        policy.make(name)?;
+        policy.make(name);
     }
     policy.assign(block.kind, block.from, block.to, domain);
-    Ok(())
 }
 
 /// What a line says.

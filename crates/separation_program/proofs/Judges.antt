@@ -8,8 +8,7 @@ use Rattle.kernel_core.specs.Run.{run_state}
 use Rattle.kernel_core.specs.State.{State}
 use Rattle.judged_lines.specs.declared.stop.Stop.{Stop}
 use Rattle.judged_lines.specs.declared.stop.Stop.TheVariants as stops
-use Rattle.separation_lines.specs.declared.fault.Untaken.{Untaken}
-use Rattle.separation_lines.specs.declared.fault.Untaken.TheVariants.{Refused, OutOfMemory}
+use Rattle.listing_read.specs.declared.object_fault.PolicyFault.{PolicyFault}
 use Rattle.listing_read.specs.declared.object_fault.PolicyFault.TheVariants.{NoEnd}
 use Rattle.separation_policy.specs.Policy.{PolicyValue}
 use Rattle.kernel_core.specs.Outcome.{Touch}
@@ -21,12 +20,11 @@ use Rattle.courses.specs.Exit.{is_finished}
 use Rattle.courses.specs.Stopped.{stop_exit}
 use Rattle.courses.specs.Taken.{TakesLines}
 use Rattle.courses.specs.declared.exit.Exit.{Exit}
-use Rattle.courses.specs.declared.exit.Exit.TheVariants as exits
 use Rattle.courses.specs.declared.exit.Exit.TheVariants.{PolicyRefused, ReadFault, TooLong}
-use Rattle.courses.proofs.Concluding.{came-unread, came-wanting, takes-concluded}
+use Rattle.courses.proofs.Concluding.{came-unread, takes-concluded}
 use Rattle.courses.proofs.Rests.{TellsAlone, failed-unread, stop-stopped}
 use Rattle.separation_program.specs.Judged.{judging, stated_output}
-use Rattle.separation_program.specs.Stated.{AreStated, IsOver, PastEnd, RefusedAt, Stated, States, StatesRest, stated, untaken_exit}
+use Rattle.separation_program.specs.Stated.{AreStated, IsOver, PastEnd, RefusedAt, Stated, States, StatesRest, stated}
 use Rattle.separation_program.specs.Text.{told_for}
 use Rattle.separation_program.specs.declared.words.Aim.{Aim}
 use Rattle.separation_program.proofs.Verdicts.{told-finished}
@@ -59,15 +57,14 @@ tells aim s harts policy n = record {
 }
 
 -- where the lines of a policy gave no exit, it is over
-pub over-at : (first policy : PolicyValue) (old new : Reader) (held held' : Option (List ℕ)) (stop : Stop Untaken) → stop ≡ stops.End → StatesRest first policy old new held held' stop
+pub over-at : (first policy : PolicyValue) (old new : Reader) (held held' : Option (List ℕ)) (stop : Stop PolicyFault) → stop ≡ stops.End → StatesRest first policy old new held held' stop
     → IsOver first policy old new held held'
 over-at first policy old new held held' stop is r = subst (StatesRest first policy old new held held') is r
 
 -- a policy that was not read to its end gave no exit of a call that did all
-pub policy-open : (given : Exit) (stop : Stop Untaken) → stop_exit untaken_exit stop ≡ Some given → is_finished given ≡ false
+pub policy-open : (given : Exit) (stop : Stop PolicyFault) → stop_exit PolicyRefused stop ≡ Some given → is_finished given ≡ false
 policy-open given stops.End at = cc
-policy-open given (stops.Refused line (Refused fault)) at = let same : PolicyRefused line fault ≡ given = cc in subst (λ e. is_finished e ≡ false) same refl
-policy-open given (stops.Refused line OutOfMemory) at = let same : exits.OutOfMemory ≡ given = cc in subst (λ e. is_finished e ≡ false) same refl
+policy-open given (stops.Refused line fault) at = let same : PolicyRefused line fault ≡ given = cc in subst (λ e. is_finished e ≡ false) same refl
 policy-open given stops.TooLong at = let same : TooLong ≡ given = cc in subst (λ e. is_finished e ≡ false) same refl
 policy-open given stops.ReadFault at = let same : ReadFault ≡ given = cc in subst (λ e. is_finished e ≡ false) same refl
 
@@ -77,17 +74,14 @@ module _ {S K : Type 0} (held : S → Option (List ℕ)) (source_faults : S → 
   here parts = ends_in (stated_output (told_for aim) s harts (stated first old.number parts))
 
   -- the policy was not read to its end, and why was told
-  pub policy-stopped : (out out' : K) (exit : Exit) (given : Exit) (stop : Stop Untaken) → StatesRest first policy old new (held source) (held source') stop
-      → stop_exit untaken_exit stop ≡ Some given → (stop ≡ stops.ReadFault → Rose (source_faults source) (source_faults source')) → (stop ≢ stops.ReadFault → source_faults source' ≡ source_faults source)
+  pub policy-stopped : (out out' : K) (exit : Exit) (given : Exit) (stop : Stop PolicyFault) → StatesRest first policy old new (held source) (held source') stop
+      → stop_exit PolicyRefused stop ≡ Some given → (stop ≡ stops.ReadFault → Rose (source_faults source) (source_faults source')) → (stop ≢ stops.ReadFault → source_faults source' ≡ source_faults source)
       → Concludes taken sink_faults given out out' exit → TakesLines held source_faults taken sink_faults old new source source' out out' 0 0 exit cached here
   policy-stopped out out' exit given stops.End r at rose quiet c = cc
-  policy-stopped out out' exit given (stops.Refused line (Refused fault)) r at rose quiet c =
+  policy-stopped out out' exit given (stops.Refused line fault) r at rose quiet c =
       stop-stopped held source_faults taken sink_faults old new source source' out 0 cached refl (stated first old.number) (λ st. ends_in (stated_output (told_for aim) s harts st))
       (States first 0 []) RefusedAt PastEnd PolicyRefused (tells aim s harts first 0) (stops.Refused line fault) r (λ bad. cc) (λ other. quiet (λ bad. cc)) out' 0 exit
       given (let same : PolicyRefused line fault ≡ given = cc in ap Some same) c refl
-  policy-stopped out out' exit given (stops.Refused line OutOfMemory) r at rose quiet c =
-      takes-concluded held source_faults taken sink_faults old new source source' out out 0 0 cached here out' 0 exit given
-      (came-wanting (let same : given ≡ exits.OutOfMemory = cc in same) (record { unwritten = refl; unspent = refl; quiet = quiet (λ bad. cc); still = refl })) c refl
   policy-stopped out out' exit given stops.TooLong r at rose quiet c =
       stop-stopped held source_faults taken sink_faults old new source source' out 0 cached refl (stated first old.number) (λ st. ends_in (stated_output (told_for aim) s harts st))
       (States first 0 []) RefusedAt PastEnd PolicyRefused (tells aim s harts first 0) stops.TooLong r (λ bad. cc) (λ other. quiet (λ bad. cc)) out' 0 exit

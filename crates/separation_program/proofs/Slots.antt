@@ -15,8 +15,7 @@ use Rattle.listing_read.specs.Statement.{ListingValue}
 use Rattle.listing_read.specs.declared.place.Place.TheVariants.{Header}
 use Rattle.judged_lines.specs.declared.stop.Stop.{Stop}
 use Rattle.judged_lines.specs.declared.stop.Stop.TheVariants as stops
-use Rattle.separation_lines.specs.declared.fault.Untaken.{Untaken}
-use Rattle.separation_lines.specs.declared.fault.Untaken.TheVariants.{Refused, OutOfMemory}
+use Rattle.listing_read.specs.declared.object_fault.PolicyFault.{PolicyFault}
 use Rattle.separation_policy.specs.Making.{first_policy}
 use Rattle.separation_policy.specs.Policy.{PolicyValue}
 use Rattle.schedule_replay.specs.Replay.{Accords, Follows, Ran, run_answer}
@@ -35,7 +34,7 @@ use Rattle.courses.specs.declared.exit.Exit.TheVariants as exits
 use Rattle.courses.proofs.Bytes.{on_listed}
 use Rattle.courses.proofs.Rests.{run-ends}
 use Rattle.separation_program.specs.Slots.{ended_slots, input_slots, judged_slots, judging_slots, listed_slots, stated_slots, walked}
-use Rattle.separation_program.specs.Stated.{AreStated, Stated, StatesRest, stated, untaken_exit}
+use Rattle.separation_program.specs.Stated.{AreStated, Stated, StatesRest, stated}
 use Rattle.separation_program.specs.declared.words.Aim.{Aim}
 use Rattle.separation_program.proofs.Judges.{on_stated}
 
@@ -132,15 +131,11 @@ module _ {T : Type 0} (t : Translator T) (m n : MachineValue T) (slots : PolicyV
 
 -- lines of a policy that are not all read come to no slot
 pub slots-unstated : {O : Type 0} (count : List Touch → ℕ) (slots : PolicyValue → State → ℕ) (taken : O → Option (List ℕ)) (sink_faults : O → ℕ) (first policy : PolicyValue) (s : State) (harts : ℕ) (old new : Reader) (held held' : Option (List ℕ))
-    (mid out : O) (exit given : Exit) (f : ℕ) (stop : Stop Untaken) → StatesRest first policy old new held held' stop → stop_exit untaken_exit stop ≡ Some given
+    (mid out : O) (exit given : Exit) (f : ℕ) (stop : Stop PolicyFault) → StatesRest first policy old new held held' stop → stop_exit exits.PolicyRefused stop ≡ Some given
     → Concludes taken sink_faults given mid out exit → OnParts (ahead old held) (λ parts. Fetches f f exit (stated_slots count slots s harts (stated first old.number parts)))
 slots-unstated count slots taken sink_faults first policy s harts old new held held' mid out exit given f stops.End r at c = cc
-slots-unstated count slots taken sink_faults first policy s harts old new held held' mid out exit given f (stops.Refused line (Refused fault)) r at c =
+slots-unstated count slots taken sink_faults first policy s harts old new held held' mid out exit given f (stops.Refused line fault) r at c =
     on_all (ahead old held) _ _ (λ parts is. subst (λ (st : Stated). Fetches f f exit (stated_slots count slots s harts st)) (sym is) (none-read f exit)) r
-slots-unstated count slots taken sink_faults first policy s harts old new held held' mid out exit given f (stops.Refused line OutOfMemory) r at c =
-    let same : exits.OutOfMemory ≡ given = cc in
-    let told = subst (λ x. Concludes taken sink_faults x mid out exit) (sym same) c in
-    on_each (ahead old held) _ (λ parts known. record { whole = λ given. absurd (given.memory told.0); most = omega arith })
 slots-unstated count slots taken sink_faults first policy s harts old new held held' mid out exit given f stops.TooLong r at c =
     on_all (ahead old held) _ _ (λ parts is. subst (λ (st : Stated). Fetches f f exit (stated_slots count slots s harts st)) (sym is) (none-read f exit)) r
 slots-unstated count slots taken sink_faults first policy s harts old new held held' mid out exit given f stops.ReadFault r at c =

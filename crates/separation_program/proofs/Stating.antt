@@ -7,12 +7,10 @@ use Rattle.judged_lines.specs.declared.stop.Stop.{Stop}
 use Rattle.judged_lines.specs.declared.stop.Stop.TheVariants as stops
 use Rattle.separation_policy.specs.Policy.{PolicyValue}
 use Rattle.coy_text.specs.Words.{words_of}
-use Rattle.separation_lines.specs.PolicyLine.{after_line, answered, as_untaken, policy_line}
+use Rattle.separation_lines.specs.PolicyLine.{after_line, answered, policy_line}
 use Rattle.separation_lines.specs.DomainsLine.{domains_line, line_answer, line_policy, list_answer, list_policy, lists_domains}
 use Rattle.listing_read.specs.declared.object_fault.PolicyFault.{PolicyFault}
 use Rattle.listing_read.specs.declared.object_fault.PolicyFault.TheVariants.{LineTooLong, NoEnd}
-use Rattle.separation_lines.specs.declared.fault.Untaken.{Untaken}
-use Rattle.separation_lines.specs.declared.fault.Untaken.TheVariants.{Refused, OutOfMemory}
 use Rattle.separation_lines.specs.declared.said.Said.{Said}
 use Rattle.separation_lines.specs.declared.said.Said.TheVariants as says
 use Rattle.separation_lines.specs.declared.said.Next.{Next}
@@ -23,15 +21,6 @@ use Rattle.schedule_replay.proofs.Reading.{on_begun, on_given, on_none}
 use Rattle.separation_program.specs.Stated.{AreStated, IsOver, JudgesPolicyLine, PastEnd, RefusedAt, StateAll, States, StatesRest, stated, stated_with, without_end}
 
 -- ---- one line
-
--- what is told of a line, unless memory is wanting, is what it answers
-answered-next : (answer : Result Next PolicyFault) (next : Next) → Ok next ≡ as_untaken answer → answer ≡ Ok next
-answered-next (Ok other) next same = let one : next ≡ other = cc in ap Ok (sym one)
-answered-next (Err fault) next same = cc
-
-answered-fault : (answer : Result Next PolicyFault) (fault : PolicyFault) → Err (Refused fault) ≡ as_untaken answer → answer ≡ Err fault
-answered-fault (Ok next) fault same = cc
-answered-fault (Err other) fault same = let one : fault ≡ other = cc in ap Err (sym one)
 
 -- what is said by a line that ends the policy leaves it as it was
 said-unchanged : (first : PolicyValue) (told : Result Said PolicyFault) → answered told ≡ Ok nexts.Schedule → after_line first told ≡ first
@@ -86,21 +75,20 @@ module _ (policy : PolicyValue) (n : ℕ) where
   -- one that is taken in leaves it to those behind it what is stated
   stated-taken : (policy' : PolicyValue) (line : List ℕ) (parts : List Part) → JudgesPolicyLine policy line (Ok nexts.Policy) policy' → stated policy n (Line line ∷ parts) ≡ stated policy' (n + 1) parts
   stated-taken policy' line parts judged =
-      stated-answered line parts (Ok nexts.Policy) (answered-next (line_answer policy line) nexts.Policy (judged.answer (λ same. cc)))
-      ∙ ap (λ (x : PolicyValue). stated x (n + 1) parts) (sym (judged.after (λ same. cc)))
+      stated-answered line parts (Ok nexts.Policy) (sym judged.answer) ∙ ap (λ (x : PolicyValue). stated x (n + 1) parts) (sym judged.after)
 
   -- one that ends the policy states it
   stated-over : (policy' : PolicyValue) (line : List ℕ) (parts : List Part) → JudgesPolicyLine policy line (Ok nexts.Schedule) policy' → stated policy n (Line line ∷ parts) ≡ States policy' (n + 1) parts
   stated-over policy' line parts judged =
-      let ends : line_answer policy line ≡ Ok nexts.Schedule = answered-next (line_answer policy line) nexts.Schedule (judged.answer (λ same. cc)) in
+      let ends = sym judged.answer in
       stated-answered line parts (Ok nexts.Schedule) ends
-      ∙ ap (λ (x : PolicyValue). States x (n + 1) parts) (sym (judged.after (λ same. cc) ∙ unchanged policy line ends))
+      ∙ ap (λ (x : PolicyValue). States x (n + 1) parts) (sym (judged.after ∙ unchanged policy line ends))
 
   -- and one that is refused ends the lines
-  stated-refused : (policy' : PolicyValue) (line : List ℕ) (fault : PolicyFault) (parts : List Part) → JudgesPolicyLine policy line (Err (Refused fault)) policy'
+  stated-refused : (policy' : PolicyValue) (line : List ℕ) (fault : PolicyFault) (parts : List Part) → JudgesPolicyLine policy line (Err fault) policy'
       → stated policy n (Line line ∷ parts) ≡ RefusedAt (n + 1) fault
   stated-refused policy' line fault parts judged =
-      stated-answered line parts (Err fault) (answered-fault (line_answer policy line) fault (judged.answer (λ same. cc)))
+      stated-answered line parts (Err fault) (sym judged.answer)
 
 -- ---- the policy is over
 
@@ -132,8 +120,8 @@ states-past policy old held past =
 
 module _ (first policy : PolicyValue) (old new : Reader) (held held' : Option (List ℕ)) where
   -- what reading it came to
-  abbrev Came : Result Next (Stop Untaken) → Type 0
-  Came answer = JudgesNext JudgesPolicyLine (Refused LineTooLong) first policy old new held held' answer
+  abbrev Came : Result Next (Stop PolicyFault) → Type 0
+  Came answer = JudgesNext JudgesPolicyLine LineTooLong first policy old new held held' answer
 
   -- it is taken in
   pub reads-line : Came (Ok nexts.Policy) → ReadsOn (stated first old.number) (stated policy new.number) old new held held'
@@ -152,15 +140,13 @@ module _ (first policy : PolicyValue) (old new : Reader) (held held' : Option (L
       }
 
   -- it is refused
-  states-refused : (line : ℕ) (fault : PolicyFault) → Came (Err (stops.Refused line (Refused fault))) → StateAll first old held (RefusedAt line fault)
+  states-refused : (line : ℕ) (fault : PolicyFault) → Came (Err (stops.Refused line fault)) → StateAll first old held (RefusedAt line fault)
   states-refused line fault next = by_cause next.1
     where
-      by_cause : Refuses JudgesPolicyLine (Refused LineTooLong) first policy old new held held' (Refused fault) → StateAll first old held (RefusedAt line fault)
+      by_cause : Refuses JudgesPolicyLine LineTooLong first policy old new held held' fault → StateAll first old held (RefusedAt line fault)
       by_cause (inl long) =
-          let told : Refused fault ≡ Refused LineTooLong = long.1 in
-          let same : fault ≡ LineTooLong = cc in
           on_begun (ahead old held) LongLine (λ parts. stated first old.number parts ≡ RefusedAt line fault) long.0
-          (λ rest. stated-long first old.number rest ∙ ap (RefusedAt (old.number + 1)) (sym same) ∙ ap (λ n. RefusedAt n fault) (sym next.0))
+          (λ rest. stated-long first old.number rest ∙ ap (RefusedAt (old.number + 1)) (sym long.1) ∙ ap (λ n. RefusedAt n fault) (sym next.0))
       by_cause (inr r) =
           on_given (ahead old held) (ahead new held') (Line new.line ∷ []) (λ parts. stated first old.number parts ≡ RefusedAt line fault) r.reads.line
           (λ rest same. stated-refused first old.number policy new.line fault rest r.judges ∙ ap (λ n. RefusedAt n fault) (sym next.0))
@@ -180,13 +166,12 @@ module _ (first mid last : PolicyValue) (old now new : Reader) (held held' held'
   states-over next = over-behind (over-line mid last now new held' held'' next)
 
   -- none does, and there is no further line
-  pub states-rest : (stop : Stop Untaken) → Came mid last now new held' held'' (Err stop) → StatesRest first last old new held held'' (without_end new.number stop)
+  pub states-rest : (stop : Stop PolicyFault) → Came mid last now new held' held'' (Err stop) → StatesRest first last old new held held'' (without_end new.number stop)
   states-rest stops.End next =
       on_lines _ _ old now held held' (λ s. s ≡ RefusedAt (new.number + 1) NoEnd) r
       (subst (λ n. StateAll mid now held' (RefusedAt (n + 1) NoEnd)) (ap (λ (reader : Reader). reader.number) (sym next.0.reader)) (states-none mid now held' next.0.none))
-  states-rest (stops.Refused line (Refused fault)) next =
+  states-rest (stops.Refused line fault) next =
       on_lines _ _ old now held held' (λ s. s ≡ RefusedAt line fault) r (states-refused mid last now new held' held'' line fault next)
-  states-rest (stops.Refused line OutOfMemory) next = tt
   states-rest stops.TooLong next = on_lines _ _ old now held held' (λ s. s ≡ PastEnd) r (states-past mid now held' next.0)
   states-rest stops.ReadFault next =
       subst (λ made. FailsOn (stated first old.number) made old new held held'')

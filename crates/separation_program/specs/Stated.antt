@@ -1,22 +1,16 @@
 -- What the lines behind a listing state: a policy, and the lines of a schedule behind its end; or the first line that is refused,
 -- which is the one behind the last where the policy has no end (this project's own).
-use Rattle.std.specs.Prelude.{◌≡◌, ◌≢◌, ℕ, ◌+◌, false, List, [], ◌∷◌, Option, Some, None, Result, Ok, Err, ⊤}
+use Rattle.std.specs.Prelude.{◌≡◌, ℕ, ◌+◌, false, List, [], ◌∷◌, Option, Some, None, Result, Ok, Err, ⊤}
 use Rattle.coy_io.specs.Lines.{Part, Line, LongLine, PastLimit}
 use Rattle.coy_io.specs.Reader.{Reader, ahead}
 use Rattle.separation_policy.specs.Policy.{PolicyValue}
-use Rattle.separation_lines.specs.PolicyLine.{as_untaken}
 use Rattle.separation_lines.specs.DomainsLine.{line_answer, line_policy}
 use Rattle.listing_read.specs.declared.object_fault.PolicyFault.{PolicyFault}
 use Rattle.listing_read.specs.declared.object_fault.PolicyFault.TheVariants.{LineTooLong, NoEnd}
-use Rattle.separation_lines.specs.declared.fault.Untaken.{Untaken}
-use Rattle.separation_lines.specs.declared.fault.Untaken.TheVariants.{Refused, OutOfMemory}
 use Rattle.separation_lines.specs.declared.said.Next.{Next}
 use Rattle.separation_lines.specs.declared.said.Next.TheVariants as nexts
 use Rattle.judged_lines.specs.declared.stop.Stop.{Stop}
 use Rattle.judged_lines.specs.declared.stop.Stop.TheVariants as stops
-use Rattle.courses.specs.declared.exit.Exit.{Exit}
-use Rattle.courses.specs.declared.exit.Exit.TheVariants as exits
-use Rattle.courses.specs.declared.exit.Exit.TheVariants.{PolicyRefused}
 use Rattle.schedule_replay.specs.Lines.{FailsOn, ReadsOn}
 use Rattle.schedule_replay.specs.Scheduled.{OnParts}
 
@@ -41,15 +35,14 @@ stated policy n (PastLimit ∷ parts) = PastEnd
 stated policy n (Line line ∷ parts) =
     stated_with policy (n + 1) parts (line_answer policy line) (stated (line_policy policy line) (n + 1) parts)
 
--- how a line is judged by itself: what is told of it, and the policy after it; where memory is wanting the policy is as before
-pub record JudgesPolicyLine (policy : PolicyValue) (line : List ℕ) (told : Result Next Untaken) (policy' : PolicyValue) : Type 0 where
-  pub answer : told ≢ Err OutOfMemory → told ≡ as_untaken (line_answer policy line)
-  pub after : told ≢ Err OutOfMemory → policy' ≡ line_policy policy line
-  pub before : told ≡ Err OutOfMemory → policy' ≡ policy
+-- how a line is judged by itself: what is told of it, and the policy after it
+pub record JudgesPolicyLine (policy : PolicyValue) (line : List ℕ) (told : Result Next PolicyFault) (policy' : PolicyValue) : Type 0 where
+  pub answer : told ≡ line_answer policy line
+  pub after : policy' ≡ line_policy policy line
 
 -- why there is no further line of a policy, behind `n` lines of which none ends it: where there is none at all, it lacks its end
-abbrev pub without_end : ℕ → Stop Untaken → Stop Untaken
-without_end n stops.End = stops.Refused (n + 1) (Refused NoEnd)
+abbrev pub without_end : ℕ → Stop PolicyFault → Stop PolicyFault
+without_end n stops.End = stops.Refused (n + 1) NoEnd
 without_end n stop = stop
 
 -- ---- lines as they are read
@@ -71,14 +64,8 @@ abbrev pub StateAll : PolicyValue → Reader → Option (List ℕ) → Stated �
 StateAll first old held all = OnParts (ahead old held) (λ parts. stated first old.number parts ≡ all)
 
 -- what reading the lines of a policy came to, up to where it ends
-abbrev pub StatesRest : PolicyValue → PolicyValue → Reader → Reader → Option (List ℕ) → Option (List ℕ) → Stop Untaken → Type 0
+abbrev pub StatesRest : PolicyValue → PolicyValue → Reader → Reader → Option (List ℕ) → Option (List ℕ) → Stop PolicyFault → Type 0
 StatesRest first policy old new held held' stops.End = IsOver first policy old new held held'
-StatesRest first policy old new held held' (stops.Refused line (Refused fault)) = StateAll first old held (RefusedAt line fault)
-StatesRest first policy old new held held' (stops.Refused line OutOfMemory) = ⊤
+StatesRest first policy old new held held' (stops.Refused line fault) = StateAll first old held (RefusedAt line fault)
 StatesRest first policy old new held held' stops.TooLong = StateAll first old held PastEnd
 StatesRest first policy old new held held' stops.ReadFault = FailsOn (stated first old.number) (RefusedAt (new.number + 1) NoEnd) old new held held'
-
--- the exit where a line of a policy is not taken in
-abbrev pub untaken_exit : ℕ → Untaken → Exit
-untaken_exit line (Refused fault) = PolicyRefused line fault
-untaken_exit line OutOfMemory = exits.OutOfMemory

@@ -9,9 +9,10 @@ ghost use Rattle.courses.specs.Ending.{Fetches};
 ghost use Rattle.courses.specs.Exit.{is_finished};
 ghost use Rattle.courses.specs.Stopped.{stop_exit};
 ghost use Rattle.courses.specs.Taken.{TakesLines, TakesListing};
+ghost use Rattle.courses.specs.declared.exit.Exit.TheVariants.{PolicyRefused};
 ghost use Rattle.separation_program.specs.Judged.{HasJudged, judged, judged_by, separation_course, stated_output};
 ghost use Rattle.separation_program.specs.Slots.{input_slots, judged_slots, stated_slots};
-ghost use Rattle.separation_program.specs.Stated.{stated, untaken_exit};
+ghost use Rattle.separation_program.specs.Stated.{stated};
 ghost use Rattle.separation_program.specs.Text.{told_for};
 ghost use Rattle.separation_program.specs.Theorem.{TellsOf};
 
@@ -24,7 +25,7 @@ use image_builder::boot;
 use judged_lines::Stop;
 use kept_pages::PageTranslator;
 use kernel_core::Machine;
-use separation_lines::Untaken;
+use separation_lines::PolicyFault;
 use separation_policy::Policy;
 use std::alloc::Global;
 use std::sync::ledger::Ledger;
@@ -111,23 +112,13 @@ fn judge_lines<T: PageTranslator, S: Source, K: Sink, L: Ledger>(
 }
 
 /// The exit of the lines of a policy, or `None` where that is over.
-fn policy_exit(stop: Stop<Untaken>) -> Option<Exit>
-    ensures { result ≡ stop_exit untaken_exit stop }
+fn policy_exit(stop: Stop<PolicyFault>) -> Option<Exit>
+    ensures { result ≡ stop_exit PolicyRefused stop }
 {
     match stop {
         Stop::End => None,
-        Stop::Refused { line, fault } => Some(untaken_exit(line, fault)),
+        Stop::Refused { line, fault } => Some(Exit::PolicyRefused { line, fault }),
         Stop::TooLong => Some(Exit::TooLong),
         Stop::ReadFault => Some(Exit::ReadFault),
-    }
-}
-
-/// The exit where a line of a policy is not taken in.
-fn untaken_exit(line: u32, fault: Untaken) -> Exit
-    ensures { result ≡ untaken_exit line fault }
-{
-    match fault {
-        Untaken::Refused(fault) => Exit::PolicyRefused { line, fault },
-        Untaken::OutOfMemory => Exit::OutOfMemory,
     }
 }

@@ -3,12 +3,11 @@ ghost use Rattle.std.specs.Prelude.{◌≡◌, ◌≢◌, ◌<◌, ◌↔◌, fa
 ghost use Rattle.coy_io.specs.Causes.{Rose};
 ghost use Rattle.coy_io.specs.Reader.{TellsEnd};
 ghost use Rattle.listing_read.specs.declared.object_fault.PolicyFault.TheVariants.{LineTooLong};
-ghost use Rattle.separation_lines.specs.declared.fault.Untaken.TheVariants.{Refused};
 ghost use Rattle.separation_program.specs.Stated.{without_end, JudgesPolicyLine, StatesRest};
 
 use coy_io::{LineReader, Source};
 use judged_lines::{Judge, Stop, judge_next};
-use separation_lines::{Next, PolicyFault, Untaken, read_listed};
+use separation_lines::{Next, PolicyFault, read_listed};
 use separation_policy::Policy;
 
 /// Judges the lines of a policy, and takes in what they say. It tells what the next line belongs to.
@@ -20,18 +19,18 @@ impl Judge for PolicyLines {
 
     type Said = Next;
 
-    type Fault = Untaken;
+    type Fault = PolicyFault;
 
     ghost judged = { λ _. JudgesPolicyLine };
 
-    ghost long = { λ _. Refused LineTooLong };
+    ghost long = { λ _. LineTooLong };
 
-    fn judge(&self, line: &[u8], policy: &mut Policy) -> Result<Next, Untaken> {
+    fn judge(&self, line: &[u8], policy: &mut Policy) -> Result<Next, PolicyFault> {
         read_listed(line, policy)
     }
 
-    fn too_long(&self) -> Untaken {
-        Untaken::Refused(PolicyFault::LineTooLong)
+    fn too_long(&self) -> PolicyFault {
+        PolicyFault::LineTooLong
     }
 }
 
@@ -41,7 +40,7 @@ pub(crate) fn read_policies<S: Source>(
     lines: &mut LineReader,
     source: &mut S,
     policy: &mut Policy,
-) -> Stop<Untaken>
+) -> Stop<PolicyFault>
     requires { lines.old.failed ≡ false }
     ensures states { StatesRest policy.old policy.new lines.old lines.new
         (S.held source.old) (S.held source.new) result }
@@ -60,7 +59,7 @@ pub(crate) fn read_policies<S: Source>(
 }
 
 /// Why there is no further line of a policy, behind so many of which none ends it.
-fn without_end(stop: Stop<Untaken>, number: u32) -> Stop<Untaken>
+fn without_end(stop: Stop<PolicyFault>, number: u32) -> Stop<PolicyFault>
     requires { number < 4294967295 }
     ensures value { result ≡ without_end number stop }
     ensures refused { result ≢ Stop.End }
@@ -69,7 +68,7 @@ fn without_end(stop: Stop<Untaken>, number: u32) -> Stop<Untaken>
     match stop {
         Stop::End => Stop::Refused {
             line: number + 1,
-            fault: Untaken::Refused(PolicyFault::NoEnd),
+            fault: PolicyFault::NoEnd,
         },
         other => other,
     }

@@ -1,11 +1,11 @@
-use Rattle.std.proofs.Common.{◌≡◌, ◌∙◌, ◌+◌, ◌<◌, ◌≤◌, [], ℕ, List, length, drop, get_or, Ok, refl, sym, ap, subst, append-nil, arith}
+use Rattle.std.proofs.Common.{◌≡◌, ◌∙◌, ◌+◌, ◌<◌, ◌≤◌, [], ℕ, List, length, drop, get_or, Ok, Err, refl, sym, ap, subst, append-nil, arith}
 use Rattle.std.proofs.lemmas.List.{at_drop_all, at_drop_more}
 use Rattle.coy_text.specs.Words.{words_of}
 use Rattle.separation_policy.specs.declared.policy.Domain.{Domain}
 use Rattle.separation_policy.specs.Making.{with_first}
 use Rattle.separation_policy.specs.Policy.{PolicyValue}
-use Rattle.separation_lines.specs.DomainsLine.{Untakes, listed_each, listed_one}
-use Rattle.separation_lines.proofs.Listing.{first-again, listed-none, listed-taken, more-behind, untakes-behind}
+use Rattle.separation_lines.specs.DomainsLine.{listed_each, listed_one}
+use Rattle.separation_lines.proofs.Listing.{first-again, listed-none, listed-refused, listed-taken, more-behind}
 use Rattle.separation_lines.proofs.domains.list_each.Goals as goal
 
 pub each-init : goal.each-init
@@ -28,14 +28,15 @@ each-preserved c =
       kept = more-behind c.args.policy.now c.each.policy c.list_one.new.policy (get_or ws place []) c.each.invariant.kept.0 c.each.invariant.kept.1 one;
     }
 
-pub returns-in-Err-clause-untaken : goal.returns-in-Err-clause-untaken
-returns-in-Err-clause-untaken c =
+pub returns-in-Err-clause-fault : goal.returns-in-Err-clause-fault
+returns-in-Err-clause-fault c =
     let ws = words_of c.args.line.now in
     let place = c.each.place in
     let within : place < length ws = omega (arith, c.word_count-count.ensures, c.each-test.true) in
-    untakes-behind c.each.policy (get_or ws place []) (drop (place + 1) ws) _ c.in-Err.untaken
-    (c.each.invariant.listed ∙ at_drop_more (listed_each c.each.policy) ws place [] within)
-    (subst (λ (word : List ℕ). Untakes (listed_one c.each.policy word) c.in-Err.untaken) c.word.ensures c.in-Err.ensures.untaken)
+    let one = subst (λ (word : List ℕ). listed_one c.each.policy word ≡ Err c.in-Err.fault) c.word.ensures c.in-Err.ensures.fault in
+    c.each.invariant.listed
+    ∙ at_drop_more (listed_each c.each.policy) ws place [] within
+    ∙ listed-refused c.each.policy (get_or ws place []) (drop (place + 1) ws) c.in-Err.fault one
 
 pub returns-in-Err-clause-before : goal.returns-in-Err-clause-before
 returns-in-Err-clause-before c =

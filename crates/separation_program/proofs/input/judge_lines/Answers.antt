@@ -1,11 +1,12 @@
 use Rattle.std.proofs.Common.{◌∙◌, sym}
 use Rattle.kernel_core.specs.Outcome.{spent}
 use Rattle.kernel_core.specs.State.{state_of}
+use Rattle.courses.specs.declared.exit.Exit.TheVariants.{PolicyRefused}
 use Rattle.courses.proofs.Concluding.{concludes-open}
 use Rattle.courses.proofs.Rests.{stop-end}
 use Rattle.separation_program.specs.Judged.{HasJudged, judged_by}
 use Rattle.separation_program.specs.Slots.{judged_slots}
-use Rattle.separation_program.specs.Stated.{Stated, untaken_exit}
+use Rattle.separation_program.specs.Stated.{Stated}
 use Rattle.separation_program.specs.Theorem.{TellsOf}
 use Rattle.separation_program.proofs.Judges.{on_stated, over-at, policy-open, policy-over, policy-stopped}
 use Rattle.separation_program.proofs.Slots.{slots-over, slots-unstated}
@@ -15,7 +16,7 @@ use Rattle.separation_program.proofs.input.judge_lines.Goals as goal
 pub returns-in-None-clause-course : goal.returns-in-None-clause-course
 returns-in-None-clause-course g c =
     let e = c.read_policies-stop.ensures in
-    let is = stop-end untaken_exit c.read_policies-stop.result (sym c.policy_exit.ensures ∙ c.in-None.is) in
+    let is = stop-end PolicyRefused c.read_policies-stop.result (sym c.policy_exit.ensures ∙ c.in-None.is) in
     let over = over-at c.args.policy.now c.read_policies-stop.new.policy c.args.lines.now c.read_policies-stop.new.lines _ _ c.read_policies-stop.result is e.states in
     policy-over g.S.Source.held g.S.Source.faults g.K.Sink.taken g.K.Sink.faults c.args.aim c.args.policy.now c.read_policies-stop.new.policy (state_of c.args.machine.now) c.args.machine.now.objects.harts
     c.args.lines.now c.judge.new.lines _ _ c.read_policies-stop.new.lines _ _ _ _ over (e.quiet (λ same. let bad = sym is ∙ same in cc)) c.judge.ensures.course
@@ -24,7 +25,7 @@ pub returns-in-None-clause-judged : goal.returns-in-None-clause-judged
 returns-in-None-clause-judged g c = λ done.
     let e = c.read_policies-stop.ensures in
     let m = c.args.machine.now in
-    let is = stop-end untaken_exit c.read_policies-stop.result (sym c.policy_exit.ensures ∙ c.in-None.is) in
+    let is = stop-end PolicyRefused c.read_policies-stop.result (sym c.policy_exit.ensures ∙ c.in-None.is) in
     let over = over-at c.args.policy.now c.read_policies-stop.new.policy c.args.lines.now c.read_policies-stop.new.lines _ _ c.read_policies-stop.result is e.states in
     on_stated c.args.policy.now c.read_policies-stop.new.policy c.args.lines.now.number c.read_policies-stop.new.lines.number _ _
     (λ (st : Stated). HasJudged (TellsOf c.args.aim c.judge.result) (judged_by (state_of m) m.objects.harts st)) over.known (c.judge.ensures.judged done)
@@ -33,7 +34,7 @@ pub returns-in-None-clause-fetched : goal.returns-in-None-clause-fetched
 returns-in-None-clause-fetched g c =
     let e = c.read_policies-stop.ensures in
     let m = c.args.machine.now in
-    let is = stop-end untaken_exit c.read_policies-stop.result (sym c.policy_exit.ensures ∙ c.in-None.is) in
+    let is = stop-end PolicyRefused c.read_policies-stop.result (sym c.policy_exit.ensures ∙ c.in-None.is) in
     let over = over-at c.args.policy.now c.read_policies-stop.new.policy c.args.lines.now c.read_policies-stop.new.lines _ _ c.read_policies-stop.result is e.states in
     slots-over (λ touches. spent g.T.Translator.cost g.T.Translator.after g.T.Translator.without (g.T.Translator.kept m.translator) touches) (judged_slots c.args.aim) c.args.policy.now c.read_policies-stop.new.policy (state_of m) m.objects.harts
     c.args.lines.now.number c.read_policies-stop.new.lines.number _ _ _ _ c.judge.result over.known c.judge.ensures.fetched
