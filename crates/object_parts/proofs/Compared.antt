@@ -1,5 +1,6 @@
 -- Lists that are compared one element after the other.
-use Rattle.std.proofs.Common.{◌≡◌, ℕ, ◌+◌, ◌<◌, ◌↔◌, Bool, true, false, IsTrue, List, [], ◌∷◌, ◌++◌, get_or, length, map, take, refl, sym, ap, ◌∙◌, subst, arith}
+use Rattle.std.proofs.Common.{◌≡◌, ℕ, ◌+◌, ◌<◌, ◌≤◌, ◌⊎◌, inl, inr, ◌↔◌, Bool, true, false, IsTrue, List, [], ◌∷◌, ◌++◌, get_or, length, map, take, refl, sym, ap, ◌∙◌, subst, arith}
+use Rattle.std.proofs.lemmas.Bool.{cases_lt}
 use Rattle.std.proofs.lemmas.List.{take_more, length-map, get_or-map}
 use Rattle.cap_format.specs.declared.kind.CapKind.{CapKind}
 use Rattle.cap_format.specs.declared.kind.CapKind.TheVariants.{Null}
@@ -57,6 +58,24 @@ null_kind c is kind = whole kind restr count (is.unguarded (ap is_memory kind)) 
 
     whole : c.kind ≡ Null → c.restr ≡ 0 → c.count ≡ 0 → c.guard ≡ no_guard → c.object ≡ 0 → c.payload ≡ 0 → c.slot ≡ 0 → by c ≡ null
     whole h1 h2 h3 h4 h5 h6 h7 = rw (h1, h2, h3, h4, h5, h6, h7) refl
+
+-- what holds of eight numbers, one after the other, holds of each
+pub each_of_eight : (P : ℕ → Type 0) (first : ℕ) → P first → P (first + 1) → P (first + 2) → P (first + 3) → P (first + 4) → P (first + 5) → P (first + 6) → P (first + 7) → (i : ℕ) → first ≤ i → i < first + 8 → P i
+each_of_eight P first p0 p1 p2 p3 p4 p5 p6 p7 i from below =
+    by (cases_lt i (first + 1)) (cases_lt i (first + 2)) (cases_lt i (first + 3)) (cases_lt i (first + 4)) (cases_lt i (first + 5)) (cases_lt i (first + 6)) (cases_lt i (first + 7))
+  where
+    at : (k : ℕ) → first + k ≡ i → P (first + k) → P i
+    at k same p = subst P same p
+
+    by : (i < first + 1) ⊎ (first + 1 ≤ i) → (i < first + 2) ⊎ (first + 2 ≤ i) → (i < first + 3) ⊎ (first + 3 ≤ i) → (i < first + 4) ⊎ (first + 4 ≤ i) → (i < first + 5) ⊎ (first + 5 ≤ i) → (i < first + 6) ⊎ (first + 6 ≤ i) → (i < first + 7) ⊎ (first + 7 ≤ i) → P i
+    by (inl b1) c2 c3 c4 c5 c6 c7 = subst P (omega (arith, from, b1)) p0
+    by (inr a1) (inl b2) c3 c4 c5 c6 c7 = at 1 (omega (arith, a1, b2)) p1
+    by (inr a1) (inr a2) (inl b3) c4 c5 c6 c7 = at 2 (omega (arith, a2, b3)) p2
+    by (inr a1) (inr a2) (inr a3) (inl b4) c5 c6 c7 = at 3 (omega (arith, a3, b4)) p3
+    by (inr a1) (inr a2) (inr a3) (inr a4) (inl b5) c6 c7 = at 4 (omega (arith, a4, b5)) p4
+    by (inr a1) (inr a2) (inr a3) (inr a4) (inr a5) (inl b6) c7 = at 5 (omega (arith, a5, b6)) p5
+    by (inr a1) (inr a2) (inr a3) (inr a4) (inr a5) (inr a6) (inl b7) = at 6 (omega (arith, a6, b7)) p6
+    by (inr a1) (inr a2) (inr a3) (inr a4) (inr a5) (inr a6) (inr a7) = at 7 (omega (arith, a7, below)) p7
 
 -- so are two whose kinds have numbers of which the sum is that of Null
 pub null_kinds : (a b : Capability) → IsCapability a → IsCapability b → number_of a.kind + number_of b.kind ≡ 0 → (a ≡ null) × (b ≡ null)

@@ -1,6 +1,7 @@
 //! Comparing parts.
-ghost use Rattle.std.specs.Prelude.{◌≡◌, ◌<◌, ◌≤◌, ◌↔◌, IsTrue, map, length};
+ghost use Rattle.std.specs.Prelude.{◌≡◌, ℕ, ◌+◌, ◌<◌, ◌≤◌, ◌↔◌, IsTrue, map, length};
 ghost use Rattle.cap_format.specs.Capability.{null};
+ghost use Rattle.cap_format.specs.Kind.{number_of};
 ghost use Rattle.process_objects.specs.Process.{capreg_of};
 ghost use Rattle.object_store.specs.Meaning.{live, process_map};
 ghost use Rattle.object_parts.specs.Same.{same_numbers, same_caps, same_wait, same_accept, same_doing, same_process, same_endpoint};
@@ -121,38 +122,63 @@ fn same_live_cap_registers(objects: &Objects, a: &Process, b: &Process) -> bool
     all_live_cap_registers_same(objects, a, b)
 }
 
-#[tactic(auto, using(crate::proofs::Compared::live_more))]
+/// They are looked at eight at a time, since most are Null.
 fn all_live_cap_registers_same(objects: &Objects, a: &Process, b: &Process) -> bool
     ensures { IsTrue result ↔ (map (live objects.now.items) a.now.capregs ≡ b.now.capregs) }
 {
     a.tell_range();
     b.tell_range();
-    for i in 0..32 {
-        if !same_live_cap_register(objects, a, b, i) {
+    for eight in 0..4 {
+        if !eight_live_same(objects, a, b, 8 * eight) {
             return false;
         }
     }
     true
 }
 
-/// Whether capability register c`i`, or Null where it is dead, is the same as another's. Most are Null, so that is looked at
-/// first, and by their kinds alone.
-fn same_live_cap_register(objects: &Objects, a: &Process, b: &Process, i: u8) -> bool
-    requires { i ≤ 31 }
-    ensures { IsTrue result ↔ (live objects.now.items (capreg_of a.now i) ≡ capreg_of b.now i) }
+/// Whether the eight capability registers from `first` on, Null in place of those that are dead, are the same as another's.
+fn eight_live_same(objects: &Objects, a: &Process, b: &Process, first: u8) -> bool
+    requires { first ≤ 24 }
+    ensures { IsTrue result ↔ ((i : ℕ) → first ≤ i → i < first + 8 →
+        live objects.now.items (capreg_of a.now i) ≡ capreg_of b.now i) }
 {
-    if both_null(a.capreg(i), b.capreg(i)) {
+    if eight_null(a, b, first) {
         return true;
     }
-    same_live(objects, a.capreg(i), b.capreg(i))
+    for i in first..first + 8 {
+        if !same_live(objects, a.capreg(i), b.capreg(i)) {
+            return false;
+        }
+    }
+    true
 }
 
-/// Whether both capabilities are Null, by the numbers of their kinds.
-#[tactic(auto, using(crate::proofs::Compared::null_kinds))]
-fn both_null(a: Cap, b: Cap) -> bool
-    ensures { IsTrue result → (a ≡ null) × (b ≡ null) }
+/// Whether all of them are Null in both, by the numbers of their kinds.
+fn eight_null(a: &Process, b: &Process, first: u8) -> bool
+    requires { first ≤ 24 }
+    ensures { IsTrue result → (i : ℕ) → first ≤ i → i < first + 8 →
+        (capreg_of a.now i ≡ null) × (capreg_of b.now i ≡ null) }
 {
-    a.kind().number() + b.kind().number() == 0
+    kinds_at(a, b, first)
+        + kinds_at(a, b, first + 1)
+        + kinds_at(a, b, first + 2)
+        + kinds_at(a, b, first + 3)
+        + kinds_at(a, b, first + 4)
+        + kinds_at(a, b, first + 5)
+        + kinds_at(a, b, first + 6)
+        + kinds_at(a, b, first + 7)
+        == 0
+}
+
+/// The numbers of the kinds of capability register c`i` of both, added up: 0 where both are Null alone.
+#[tactic(auto, using(crate::proofs::Compared::null_kinds))]
+fn kinds_at(a: &Process, b: &Process, i: u8) -> u8
+    requires { i ≤ 31 }
+    ensures value { result ≡ number_of (capreg_of a.now i).kind + number_of (capreg_of b.now i).kind }
+    ensures small { result ≤ 26 }
+    ensures null { result ≡ 0 → (capreg_of a.now i ≡ null) × (capreg_of b.now i ≡ null) }
+{
+    a.capreg(i).kind().number() + b.capreg(i).kind().number()
 }
 
 /// Whether a capability, or Null where it is dead, is the same as another.
