@@ -1,12 +1,14 @@
 -- What is not about the policy is judged alike whether or not it holds.
-use Rattle.std.proofs.Common.{◌≡◌, ℕ, ◌+◌, ◌||◌, ◌&&◌, Bool, true, false, not, cond, if◌then◌else◌, nat_lt, List, [], ◌∷◌, length, Some, None, refl, ap, ap₂}
+use Rattle.std.proofs.Common.{◌≡◌, ℕ, zero, suc, ◌+◌, ◌<◌, inl, inr, ◌||◌, ◌&&◌, Bool, true, false, not, cond, if◌then◌else◌, nat_lt, List, [], ◌∷◌, length, get_or, Some, None, refl, sym, ap, ap₂, arith}
 use Rattle.std.specs.List.{list_any, position, position_or_len}
 use Rattle.machine_state.specs.State.{State}
 use Rattle.exploration.specs.declared.question.atom.Atom.{Atom}
 use Rattle.exploration.specs.declared.question.atom.Condition.{Condition}
 use Rattle.exploration.specs.declared.question.atom.Condition.TheVariants as conditions
-use Rattle.exploration.specs.question.Atom.{all_hold, atom_holds, condition_holds, is_crossing, is_of_policy}
-use Rattle.exploration.specs.question.Question.{PropertyValue, fails, is_about_policy, is_never}
+use Rattle.confinement.specs.Acts.{system_of}
+use Rattle.separation_policy.specs.Policy.{PolicyValue, PolicyHolds}
+use Rattle.exploration.specs.question.Atom.{all_hold, atom_holds, condition_holds, crosses, is_crossing, is_of_policy}
+use Rattle.exploration.specs.question.Question.{PropertyValue, QuestionValue, IsIndifferent, fails, first_failing, is_about_policy, is_never, property_holds}
 
 or_first : (a b : Bool) → (a || b) ≡ false → a ≡ false
 or_first true b none = none
@@ -52,3 +54,22 @@ module _ (c d : Bool) (s : State) where
   -- the first that fails
   pub first-alike : (properties : List PropertyValue) → list_any is_about_policy properties ≡ false → position (fails c s) properties ≡ position (fails d s) properties
   first-alike properties none = ap (λ n. cond (nat_lt n (length properties)) (Some n) None) (front-alike properties none)
+
+-- each that is about the policy is among those that are
+pub none-about : (properties : List PropertyValue) (n : ℕ) (d : PropertyValue) → n < length properties → list_any is_about_policy properties ≡ false → is_about_policy (get_or properties n d) ≡ false
+none-about [] n d within none = absurd (omega (arith, within))
+none-about (property ∷ properties) zero d within none = or_first (is_about_policy property) _ none
+none-about (property ∷ properties) (suc n) d within none = none-about properties n d (omega (arith, within)) (or_second (is_about_policy property) _ none)
+
+module _ (question : QuestionValue) (policy : PolicyValue) (s : State) (uncrossed : PolicyHolds policy (system_of s) → crosses policy s ≡ false) where
+  -- where the policy makes no difference, the first that fails is that which does if nothing crosses
+  pub indifferent-first : IsIndifferent question policy s → position (fails false s) question.properties ≡ first_failing question policy s
+  indifferent-first (inl none) = first-alike false (crosses policy s) s question.properties none
+  indifferent-first (inr holds) = ap (λ (b : Bool). position (fails b s) question.properties) (sym (uncrossed holds))
+
+  -- and a property holds if it does then
+  pub indifferent-holds : (n : ℕ) (d : PropertyValue) → n < length question.properties → IsIndifferent question policy s → property_holds false s (get_or question.properties n d) ≡ property_holds (crosses policy s) s (get_or question.properties n d)
+  indifferent-holds n d within (inl none) =
+      let property = get_or question.properties n d in
+      all-alike false (crosses policy s) s property.atoms (none-about question.properties n d within none)
+  indifferent-holds n d within (inr holds) = ap (λ (b : Bool). property_holds b s (get_or question.properties n d)) (sym (uncrossed holds))

@@ -1,5 +1,5 @@
 -- A space whose tables grow stays the same space.
-use Rattle.std.proofs.Common.{◌≡◌, ℕ, suc, [], ◌∷◌, ◌<◌, Bool, List, length, get_or, replicate, All, refl, sym, ap, ◌∙◌, subst}
+use Rattle.std.proofs.Common.{◌≡◌, ℕ, suc, [], ◌∷◌, ◌<◌, inl, inr, Bool, List, length, get_or, replicate, All, refl, sym, ap, ◌∙◌, subst}
 use Rattle.std.proofs.lemmas.List.{get_or_default}
 use Rattle.machine_state.specs.declared.event.Event.{Event}
 use Rattle.machine_state.specs.declared.event.Event.TheVariants.{Step, Tick}
@@ -10,7 +10,9 @@ use Rattle.kernel_core.proofs.Ran.{run_state-cons, run_state-nil}
 use Rattle.quiet_runs.specs.Runs.{Watch}
 use Rattle.quiet_finding.specs.Watched.{WatchedValue}
 use Rattle.separation_policy.specs.Closure.{ClosureValue}
-use Rattle.separation_policy.specs.Policy.{PolicyValue}
+use Rattle.confinement.specs.Acts.{system_of as capabilities_of}
+use Rattle.separation_policy.specs.Policy.{PolicyValue, PolicyHolds}
+use Rattle.separation_policy.specs.Laws.{IntegrityLaw}
 use Rattle.breadth_first.specs.declared.answer.Explored.{Explored}
 use Rattle.breadth_first.specs.declared.answer.Limits.{Limits}
 use Rattle.breadth_first.specs.Answer.{IsAnswer}
@@ -19,7 +21,7 @@ use Rattle.exploration.specs.declared.question.choice.Choice.{Choice}
 use Rattle.exploration.specs.declared.question.choice.Choice.TheVariants.{Tick as TimerTick}
 use Rattle.exploration.specs.declared.question.asks.Asks.{Asks}
 use Rattle.exploration.specs.question.Choice.{after_choice, choice_at}
-use Rattle.exploration.specs.question.Question.{PropertyValue, QuestionValue, choices_of, watch_for, is_count, is_ever}
+use Rattle.exploration.specs.question.Question.{PropertyValue, QuestionValue, IsIndifferent, choices_of, watch_for, is_count, is_ever}
 use Rattle.exploration.specs.Asking.{asking}
 use Rattle.exploration.specs.Explored.{limits_of, system_of}
 use Rattle.exploration.specs.Laws.{IsAnswerTo}
@@ -34,36 +36,59 @@ use Rattle.state_parts.specs.Standing.{nowhere}
 use Rattle.state_parts.specs.Space.{TablesValue, Held, IsKept, state_in}
 use Rattle.state_parts.specs.States.{GrowTables}
 use Rattle.state_parts.proofs.Alike.{held_grown, keys_alike, state_grown}
-use Rattle.exploration.specs.machine_space.Space.{IsSpace, after_steps, searched_of}
+use Rattle.exploration.specs.machine_space.Space.{IsHeld, IsSpace, after_steps, searched_of}
 
-module _ (question : QuestionValue) (policy : PolicyValue) where
+module _ (question : QuestionValue) (policy : PolicyValue) (indifferent : Bool) where
+  -- where tables grew, a key that was held is
+  pub kept_held : (old new : TablesValue) (key : Key) → GrowTables old new → IsHeld question policy indifferent old key → IsHeld question policy indifferent new key
+  kept_held old new key grows is = record {
+    held = held_grown old new key grows is.held;
+    is_known = λ known. subst (λ (s : State). IsIndifferent question policy s) (sym (state_grown old new key grows is.held)) (is.is_known known);
+  }
+
   -- nothing was added
   pub keeps_all : (t : TablesValue) (start : Key)
-      → Keeps (searched_of question policy (state_in t start)) (λ (key : Key). Held t key) (λ (key : Key). state_in t key)
-      (searched_of question policy (state_in t start)) (λ (key : Key). Held t key) (λ (key : Key). state_in t key)
+      → Keeps (searched_of question policy (state_in t start)) (λ (key : Key). IsHeld question policy indifferent t key) (λ (key : Key). state_in t key)
+      (searched_of question policy (state_in t start)) (λ (key : Key). IsHeld question policy indifferent t key) (λ (key : Key). state_in t key)
   keeps_all t start = record { system = refl; still = λ key held. held; stays = λ key held. refl }
 
   -- tables grew
   pub keeps_grown : (old new : TablesValue) (start : Key) → GrowTables old new → Held old start
-      → Keeps (searched_of question policy (state_in old start)) (λ (key : Key). Held old key) (λ (key : Key). state_in old key)
-      (searched_of question policy (state_in new start)) (λ (key : Key). Held new key) (λ (key : Key). state_in new key)
+      → Keeps (searched_of question policy (state_in old start)) (λ (key : Key). IsHeld question policy indifferent old key) (λ (key : Key). state_in old key)
+      (searched_of question policy (state_in new start)) (λ (key : Key). IsHeld question policy indifferent new key) (λ (key : Key). state_in new key)
   keeps_grown old new start grows held = record {
     system = ap (system_of question policy same_state) (state_grown old new start grows held);
-    still = λ key is. held_grown old new key grows is;
-    stays = λ key is. state_grown old new key grows is;
+    still = λ key is. kept_held old new key grows is;
+    stays = λ key is. state_grown old new key grows is.held;
   }
 
   -- and so does what it keeps
-  pub space_grown : (closure : ClosureValue) (choices : List Choice) (watched : WatchedValue) (old new : TablesValue) (start : Key) → GrowTables old new → IsSpace question policy closure choices watched old start → IsSpace question policy closure choices watched new start
-  space_grown closure choices watched old new start grows is = record {
-    given = is.given;
-    range = is.range;
-    few = is.few;
-    closes = is.closes;
-    watches = is.watches;
-    sizes = grows.sizes ∙ is.sizes;
-    held = held_grown old new start grows is.held;
-  }
+  pub space_grown : (closure : ClosureValue) (choices : List Choice) (watched : WatchedValue) (old new : TablesValue) (start : Key) → GrowTables old new → IsSpace question policy indifferent closure choices watched old start → IsSpace question policy indifferent closure choices watched new start
+  space_grown closure choices watched old new start grows is =
+      let kept = kept_held old new start grows (record { held = is.held; is_known = is.is_known }) in
+      record {
+        given = is.given;
+        range = is.range;
+        few = is.few;
+        closes = is.closes;
+        watches = is.watches;
+        sizes = grows.sizes ∙ is.sizes;
+        held = kept.held;
+        is_known = kept.is_known;
+      }
+
+-- where a policy holds, it holds after any events
+holds-run : IntegrityLaw → (policy : PolicyValue) (s : State) (es : List Event) → PolicyHolds policy (capabilities_of s) → PolicyHolds policy (capabilities_of (run_state s es))
+holds-run law policy s [] holds = subst (λ (t : State). PolicyHolds policy (capabilities_of t)) (sym (run_state-nil s)) holds
+holds-run law policy s (e ∷ es) holds =
+    let first = law policy s holds [] e in
+    let one = subst (λ (t : State). PolicyHolds policy (capabilities_of (event_of t e).state)) (run_state-nil s) first.holds in
+    subst (λ (t : State). PolicyHolds policy (capabilities_of t)) (sym (run_state-cons s e es)) (holds-run law policy (event_of s e).state es one)
+
+-- so where it makes no difference, it makes none after any events
+pub indifferent-run : IntegrityLaw → (question : QuestionValue) (policy : PolicyValue) (s : State) (es : List Event) → IsIndifferent question policy s → IsIndifferent question policy (run_state s es)
+indifferent-run law question policy s es (inl none) = inl none
+indifferent-run law question policy s es (inr holds) = inr (holds-run law policy s es holds)
 
 -- a copy of a key stands for the same state
 module _ (t : TablesValue) (a b : Key) (same : key_in b ≡ key_in a) (held : Held t a) where
@@ -77,6 +102,13 @@ module _ (t : TablesValue) (a b : Key) (same : key_in b ≡ key_in a) (held : He
 
   pub state_copy : state_in t b ≡ state_in t a
   state_copy = (state_decides (state_in t b) (state_in t a)).0 (sym (keys_alike t b a held_copy held) ∙ (key_decides (key_in b) (key_in a)).1 same)
+
+  -- to which the policy makes no difference, if that is known
+  pub copy_held : (question : QuestionValue) (policy : PolicyValue) (indifferent : Bool) → IsHeld question policy indifferent t a → IsHeld question policy indifferent t b
+  copy_held question policy indifferent is = record {
+    held = held_copy;
+    is_known = λ known. subst (λ (s : State). IsIndifferent question policy s) (sym state_copy) (is.is_known known);
+  }
 
 -- ---- steps
 

@@ -17,6 +17,6 @@ pub use asks::Asks;
 pub use atom::{Atom, Condition};
 pub use choice::{Choice, all_choices};
 pub use crossing::crosses;
-pub use judging::{first_failing, holds};
+pub use judging::{first_failing, holds, is_indifferent};
 pub use property::Property;
 pub use question::Question;

@@ -1,5 +1,5 @@
 -- What a space of a machine's states keeps. (Own.)
-use Rattle.std.specs.Prelude.{◌≡◌, ℕ, ◌<◌, ◌^◌, List, length, replicate}
+use Rattle.std.specs.Prelude.{◌≡◌, ℕ, ◌<◌, ◌^◌, Bool, List, length, replicate, IsTrue}
 use Rattle.std.specs.List.{All}
 use Rattle.machine_state.specs.declared.event.Event.TheVariants.{Step}
 use Rattle.machine_state.specs.State.{State}
@@ -10,21 +10,28 @@ use Rattle.breadth_first.specs.System.{System}
 use Rattle.quiet_finding.specs.Watched.{WatchedValue, watch_of}
 use Rattle.exploration.specs.declared.question.choice.Choice.{Choice}
 use Rattle.exploration.specs.question.Choice.{IsChoiceOf}
-use Rattle.exploration.specs.question.Question.{QuestionValue, choices_of, watch_for}
+use Rattle.exploration.specs.question.Question.{QuestionValue, IsIndifferent, choices_of, watch_for}
 use Rattle.exploration.specs.Explored.{system_of}
 use Rattle.state_parts.specs.declared.key.Key.{Key}
 use Rattle.state_parts.specs.Same.{same_state}
-use Rattle.state_parts.specs.Space.{TablesValue, Held}
+use Rattle.state_parts.specs.Space.{TablesValue, Held, state_in}
 use Rattle.state_parts.specs.States.{StatesValue}
 
 -- the state after so many steps of a hart
 abbrev pub after_steps : ℕ → ℕ → State → State
 after_steps hart times s = run_state s (replicate times (Step hart))
 
--- a space: what is asked, the states that were seen with the machine, and the state from which the choices start
+-- a key stands for a state, to which the policy makes no difference if that is known (`indifferent`)
+pub record IsHeld (question : QuestionValue) (policy : PolicyValue) (indifferent : Bool) (tables : TablesValue) (key : Key) : Type 0 where
+  pub held : Held tables key
+  pub is_known : IsTrue indifferent → IsIndifferent question policy (state_in tables key)
+
+-- a space: what is asked, whether the policy is known to make no difference, the states that were seen with the machine, and
+-- the state from which the choices start
 pub record SpaceValue : Type 0 where
   pub question : QuestionValue
   pub policy : PolicyValue
+  pub indifferent : Bool
   pub states : StatesValue
   pub start : State
 
@@ -33,8 +40,9 @@ abbrev pub searched_of : QuestionValue → PolicyValue → State → System Stat
 searched_of question policy start = system_of question policy same_state start
 
 -- the choices are the question's, and few enough to have numbers; the closure is the policy's; what is watched is what the
--- question looks at; tables are those of a machine that the question is about, and the start is a state in them
-pub record IsSpace (question : QuestionValue) (policy : PolicyValue) (closure : ClosureValue) (choices : List Choice) (watched : WatchedValue) (tables : TablesValue) (start : Key) : Type 0 where
+-- question looks at; tables are those of a machine that the question is about, and the start is a state in them, to which the
+-- policy makes no difference if that is known
+pub record IsSpace (question : QuestionValue) (policy : PolicyValue) (indifferent : Bool) (closure : ClosureValue) (choices : List Choice) (watched : WatchedValue) (tables : TablesValue) (start : Key) : Type 0 where
   pub given : choices ≡ choices_of question
   pub range : All (IsChoiceOf question.sizes.harts) choices
   pub few : length choices < 2 ^ 32
@@ -42,3 +50,4 @@ pub record IsSpace (question : QuestionValue) (policy : PolicyValue) (closure : 
   pub watches : watch_of watched ≡ watch_for question.properties
   pub sizes : tables.sizes ≡ question.sizes
   pub held : Held tables start
+  pub is_known : IsTrue indifferent → IsIndifferent question policy (state_in tables start)

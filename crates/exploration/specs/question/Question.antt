@@ -1,9 +1,10 @@
 -- Questions: what may come next, and what is asked of the states that are reached. (Own.)
-use Rattle.std.specs.Prelude.{ℕ, ◌≤◌, ◌&&◌, Bool, true, false, List, [], ◌∷◌, ◌++◌, Option, Some, None, IfSome, flat_map, slice_index_or}
+use Rattle.std.specs.Prelude.{◌≡◌, ℕ, ◌≤◌, ◌&&◌, ◌⊎◌, Bool, true, false, List, [], ◌∷◌, ◌++◌, Option, Some, None, IfSome, flat_map, slice_index_or}
 use Rattle.std.specs.List.{All, list_any, position}
 use Rattle.object_store.specs.declared.sizes.Sizes.{Sizes}
 use Rattle.machine_state.specs.State.{State}
-use Rattle.separation_policy.specs.Policy.{PolicyValue}
+use Rattle.confinement.specs.Acts.{system_of}
+use Rattle.separation_policy.specs.Policy.{PolicyValue, PolicyHolds}
 use Rattle.quiet_runs.specs.Runs.{Watch, watch_by}
 use Rattle.exploration.specs.declared.question.asks.Asks.{Asks}
 use Rattle.exploration.specs.declared.question.asks.Asks.TheVariants.{Never, Ever, Count}
@@ -133,6 +134,10 @@ fails crossing s property = is_never property.asks && property_holds crossing s 
 -- the first `never` that does, by its number among the properties
 abbrev pub first_failing : QuestionValue → PolicyValue → State → Option ℕ
 first_failing question policy s = position (fails (crosses policy s) s) question.properties
+
+-- whether the policy holds makes no difference to what is asked of a state: nothing asked is about it, or it holds
+abbrev pub IsIndifferent : QuestionValue → PolicyValue → State → Type 0
+IsIndifferent question policy s = (list_any is_about_policy question.properties ≡ false) ⊎ PolicyHolds policy (system_of s)
 
 -- all atoms of a property hold in a state
 abbrev pub holds : QuestionValue → PolicyValue → State → ℕ → Bool

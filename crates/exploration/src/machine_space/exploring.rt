@@ -11,7 +11,7 @@ use crate::machine_space::begun::{Begun, begun_of};
 use crate::machine_space::limits::limits_of;
 use crate::machine_space::looks::Looks;
 use crate::machine_space::space::MachineSpace;
-use crate::question::{Asks, Choice, Question};
+use crate::question::{Asks, Choice, Question, is_indifferent};
 use breadth_first::{Explored, Watcher, explore};
 use cap_format::OutOfMemory;
 use machine_state::{Machine, Records};
@@ -69,12 +69,14 @@ fn space_of<'a, L: Ledger>(
         choices,
         watched,
     } = asked_of(alloc, question, policy)?;
+    let indifferent = is_indifferent(question, policy, &closure, &machine, fetches);
     let Begun { states, start } = begun_of(alloc, machine, fetches)?;
     Ok(MachineSpace {
         alloc,
         question,
         policy,
         closure,
+        indifferent,
         choices,
         watched,
         looks: Looks::new(),

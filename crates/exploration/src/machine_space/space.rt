@@ -12,7 +12,7 @@ use breadth_first::Space;
 use cap_format::OutOfMemory;
 use machine_state::Records;
 use quiet_finding::Watched;
-use separation_policy::{Closure, Policy};
+use separation_policy::{Closure, Policy, integrity};
 use state_parts::{Key, States};
 use std::alloc::{AllocError, Global};
 use std::marker::Model;
@@ -26,6 +26,9 @@ pub(crate) struct MachineSpace<'a, L: Ledger> {
     pub(crate) question: &'a Question,
     pub(crate) policy: &'a Policy,
     pub(crate) closure: Closure,
+    /// Whether the policy holds is known to make no difference: nothing asked is about it, or it holds at the start, and so in
+    /// all states that follow.
+    pub(crate) indifferent: bool,
     pub(crate) choices: Vec<Choice>,
     pub(crate) watched: Watched,
     pub(crate) looks: Looks,
@@ -43,9 +46,9 @@ impl<'a, L: Ledger> Model for MachineSpace<'a, L> {
 
     ghost Value = { SpaceValue };
 
-    ghost view = { λ s. record { question = s.question.now; policy = s.policy.now; states = s.states; start = state_in s.states.tables s.start } };
+    ghost view = { λ s. record { question = s.question.now; policy = s.policy.now; indifferent = s.indifferent; states = s.states; start = state_in s.states.tables s.start } };
 
-    ghost invariant = { λ s. IsSpace s.question.now s.policy.now s.closure s.choices.items s.watched s.states.tables s.start };
+    ghost invariant = { λ s. IsSpace s.question.now s.policy.now s.indifferent s.closure s.choices.items s.watched s.states.tables s.start };
 }
 
 impl<'a, L: Ledger> MachineSpace<'a, L> {
@@ -79,10 +82,10 @@ impl<'a, L: Ledger> MachineSpace<'a, L> {
 impl<'a, L: Ledger> Space for MachineSpace<'a, L> {
     ghost use Rattle.std.specs.Prelude.{◌≡◌};
     ghost use Rattle.machine_state.specs.State.{State, state_of};
-    ghost use Rattle.state_parts.specs.Space.{Held, state_in};
+    ghost use Rattle.state_parts.specs.Space.{state_in};
     ghost use Rattle.state_parts.specs.SameLaws.{state_decides};
     ghost use Rattle.state_parts.proofs.Alike.{keys_alike};
-    ghost use Rattle.exploration.specs.machine_space.Space.{searched_of};
+    ghost use Rattle.exploration.specs.machine_space.Space.{IsHeld, searched_of};
 
     type Key = Key;
 
@@ -90,13 +93,13 @@ impl<'a, L: Ledger> Space for MachineSpace<'a, L> {
 
     ghost system = { λ space. searched_of space.question space.policy space.start };
 
-    ghost held = { λ space key. Held space.states.tables key };
+    ghost held = { λ space key. IsHeld space.question space.policy space.indifferent space.states.tables key };
 
     ghost means = { λ space key. state_in space.states.tables key };
 
     ghost stands = { λ space s. state_of space.states.machine ≡ s };
 
-    ghost alike = { λ space a b held held_too. keys_alike space.states.tables a b held held_too };
+    ghost alike = { λ space a b held held_too. keys_alike space.states.tables a b held.held held_too.held };
 
     ghost decides = { λ space. state_decides };
 
@@ -116,6 +119,7 @@ impl<'a, L: Ledger> Space for MachineSpace<'a, L> {
 
     fn successor(&mut self, from: &Key, choice: u32) -> Result<Key, AllocError> {
         let choice = self.choices[choice as usize];
+        integrity();
         let Ok(key) = chosen(
             self.alloc,
             &mut self.states,
@@ -136,6 +140,7 @@ impl<'a, L: Ledger> Space for MachineSpace<'a, L> {
             self.question,
             self.policy,
             &self.closure,
+            self.indifferent,
             self.states.machine(),
             self.fetches,
         ))
@@ -149,6 +154,7 @@ impl<'a, L: Ledger> Space for MachineSpace<'a, L> {
             self.question,
             self.policy,
             &self.closure,
+            self.indifferent,
             self.states.machine(),
             test,
             self.fetches,

@@ -41,6 +41,14 @@ pub fn crosses<T: Translator, L: Ledger>(
     )
 }
 
+/// Does nothing: its contract tells that nothing crosses in a machine of which the policy holds.
+pub(crate) fn tell_uncrossed<T: Translator>(machine: &Machine<T>, policy: &Policy)
+    ensures { PolicyHolds policy.now (system_of (state_of machine.now)) →
+        crosses policy.now (state_of machine.now) ≡ false }
+{
+    tell_full(machine.objects());
+}
+
 /// The same, by the objects as they are stored.
 fn any_crosses<L: Ledger>(
     objects: &Objects,

@@ -1,17 +1,17 @@
 //! One machine, judged by reading it.
-ghost use Rattle.std.specs.Prelude.{◌≡◌, ◌<◌, ◌≤◌, ◌+◌, length};
+ghost use Rattle.std.specs.Prelude.{◌≡◌, ◌<◌, ◌≤◌, ◌+◌, ◌||◌, not, length, IsTrue};
 ghost use Rattle.std.specs.List.{All, list_any, position};
 ghost use Rattle.cap_format.specs.declared.kind.CapKind.TheVariants.{Process};
 ghost use Rattle.object_store.specs.Store.{size_of, sizes_of};
 ghost use Rattle.machine_state.specs.State.{state_of, process};
-ghost use Rattle.exploration.specs.question.Atom.{IsAtomOf, IsConditionOf, all_hold, atom_holds, condition_holds, has_word, is_faulted, is_faulted_by, is_receiving, is_stuck};
+ghost use Rattle.exploration.specs.question.Atom.{IsAtomOf, IsConditionOf, all_hold, atom_holds, condition_holds, crosses, has_word, is_faulted, is_faulted_by, is_receiving, is_stuck};
 ghost use Rattle.separation_policy.specs.Closure.{IsClosure};
 ghost use Rattle.quiet_runs.specs.Finding.{runs};
-ghost use Rattle.exploration.specs.question.Question.{IsPropertyOf, fails, first_failing, holds, is_about_policy};
+ghost use Rattle.exploration.specs.question.Question.{IsPropertyOf, IsIndifferent, fails, first_failing, holds, is_about_policy};
 
 use crate::question::asks::Asks;
 use crate::question::atom::{Atom, Condition};
-use crate::question::crossing::crosses;
+use crate::question::crossing::{crosses, tell_uncrossed};
 use crate::question::object_holds::object_holds;
 use crate::question::property::Property;
 use crate::question::question::Question;
@@ -25,42 +25,69 @@ use std::sync::ledger::Ledger;
 use steps::Steps;
 use walk_engine::Translator;
 
-/// The first `never` of a question that fails in the state of a machine, by its number among the properties. The policy is
-/// looked at only where one of them is about it.
-pub fn first_failing<T: Translator, L: Ledger>(
+/// Whether it makes no difference to a question whether the policy holds of a machine, after whatever events: none of its
+/// properties is about the policy, or it holds. Once it does, it holds after any events.
+pub fn is_indifferent<T: Translator, L: Ledger>(
     question: &Question,
     policy: &Policy,
     closure: &Closure,
     machine: &Machine<T>,
     fetches: &mut Steps<L>,
+) -> bool
+    requires { IsClosure policy.now closure.now }
+    ensures value { result ≡
+        (not (list_any is_about_policy question.now.properties) || not (crosses policy.now (state_of machine.now))) }
+    ensures indifferent { IsTrue result → IsIndifferent question.now policy.now (state_of machine.now) }
+{
+    !ask_policy(question.properties()) || !crosses(machine, policy, closure, fetches)
+}
+
+/// The first `never` of a question that fails in the state of a machine, by its number among the properties. The policy is
+/// looked at only where it may make a difference (not `indifferent`).
+pub fn first_failing<T: Translator, L: Ledger>(
+    question: &Question,
+    policy: &Policy,
+    closure: &Closure,
+    indifferent: bool,
+    machine: &Machine<T>,
+    fetches: &mut Steps<L>,
 ) -> Option<usize>
     requires sizes { question.now.sizes ≡ sizes_of machine.now.objects }
     requires closure { IsClosure policy.now closure.now }
+    requires indifferent { IsTrue indifferent → IsIndifferent question.now policy.now (state_of machine.now) }
     ensures { result ≡ first_failing question.now policy.now (state_of machine.now) }
 {
     let properties = question.properties();
-    if ask_policy(properties) {
-        let crossing = crosses(machine, policy, closure, fetches);
-        return failing(properties, crossing, machine, fetches);
+    if indifferent {
+        tell_uncrossed(machine, policy);
+        return failing(properties, false, machine, fetches);
     }
-    failing(properties, false, machine, fetches)
+    let crossing = crosses(machine, policy, closure, fetches);
+    failing(properties, crossing, machine, fetches)
 }
 
-/// Whether all atoms of a property of a question hold of the state of a machine.
+/// Whether all atoms of a property of a question hold of the state of a machine. The policy is looked at only where it may
+/// make a difference (not `indifferent`), and this property is about it.
 pub fn holds<T: Translator, L: Ledger>(
     question: &Question,
     policy: &Policy,
     closure: &Closure,
+    indifferent: bool,
     machine: &Machine<T>,
     property: usize,
     fetches: &mut Steps<L>,
 ) -> bool
     requires sizes { question.now.sizes ≡ sizes_of machine.now.objects }
     requires closure { IsClosure policy.now closure.now }
+    requires indifferent { IsTrue indifferent → IsIndifferent question.now policy.now (state_of machine.now) }
     requires there { property < length question.now.properties }
     ensures { result ≡ holds question.now policy.now (state_of machine.now) property }
 {
     let property = &question.properties()[property];
+    if indifferent {
+        tell_uncrossed(machine, policy);
+        return all_hold(property.atoms(), false, machine, fetches);
+    }
     if about_policy(property) {
         let crossing = crosses(machine, policy, closure, fetches);
         return all_hold(property.atoms(), crossing, machine, fetches);

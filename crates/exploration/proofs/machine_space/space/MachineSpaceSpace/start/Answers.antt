@@ -1,9 +1,10 @@
 use Rattle.state_parts.proofs.Alike.{held_grown}
-use Rattle.exploration.proofs.Spaces.{held_copy}
+use Rattle.exploration.proofs.Spaces.{copy_held, kept_held}
 use Rattle.exploration.proofs.machine_space.space.MachineSpaceSpace.start.Goals as goal
 
 pub returns-clause-held : goal.returns-clause-held
 returns-clause-held g c =
     let i = c.self.inside in
     let t = c.go.new.self.tables in
-    held_copy t i.start c.in-Ok-copy.key c.in-Ok-copy.ensures (held_grown i.states.tables t i.start c.go.ensures.grows c.self.invariant.held)
+    copy_held t i.start c.in-Ok-copy.key c.in-Ok-copy.ensures (held_grown i.states.tables t i.start c.go.ensures.grows c.self.invariant.held) i.question.now i.policy.now i.indifferent
+    (kept_held i.question.now i.policy.now i.indifferent i.states.tables t i.start c.go.ensures.grows (record { held = c.self.invariant.held; is_known = c.self.invariant.is_known }))

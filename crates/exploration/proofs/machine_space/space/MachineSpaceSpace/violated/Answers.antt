@@ -1,9 +1,18 @@
-use Rattle.std.proofs.Common.{◌∙◌, ap}
+use Rattle.std.proofs.Common.{◌≡◌, ◌∙◌, ap, subst, sym}
 use Rattle.map_cache.specs.Cache.{CacheValue}
 use Rattle.machine_state.specs.Machine.{MachineValue}
 use Rattle.machine_state.specs.State.{State, state_of}
-use Rattle.exploration.specs.question.Question.{first_failing}
+use Rattle.state_parts.specs.Space.{state_in}
+use Rattle.exploration.specs.question.Question.{IsIndifferent, first_failing}
 use Rattle.exploration.proofs.machine_space.space.MachineSpaceSpace.violated.Goals as goal
+
+pub first_failing-requires-clause-indifferent : goal.first_failing-requires-clause-indifferent
+first_failing-requires-clause-indifferent g c =
+    let i = c.self.inside in
+    let asked = rw (← c.self.view_is) at c.requires.held in
+    let stands = rw (← c.self.view_is) at c.requires.stands in
+    let here : state_of c.machine.result.now ≡ state_in i.states.tables c.args._key.now = ap (λ (m : MachineValue CacheValue). state_of m) c.machine.ensures.value ∙ stands in
+    λ known. subst (λ (s : State). IsIndifferent i.question.now i.policy.now s) (sym here) (asked.is_known known)
 
 pub returns-clause-value : goal.returns-clause-value
 returns-clause-value g c =

@@ -1,0 +1,19 @@
+use Rattle.std.proofs.Common.{◌∙◌, subst, sym}
+use Rattle.machine_state.specs.State.{State}
+use Rattle.exploration.specs.question.Question.{IsIndifferent}
+use Rattle.exploration.proofs.machine_space.exploring.space_of.Goals as goal
+
+pub invariant_of-result : goal.invariant_of-result
+invariant_of-result g c =
+    let asked = c.in_ok-closure.ensures in
+    let begun = c.in_ok-states.ensures in
+    record {
+      given = asked.given;
+      range = asked.range;
+      few = asked.few;
+      closes = asked.closes;
+      watches = asked.watches;
+      sizes = begun.sizes ∙ sym c.requires;
+      held = begun.held;
+      is_known = λ known. subst (λ (s : State). IsIndifferent c.args.question.now c.args.policy.now s) (sym begun.means) (c.is_indifferent-indifferent.ensures.indifferent known);
+    }
