@@ -11,6 +11,12 @@ pub(crate) struct Progress<'a> {
     start: Option<Instant>,
     /// How long after the start the next line may come.
     next: Duration,
+    /// How long after the start the clock was looked at last.
+    looked: Duration,
+    /// How many states go by between two looks at the clock, at most 255.
+    stride: u8,
+    /// How many states are left before the next.
+    left: u8,
 }
 
 impl<'a> Progress<'a> {
@@ -19,7 +25,23 @@ impl<'a> Progress<'a> {
             rt,
             start: Instant::now(rt).ok(),
             next: Duration::from_secs(2),
+            looked: Duration::from_secs(0),
+            stride: 0,
+            left: 0,
         }
+    }
+
+    /// Looks at the clock half as often as before where less than a millisecond went by since the last look, and after each
+    /// state where more did.
+    fn pace(&mut self, passed: Duration) {
+        let since = passed.saturating_sub(self.looked);
+        self.looked = passed;
+        self.stride = if since < Duration::from_millis(1) {
+            2 * self.stride.min(127) + 1
+        } else {
+            0
+        };
+        self.left = self.stride;
     }
 
     /// Writes a line. That it can't be written is no fault of the search.
@@ -38,12 +60,17 @@ impl<'a> Progress<'a> {
 
 impl<'a> Watcher for Progress<'a> {
     fn watch(&mut self, states: usize, depth: usize, tried: u64) {
+        if self.left > 0 {
+            self.left -= 1;
+            return;
+        }
         let Some(start) = self.start else {
             return;
         };
         let Ok(passed) = start.elapsed(self.rt) else {
             return;
         };
+        self.pace(passed);
         if passed < self.next {
             return;
         }
