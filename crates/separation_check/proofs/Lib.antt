@@ -1,4 +1,5 @@
 pub mod Gathered
+mod Lengths
 pub mod Most
 pub mod Allowed
 pub mod Exactly

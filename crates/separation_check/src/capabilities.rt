@@ -1,5 +1,6 @@
 //! Capabilities that may not stand where they do.
-ghost use Rattle.std.specs.Prelude.{ℕ, ◌≡◌, ◌<◌, ◌≤◌, ◌+◌, ◌*◌, ◌++◌, IfOk, OnOk};
+ghost use Rattle.std.specs.Prelude.{ℕ, ◌≡◌, ◌<◌, ◌≤◌, ◌+◌, ◌*◌, ◌++◌, length};
+ghost use Rattle.std.specs.Vec.{vec_len, vec_capacity};
 ghost use Rattle.cap_format.specs.declared.kind.CapKind.TheVariants.{Gpt};
 ghost use Rattle.object_store.specs.Store.{size_of};
 ghost use Rattle.confine_check.specs.Breach.{places_in, reads_in, object_reads};
@@ -10,7 +11,7 @@ ghost use Rattle.separation_check.specs.Crossings.{stored_cap, may_hold_page, ma
 use crate::crossing::Crossing;
 use crate::marks::{Marks, marks_by};
 use crate::remedy::is_page;
-use cap_format::{Cap, CapKind, OutOfMemory, is_harmless};
+use cap_format::{Cap, CapKind, is_harmless};
 use confine_check::{cap_in, places, size};
 use object_store::Objects;
 use separation_policy::{Closure, Policy};
@@ -132,17 +133,18 @@ pub fn stored_cap<L: Ledger>(
     objects.live(cap_in(objects, kind, n, i, fetches))
 }
 
-/// Puts down what there is, behind what was found.
-pub(crate) fn push(found: &mut Vec<Crossing>, crossing: Option<Crossing>) -> Result<(), OutOfMemory>
-    ensures { OnOk result (found.new.items ≡ found.old.items ++ listed crossing) }
+/// Puts down what there is, behind what was found. There is room for it.
+pub(crate) fn push(found: &mut Vec<Crossing>, crossing: Option<Crossing>)
+    requires { vec_len found.old + length (listed crossing) ≤ vec_capacity found.old }
+    ensures value { found.new.items ≡ found.old.items ++ listed crossing }
+    ensures capacity { vec_capacity found.new ≡ vec_capacity found.old }
 {
     if let Some(one) = crossing {
-        found.push(one)?;
+        found.push_reserved(one);
     }
-    Ok(())
 }
 
-/// Puts down the crossings of an object, and tells what its domain holds that is shared by all.
+/// Puts down the crossings of an object, for which there is room, and tells what its domain holds that is shared by all.
 fn push_object<L: Ledger>(
     objects: &Objects,
     policy: &Policy,
@@ -151,23 +153,25 @@ fn push_object<L: Ledger>(
     n: u16,
     found: &mut Vec<Crossing>,
     fetches: &mut Steps<L>,
-) -> Result<Marks, OutOfMemory>
+) -> Marks
     requires closure { IsClosure policy.now closure.now }
     requires there { n < size_of objects.now.items kind }
-    ensures value { OnOk result (found.new.items ≡ found.old.items
-        ++ object_crossings policy.now (stored_cap objects.now) kind n) }
-    ensures marks { IfOk result (λ marks. marks ≡ object_marks policy.now (stored_cap objects.now) kind n) }
-    ensures counted { OnOk result (fetches.new ≡ fetches.old + object_reads kind) }
-    ensures most { fetches.new ≤ fetches.old + object_reads kind }
+    requires room { let crossings = object_crossings policy.now (stored_cap objects.now) kind n in
+        vec_len found.old + length crossings ≤ vec_capacity found.old }
+    ensures value { let crossings = object_crossings policy.now (stored_cap objects.now) kind n in
+        found.new.items ≡ found.old.items ++ crossings }
+    ensures capacity { vec_capacity found.new ≡ vec_capacity found.old }
+    ensures marks { result ≡ object_marks policy.now (stored_cap objects.now) kind n }
+    ensures counted { fetches.new ≡ fetches.old + object_reads kind }
 {
     let domain = policy.domain_of(kind, n as u32);
     let mut marks = Marks::none();
     'each: for i in 0..places(kind) {
         let cap = stored_cap(objects, kind, n, i, fetches);
-        push(found, crossing_by(policy, closure, kind, n, i, cap))?;
+        push(found, crossing_by(policy, closure, kind, n, i, cap));
         marks = marks.and(marks_by(domain, cap));
     }
-    Ok(marks)
+    marks
 }
 
 /// The same of the objects of a kind.
@@ -178,40 +182,45 @@ fn push_kind<L: Ledger>(
     kind: CapKind,
     found: &mut Vec<Crossing>,
     fetches: &mut Steps<L>,
-) -> Result<Marks, OutOfMemory>
-    requires { IsClosure policy.now closure.now }
-    ensures value { OnOk result (found.new.items ≡ found.old.items
-        ++ kind_crossings policy.now (stored_cap objects.now) kind (size_of objects.now.items kind)) }
-    ensures marks { IfOk result (λ marks. marks ≡ kind_marks policy.now (stored_cap objects.now) objects.now kind) }
-    ensures counted { OnOk result (fetches.new ≡
-        fetches.old + object_reads kind * size_of objects.now.items kind) }
-    ensures most { fetches.new ≤ fetches.old + object_reads kind * size_of objects.now.items kind }
+) -> Marks
+    requires closure { IsClosure policy.now closure.now }
+    requires room { let size = size_of objects.now.items kind in
+        let crossings = kind_crossings policy.now (stored_cap objects.now) kind size in
+        vec_len found.old + length crossings ≤ vec_capacity found.old }
+    ensures value { let size = size_of objects.now.items kind in
+        let crossings = kind_crossings policy.now (stored_cap objects.now) kind size in
+        found.new.items ≡ found.old.items ++ crossings }
+    ensures capacity { vec_capacity found.new ≡ vec_capacity found.old }
+    ensures marks { result ≡ kind_marks policy.now (stored_cap objects.now) objects.now kind }
+    ensures counted { fetches.new ≡ fetches.old + object_reads kind * size_of objects.now.items kind }
 {
     let mut marks = Marks::none();
     'each: for n in 0..size(objects, kind) {
-        marks = marks.and(push_object(objects, policy, closure, kind, n, found, fetches)?);
+        marks = marks.and(push_object(objects, policy, closure, kind, n, found, fetches));
     }
-    Ok(marks)
+    marks
 }
 
-/// The same of all objects. Each slot of a GPT is read at most once.
+/// The same of all objects. Each slot of a GPT is read once.
 pub(crate) fn push_capabilities<L: Ledger>(
     objects: &Objects,
     policy: &Policy,
     closure: &Closure,
     found: &mut Vec<Crossing>,
     fetches: &mut Steps<L>,
-) -> Result<Marks, OutOfMemory>
-    requires { IsClosure policy.now closure.now }
-    ensures value { OnOk result (found.new.items ≡ found.old.items
-        ++ capability_crossings policy.now (stored_cap objects.now) objects.now) }
-    ensures marks { IfOk result (λ marks. marks ≡ all_marks policy.now (stored_cap objects.now) objects.now) }
-    ensures counted { OnOk result (fetches.new ≡ fetches.old + 16 * size_of objects.now.items Gpt) }
-    ensures most { fetches.new ≤ fetches.old + 16 * size_of objects.now.items Gpt }
+) -> Marks
+    requires closure { IsClosure policy.now closure.now }
+    requires room { let crossings = capability_crossings policy.now (stored_cap objects.now) objects.now in
+        vec_len found.old + length crossings ≤ vec_capacity found.old }
+    ensures value { let crossings = capability_crossings policy.now (stored_cap objects.now) objects.now in
+        found.new.items ≡ found.old.items ++ crossings }
+    ensures capacity { vec_capacity found.new ≡ vec_capacity found.old }
+    ensures marks { result ≡ all_marks policy.now (stored_cap objects.now) objects.now }
+    ensures counted { fetches.new ≡ fetches.old + 16 * size_of objects.now.items Gpt }
 {
-    let pages = push_kind(objects, policy, closure, CapKind::CapPage, found, fetches)?;
-    let gpts = push_kind(objects, policy, closure, CapKind::Gpt, found, fetches)?;
-    let endpoints = push_kind(objects, policy, closure, CapKind::Endpoint, found, fetches)?;
-    let processes = push_kind(objects, policy, closure, CapKind::Process, found, fetches)?;
-    Ok(pages.and(gpts.and(endpoints.and(processes))))
+    let pages = push_kind(objects, policy, closure, CapKind::CapPage, found, fetches);
+    let gpts = push_kind(objects, policy, closure, CapKind::Gpt, found, fetches);
+    let endpoints = push_kind(objects, policy, closure, CapKind::Endpoint, found, fetches);
+    let processes = push_kind(objects, policy, closure, CapKind::Process, found, fetches);
+    pages.and(gpts.and(endpoints.and(processes)))
 }

@@ -1,5 +1,5 @@
 //! All that a policy doesn't allow in a machine.
-ghost use Rattle.std.specs.Prelude.{◌≡◌, ◌≤◌, ◌+◌, ◌*◌, ◌↔◌, [], map, IfOk};
+ghost use Rattle.std.specs.Prelude.{◌≡◌, ◌≤◌, ◌+◌, ◌*◌, ◌↔◌, [], map, IfOk, OnErr};
 ghost use Rattle.cap_format.specs.declared.kind.CapKind.TheVariants.{Gpt};
 ghost use Rattle.object_store.specs.Store.{size_of};
 ghost use Rattle.machine_state.specs.State.{state_of};
@@ -10,6 +10,7 @@ ghost use Rattle.separation_check.specs.Marks.{all_marks, marks_in};
 
 use crate::capabilities::push_capabilities;
 use crate::found::Found;
+use crate::room::room_for;
 use crate::sleeping::push_sleepers;
 use cap_format::OutOfMemory;
 use confine_check::tell_full;
@@ -21,8 +22,8 @@ use steps::Steps;
 use walk_engine::Translator;
 
 /// All that a policy doesn't allow in a machine: capabilities in the order in which objects are printed and their places
-/// have their numbers, and then processes that sleep. By the same passage, which domains hold SysCtl or KernLog. Each slot
-/// of a GPT is read once, and at most once where memory is wanting.
+/// have their numbers, and then processes that sleep. By the same passage, which domains hold SysCtl or KernLog. It asks for
+/// all its memory before it looks at the first place: each slot of a GPT is read once, and none where memory is wanting.
 ///
 /// Where nothing is found the policy holds. Then whatever events follow, one that a process of a domain performs leaves
 /// all other domains as they are, but for the bytes of pages of those that it writes; and what a domain is told and has
@@ -47,6 +48,7 @@ pub fn crossings<T: Translator, L: Ledger>(
         Noninterference policy.now (state_of machine.now)) }
     ensures counted { IfOk result (λ found. fetches.new ≡
         fetches.old + 16 * size_of machine.now.objects.items Gpt) }
+    ensures err { OnErr result (fetches.new ≡ fetches.old) }
     ensures most { fetches.new ≤ fetches.old + 16 * size_of machine.now.objects.items Gpt }
 {
     tell_full(machine.objects());
@@ -68,17 +70,14 @@ fn all_crossings<T: Translator, L: Ledger>(
         all_marks policy.now (stored_cap machine.now.objects) machine.now.objects) }
     ensures counted { IfOk result (λ found. fetches.new ≡
         fetches.old + 16 * size_of machine.now.objects.items Gpt) }
+    ensures err { OnErr result (fetches.new ≡ fetches.old) }
     ensures most { fetches.new ≤ fetches.old + 16 * size_of machine.now.objects.items Gpt }
 {
     let closure = Closure::new(alloc, policy)?;
     let objects = machine.objects();
-    let mut crossings = Vec::new(alloc);
-    let marks = push_capabilities(objects, policy, &closure, &mut crossings, fetches)?;
-    push_sleepers(
-        machine.queues(),
-        objects.sizes().processes,
-        policy,
-        &mut crossings,
-    )?;
+    let queues = machine.queues();
+    let mut crossings = Vec::with_capacity(alloc, room_for(objects, queues, policy))?;
+    let marks = push_capabilities(objects, policy, &closure, &mut crossings, fetches);
+    push_sleepers(queues, objects.sizes().processes, policy, &mut crossings);
     Ok(Found { crossings, marks })
 }

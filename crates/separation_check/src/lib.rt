@@ -13,6 +13,7 @@ mod found;
 mod laws;
 mod marks;
 mod remedy;
+mod room;
 mod sleeping;
 
 pub use capabilities::{crossing_by, stored_cap};

@@ -1,11 +1,12 @@
 //! Processes that sleep on one of another domain.
-ghost use Rattle.std.specs.Prelude.{◌≡◌, ◌<◌, ◌≤◌, ◌++◌, length, max, OnOk};
+ghost use Rattle.std.specs.Prelude.{◌≡◌, ◌<◌, ◌≤◌, ◌+◌, ◌++◌, length, max};
+ghost use Rattle.std.specs.Vec.{vec_len, vec_capacity};
 ghost use Rattle.schedules.specs.Queues.{sleepers_of, stands_in};
 ghost use Rattle.separation_check.specs.Crossings.{sleeper_by, sleeper_on, process_crossings, limit_on, sleeper_limit, sleeper_crossings};
 
 use crate::capabilities::push;
 use crate::crossing::Crossing;
-use cap_format::{CapKind, OutOfMemory};
+use cap_format::CapKind;
 use schedules::Queues;
 use separation_policy::Policy;
 
@@ -54,22 +55,16 @@ pub fn sleeper_on(queues: &Queues, policy: &Policy, p: u16, on: u16) -> Option<C
     None
 }
 
-/// Puts down the crossings of a process that sleeps, of so many processes.
-fn push_process(
-    queues: &Queues,
-    count: u16,
-    policy: &Policy,
-    p: u16,
-    found: &mut Vec<Crossing>,
-) -> Result<(), OutOfMemory>
-    requires { count ≡ length queues.now.sleepers }
-    ensures { OnOk result (found.new.items ≡ found.old.items
-        ++ process_crossings policy.now queues.now p) }
+/// Puts down the crossings of a process that sleeps, of so many processes. There is room for them.
+fn push_process(queues: &Queues, count: u16, policy: &Policy, p: u16, found: &mut Vec<Crossing>)
+    requires processes { count ≡ length queues.now.sleepers }
+    requires room { vec_len found.old + length (process_crossings policy.now queues.now p) ≤ vec_capacity found.old }
+    ensures value { found.new.items ≡ found.old.items ++ process_crossings policy.now queues.now p }
+    ensures capacity { vec_capacity found.new ≡ vec_capacity found.old }
 {
     'each: for on in 0..count {
-        push(found, sleeper_on(queues, policy, p, on))?;
+        push(found, sleeper_on(queues, policy, p, on));
     }
-    Ok(())
 }
 
 /// One more than the greatest process that sleeps on `on`, 0 where none does.
@@ -108,19 +103,14 @@ pub fn sleeper_limit(queues: &Queues, count: u16) -> u32
     limit
 }
 
-/// Puts down the crossings of all processes that sleep on any of so many, by their numbers.
-pub(crate) fn push_sleepers(
-    queues: &Queues,
-    count: u16,
-    policy: &Policy,
-    found: &mut Vec<Crossing>,
-) -> Result<(), OutOfMemory>
-    requires { count ≡ length queues.now.sleepers }
-    ensures { OnOk result (found.new.items ≡ found.old.items
-        ++ sleeper_crossings policy.now queues.now) }
+/// Puts down the crossings of all processes that sleep on any of so many, by their numbers. There is room for them.
+pub(crate) fn push_sleepers(queues: &Queues, count: u16, policy: &Policy, found: &mut Vec<Crossing>)
+    requires processes { count ≡ length queues.now.sleepers }
+    requires room { vec_len found.old + length (sleeper_crossings policy.now queues.now) ≤ vec_capacity found.old }
+    ensures value { found.new.items ≡ found.old.items ++ sleeper_crossings policy.now queues.now }
+    ensures capacity { vec_capacity found.new ≡ vec_capacity found.old }
 {
     'each: for p in 0..sleeper_limit(queues, count) {
-        push_process(queues, count, policy, p as u16, found)?;
+        push_process(queues, count, policy, p as u16, found);
     }
-    Ok(())
 }

@@ -1,6 +1,10 @@
 use Rattle.std.proofs.Common.{◌≡◌, ◌++◌}
+use Rattle.std.specs.Vec.{vec_capacity}
 use Rattle.separation_check.specs.Crossings.{all_below, listed, sleeper_on}
 use Rattle.separation_check.proofs.sleeping.push_process.Given as goal
 
 abbrev pub invariant-each : goal.invariant-each
-invariant-each l = l.found.items ≡ l.fn.found.items ++ all_below (λ on. listed (sleeper_on l.policy l.queues l.p on)) l.on
+invariant-each l = record {
+  found : l.found.items ≡ l.fn.found.items ++ all_below (λ on. listed (sleeper_on l.policy l.queues l.p on)) l.on;
+  room : vec_capacity l.found ≡ vec_capacity l.fn.found;
+}
