@@ -118,7 +118,7 @@ fn check_row<L: Ledger>(
     assert!(rt; read.is_ok(), "{row}");
     assert!(rt; question.properties().len() == 1, "{row}");
     let closure = Closure::new(alloc, policy).expect(rt, row);
-    let holds = holds(&question, policy, &closure, machine, 0, fetches);
+    let holds = holds(&question, policy, &closure, false, machine, 0, fetches);
     assert!(rt; holds == (wanted == "y"), "{row}");
 }
 
