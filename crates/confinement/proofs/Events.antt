@@ -17,7 +17,7 @@ use Rattle.invocation.specs.declared.callee.Callee.TheVariants.{Kernel, Open, Bu
 use Rattle.invocation.specs.Target.{callee}
 use Rattle.string_move.specs.Spans.{spans}
 use Rattle.operations.specs.System.{Meant}
-use Rattle.operations.specs.Row.{Row, Settled, settled_row, reply_of}
+use Rattle.operations.specs.Row.{Settled, reply_of, settled_in}
 use Rattle.operations.specs.Memory.{kind_row, memory_operation}
 use Rattle.operations.specs.Control.{control_operation}
 use Rattle.machine_state.specs.State.{State, process, space_of}
@@ -131,9 +131,9 @@ module _ (cut : Cut) (side : CutSide) where
   called-own s c to holds may e = subst (CalleeOwn cut side) e (callee-own cut side s.store holds.each c may)
 
   -- a request for the kind gives nothing
-  pub kind-may : (number : ℕ) (cap : Capability) → MayHoldIf cut side (settled_row (kind_table cap number)).answer.cap
+  pub kind-may : (number : ℕ) (cap : Capability) → MayHoldIf cut side (settled_in (kind_table cap) number).answer.cap
   unfolding kind_row
-  kind-may number cap = cond_both (number == 0) _ _ (λ (row : Option Row). MayHoldIf cut side (settled_row row).answer.cap) (λ e. tt) (λ e. tt)
+  kind-may number cap = cond_both (number == 0) _ _ (λ (settled : Settled). MayHoldIf cut side settled.answer.cap) (λ e. tt) (λ e. tt)
 
   -- what its processes read they may have
   pub on_side-origins : Origins on_side

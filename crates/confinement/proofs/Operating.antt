@@ -1,5 +1,5 @@
 -- Operations: a permitted change stays on its side, and the changes of each row are permitted.
-use Rattle.std.proofs.Common.{◌≡◌, ℕ, zero, suc, ◌⊎◌, inl, inr, Bool, true, false, ◌||◌, ◌==◌, if◌then◌else◌, List, [], ◌∷◌, get_or, replicate, Option, Some, None, refl, sym, ◌∙◌, ap, subst}
+use Rattle.std.proofs.Common.{◌≡◌, ℕ, zero, suc, ◌⊎◌, inl, inr, Bool, true, false, ◌||◌, ◌==◌, if◌then◌else◌, List, [], ◌∷◌, get_or, replicate, refl, sym, ◌∙◌, ap, subst}
 use Rattle.std.proofs.lemmas.Bool.{and_parts, cond_both}
 use Rattle.cap_format.specs.declared.kind.CapKind.{CapKind}
 use Rattle.cap_format.specs.declared.kind.CapKind.TheVariants.{Page, CapPage, Gpt, Window, LocalWindow, Endpoint, Process, Schedule, Range, Discrim}
@@ -22,11 +22,12 @@ use Rattle.operations.specs.System.{System, Reading, schedule_by}
 use Rattle.operations.specs.Weak.{read_through}
 use Rattle.operations.specs.Change.{Change, PageIs, CapPageIs, SlotIs, HeaderIs, EndpointIs, ProcessIs, Left, Readied, Woken, Destroyed, applied, applied_all}
 use Rattle.operations.specs.Request.{w1, w2, w3, w4}
-use Rattle.operations.specs.Row.{Row, Settled, tells, gives, does, refused, settled, settled_row}
+use Rattle.operations.specs.Row.{Row, Settled, tells, gives, does, refused, settled, settled_in}
 use Rattle.operations.specs.Memory as memory
 use Rattle.operations.specs.Memory.{read_only, opaque, window_of, window_is_local, window_local_slot, window_restr, window_l2g}
 use Rattle.operations.specs.Control as control
-use Rattle.operations.specs.Control.{endpoint_of, process_of, number_in, with_number, tells_state, is_null}
+use Rattle.operations.specs.Control.{endpoint_of, process_of, with_number, tells_state, is_null}
+use Rattle.operations.proofs.Settled.{◌▸◌, EachRow, by_rows}
 use Rattle.confinement.specs.declared.cut_side.CutSide.{CutSide}
 use Rattle.confinement.specs.Cut.{Cut, side_of, MayHold, EachHeldBy, HoldsFor}
 use Rattle.confinement.specs.Acts.{Acts, ProcessHeld, Permitted, AllPermitted, AnswerPermitted}
@@ -65,11 +66,6 @@ module _ (cut : Cut) (side : CutSide) where
   abbrev RowMay : Row → Type 0
   RowMay row = row.no_access ≡ false → AnswerPermitted cut side row.answer
 
-  -- the same of a row that may be missing
-  abbrev TableMay : Option Row → Type 0
-  TableMay None = Unit {0}
-  TableMay (Some row) = RowMay row
-
   abbrev SettledMay : Settled → Type 0
   SettledMay settled = AnswerPermitted cut side settled.answer
 
@@ -82,13 +78,9 @@ module _ (cut : Cut) (side : CutSide) where
       cond_both row.request_error _ _ SettledMay (λ e. refused-may RequestError) (λ e.
       cond_both row.count_spent _ _ SettledMay (λ e. refused-may CountSpent) (λ e. may access)))
 
-  settled_row-may : (row : Option Row) → TableMay row → SettledMay (settled_row row)
-  settled_row-may None may = refused-may UnknownRequest
-  settled_row-may (Some row) may = settled-may row may
-
-  if_row : (b : Bool) (x y : Option Row) → TableMay x → TableMay y → TableMay (if b then x else y)
-  if_row true x y first second = first
-  if_row false x y first second = second
+  -- and so is what a table of such rows comes to
+  rows-may : (rows : List (ℕ × Row)) → EachRow RowMay rows → (n : ℕ) → SettledMay (settled_in rows n)
+  rows-may = by_rows SettledMay RowMay settled-may (refused-may UnknownRequest)
 
   -- words alone
   tells-may : (a b c : ℕ) → AnswerPermitted cut side (tells a b c)
@@ -223,37 +215,21 @@ module _ (cut : Cut) (side : CutSide) where
     unfolding memory.setwindow_row
     setwindow-may k access = does-may (SlotIs c.object (memory.window_slot r) (window_of r)) (side-gpt cut side c k (or_false (opaque c) (read_only c) access) may, window-held)
 
-    page_table-may : (number : ℕ) → c.kind ≡ Page → TableMay (memory.page_table s c r number)
-    unfolding memory.page_table
-    page_table-may number k = if_row (number == 8) _ _ (clear_page-may k) (if_row (number == 9) _ _ (copy-may k) tt)
+    memory_own-may : (k : CapKind) → c.kind ≡ k → EachRow RowMay (memory.own_table s c r k)
+    unfolding memory.own_table memory.page_table memory.cappage_table memory.gpt_table
+    memory_own-may Page k = clear_page-may k ▸ copy-may k ▸ tt
+    memory_own-may CapPage k = clear_cappage-may k ▸ get-may k ▸ set-may k ▸ tt
+    memory_own-may Gpt k = getslot-may k ▸ setslot-may k ▸ getheader-may ▸ setheader-may k ▸ setwindow-may k ▸ tt
+    memory_own-may _ k = tt
 
-    cappage_table-may : (number : ℕ) → c.kind ≡ CapPage → TableMay (memory.cappage_table s c r number)
-    unfolding memory.cappage_table
-    cappage_table-may number k = if_row (number == 8) _ _ (clear_cappage-may k) (if_row (number == 9) _ _ (get-may k) (if_row (number == 10) _ _ (set-may k) tt))
-
-    gpt_table-may : (number : ℕ) → c.kind ≡ Gpt → TableMay (memory.gpt_table s c r number)
-    unfolding memory.gpt_table
-    gpt_table-may number k =
-        if_row (number == 8) _ _ (getslot-may k) (if_row (number == 9) _ _ (setslot-may k) (if_row (number == 10) _ _ getheader-may
-        (if_row (number == 11) _ _ (setheader-may k) (if_row (number == 12) _ _ (setwindow-may k) tt))))
-
-    memory_own-may : (k : CapKind) (number : ℕ) → c.kind ≡ k → TableMay (memory.own_table s c r k number)
-    unfolding memory.own_table
-    memory_own-may Page number k = page_table-may number k
-    memory_own-may CapPage number k = cappage_table-may number k
-    memory_own-may Gpt number k = gpt_table-may number k
-    memory_own-may _ number k = tt
-
-    memory_table-may : (number : ℕ) → TableMay (memory.memory_table s c r c.kind number)
+    memory_table-may : EachRow RowMay (memory.memory_table s c r c.kind)
     unfolding memory.memory_table
-    memory_table-may number =
-        if_row (number == 0) _ _ kind-may (if_row (number == 1) _ _ reduce-may (if_row (number == 2) _ _ getguard-may
-        (if_row (number == 3) _ _ setguard-may (if_row (number == 4) _ _ getrestr-may (memory_own-may c.kind number refl)))))
+    memory_table-may = kind-may ▸ reduce-may ▸ getguard-may ▸ setguard-may ▸ getrestr-may ▸ memory_own-may c.kind refl
 
     -- what a request to a capability of a memory kind does and tells is permitted
     pub memory_operation-may : AnswerPermitted cut side (memory.memory_operation s c r).answer
     unfolding memory.memory_operation
-    memory_operation-may = settled_row-may (memory.memory_table s c r c.kind (w1 r)) (memory_table-may (w1 r))
+    memory_operation-may = rows-may (memory.memory_table s c r c.kind) memory_table-may (w1 r)
 
     -- ---- endpoints
 
@@ -283,12 +259,6 @@ module _ (cut : Cut) (side : CutSide) where
     setpayload-may : c.kind ≡ Endpoint → RowMay (control.setpayload_row s c r)
     unfolding control.setpayload_row
     setpayload-may k access = endpoint-may _ k (held.recipient k)
-
-    endpoint_table-may : (number : ℕ) → c.kind ≡ Endpoint → TableMay (control.endpoint_table s c r number)
-    unfolding control.endpoint_table
-    endpoint_table-may number k =
-        if_row (number == 8) _ _ (setrecipient-may k) (if_row (number == 9) _ _ getid-may (if_row (number == 10) _ _ (setid-may k)
-        (if_row (number == 11) _ _ (setmatch-may k) (if_row (number == 12) _ _ (makeentry-may k) (if_row (number == 13) _ _ (setpayload-may k) tt)))))
 
     -- ---- processes
 
@@ -345,13 +315,6 @@ module _ (cut : Cut) (side : CutSide) where
     stop-may k access = let own = side-process cut side c k may in
         record { changes = (own, ((own, held-state cut side (process_of s c) stopped (held.process k)), tt)); cap = tt }
 
-    process_table-may : (number : ℕ) → c.kind ≡ Process → TableMay (control.process_table s c r number)
-    unfolding control.process_table
-    process_table-may number k =
-        if_row (number == 8) _ _ getreg-may (if_row (number == 9) _ _ (setreg-may k) (if_row (number == 10) _ _ (getcapreg-may k)
-        (if_row (number == 11) _ _ (setcapreg-may k) (if_row (number == 12) _ _ (process_getslot-may k) (if_row (number == 13) _ _ (process_setslot-may k)
-        (if_row (number == 14) _ _ getstate-may (if_row (number == 15) _ _ (resume-may k) (if_row (number == 16) _ _ (stop-may k) tt))))))))
-
     -- ---- the rest
 
     priority-may : RowMay (control.priority_row c)
@@ -362,33 +325,35 @@ module _ (cut : Cut) (side : CutSide) where
     unfolding control.lower_row
     lower-may access = gives-may (schedule (w2 r)) (may-uncounted cut side (schedule (w2 r)) Schedule refl refl refl)
 
-    schedule_table-may : (number : ℕ) → TableMay (control.schedule_table c r number)
-    unfolding control.schedule_table
-    schedule_table-may number = if_row (number == 8) _ _ priority-may (if_row (number == 9) _ _ lower-may tt)
-
     classify-may : (d : Capability) → RowMay (control.classify_row d)
     unfolding control.classify_row
     classify-may d access = record { changes = tt; cap = tt }
 
-    discrim_table-may : (number : ℕ) → TableMay (control.discrim_table r number)
-    unfolding control.discrim_table
-    discrim_table-may number = if_row (number == 8) _ _ (classify-may r.sent) tt
+    control_own-may : (reading : Reading) (k : CapKind) → c.kind ≡ k → EachRow RowMay (control.own_table reading s c r k)
+    unfolding control.own_table control.endpoint_table control.process_table control.schedule_table control.discrim_table
+    control_own-may reading Endpoint k = setrecipient-may k ▸ getid-may ▸ setid-may k ▸ setmatch-may k ▸ makeentry-may k ▸ setpayload-may k ▸ tt
+    control_own-may reading Process k =
+        getreg-may
+        ▸ setreg-may k
+        ▸ getcapreg-may k
+        ▸ setcapreg-may k
+        ▸ process_getslot-may k
+        ▸ process_setslot-may k
+        ▸ getstate-may
+        ▸ resume-may k
+        ▸ stop-may k
+        ▸ tt
+    control_own-may reading Schedule k = priority-may ▸ lower-may ▸ tt
+    control_own-may reading Range k = absurd (may.no_range k)
+    control_own-may reading Discrim k = classify-may r.sent ▸ tt
+    control_own-may reading _ k = tt
 
-    control_own-may : (reading : Reading) (k : CapKind) (number : ℕ) → c.kind ≡ k → TableMay (control.own_table reading s c r k number)
-    unfolding control.own_table
-    control_own-may reading Endpoint number k = endpoint_table-may number k
-    control_own-may reading Process number k = process_table-may number k
-    control_own-may reading Schedule number k = schedule_table-may number
-    control_own-may reading Range number k = absurd (may.no_range k)
-    control_own-may reading Discrim number k = discrim_table-may number
-    control_own-may reading _ number k = tt
-
-    control_table-may : (reading : Reading) (number : ℕ) → TableMay (control.control_table reading s c r c.kind number)
+    control_table-may : (reading : Reading) → EachRow RowMay (control.control_table reading s c r c.kind)
     unfolding control.control_table
-    control_table-may reading number = if_row (number == 0) _ _ kind-may (control_own-may reading c.kind number refl)
+    control_table-may reading = kind-may ▸ control_own-may reading c.kind refl
 
     -- what a request to a capability of another kind does and tells is permitted: nobody holds a Range
     pub control_operation-may : (reading : Reading) → AnswerPermitted cut side (control.control_operation reading s c r).answer
     unfolding control.control_operation
     control_operation-may reading =
-        cond_both (is_null c.kind) _ _ SettledMay (λ e. refused-may InvalidCap) (λ e. settled_row-may (control.control_table reading s c r c.kind (w1 r)) (control_table-may reading (w1 r)))
+        cond_both (is_null c.kind) _ _ SettledMay (λ e. refused-may InvalidCap) (λ e. rows-may (control.control_table reading s c r c.kind) (control_table-may reading) (w1 r))

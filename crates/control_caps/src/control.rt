@@ -9,7 +9,7 @@ ghost use Rattle.object_store.specs.Object.{Stays};
 ghost use Rattle.schedules.specs.Ready.{Agrees, runs_of};
 ghost use Rattle.operations.specs.System.{system, Stored, Meant};
 ghost use Rattle.operations.specs.Change.{applied_all};
-ghost use Rattle.operations.specs.Row.{reply_of, settled_row};
+ghost use Rattle.operations.specs.Row.{reply_of, settled_in};
 ghost use Rattle.operations.specs.Request.{w1, request_map};
 ghost use Rattle.operations.specs.Meaning.{reply_map};
 ghost use Rattle.operations.specs.Changed.{DifferBy, names_in};
@@ -103,7 +103,7 @@ fn own(objects: &mut Objects, queues: &mut Queues, cap: Cap, request: Request) -
     requires sizes { length queues.old.sleepers ≡ size_of objects.old.items Process }
     requires agrees { Agrees (runs_of objects.old queues.old) }
     ensures fulfils { let settled =
-        settled_row (own_table Stored objects.old cap request cap.kind (w1 request)) in
+        settled_in (own_table Stored objects.old cap request cap.kind) (w1 request) in
         FulfilsAll settled objects.old queues.old result objects.new queues.new }
     ensures agrees { Agrees (runs_of objects.new queues.new) }
 {

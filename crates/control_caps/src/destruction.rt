@@ -8,7 +8,7 @@ ghost use Rattle.object_store.specs.Ahead.{NoneAhead};
 ghost use Rattle.schedules.specs.Ready.{Agrees, runs_of};
 ghost use Rattle.operations.specs.System.{system, Stored};
 ghost use Rattle.operations.specs.Change.{applied_all};
-ghost use Rattle.operations.specs.Row.{settled, settled_row};
+ghost use Rattle.operations.specs.Row.{settled, settled_in};
 ghost use Rattle.operations.specs.Request.{w1};
 ghost use Rattle.operations.specs.Control.{range_table, destroy_row, destruction_of, is_process};
 ghost use Rattle.operations.specs.Fulfils.{FulfilsAll};
@@ -28,7 +28,7 @@ pub(crate) fn range(objects: &mut Objects, queues: &mut Queues, request: Request
     requires sizes { length queues.old.sleepers ≡ size_of objects.old.items Process }
     requires agrees { Agrees (runs_of objects.old queues.old) }
     ensures fulfils { let settled =
-        settled_row (range_table Stored objects.old request (w1 request)) in
+        settled_in (range_table Stored objects.old request) (w1 request) in
         FulfilsAll settled objects.old queues.old result objects.new queues.new }
     ensures agrees { Agrees (runs_of objects.new queues.new) }
 {

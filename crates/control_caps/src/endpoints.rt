@@ -2,7 +2,7 @@
 ghost use Rattle.std.specs.Prelude.{◌≡◌, [], true};
 ghost use Rattle.cap_format.specs.declared.kind.CapKind.TheVariants.{Endpoint};
 ghost use Rattle.object_store.specs.Meaning.{is_live};
-ghost use Rattle.operations.specs.Row.{reply_of, settled, settled_row};
+ghost use Rattle.operations.specs.Row.{reply_of, settled, settled_in};
 ghost use Rattle.operations.specs.Request.{w1};
 ghost use Rattle.operations.specs.Control.{endpoint_table, setrecipient_row, getid_row, setid_row, setmatch_row, makeentry_row, setpayload_row};
 ghost use Rattle.operations.specs.Fulfils.{Fulfils};
@@ -17,7 +17,7 @@ pub(crate) fn endpoint(objects: &mut Objects, cap: Cap, request: Request) -> Rep
     requires kind { cap.kind ≡ Endpoint }
     requires live { is_live objects.old.items cap ≡ true }
     ensures fulfils { let settled =
-        settled_row (endpoint_table objects.old cap request (w1 request)) in
+        settled_in (endpoint_table objects.old cap request) (w1 request) in
         Fulfils settled objects.old result objects.new }
     ensures processes { objects.new.contents.processes ≡ objects.old.contents.processes }
 {

@@ -7,7 +7,7 @@ ghost use Rattle.object_store.specs.Meaning.{is_live};
 ghost use Rattle.schedules.specs.Queues.{left};
 ghost use Rattle.schedules.specs.Standing.{standing};
 ghost use Rattle.schedules.specs.Ready.{Agrees, runs_of};
-ghost use Rattle.operations.specs.Row.{settled, settled_row};
+ghost use Rattle.operations.specs.Row.{settled, settled_in};
 ghost use Rattle.operations.specs.Request.{w1};
 ghost use Rattle.operations.specs.Control.{process_table, resume_row, stop_row, is_faulted};
 ghost use Rattle.operations.specs.Fulfils.{FulfilsAll};
@@ -32,7 +32,7 @@ pub(crate) fn process(
     requires sizes { length queues.old.sleepers ≡ size_of objects.old.items Process }
     requires agrees { Agrees (runs_of objects.old queues.old) }
     ensures fulfils { let settled =
-        settled_row (process_table objects.old cap request (w1 request)) in
+        settled_in (process_table objects.old cap request) (w1 request) in
         FulfilsAll settled objects.old queues.old result objects.new queues.new }
     ensures agrees { Agrees (runs_of objects.new queues.new) }
 {

@@ -2,7 +2,7 @@
 ghost use Rattle.std.specs.Prelude.{◌≡◌, [], Some, None, Option};
 ghost use Rattle.cap_format.specs.declared.kind.CapKind.TheVariants.{Schedule};
 ghost use Rattle.operations.specs.System.{Stored};
-ghost use Rattle.operations.specs.Row.{reply_of, settled, settled_row};
+ghost use Rattle.operations.specs.Row.{reply_of, settled, settled_in};
 ghost use Rattle.operations.specs.Request.{w1};
 ghost use Rattle.operations.specs.Control.{schedule_table, discrim_table, lower_row, getcap_row, classify_row};
 
@@ -14,8 +14,8 @@ use operations::{hand_over, refuse, tell};
 #[tactic(auto, unfolding(operations::specs::Control::schedule_table, operations::specs::Control::priority_row))]
 pub(crate) fn schedule(cap: Cap, request: Request) -> Reply
     requires { cap.kind ≡ Schedule }
-    ensures reply { result ≡ reply_of (settled_row (schedule_table cap request (w1 request))) }
-    ensures quiet { (settled_row (schedule_table cap request (w1 request))).answer.changes ≡ [] }
+    ensures reply { result ≡ reply_of (settled_in (schedule_table cap request) (w1 request)) }
+    ensures quiet { (settled_in (schedule_table cap request) (w1 request)).answer.changes ≡ [] }
 {
     match request.words[0] {
         8 => tell(cap.object(), 0, 0),
@@ -41,8 +41,8 @@ fn lower(cap: Cap, request: Request) -> Reply
 /// A request that Discrim alone knows.
 #[tactic(auto, unfolding(operations::specs::Control::discrim_table, operations::specs::Control::classify_row))]
 pub(crate) fn discrim(request: Request) -> Reply
-    ensures reply { result ≡ reply_of (settled_row (discrim_table request (w1 request))) }
-    ensures quiet { (settled_row (discrim_table request (w1 request))).answer.changes ≡ [] }
+    ensures reply { result ≡ reply_of (settled_in (discrim_table request) (w1 request)) }
+    ensures quiet { (settled_in (discrim_table request) (w1 request)).answer.changes ≡ [] }
 {
     match request.words[0] {
         8 => {

@@ -10,7 +10,7 @@ use Rattle.fault_path.specs.Fault.{fault_names}
 use Rattle.invocation.specs.Answerer.{Answer}
 use Rattle.invocation.specs.Answerer.Answer.{Dead, Open, Busy}
 use Rattle.invocation.specs.Invocation.{InvocationValue}
-use Rattle.operations.specs.Row.{refused, settled_row, reply_of}
+use Rattle.operations.specs.Row.{refused, reply_of, settled_in}
 use Rattle.string_move.specs.declared.piece.Piece.{Piece}
 use Rattle.string_move.specs.Move.{page_names}
 use Rattle.machine_state.specs.State.{State}
@@ -106,7 +106,7 @@ unfolding kernlog_op
 covers_log found s p inv c covers = by (asked_number inv == 8) (is_no_log inv.length)
   where
     by : (asks none : Bool)
-        → Covers found (if asks then (if none then answered_call s p inv (reply_of (refused RequestError)) else log_string s p inv) else answered_call s p inv (reply_of (settled_row (kind_table c (asked_number inv))))).changed
+        → Covers found (if asks then (if none then answered_call s p inv (reply_of (refused RequestError)) else log_string s p inv) else answered_call s p inv (reply_of (settled_in (kind_table c) (asked_number inv)))).changed
     by true true = covers_none found
     by true false = covers
     by false none = covers_none found

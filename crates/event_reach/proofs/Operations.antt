@@ -1,11 +1,11 @@
 -- Which objects an operation on a capability that is of no memory kind changes: processes, and the one that it names, or
 -- what is sent to a range.
-use Rattle.std.proofs.Common.{◌≡◌, ◌≢◌, ◌⊎◌, inl, inr, ℕ, ◌==◌, slice_get, ap, subst, Bool, true, false, if◌then◌else◌, List, [], ◌∷◌, Option, Some, None, refl}
+use Rattle.std.proofs.Common.{◌≡◌, ◌≢◌, ◌⊎◌, inl, inr, ℕ, slice_get, ap, subst, Bool, true, false, if◌then◌else◌, List, [], ◌∷◌, Option, Some, None, refl}
 use Rattle.std.proofs.lemmas.Bool.{cond_both}
 use Rattle.cap_format.specs.declared.kind.CapKind.{CapKind}
 use Rattle.cap_format.specs.declared.kind.CapKind.TheVariants.{Endpoint, Process, Schedule, Range, Discrim}
 use Rattle.cap_format.specs.declared.code.Code.{Code}
-use Rattle.cap_format.specs.declared.code.Code.TheVariants.{UnknownRequest, InvalidCap}
+use Rattle.cap_format.specs.declared.code.Code.TheVariants.{InvalidCap}
 use Rattle.cap_format.specs.declared.request.Request.{Request}
 use Rattle.cap_format.specs.Kind.{kind_with}
 use Rattle.cap_format.specs.Capability.{Capability}
@@ -20,12 +20,11 @@ use Rattle.invocation.specs.Invocation.{InvocationValue}
 use Rattle.operations.specs.System.{System, Meant}
 use Rattle.operations.specs.Change.{Left, ProcessIs, Woken, Destroyed}
 use Rattle.operations.specs.Changed.{names_in}
-use Rattle.operations.specs.Row.{Settled, refused, granted, settled, settled_row}
+use Rattle.operations.specs.Row.{Settled, refused, granted, settled}
 use Rattle.operations.specs.Request.{w1, w2, w3}
 use Rattle.operations.specs.Memory.{kind_row}
 use Rattle.operations.specs.Control.{setrecipient_row, getid_row, setid_row, setmatch_row, makeentry_row, setpayload_row, endpoint_table, getreg_row, setreg_row, getcapreg_row, setcapreg_row, getslot_row, setslot_row, tells_state, process_of, getstate_row, resume_row, stop_row, process_table, priority_row, lower_row, schedule_table, obtained, getcap_row, is_process, destruction_of, destroy_row, range_table, classify_row, discrim_table, own_table, control_table, is_null, control_operation}
-use Rattle.operations.proofs.Settled.{by_row}
-use Rattle.operations.proofs.Fits.{table_fits}
+use Rattle.operations.proofs.Settled.{◌▸◌, EachAnswer, by_table}
 use Rattle.machine_state.specs.State.{State, process, pc_of}
 use Rattle.machine_state.specs.Setters.{advance}
 use Rattle.machine_state.specs.Operation.{first_sent, request_of}
@@ -57,56 +56,22 @@ of_refusal found code w = covers_none found
 process_within : (found : List ObjectName) (p : ℕ) → (w : System) → Covers found (object_name Process p ∷ [])
 process_within found p w = covers_process found [] p (covers_none found)
 
-endpoint-within : (s : Store) (c : Capability) (r : Request) (n : ℕ) → Within (object_name Endpoint c.object ∷ []) (settled_row (endpoint_table s c r n))
-unfolding endpoint_table setrecipient_row getid_row setid_row setmatch_row makeentry_row setpayload_row
-endpoint-within s c r n =
-    let found : List ObjectName = object_name Endpoint c.object ∷ [] in
-    let Ends : Settled → Type 0 = Within found in
-    let none = nothing_within found in
-    let same : (w : System) → Covers found found = λ w. covers_same found in
-    table_fits Ends (n == 8) _ _ (by_row Ends (of_refusal found) (setrecipient_row s c r) same)
-    (table_fits Ends (n == 9) _ _ (by_row Ends (of_refusal found) (getid_row s c) none)
-    (table_fits Ends (n == 10) _ _ (by_row Ends (of_refusal found) (setid_row s c r) same)
-    (table_fits Ends (n == 11) _ _ (by_row Ends (of_refusal found) (setmatch_row s c r) same)
-    (table_fits Ends (n == 12) _ _ (by_row Ends (of_refusal found) (makeentry_row c r) none)
-    (table_fits Ends (n == 13) _ _ (by_row Ends (of_refusal found) (setpayload_row s c r) same)
-    (of_refusal found UnknownRequest))))))
-
 state-within : (found : List ObjectName) (state : RunState) → Within found (granted (tells_state state))
 state-within found Running w = covers_none found
 state-within found (Receiving accept) w = covers_none found
 state-within found (Faulted code address) w = covers_none found
 
-process-within : (found : List ObjectName) (s : Store) (c : Capability) (r : Request) (n : ℕ) → Within found (settled_row (process_table s c r n))
+process-within : (found : List ObjectName) (s : Store) (c : Capability) (r : Request) → EachAnswer (Within found) (process_table s c r)
 unfolding process_table getreg_row setreg_row getcapreg_row setcapreg_row getslot_row setslot_row getstate_row resume_row stop_row
-process-within found s c r n =
-    let Ends : Settled → Type 0 = Within found in
+process-within found s c r =
     let none = nothing_within found in
     let one = process_within found c.object in
-    table_fits Ends (n == 8) _ _ (by_row Ends (of_refusal found) (getreg_row s c r) none)
-    (table_fits Ends (n == 9) _ _ (by_row Ends (of_refusal found) (setreg_row s c r) one)
-    (table_fits Ends (n == 10) _ _ (by_row Ends (of_refusal found) (getcapreg_row s c r) none)
-    (table_fits Ends (n == 11) _ _ (by_row Ends (of_refusal found) (setcapreg_row s c r) one)
-    (table_fits Ends (n == 12) _ _ (by_row Ends (of_refusal found) (getslot_row s c r) none)
-    (table_fits Ends (n == 13) _ _ (by_row Ends (of_refusal found) (setslot_row s c r) one)
-    (table_fits Ends (n == 14) _ _ (by_row Ends (of_refusal found) (getstate_row s c) (state-within found (process_of s c).state))
-    (table_fits Ends (n == 15) _ _ (by_row Ends (of_refusal found) (resume_row s c) one)
-    (table_fits Ends (n == 16) _ _ (by_row Ends (of_refusal found) (stop_row s c) one)
-    (of_refusal found UnknownRequest)))))))))
+    none ▸ one ▸ none ▸ one ▸ none ▸ one ▸ state-within found (process_of s c).state ▸ one ▸ one ▸ tt
 
-schedule-within : (found : List ObjectName) (c : Capability) (r : Request) (n : ℕ) → Within found (settled_row (schedule_table c r n))
-unfolding schedule_table priority_row lower_row
-schedule-within found c r n =
-    let Ends : Settled → Type 0 = Within found in
-    let none = nothing_within found in
-    table_fits Ends (n == 8) _ _ (by_row Ends (of_refusal found) (priority_row c) none)
-    (table_fits Ends (n == 9) _ _ (by_row Ends (of_refusal found) (lower_row c r) none)
-    (of_refusal found UnknownRequest))
-
-obtained-within : (found : List ObjectName) (s : Store) (kind : Option CapKind) (n : ℕ) → Within found (settled (obtained Meant s kind n))
+obtained-within : (found : List ObjectName) (s : Store) (kind : Option CapKind) (n : ℕ) → Within found (granted (obtained Meant s kind n).answer)
 unfolding obtained
 obtained-within found s None n = nothing_within found
-obtained-within found s (Some kind) n = by_row (Within found) (of_refusal found) (obtained Meant s (Some kind) n) (nothing_within found)
+obtained-within found s (Some kind) n = nothing_within found
 
 -- a destruction names what is destroyed, and those that it wakes
 destruction-within : (s : Store) (kind : CapKind) (n : ℕ) (w : System) → Covers (object_name kind n ∷ []) (names_in Meant w (destruction_of s kind n))
@@ -117,35 +82,33 @@ destruction-within s kind n w = by (is_process kind)
     by true = covers_process _ _ n (covers_both _ _ (object_name kind n ∷ []) (covers_processes _ _) (covers_same (object_name kind n ∷ [])))
     by false = covers_same (object_name kind n ∷ [])
 
-range-within : (s : Store) (r : Request) (n : ℕ) → Within (object_name r.sent.kind r.sent.object ∷ []) (settled_row (range_table Meant s r n))
+range-within : (s : Store) (r : Request) → EachAnswer (Within (object_name r.sent.kind r.sent.object ∷ [])) (range_table Meant s r)
 unfolding range_table getcap_row destroy_row
-range-within s r n =
-    let found : List ObjectName = object_name r.sent.kind r.sent.object ∷ [] in
-    let Ends : Settled → Type 0 = Within found in
-    table_fits Ends (n == 8) _ _ (obtained-within found s (kind_with (w2 r)) (w3 r))
-    (table_fits Ends (n == 9) _ _ (by_row Ends (of_refusal found) (destroy_row s r.sent) (destruction-within s r.sent.kind r.sent.object))
-    (of_refusal found UnknownRequest))
+range-within s r = obtained-within _ s (kind_with (w2 r)) (w3 r) ▸ destruction-within s r.sent.kind r.sent.object ▸ tt
 
-discrim-within : (found : List ObjectName) (r : Request) (n : ℕ) → Within found (settled_row (discrim_table r n))
-unfolding discrim_table classify_row
-discrim-within found r n = table_fits (Within found) (n == 8) _ _ (by_row (Within found) (of_refusal found) (classify_row r.sent) (nothing_within found)) (of_refusal found UnknownRequest)
+own-within : (s : Store) (c : Capability) (r : Request) (kind : CapKind) → EachAnswer (Within (asked_name kind c r.sent ∷ [])) (own_table Meant s c r kind)
+unfolding own_table endpoint_table setrecipient_row getid_row setid_row setmatch_row makeentry_row setpayload_row schedule_table priority_row lower_row discrim_table classify_row
+own-within s c r Endpoint =
+    let none = nothing_within (object_name Endpoint c.object ∷ []) in
+    let same : (w : System) → Covers (object_name Endpoint c.object ∷ []) (object_name Endpoint c.object ∷ []) = λ w. covers_same (object_name Endpoint c.object ∷ []) in
+    same ▸ none ▸ same ▸ same ▸ none ▸ same ▸ tt
+own-within s c r Process = process-within (object_name Process c.object ∷ []) s c r
+own-within s c r Schedule = nothing_within (object_name Schedule c.object ∷ []) ▸ nothing_within (object_name Schedule c.object ∷ []) ▸ tt
+own-within s c r Range = range-within s r
+own-within s c r Discrim = nothing_within (object_name Discrim c.object ∷ []) ▸ tt
+own-within s c r kind = tt
 
-own-within : (s : Store) (c : Capability) (r : Request) (kind : CapKind) (n : ℕ) → Within (asked_name kind c r.sent ∷ []) (settled_row (own_table Meant s c r kind n))
-unfolding own_table
-own-within s c r Endpoint n = endpoint-within s c r n
-own-within s c r Process n = process-within _ s c r n
-own-within s c r Schedule n = schedule-within _ c r n
-own-within s c r Range n = range-within s r n
-own-within s c r Discrim n = discrim-within _ r n
-own-within s c r kind n = of_refusal _ UnknownRequest
+table-within : (s : Store) (c : Capability) (r : Request) → EachAnswer (Within (asked_name c.kind c r.sent ∷ [])) (control_table Meant s c r c.kind)
+unfolding control_table kind_row
+table-within s c r = nothing_within (asked_name c.kind c r.sent ∷ []) ▸ own-within s c r c.kind
 
 -- of every operation of these kinds
 pub control_covers : (s : Store) (c : Capability) (r : Request) (w : System) → Covers (asked_name c.kind c r.sent ∷ []) (names_in Meant w (control_operation Meant s c r).answer.changes)
-unfolding control_operation control_table kind_row
+unfolding control_operation
 control_covers s c r =
     let found : List ObjectName = asked_name c.kind c r.sent ∷ [] in
     cond_both (is_null c.kind) _ _ (Within found) (λ e. of_refusal found InvalidCap)
-    (λ e. table_fits (Within found) (w1 r == 0) _ _ (by_row (Within found) (of_refusal found) (kind_row c) (nothing_within found)) (own-within s c r c.kind (w1 r)))
+    (λ e. by_table (Within found) (of_refusal found) (control_table Meant s c r c.kind) (table-within s c r) (w1 r))
 
 -- where it is a range's, it is what is sent
 pub range_covers : (s : Store) (c : Capability) (r : Request) (w : System) (kind : CapKind) (n : ℕ) → c.kind ≡ Range → r.sent.kind ≡ kind → r.sent.object ≡ n → Covers (object_name kind n ∷ []) (names_in Meant w (control_operation Meant s c r).answer.changes)

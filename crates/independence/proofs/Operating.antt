@@ -1,10 +1,11 @@
 -- Operations of the kernel for the right: the same request is settled the same in two systems side by side, and what is changed
 -- leaves them so.
-use Rattle.std.proofs.Common.{◌≡◌, ℕ, Bool, true, false, ◌==◌, if◌then◌else◌, List, [], ◌∷◌, length, Option, Some, None, refl, sym, ◌∙◌, ap, ap₂, subst}
+use Rattle.std.proofs.Common.{◌≡◌, ℕ, true, false, List, [], ◌∷◌, length, refl, sym, ◌∙◌, ap, ap₂, subst}
 use Rattle.std.proofs.lemmas.Bool.{cond_both}
 use Rattle.cap_format.specs.declared.kind.CapKind.{CapKind}
 use Rattle.cap_format.specs.declared.kind.CapKind.TheVariants.{Page, CapPage, Gpt, Endpoint, Process}
-use Rattle.cap_format.specs.declared.code.Code.TheVariants.{UnknownRequest}
+use Rattle.cap_format.specs.declared.code.Code.{Code}
+use Rattle.cap_format.specs.declared.code.Code.TheVariants.{InvalidCap}
 use Rattle.cap_format.specs.declared.request.Request.{Request}
 use Rattle.cap_format.specs.Kind.{is_memory}
 use Rattle.cap_format.specs.Capability.{Capability, entry}
@@ -16,10 +17,11 @@ use Rattle.schedules.specs.Queues.{QueuesValue, sleepers_of}
 use Rattle.operations.specs.System.{System, Meant}
 use Rattle.operations.specs.Change.{Change, PageIs, CapPageIs, SlotIs, HeaderIs, EndpointIs, ProcessIs, Left as LeftPlace, Readied, Woken, Destroyed, applied, applied_all}
 use Rattle.operations.specs.Request.{w1, w2}
-use Rattle.operations.specs.Row.{Row, Settled, Answer, refused, settled_row}
+use Rattle.operations.specs.Row.{Settled, Answer, refused}
 use Rattle.operations.specs.Memory.{kind_row, memory_operation}
 use Rattle.operations.specs.Control as control
 use Rattle.operations.specs.Control.{control_operation, endpoint_of, is_null}
+use Rattle.operations.proofs.Settled.{◌▸◌, EachAnswer, by_table}
 use Rattle.confinement.specs.declared.cut_side.CutSide.TheVariants.{Right}
 use Rattle.confinement.specs.Cut.{Cut, side_of, MayHold}
 use Rattle.confinement.specs.Acts.{Permitted, AllPermitted, AnswerPermitted, MayHoldIf}
@@ -72,44 +74,35 @@ module _ (cut : Cut) where
   abbrev SettledRight : Settled → Type 0
   SettledRight settled = AnswerOfRight settled.answer
 
-  abbrev RowRight : Option Row → Type 0
-  RowRight row = SettledRight (settled_row row)
+  refused-right : (code : Code) → SettledRight (refused code)
+  refused-right code = record { changes = tt; cap = tt }
 
-  none-right : RowRight None
-  none-right = record { changes = tt; cap = tt }
-
-  some-right : (row : Row) → AnswerOfRight row.answer → RowRight (Some row)
-  some-right row may =
-      let nothing : AnswerOfRight (refused UnknownRequest).answer = record { changes = tt; cap = tt } in
-      cond_both row.no_access _ _ SettledRight (λ e. nothing) (λ e. cond_both row.request_error _ _ SettledRight (λ e. nothing) (λ e. cond_both row.count_spent _ _ SettledRight (λ e. nothing) (λ e. may)))
-
-  if_right : (b : Bool) (x y : Option Row) → RowRight x → RowRight y → RowRight (if b then x else y)
-  if_right true x y first second = first
-  if_right false x y first second = second
-
-  endpoint-right : (s : Store) (c : Capability) (r : Request) (number : ℕ) → side_of cut Endpoint c.object ≡ Right → RowRight (control.endpoint_table s c r number)
+  endpoint-right : (s : Store) (c : Capability) (r : Request) → side_of cut Endpoint c.object ≡ Right → EachAnswer SettledRight (control.endpoint_table s c r)
   unfolding control.endpoint_table control.setrecipient_row control.getid_row control.setid_row control.setmatch_row control.makeentry_row control.setpayload_row
-  endpoint-right s c r number right =
-      if_right (number == 8) _ _ (some-right (control.setrecipient_row s c r) (record { changes = (right, tt); cap = tt }))
-      (if_right (number == 9) _ _ (some-right (control.getid_row s c) (record { changes = tt; cap = tt }))
-      (if_right (number == 10) _ _ (some-right (control.setid_row s c r) (record { changes = (right, tt); cap = tt }))
-      (if_right (number == 11) _ _ (some-right (control.setmatch_row s c r) (record { changes = (right, tt); cap = tt }))
-      (if_right (number == 12) _ _ (some-right (control.makeentry_row c r) (record { changes = tt; cap = may-own cut Right (entry c.object c.count (w2 r)) refl right }))
-      (if_right (number == 13) _ _ (some-right (control.setpayload_row s c r) (record { changes = (right, tt); cap = tt })) none-right)))))
+  endpoint-right s c r right =
+      record { changes = (right, tt); cap = tt }
+      ▸ record { changes = tt; cap = tt }
+      ▸ record { changes = (right, tt); cap = tt }
+      ▸ record { changes = (right, tt); cap = tt }
+      ▸ record { changes = tt; cap = may-own cut Right (entry c.object c.count (w2 r)) refl right }
+      ▸ record { changes = (right, tt); cap = tt }
+      ▸ tt
 
   -- ---- requests
 
   module _ (s : Store) (c : Capability) (may : MayHold cut Right c) (r : Request) (sent : MayHold cut Right r.sent) where
-    endpoint_own-right : c.kind ≡ Endpoint → (number : ℕ) → RowRight (control.own_table Meant s c r c.kind number)
+    own-right : c.kind ≡ Endpoint → EachAnswer SettledRight (control.own_table Meant s c r c.kind)
     unfolding control.own_table
-    endpoint_own-right k number =
-        subst (λ (j : CapKind). RowRight (control.own_table Meant s c r j number)) (sym k) (endpoint-right s c r number (side-endpoint cut Right c k may))
+    own-right k = subst (λ (j : CapKind). EachAnswer SettledRight (control.own_table Meant s c r j)) (sym k) (endpoint-right s c r (side-endpoint cut Right c k may))
+
+    table-right : c.kind ≡ Endpoint → EachAnswer SettledRight (control.control_table Meant s c r c.kind)
+    unfolding control.control_table kind_row
+    table-right k = record { changes = tt; cap = tt } ▸ own-right k
 
     endpoint_operation-right : c.kind ≡ Endpoint → SettledRight (control_operation Meant s c r)
-    unfolding control_operation control.control_table kind_row
+    unfolding control_operation
     endpoint_operation-right k =
-        cond_both (is_null c.kind) _ _ SettledRight (λ e. record { changes = tt; cap = tt })
-        (λ e. if_right (w1 r == 0) (Some (kind_row c)) (control.own_table Meant s c r c.kind (w1 r)) (some-right (kind_row c) (record { changes = tt; cap = tt })) (endpoint_own-right k (w1 r)))
+        cond_both (is_null c.kind) _ _ SettledRight (λ e. refused-right InvalidCap) (λ e. by_table SettledRight refused-right (control.control_table Meant s c r c.kind) (table-right k) (w1 r))
 
     -- what a request to a capability of no memory kind does
     pub control-right : ((c.kind ≡ Endpoint → ⊥) → Finds cut Right s c) → AnswerOfRight (control_operation Meant s c r).answer

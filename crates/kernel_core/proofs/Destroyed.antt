@@ -1,10 +1,9 @@
 -- Which object the operations of control kinds destroy: that whose header is the item that changes.
-use Rattle.std.proofs.Common.{◌≡◌, ℕ, ◌==◌, Bool, true, false, if◌then◌else◌, [], ◌∷◌, Option, Some, None, refl, sym, ap, ◌∙◌}
+use Rattle.std.proofs.Common.{◌≡◌, ℕ, Bool, true, false, if◌then◌else◌, [], ◌∷◌, Option, Some, None, refl, sym, ap, ◌∙◌}
 use Rattle.std.proofs.lemmas.Bool.{cond_both}
 use Rattle.cap_format.specs.declared.kind.CapKind.{CapKind}
 use Rattle.cap_format.specs.declared.kind.CapKind.TheVariants.{Endpoint, Process, Schedule, Range, Discrim}
 use Rattle.cap_format.specs.declared.code.Code.{Code}
-use Rattle.cap_format.specs.declared.code.Code.TheVariants.{UnknownRequest}
 use Rattle.cap_format.specs.declared.item.Item.{Item}
 use Rattle.cap_format.specs.declared.request.Request.{Request}
 use Rattle.cap_format.specs.Kind.{kind_with}
@@ -15,12 +14,11 @@ use Rattle.process_objects.specs.Process.{with_state, stopped}
 use Rattle.object_store.specs.Store.{Store, process_at}
 use Rattle.operations.specs.System.{Reading, Meant}
 use Rattle.operations.specs.Change.{Left, ProcessIs, Woken, Destroyed, item_in}
-use Rattle.operations.specs.Row.{Settled, refused, granted, settled, settled_row}
+use Rattle.operations.specs.Row.{Settled, refused, granted, settled}
 use Rattle.operations.specs.Request.{w1, w2, w3}
 use Rattle.operations.specs.Memory.{kind_row}
 use Rattle.operations.specs.Control.{setrecipient_row, getid_row, setid_row, setmatch_row, makeentry_row, setpayload_row, endpoint_table, getreg_row, setreg_row, getcapreg_row, setcapreg_row, getslot_row, setslot_row, tells_state, process_of, getstate_row, resume_row, stop_row, process_table, priority_row, lower_row, schedule_table, obtained, getcap_row, is_process, destruction_of, destroy_row, range_table, classify_row, discrim_table, own_table, control_table, is_null, control_operation}
-use Rattle.operations.proofs.Settled.{by_row}
-use Rattle.operations.proofs.Fits.{table_fits}
+use Rattle.operations.proofs.Settled.{◌▸◌, EachAnswer, by_table}
 use Rattle.kernel_core.specs.KernelOperation.{destroyed_by, header_name}
 
 -- what is destroyed is the object whose header changes
@@ -30,47 +28,19 @@ Tells settled = destroyed_by settled.answer.changes ≡ header_name (item_in set
 of_refusal : (code : Code) → Tells (refused code)
 of_refusal code = refl
 
-endpoint-tells : (s : Store) (c : Capability) (r : Request) (n : ℕ) → Tells (settled_row (endpoint_table s c r n))
-unfolding endpoint_table setrecipient_row getid_row setid_row setmatch_row makeentry_row setpayload_row
-endpoint-tells s c r n =
-    table_fits Tells (n == 8) _ _ (by_row Tells of_refusal (setrecipient_row s c r) refl)
-    (table_fits Tells (n == 9) _ _ (by_row Tells of_refusal (getid_row s c) refl)
-    (table_fits Tells (n == 10) _ _ (by_row Tells of_refusal (setid_row s c r) refl)
-    (table_fits Tells (n == 11) _ _ (by_row Tells of_refusal (setmatch_row s c r) refl)
-    (table_fits Tells (n == 12) _ _ (by_row Tells of_refusal (makeentry_row c r) refl)
-    (table_fits Tells (n == 13) _ _ (by_row Tells of_refusal (setpayload_row s c r) refl)
-    (of_refusal UnknownRequest))))))
-
 state-tells : (state : RunState) → Tells (granted (tells_state state))
 state-tells Running = refl
 state-tells (Receiving accept) = refl
 state-tells (Faulted code address) = refl
 
-process-tells : (s : Store) (c : Capability) (r : Request) (n : ℕ) → Tells (settled_row (process_table s c r n))
+process-tells : (s : Store) (c : Capability) (r : Request) → EachAnswer Tells (process_table s c r)
 unfolding process_table getreg_row setreg_row getcapreg_row setcapreg_row getslot_row setslot_row getstate_row resume_row stop_row
-process-tells s c r n =
-    table_fits Tells (n == 8) _ _ (by_row Tells of_refusal (getreg_row s c r) refl)
-    (table_fits Tells (n == 9) _ _ (by_row Tells of_refusal (setreg_row s c r) refl)
-    (table_fits Tells (n == 10) _ _ (by_row Tells of_refusal (getcapreg_row s c r) refl)
-    (table_fits Tells (n == 11) _ _ (by_row Tells of_refusal (setcapreg_row s c r) refl)
-    (table_fits Tells (n == 12) _ _ (by_row Tells of_refusal (getslot_row s c r) refl)
-    (table_fits Tells (n == 13) _ _ (by_row Tells of_refusal (setslot_row s c r) refl)
-    (table_fits Tells (n == 14) _ _ (by_row Tells of_refusal (getstate_row s c) (state-tells (process_of s c).state))
-    (table_fits Tells (n == 15) _ _ (by_row Tells of_refusal (resume_row s c) refl)
-    (table_fits Tells (n == 16) _ _ (by_row Tells of_refusal (stop_row s c) refl)
-    (of_refusal UnknownRequest)))))))))
+process-tells s c r = refl ▸ refl ▸ refl ▸ refl ▸ refl ▸ refl ▸ state-tells (process_of s c).state ▸ refl ▸ refl ▸ tt
 
-schedule-tells : (c : Capability) (r : Request) (n : ℕ) → Tells (settled_row (schedule_table c r n))
-unfolding schedule_table priority_row lower_row
-schedule-tells c r n =
-    table_fits Tells (n == 8) _ _ (by_row Tells of_refusal (priority_row c) refl)
-    (table_fits Tells (n == 9) _ _ (by_row Tells of_refusal (lower_row c r) refl)
-    (of_refusal UnknownRequest))
-
-obtained-tells : (reading : Reading) (s : Store) (kind : Option CapKind) (n : ℕ) → Tells (settled (obtained reading s kind n))
+obtained-tells : (reading : Reading) (s : Store) (kind : Option CapKind) (n : ℕ) → Tells (granted (obtained reading s kind n).answer)
 unfolding obtained
 obtained-tells reading s None n = refl
-obtained-tells reading s (Some kind) n = by_row Tells of_refusal (obtained reading s (Some kind) n) refl
+obtained-tells reading s (Some kind) n = refl
 
 destruction-tells : (s : Store) (kind : CapKind) (n : ℕ) → destroyed_by (destruction_of s kind n) ≡ header_name (item_in (destruction_of s kind n))
 unfolding destruction_of
@@ -80,30 +50,27 @@ destruction-tells s kind n = by (is_process kind)
     by true = refl
     by false = refl
 
-range-tells : (reading : Reading) (s : Store) (r : Request) (n : ℕ) → Tells (settled_row (range_table reading s r n))
+range-tells : (reading : Reading) (s : Store) (r : Request) → EachAnswer Tells (range_table reading s r)
 unfolding range_table getcap_row destroy_row
-range-tells reading s r n =
-    table_fits Tells (n == 8) _ _ (obtained-tells reading s (kind_with (w2 r)) (w3 r))
-    (table_fits Tells (n == 9) _ _ (by_row Tells of_refusal (destroy_row s r.sent) (destruction-tells s r.sent.kind r.sent.object))
-    (of_refusal UnknownRequest))
+range-tells reading s r = obtained-tells reading s (kind_with (w2 r)) (w3 r) ▸ destruction-tells s r.sent.kind r.sent.object ▸ tt
 
-discrim-tells : (r : Request) (n : ℕ) → Tells (settled_row (discrim_table r n))
-unfolding discrim_table classify_row
-discrim-tells r n = table_fits Tells (n == 8) _ _ (by_row Tells of_refusal (classify_row r.sent) refl) (of_refusal UnknownRequest)
+own-tells : (reading : Reading) (s : Store) (c : Capability) (r : Request) (kind : CapKind) → EachAnswer Tells (own_table reading s c r kind)
+unfolding own_table endpoint_table setrecipient_row getid_row setid_row setmatch_row makeentry_row setpayload_row schedule_table priority_row lower_row discrim_table classify_row
+own-tells reading s c r Endpoint = refl ▸ refl ▸ refl ▸ refl ▸ refl ▸ refl ▸ tt
+own-tells reading s c r Process = process-tells s c r
+own-tells reading s c r Schedule = refl ▸ refl ▸ tt
+own-tells reading s c r Range = range-tells reading s r
+own-tells reading s c r Discrim = refl ▸ tt
+own-tells reading s c r kind = tt
 
-own-tells : (reading : Reading) (s : Store) (c : Capability) (r : Request) (kind : CapKind) (n : ℕ) → Tells (settled_row (own_table reading s c r kind n))
-unfolding own_table
-own-tells reading s c r Endpoint n = endpoint-tells s c r n
-own-tells reading s c r Process n = process-tells s c r n
-own-tells reading s c r Schedule n = schedule-tells c r n
-own-tells reading s c r Range n = range-tells reading s r n
-own-tells reading s c r Discrim n = discrim-tells r n
-own-tells reading s c r kind n = refl
+table-tells : (reading : Reading) (s : Store) (c : Capability) (r : Request) → EachAnswer Tells (control_table reading s c r c.kind)
+unfolding control_table kind_row
+table-tells reading s c r = refl ▸ own-tells reading s c r c.kind
 
 -- of every operation of these kinds
 pub control_tells : (reading : Reading) (s : Store) (c : Capability) (r : Request) → destroyed_by (control_operation reading s c r).answer.changes ≡ header_name (item_in (control_operation reading s c r).answer.changes)
-unfolding control_operation control_table kind_row
-control_tells reading s c r = cond_both (is_null c.kind) _ _ Tells (λ e. refl) (λ e. table_fits Tells (w1 r == 0) _ _ (by_row Tells of_refusal (kind_row c) refl) (own-tells reading s c r c.kind (w1 r)))
+unfolding control_operation
+control_tells reading s c r = cond_both (is_null c.kind) _ _ Tells (λ e. refl) (λ e. by_table Tells of_refusal (control_table reading s c r c.kind) (table-tells reading s c r) (w1 r))
 
 -- of an item that such an operation changed: it tells what was destroyed
 pub header_tells : (s : Store) (c : Capability) (r : Request) (changed : Option Item) → changed ≡ item_in (control_operation Meant s c r).answer.changes → header_name changed ≡ destroyed_by (control_operation Meant s c r).answer.changes

@@ -22,7 +22,7 @@ use Rattle.rv32_user.specs.declared.effect.Effect.{Effect}
 use Rattle.rv32_user.specs.declared.effect.Effect.TheVariants.{Next, Load as LoadOf, Store as StoreOf, Syscall, Break, Misaligned}
 use Rattle.rv32_user.specs.Word.{next_of}
 use Rattle.rv32_user.specs.Step.{effect_of, registers_after, loaded}
-use Rattle.operations.specs.Row.{refused, granted, nothing, settled_row, reply_of}
+use Rattle.operations.specs.Row.{refused, granted, nothing, reply_of, settled_in}
 use Rattle.schedules.specs.Queues.{hart_of}
 use Rattle.invocation.specs.declared.callee.Callee.{Callee}
 use Rattle.invocation.specs.declared.callee.Callee.TheVariants.{Kernel, Open, Busy, Dead}
@@ -194,8 +194,8 @@ module _ (I : Type 0) (n : Notions) (m : Together I n) (y : Origins n) (r : Read
       answered-made inv reply is =
           onward s (λ i. advance (s i) p) (λ i. answered_call (s i) p inv reply) (advance-made s k) (λ l. z.replied (λ i. advance (s i) p) p inv.accept reply l own is)
 
-      kind-made : (inv : InvocationValue) (cap : Capability) → n.has cap → m.makes s (λ i. answered_call (s i) p inv (reply_of (settled_row (kind_table cap (asked_number inv)))))
-      kind-made inv cap may = answered-made inv (reply_of (settled_row (kind_table cap (asked_number inv)))) (y.kind cap (asked_number inv) may)
+      kind-made : (inv : InvocationValue) (cap : Capability) → n.has cap → m.makes s (λ i. answered_call (s i) p inv (reply_of (settled_in (kind_table cap) (asked_number inv))))
+      kind-made inv cap may = answered-made inv (reply_of (settled_in (kind_table cap) (asked_number inv))) (y.kind cap (asked_number inv) may)
 
     module _ (s : I → State) (k : m.kept s) (inv : InvocationValue) (asks : n.asks inv) where
       sysctl-made : (cap : Capability) → n.has cap → m.makes s (λ i. sysctl_op (s i) p inv cap)

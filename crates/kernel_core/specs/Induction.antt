@@ -21,7 +21,7 @@ use Rattle.rv32_user.specs.declared.effect.Effect.{Effect}
 use Rattle.rv32_user.specs.declared.effect.Effect.TheVariants.{Next, Load as LoadOf, Store as StoreOf, Misaligned}
 use Rattle.rv32_user.specs.Word.{next_of}
 use Rattle.rv32_user.specs.Step.{effect_of, registers_after, loaded}
-use Rattle.operations.specs.Row.{refused, granted, nothing, settled_row, reply_of}
+use Rattle.operations.specs.Row.{refused, granted, nothing, reply_of, settled_in}
 use Rattle.invocation.specs.declared.callee.Callee.TheVariants.{Kernel, Open, Busy}
 use Rattle.invocation.specs.Invocation.{InvocationValue, parsed}
 use Rattle.invocation.specs.Target.{callee}
@@ -124,7 +124,7 @@ pub record Origins (n : Notions) : Type 0 where
       → (sent_side s p inv).fault ≡ Some f → n.handler s p f.why.handler
   pub refusal : (code : Code) → n.reply (reply_of (refused code))
   pub grant : n.reply (reply_of (granted nothing))
-  pub kind : (cap : Capability) (number : ℕ) → n.has cap → n.reply (reply_of (settled_row (kind_table cap number)))
+  pub kind : (cap : Capability) (number : ℕ) → n.has cap → n.reply (reply_of (settled_in (kind_table cap) number))
 
 -- What a process reads is the same in each of the states, read at the first.
 pub record Reads (I : Type 0) (n : Notions) (m : Together I n) : Type 0 where

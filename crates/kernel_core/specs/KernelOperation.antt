@@ -13,7 +13,7 @@ use Rattle.process_objects.specs.Accept.{AcceptValue}
 use Rattle.object_store.specs.Object.{ObjectName, object_name}
 use Rattle.operations.specs.System.{Meant}
 use Rattle.operations.specs.Change.{Change, Destroyed, item_in}
-use Rattle.operations.specs.Row.{Row, Settled, nothing, granted, refused, settled_row, reply_of}
+use Rattle.operations.specs.Row.{Row, Settled, nothing, granted, refused, reply_of, settled_in}
 use Rattle.operations.specs.Memory.{kind_row, memory_operation}
 use Rattle.operations.specs.Control.{is_process, control_operation}
 use Rattle.invocation.specs.Invocation.{InvocationValue}
@@ -103,9 +103,9 @@ header_name _ = None
 
 -- ---- KernLog and SysCtl: each has one request beyond `kind`
 
--- a request that is none of theirs but `kind`
-abbrev pub kind_table : Capability → ℕ → Option Row
-kind_table cap number = if number == 0 then Some (kind_row cap) else None
+-- what they have besides: `kind` alone
+abbrev pub kind_table : Capability → List (ℕ × Row)
+kind_table cap = (0, kind_row cap) ∷ []
 
 -- SysCtl 8 halt: the machine is halted for good, and that is told
 abbrev pub halting : State → ℕ → InvocationValue → Outcome
@@ -115,7 +115,7 @@ halting s p inv = recorded (Halt p) (answered_call (halted s) p inv (reply_of (g
 unfoldable pub sysctl_op : State → ℕ → InvocationValue → Capability → Outcome
 sysctl_op s p inv cap =
     if asked_number inv == 8 then halting s p inv
-    else answered_call s p inv (reply_of (settled_row (kind_table cap (asked_number inv))))
+    else answered_call s p inv (reply_of (settled_in (kind_table cap) (asked_number inv)))
 
 -- a string that is no log: of no byte, or of more than 256
 abbrev pub is_no_log : ℕ → Bool
@@ -143,7 +143,7 @@ kernlog_op s p inv cap =
     if asked_number inv == 8 then
     (if is_no_log inv.length then answered_call s p inv (reply_of (refused RequestError))
     else log_string s p inv)
-    else answered_call s p inv (reply_of (settled_row (kind_table cap (asked_number inv))))
+    else answered_call s p inv (reply_of (settled_in (kind_table cap) (asked_number inv)))
 
 -- ---- all
 

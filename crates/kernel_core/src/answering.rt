@@ -3,7 +3,7 @@ ghost use Rattle.std.specs.Prelude.{◌≡◌, ◌<◌, [], ◌∷◌, None};
 ghost use Rattle.cap_format.specs.declared.kind.CapKind.TheVariants.{Process};
 ghost use Rattle.cap_format.specs.Capability.{bare};
 ghost use Rattle.object_store.specs.Store.{size_of};
-ghost use Rattle.operations.specs.Row.{settled_row, reply_of};
+ghost use Rattle.operations.specs.Row.{settled_in, reply_of};
 ghost use Rattle.machine_state.specs.State.{state_of};
 ghost use Rattle.machine_state.specs.Outcome.{process_name};
 ghost use Rattle.machine_state.specs.Came.{Leaves};
@@ -18,7 +18,7 @@ use walk_engine::Translator;
 /// The reply to a request that is none but `kind`.
 #[tactic(auto, unfolding(operations::specs::Memory::kind_row))]
 pub(crate) fn kind_reply(cap: Cap, number: u32) -> Reply
-    ensures reply { result ≡ reply_of (settled_row (kind_table (bare cap) number)) }
+    ensures reply { result ≡ reply_of (settled_in (kind_table (bare cap)) number) }
     ensures none { result.cap ≡ None }
 {
     match number {

@@ -2,7 +2,7 @@
 ghost use Rattle.std.specs.Prelude.{◌≡◌, [], true};
 ghost use Rattle.cap_format.specs.declared.kind.CapKind.TheVariants.{CapPage};
 ghost use Rattle.object_store.specs.Meaning.{is_live};
-ghost use Rattle.operations.specs.Row.{reply_of, settled, settled_row};
+ghost use Rattle.operations.specs.Row.{reply_of, settled, settled_in};
 ghost use Rattle.operations.specs.Request.{w1};
 ghost use Rattle.operations.specs.Memory.{cappage_table, clear_cappage_row, get_row, set_row};
 ghost use Rattle.operations.specs.Fulfils.{Fulfils};
@@ -18,7 +18,7 @@ pub(crate) fn cap_page(objects: &mut Objects, cap: Cap, request: Request) -> Rep
     requires kind { cap.kind ≡ CapPage }
     requires live { is_live objects.old.items cap ≡ true }
     ensures fulfils { let settled =
-        settled_row (cappage_table objects.old cap request (w1 request)) in
+        settled_in (cappage_table objects.old cap request) (w1 request) in
         Fulfils settled objects.old result objects.new }
 {
     match request.words[0] {

@@ -2,7 +2,7 @@
 ghost use Rattle.std.specs.Prelude.{◌≡◌, ◌+◌, ◌||◌, [], true};
 ghost use Rattle.cap_format.specs.declared.kind.CapKind.TheVariants.{Gpt};
 ghost use Rattle.object_store.specs.Meaning.{is_live};
-ghost use Rattle.operations.specs.Row.{reply_of, settled, settled_row};
+ghost use Rattle.operations.specs.Row.{reply_of, settled, settled_in};
 ghost use Rattle.operations.specs.Request.{w1};
 ghost use Rattle.operations.specs.Memory.{gpt_table, getslot_row, setslot_row, getheader_row, setheader_row, setwindow_row, opaque, read_only, reads};
 ghost use Rattle.operations.specs.Fulfils.{Fulfils};
@@ -26,7 +26,7 @@ pub(crate) fn gpt<L: Ledger>(
 ) -> Reply
     requires kind { cap.kind ≡ Gpt }
     requires live { is_live objects.old.items cap ≡ true }
-    ensures fulfils { let settled = settled_row (gpt_table objects.old cap request (w1 request)) in
+    ensures fulfils { let settled = settled_in (gpt_table objects.old cap request) (w1 request) in
         Fulfils settled objects.old result objects.new }
     ensures counted { fetches.new ≡ fetches.old + reads Gpt (w1 request) result.code }
 {

@@ -8,7 +8,7 @@ ghost use Rattle.object_store.specs.Object.{Stays, object_name};
 ghost use Rattle.schedules.specs.Queues.{QueuesValue};
 ghost use Rattle.operations.specs.System.{system, Stored, Meant};
 ghost use Rattle.operations.specs.Change.{applied_all};
-ghost use Rattle.operations.specs.Row.{reply_of, settled, settled_row};
+ghost use Rattle.operations.specs.Row.{reply_of, settled, settled_in};
 ghost use Rattle.operations.specs.Request.{w1, request_map};
 ghost use Rattle.operations.specs.Meaning.{reply_map};
 ghost use Rattle.operations.specs.Changed.{DifferBy};
@@ -97,7 +97,7 @@ fn own<L: Ledger>(
     requires live { is_live objects.old.items cap ≡ true }
     requires sent { is_live objects.old.items request.sent ≡ true }
     ensures fulfils { let settled =
-        settled_row (own_table objects.old cap request cap.kind (w1 request)) in
+        settled_in (own_table objects.old cap request cap.kind) (w1 request) in
         Fulfils settled objects.old result objects.new }
     ensures counted { fetches.new ≡ fetches.old + reads cap.kind (w1 request) result.code }
 {

@@ -3,7 +3,7 @@ ghost use Rattle.std.specs.Prelude.{◌≡◌, ◌<◌, true};
 ghost use Rattle.cap_format.specs.declared.kind.CapKind.TheVariants.{Page};
 ghost use Rattle.object_store.specs.Store.{size_of, page_at, with_page};
 ghost use Rattle.object_store.specs.Meaning.{is_live};
-ghost use Rattle.operations.specs.Row.{settled, settled_row};
+ghost use Rattle.operations.specs.Row.{settled, settled_in};
 ghost use Rattle.operations.specs.Request.{w1};
 ghost use Rattle.operations.specs.Memory.{page_table, clear_page_row, copy_row};
 ghost use Rattle.operations.specs.Fulfils.{Fulfils};
@@ -19,7 +19,7 @@ pub(crate) fn page(objects: &mut Objects, cap: Cap, request: Request) -> Reply
     requires kind { cap.kind ≡ Page }
     requires live { is_live objects.old.items cap ≡ true }
     requires sent { is_live objects.old.items request.sent ≡ true }
-    ensures fulfils { let settled = settled_row (page_table objects.old cap request (w1 request)) in
+    ensures fulfils { let settled = settled_in (page_table objects.old cap request) (w1 request) in
         Fulfils settled objects.old result objects.new }
 {
     match request.words[0] {

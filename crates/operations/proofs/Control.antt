@@ -4,7 +4,7 @@ use Rattle.std.specs.Option.{IfSome}
 use Rattle.std.proofs.lemmas.Bool.{cond_both, ltb-true}
 use Rattle.std.proofs.lemmas.List.Elements.{All-set}
 use Rattle.cap_format.specs.declared.kind.CapKind.{CapKind}
-use Rattle.cap_format.specs.declared.kind.CapKind.TheVariants.{Null, Page, CapPage, Gpt, Endpoint, Entry, Process, Schedule, Range, Discrim}
+use Rattle.cap_format.specs.declared.kind.CapKind.TheVariants.{Page, CapPage, Gpt, Endpoint, Entry, Process, Schedule, Range, Discrim}
 use Rattle.cap_format.specs.declared.code.Code.{Code}
 use Rattle.cap_format.specs.declared.code.Code.TheVariants.{Ok as OkCode, InvalidCap, UnknownRequest, RequestError, CountSpent}
 use Rattle.cap_format.specs.declared.request.Request.{Request}
@@ -12,27 +12,26 @@ use Rattle.cap_format.specs.Kind.{is_counted, is_object, object_kind, kind_with}
 use Rattle.cap_format.specs.Capability.{Capability, bare, entry, schedule, to_object}
 use Rattle.process_objects.specs.declared.state.State.{State as RunState}
 use Rattle.process_objects.specs.declared.state.State.TheVariants.{Running, Receiving, Faulted}
-use Rattle.process_objects.specs.Process.{ProcessValue, with_pc, with_reg, with_capreg, with_slot, with_state, stopped, capreg_of, slot_of}
+use Rattle.process_objects.specs.Process.{ProcessValue, with_pc, with_reg, with_capreg, with_slot, with_state, stopped}
 use Rattle.endpoint_objects.specs.declared.endpoint.Endpoint.{Endpoint as EndpointValue}
-use Rattle.object_store.specs.Store.{Store, Items, size_of, count_of, process_at, endpoint_at}
+use Rattle.object_store.specs.Store.{Store, size_of, count_of, process_at, endpoint_at}
 use Rattle.object_store.specs.Meaning.{is_live, meaning, process_map, endpoint_map, state_map}
 use Rattle.object_store.specs.Ahead.{IsBehind, NoneAhead}
 use Rattle.object_store.proofs.Live.{meaning_live, live_names, live_endpoint, IsBehind-is_live, IsBehind-zero}
 use Rattle.object_store.proofs.Means.{process_at-state_map, endpoint_at-state_map, process_map-with_capreg, process_map-with_slot}
 use Rattle.object_store.proofs.Each.{capregs-each, process_slots-each, capreg_set-each}
-use Rattle.object_store.proofs.Made.{meaning_entry, meaning_object, behind_entry}
+use Rattle.object_store.proofs.Made.{meaning_entry, meaning_object}
 use Rattle.object_store.proofs.Writes.{slot_means, capreg_means, state_means}
 use Rattle.object_store.proofs.WritesBehind.{null_behind, capreg_behind, slot_behind, recipient_behind}
 use Rattle.schedules.specs.Queues.{QueuesValue}
 use Rattle.operations.specs.System.{system, Stored, Meant}
-use Rattle.operations.specs.Change.{Change, EndpointIs, ProcessIs, Left, Readied, Woken, Destroyed}
-use Rattle.operations.specs.Row.{Row, Answer, Settled, nothing, refused, granted, tells, gives, does, unless_error, settled, settled_row}
+use Rattle.operations.specs.Change.{EndpointIs, ProcessIs, Left, Readied, Woken, Destroyed}
+use Rattle.operations.specs.Row.{Row, Answer, Settled, nothing, refused, granted, tells, gives, does, unless_error, settled, settled_in}
 use Rattle.operations.specs.Request.{w1, w2, w3, request_map}
 use Rattle.operations.specs.Memory.{kind_row, bit}
 use Rattle.operations.specs.Control.{setrecipient_row, getid_row, setid_row, setmatch_row, makeentry_row, setpayload_row, endpoint_table, getreg_row, setreg_row, getcapreg_row, setcapreg_row, getslot_row, setslot_row, getstate_row, resume_row, stop_row, process_table, priority_row, lower_row, schedule_table, obtained, getcap_row, destroy_row, destruction_of, range_table, classify_row, discrim_table, own_table, control_table, control_operation, number_in, with_number, tells_state, is_faulted, is_process, is_null}
 use Rattle.operations.proofs.Mapped.{change_map, answer_map, settled_map}
-use Rattle.operations.proofs.Settled.{by_row, settled-map, refused_row}
-use Rattle.operations.proofs.Fits.{table_row, table_fits}
+use Rattle.operations.proofs.Settled.{by_row, settled-map, ◌▸◌, EachRow, by_rows, EachAnswer, by_table, EachPair, by_pairs, refused_in}
 use Rattle.operations.proofs.Sound.{IsSound, sound_none, sound_one, sound_stopping, sound_ending, process_behind}
 
 -- ---- what each row means
@@ -54,6 +53,10 @@ module _ (s : Store) (c : Capability) (r : Request) (live : is_live s.items c �
   -- a process of the map
   process' : process_at s' c.object ≡ process_map f (process_at s c.object)
   process' = process_at-state_map s c.object
+
+  -- what two rows come to means alike
+  abbrev Means : Row → Row → Type 0
+  Means row other = settled_map f (settled row) ≡ settled other
 
   kind_means : settled_map f (settled (kind_row c)) ≡ settled (kind_row (bare c))
   unfolding kind_row
@@ -92,15 +95,16 @@ module _ (s : Store) (c : Capability) (r : Request) (live : is_live s.items c �
   unfolding setpayload_row
   setpayload_means = settled-map f (setpayload_row s c r) (setpayload_row s' (bare c) r').answer (rw endpoint' refl)
 
-  endpoint_means : c.kind ≡ Endpoint → (n : ℕ) → settled_map f (settled_row (endpoint_table s c r n)) ≡ settled_row (endpoint_table s' (bare c) r' n)
+  endpoint_means : c.kind ≡ Endpoint → EachPair Means (endpoint_table s c r) (endpoint_table s' (bare c) r')
   unfolding endpoint_table
-  endpoint_means is n =
-      table_row f (n == 8) _ _ _ _ setrecipient_means
-      (table_row f (n == 9) _ _ _ _ getid_means
-      (table_row f (n == 10) _ _ _ _ setid_means
-      (table_row f (n == 11) _ _ _ _ setmatch_means
-      (table_row f (n == 12) _ _ _ _ (makeentry_means is)
-      (table_row f (n == 13) _ _ _ _ setpayload_means refl)))))
+  endpoint_means is =
+      (refl, setrecipient_means)
+      ▸ (refl, getid_means)
+      ▸ (refl, setid_means)
+      ▸ (refl, setmatch_means)
+      ▸ (refl, makeentry_means is)
+      ▸ (refl, setpayload_means)
+      ▸ tt
 
   getreg_means : settled_map f (settled (getreg_row s c r)) ≡ settled (getreg_row s' (bare c) r')
   unfolding getreg_row number_in
@@ -161,18 +165,19 @@ module _ (s : Store) (c : Capability) (r : Request) (live : is_live s.items c �
       settled-map f (stop_row s c) (does (Left c.object ∷ ProcessIs c.object (with_state (process_map f (process_at s c.object)) stopped) ∷ [])) refl
       ∙ ap (λ (p : ProcessValue). settled (unless_error (is_faulted p.state) (does (Left c.object ∷ ProcessIs c.object (with_state p stopped) ∷ [])))) (sym process')
 
-  process_means : (n : ℕ) → settled_map f (settled_row (process_table s c r n)) ≡ settled_row (process_table s' (bare c) r' n)
+  process_means : EachPair Means (process_table s c r) (process_table s' (bare c) r')
   unfolding process_table
-  process_means n =
-      table_row f (n == 8) _ _ _ _ getreg_means
-      (table_row f (n == 9) _ _ _ _ setreg_means
-      (table_row f (n == 10) _ _ _ _ getcapreg_means
-      (table_row f (n == 11) _ _ _ _ setcapreg_means
-      (table_row f (n == 12) _ _ _ _ getslot_means
-      (table_row f (n == 13) _ _ _ _ setslot_means
-      (table_row f (n == 14) _ _ _ _ getstate_means
-      (table_row f (n == 15) _ _ _ _ resume_means
-      (table_row f (n == 16) _ _ _ _ stop_means refl))))))))
+  process_means =
+      (refl, getreg_means)
+      ▸ (refl, setreg_means)
+      ▸ (refl, getcapreg_means)
+      ▸ (refl, setcapreg_means)
+      ▸ (refl, getslot_means)
+      ▸ (refl, setslot_means)
+      ▸ (refl, getstate_means)
+      ▸ (refl, resume_means)
+      ▸ (refl, stop_means)
+      ▸ tt
 
   priority_means : settled_map f (settled (priority_row c)) ≡ settled (priority_row (bare c))
   unfolding priority_row
@@ -182,9 +187,9 @@ module _ (s : Store) (c : Capability) (r : Request) (live : is_live s.items c �
   unfolding lower_row
   lower_means = settled-map f (lower_row c r) (lower_row (bare c) r').answer refl
 
-  schedule_means : (n : ℕ) → settled_map f (settled_row (schedule_table c r n)) ≡ settled_row (schedule_table (bare c) r' n)
+  schedule_means : EachPair Means (schedule_table c r) (schedule_table (bare c) r')
   unfolding schedule_table
-  schedule_means n = table_row f (n == 8) _ _ _ _ priority_means (table_row f (n == 9) _ _ _ _ lower_means refl)
+  schedule_means = (refl, priority_means) ▸ (refl, lower_means) ▸ tt
 
   -- a capability to an object that is there
   object_means : (kind : CapKind) (n : ℕ) → n < size_of s.items kind → f (to_object kind n (count_of s.items kind n)) ≡ to_object kind n 0
@@ -218,30 +223,30 @@ module _ (s : Store) (c : Capability) (r : Request) (live : is_live s.items c �
   unfolding destroy_row
   destroy_means = settled-map f (destroy_row s r.sent) (destroy_row s' (bare r.sent)).answer (ap does (destruction_means r.sent.kind r.sent.object))
 
-  range_means : (n : ℕ) → settled_map f (settled_row (range_table Stored s r n)) ≡ settled_row (range_table Meant s' r' n)
+  range_means : EachPair Means (range_table Stored s r) (range_table Meant s' r')
   unfolding range_table getcap_row
-  range_means n = table_row f (n == 8) _ _ _ _ (obtained_means (kind_with (w2 r)) (w3 r)) (table_row f (n == 9) _ _ _ _ destroy_means refl)
+  range_means = (refl, obtained_means (kind_with (w2 r)) (w3 r)) ▸ (refl, destroy_means) ▸ tt
 
   classify_means : settled_map f (settled (classify_row r.sent)) ≡ settled (classify_row (bare r.sent))
   unfolding classify_row
   classify_means = settled-map f (classify_row r.sent) (classify_row (bare r.sent)).answer refl
 
-  discrim_means : (n : ℕ) → settled_map f (settled_row (discrim_table r n)) ≡ settled_row (discrim_table r' n)
+  discrim_means : EachPair Means (discrim_table r) (discrim_table r')
   unfolding discrim_table
-  discrim_means n = table_row f (n == 8) _ _ _ _ classify_means refl
+  discrim_means = (refl, classify_means) ▸ tt
 
-  own_means : (kind : CapKind) → c.kind ≡ kind → (n : ℕ) → settled_map f (settled_row (own_table Stored s c r kind n)) ≡ settled_row (own_table Meant s' (bare c) r' kind n)
+  own_means : (kind : CapKind) → c.kind ≡ kind → EachPair Means (own_table Stored s c r kind) (own_table Meant s' (bare c) r' kind)
   unfolding own_table
-  own_means Endpoint is n = endpoint_means is n
-  own_means Process is n = process_means n
-  own_means Schedule is n = schedule_means n
-  own_means Range is n = range_means n
-  own_means Discrim is n = discrim_means n
-  own_means kind is n = refl
+  own_means Endpoint is = endpoint_means is
+  own_means Process is = process_means
+  own_means Schedule is = schedule_means
+  own_means Range is = range_means
+  own_means Discrim is = discrim_means
+  own_means kind is = tt
 
-  table_means : settled_map f (settled_row (control_table Stored s c r c.kind (w1 r))) ≡ settled_row (control_table Meant s' (bare c) r' c.kind (w1 r))
+  table_means : EachPair Means (control_table Stored s c r c.kind) (control_table Meant s' (bare c) r' c.kind)
   unfolding control_table
-  table_means = table_row f (w1 r == 0) _ _ _ _ kind_means (own_means c.kind refl (w1 r))
+  table_means = (refl, kind_means) ▸ own_means c.kind refl
 
   either_means : (b : Bool) (x y : Settled) → settled_map f x ≡ y → settled_map f (if b then refused InvalidCap else x) ≡ (if b then refused InvalidCap else y)
   either_means true x y e = refl
@@ -250,12 +255,14 @@ module _ (s : Store) (c : Capability) (r : Request) (live : is_live s.items c �
   -- a request to a capability of these kinds means the request to what the capability means
   pub control_means : settled_map f (control_operation Stored s c r) ≡ control_operation Meant s' (bare c) r'
   unfolding control_operation
-  control_means = either_means (is_null c.kind) _ _ table_means
+  control_means =
+      either_means (is_null c.kind) _ _
+      (by_pairs (λ x y. settled_map f x ≡ y) refl (control_table Stored s c r c.kind) (control_table Meant s' (bare c) r' c.kind) table_means (w1 r))
 
 -- a request that is refused does nothing and tells nothing
 pub control_refused : (s : Store) (c : Capability) (r : Request) → (control_operation Stored s c r).code ≢ OkCode → (control_operation Stored s c r).answer ≡ nothing
 unfolding control_operation
-control_refused s c r = cond_both (is_null c.kind) _ _ (λ (z : Settled). z.code ≢ OkCode → z.answer ≡ nothing) (λ e not. refl) (λ e. refused_row (control_table Stored s c r c.kind (w1 r)))
+control_refused s c r = cond_both (is_null c.kind) _ _ (λ (z : Settled). z.code ≢ OkCode → z.answer ≡ nothing) (λ e not. refl) (λ e. refused_in (control_table Stored s c r c.kind) (w1 r))
 
 -- ---- what the changes of each row come to
 
@@ -290,16 +297,16 @@ module _ (s : Store) (q : QueuesValue) (c : Capability) (r : Request) (live : is
       at : count_of s.items (object_kind c.kind) c.object ≡ c.count → c.count ≤ count_of s.items Endpoint c.object
       at e = let same : count_of s.items Endpoint c.object ≡ c.count = ap (λ k. count_of s.items (object_kind k) c.object) (sym is) ∙ e in omega (arith, same)
 
-  endpoint_sound : c.kind ≡ Endpoint → (n : ℕ) → Is (settled_row (endpoint_table s c r n))
+  endpoint_sound : c.kind ≡ Endpoint → EachAnswer Is (endpoint_table s c r)
   unfolding endpoint_table setrecipient_row getid_row setid_row setmatch_row makeentry_row setpayload_row
-  endpoint_sound is n =
-      table_fits Is (n == 8) _ _ (by_row Is is_refused (setrecipient_row s c r) (is_endpoint _ is_sent))
-      (table_fits Is (n == 9) _ _ (by_row Is is_refused (getid_row s c) (is_words _ _ _))
-      (table_fits Is (n == 10) _ _ (by_row Is is_refused (setid_row s c r) (is_endpoint _ (recipient_behind s none c.object)))
-      (table_fits Is (n == 11) _ _ (by_row Is is_refused (setmatch_row s c r) (is_endpoint _ (recipient_behind s none c.object)))
-      (table_fits Is (n == 12) _ _ (by_row Is is_refused (makeentry_row c r) (is_cap _ (entry_behind is)))
-      (table_fits Is (n == 13) _ _ (by_row Is is_refused (setpayload_row s c r) (is_endpoint _ (recipient_behind s none c.object)))
-      (is_refused UnknownRequest))))))
+  endpoint_sound is =
+      is_endpoint _ is_sent
+      ▸ is_words _ _ _
+      ▸ is_endpoint _ (recipient_behind s none c.object)
+      ▸ is_endpoint _ (recipient_behind s none c.object)
+      ▸ is_cap _ (entry_behind is)
+      ▸ is_endpoint _ (recipient_behind s none c.object)
+      ▸ tt
 
   -- a process that keeps its capabilities
   is_number : (i value : ℕ) → IsSoundAnswer s q (does (ProcessIs c.object (with_number (process_at s c.object) i value) ∷ []))
@@ -335,26 +342,23 @@ module _ (s : Store) (q : QueuesValue) (c : Capability) (r : Request) (live : is
   is_state (Receiving accept) = is_words 1 0 0
   is_state (Faulted code address) = is_words 2 _ address
 
-  process_sound : (n : ℕ) → Is (settled_row (process_table s c r n))
+  process_sound : EachAnswer Is (process_table s c r)
   unfolding process_table getreg_row setreg_row getcapreg_row setcapreg_row getslot_row setslot_row getstate_row resume_row stop_row
-  process_sound n =
-      table_fits Is (n == 8) _ _ (by_row Is is_refused (getreg_row s c r) (is_words _ _ _))
-      (table_fits Is (n == 9) _ _ (by_row Is is_refused (setreg_row s c r) (is_number (w2 r) (w3 r)))
-      (table_fits Is (n == 10) _ _ (by_row Is is_refused (getcapreg_row s c r) (is_cap _ (capreg_behind s none c.object (w2 r))))
-      (table_fits Is (n == 11) _ _ (by_row Is is_refused (setcapreg_row s c r) (is_capreg (w2 r)))
-      (table_fits Is (n == 12) _ _ (by_row Is is_refused (getslot_row s c r) (is_cap _ (slot_behind s none c.object (w2 r))))
-      (table_fits Is (n == 13) _ _ (by_row Is is_refused (setslot_row s c r) (is_slot (w2 r)))
-      (table_fits Is (n == 14) _ _ (by_row Is is_refused (getstate_row s c) (is_state (process_at s c.object).state))
-      (table_fits Is (n == 15) _ _ (by_row Is is_refused (resume_row s c) (record { sound = sound_one (system s q) (Readied c.object) none tt tt; gives_behind = tt; quiet = tt }))
-      (table_fits Is (n == 16) _ _ (by_row Is is_refused (stop_row s c) (record { sound = sound_stopping s q c.object none; gives_behind = tt; quiet = tt }))
-      (is_refused UnknownRequest)))))))))
+  process_sound =
+      is_words _ _ _
+      ▸ is_number (w2 r) (w3 r)
+      ▸ is_cap _ (capreg_behind s none c.object (w2 r))
+      ▸ is_capreg (w2 r)
+      ▸ is_cap _ (slot_behind s none c.object (w2 r))
+      ▸ is_slot (w2 r)
+      ▸ is_state (process_at s c.object).state
+      ▸ record { sound = sound_one (system s q) (Readied c.object) none tt tt; gives_behind = tt; quiet = tt }
+      ▸ record { sound = sound_stopping s q c.object none; gives_behind = tt; quiet = tt }
+      ▸ tt
 
-  schedule_sound : (n : ℕ) → Is (settled_row (schedule_table c r n))
+  schedule_sound : EachAnswer Is (schedule_table c r)
   unfolding schedule_table priority_row lower_row
-  schedule_sound n =
-      table_fits Is (n == 8) _ _ (by_row Is is_refused (priority_row c) (is_words _ _ _))
-      (table_fits Is (n == 9) _ _ (by_row Is is_refused (lower_row c r) (is_cap (schedule (w2 r)) (IsBehind-zero s.items (schedule (w2 r)) refl)))
-      (is_refused UnknownRequest))
+  schedule_sound = is_words _ _ _ ▸ is_cap (schedule (w2 r)) (IsBehind-zero s.items (schedule (w2 r)) refl) ▸ tt
 
   object_behind : (kind : CapKind) (n : ℕ) → IsBehind s.items (to_object kind n (count_of s.items kind n))
   object_behind Entry n = λ there. omega arith
@@ -391,21 +395,26 @@ module _ (s : Store) (q : QueuesValue) (c : Capability) (r : Request) (live : is
           destruction_sound r.sent.kind r.sent.object (subst (λ k. r.sent.object < size_of s.items k) counted.1 (live_names s.items r.sent counted.0 sent).there)
       at false is e = absurd (true≢false e)
 
-  own_sound : (kind : CapKind) → c.kind ≡ kind → (n : ℕ) → Is (settled_row (own_table Stored s c r kind n))
-  unfolding own_table range_table getcap_row discrim_table classify_row
-  own_sound Endpoint is n = endpoint_sound is n
-  own_sound Process is n = process_sound n
-  own_sound Schedule is n = schedule_sound n
-  own_sound Range is n =
-      table_fits Is (n == 8) _ _ (obtained_sound (kind_with (w2 r)) (w3 r))
-      (table_fits Is (n == 9) _ _ destroy_sound
-      (is_refused UnknownRequest))
-  own_sound Discrim is n = table_fits Is (n == 8) _ _ (by_row Is is_refused (classify_row r.sent) (is_words _ _ _)) (is_refused UnknownRequest)
-  own_sound kind is n = is_refused UnknownRequest
+  range_sound : EachRow (λ row. Is (settled row)) (range_table Stored s r)
+  unfolding range_table getcap_row
+  range_sound = obtained_sound (kind_with (w2 r)) (w3 r) ▸ destroy_sound ▸ tt
+
+  discrim_sound : EachAnswer Is (discrim_table r)
+  unfolding discrim_table classify_row
+  discrim_sound = is_words _ _ _ ▸ tt
+
+  own_sound : (kind : CapKind) → c.kind ≡ kind → (n : ℕ) → Is (settled_in (own_table Stored s c r kind) n)
+  unfolding own_table
+  own_sound Endpoint is = by_table Is is_refused (endpoint_table s c r) (endpoint_sound is)
+  own_sound Process is = by_table Is is_refused (process_table s c r) process_sound
+  own_sound Schedule is = by_table Is is_refused (schedule_table c r) schedule_sound
+  own_sound Range is = by_rows Is (λ row. Is (settled row)) (λ row sound. sound) (is_refused UnknownRequest) (range_table Stored s r) range_sound
+  own_sound Discrim is = by_table Is is_refused (discrim_table r) discrim_sound
+  own_sound kind is = λ n. is_refused UnknownRequest
 
   -- a request to a capability of these kinds has a sound answer
   pub control_sound : IsSoundAnswer s q (control_operation Stored s c r).answer
   unfolding control_operation control_table kind_row
   control_sound =
       cond_both (is_null c.kind) _ _ Is (λ e. is_refused InvalidCap) (λ e.
-      table_fits Is (w1 r == 0) _ _ (by_row Is is_refused (kind_row c) (is_words _ _ _)) (own_sound c.kind refl (w1 r)))
+      cond_both (w1 r == 0) _ _ Is (λ e. by_row Is is_refused (kind_row c) (is_words _ _ _)) (λ e. own_sound c.kind refl (w1 r)))

@@ -1,5 +1,5 @@
 -- Answers that change the object that is asked, or nothing, and leave no capability ahead.
-use Rattle.std.proofs.Common.{◌≡◌, ℕ, Bool, true, false, if◌then◌else◌, List, [], ◌∷◌, Option, Some, None, refl}
+use Rattle.std.proofs.Common.{◌≡◌, ℕ, List, [], ◌∷◌}
 use Rattle.std.specs.Option.{IfSome}
 use Rattle.cap_format.specs.declared.code.Code.{Code}
 use Rattle.cap_format.specs.Capability.{Capability}
@@ -7,10 +7,9 @@ use Rattle.object_store.specs.Store.{Store}
 use Rattle.object_store.specs.Ahead.{IsBehind, NoneAhead}
 use Rattle.object_store.specs.Object.{object_name}
 use Rattle.schedules.specs.Queues.{QueuesValue}
-use Rattle.operations.specs.Change.{Change, PageIs, CapPageIs, SlotIs, HeaderIs, EndpointIs, ProcessIs, Left, Readied, Woken, Destroyed}
-use Rattle.operations.specs.Row.{Row, Answer, Settled, refused, tells, gives, does, settled, settled_row}
+use Rattle.operations.specs.Change.{Change, Left, Readied, Woken, Destroyed}
+use Rattle.operations.specs.Row.{Answer, refused, tells, gives, does}
 use Rattle.operations.specs.Changed.{names_of}
-use Rattle.operations.proofs.Mapped.{settled_map}
 use Rattle.operations.proofs.Applied.{WritesBehind}
 
 -- the change writes one object: nobody changes his place, and nothing is destroyed
@@ -51,17 +50,3 @@ fits_cap s c given behind = record { own = tt; writes = λ none. tt; gives_behin
 
 pub fits_change : (s : Store) (c : Capability) (change : Change) → ((q : QueuesValue) → names_of q change ≡ object_name c.kind c.object ∷ []) → IsWrite change → (NoneAhead s → WritesBehind s.items change) → Fits s c (does (change ∷ []))
 fits_change s c change name write behind = record { own = record { write = write; name = name }; writes = behind; gives_behind = λ none. tt }
-
--- ---- tables, row by row
-
--- what two rows mean alike and what two rests mean alike, two tables mean alike
-pub table_row : (f : Capability → Capability) (b : Bool) (row other : Row) (rest others : Option Row)
-    → settled_map f (settled row) ≡ settled other → settled_map f (settled_row rest) ≡ settled_row others
-    → settled_map f (settled_row (if b then Some row else rest)) ≡ settled_row (if b then Some other else others)
-table_row f true row other rest others here there = here
-table_row f false row other rest others here there = there
-
--- what holds of a row and of the rest holds of the table
-pub table_fits : (P : Settled → Type 0) (b : Bool) (row : Row) (rest : Option Row) → P (settled row) → P (settled_row rest) → P (settled_row (if b then Some row else rest))
-table_fits P true row rest here there = here
-table_fits P false row rest here there = there

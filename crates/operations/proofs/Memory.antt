@@ -1,36 +1,35 @@
 -- Requests to the memory kinds: what they mean, and that what they change is the object that is asked.
-use Rattle.std.proofs.Common.{◌≡◌, ◌≢◌, ◌==◌, ℕ, ◌+◌, ◌*◌, Bool, true, false, if◌then◌else◌, [], ◌∷◌, map, Option, Some, None, refl, sym, ap, ◌∙◌, arith}
-use Rattle.std.specs.Option.{IfSome}
+use Rattle.std.proofs.Common.{◌≡◌, ◌≢◌, ℕ, ◌+◌, ◌*◌, Bool, true, false, if◌then◌else◌, [], ◌∷◌, map, refl, ap, ◌∙◌}
 use Rattle.std.proofs.lemmas.List.{map-set}
 use Rattle.cap_format.specs.declared.kind.CapKind.{CapKind}
-use Rattle.cap_format.specs.declared.kind.CapKind.TheVariants.{Null, Page, CapPage, Gpt, Window, LocalWindow, Endpoint, Entry, Process, Schedule, Range, Discrim, KernLog, SysCtl}
-use Rattle.cap_format.specs.declared.code.Code.TheVariants.{Ok as OkCode, UnknownRequest}
+use Rattle.cap_format.specs.declared.kind.CapKind.TheVariants.{Page, CapPage, Gpt}
+use Rattle.cap_format.specs.declared.code.Code.TheVariants.{Ok as OkCode}
 use Rattle.cap_format.specs.declared.request.Request.{Request}
 use Rattle.cap_format.specs.Restr.{has}
 use Rattle.cap_format.specs.Guard.{guard_of}
 use Rattle.cap_format.specs.Capability.{Capability, bare, with_guard, local_window, window}
 use Rattle.cap_format.specs.Weakening.{weakened, reduced}
 use Rattle.gpt_objects.specs.Header.{HeaderValue}
-use Rattle.page_store.specs.CapPage.{cap_at, with_cap, empty_cappage}
-use Rattle.object_store.specs.Store.{Store, Items, header_at, slot_at, cappage_at}
+use Rattle.page_store.specs.CapPage.{cap_at, with_cap}
+use Rattle.object_store.specs.Store.{Store, Items, slot_at, cappage_at}
 use Rattle.object_store.specs.Meaning.{is_live, meaning, state_map}
-use Rattle.object_store.specs.Ahead.{IsBehind, NoneAhead}
+use Rattle.object_store.specs.Ahead.{IsBehind}
 use Rattle.object_store.proofs.Live.{meaning_live, IsBehind-is_live, IsBehind-zero}
 use Rattle.object_store.proofs.Means.{cappage_map-empty, cappage_at-state_map}
 use Rattle.object_store.proofs.Each.{empty_cappage-each}
-use Rattle.object_store.proofs.Made.{meaning_reduced, meaning_guarded, meaning_weakened, meaning_uncounted, behind_weakened}
+use Rattle.object_store.proofs.Made.{meaning_reduced, meaning_guarded, meaning_weakened, behind_weakened}
 use Rattle.object_store.proofs.Writes.{header_means, gpt_slot_means, cap_means}
 use Rattle.object_store.proofs.WritesBehind.{null_behind, gpt_slot_behind, cap_behind, cappage_behind}
 use Rattle.object_store.specs.Object.{object_name}
 use Rattle.std.proofs.lemmas.List.Elements.{All-set}
 use Rattle.operations.specs.Weak.{read_through}
-use Rattle.operations.specs.Change.{PageIs, CapPageIs, SlotIs, HeaderIs}
-use Rattle.operations.specs.Row.{Row, Answer, Settled, nothing, refused, granted, tells, gives, does, settled, settled_row}
+use Rattle.operations.specs.Change.{CapPageIs, SlotIs}
+use Rattle.operations.specs.Row.{Row, Settled, nothing, tells, gives, does, settled}
 use Rattle.operations.specs.Request.{w1, w2, w3, w4, request_map}
 use Rattle.operations.specs.Memory.{kind_row, reduce_row, getguard_row, setguard_row, getrestr_row, clear_page_row, copy_row, clear_cappage_row, get_row, set_row, getslot_row, setslot_row, getheader_row, setheader_row, setwindow_row, window_of, window_slot, window_is_local, window_local_slot, window_l2g, window_restr, may_have, window_error, bit, page_table, cappage_table, gpt_table, own_table, memory_table, memory_operation}
 use Rattle.operations.proofs.Mapped.{settled_map}
-use Rattle.operations.proofs.Settled.{by_row, settled-map, refused_row}
-use Rattle.operations.proofs.Fits.{Fits, fits_refused, fits_words, fits_cap, fits_change, table_row, table_fits}
+use Rattle.operations.proofs.Settled.{settled-map, ◌▸◌, EachAnswer, by_table, EachPair, by_pairs, refused_in}
+use Rattle.operations.proofs.Fits.{Fits, fits_refused, fits_words, fits_cap, fits_change}
 
 -- what is read through WK means what is read of the meaning
 pub read_through_means : (o : Items) (restr : ℕ) (c : Capability) → meaning o (read_through restr c) ≡ read_through restr (meaning o c)
@@ -137,40 +136,49 @@ module _ (s : Store) (c : Capability) (r : Request) (live : is_live s.items c �
 
   -- ---- the tables
 
-  page_means : (n : ℕ) → settled_map f (settled_row (page_table s c r n)) ≡ settled_row (page_table s' (bare c) r' n)
+  -- what two rows come to means alike
+  abbrev Means : Row → Row → Type 0
+  Means row other = settled_map f (settled row) ≡ settled other
+
+  page_means : EachPair Means (page_table s c r) (page_table s' (bare c) r')
   unfolding page_table
-  page_means n = table_row f (n == 8) _ _ _ _ clear_page_means (table_row f (n == 9) _ _ _ _ copy_means refl)
+  page_means = (refl, clear_page_means) ▸ (refl, copy_means) ▸ tt
 
-  cap_page_means : (n : ℕ) → settled_map f (settled_row (cappage_table s c r n)) ≡ settled_row (cappage_table s' (bare c) r' n)
+  cap_page_means : EachPair Means (cappage_table s c r) (cappage_table s' (bare c) r')
   unfolding cappage_table
-  cap_page_means n = table_row f (n == 8) _ _ _ _ clear_cappage_means (table_row f (n == 9) _ _ _ _ get_means (table_row f (n == 10) _ _ _ _ set_means refl))
+  cap_page_means = (refl, clear_cappage_means) ▸ (refl, get_means) ▸ (refl, set_means) ▸ tt
 
-  gpt_means : (n : ℕ) → settled_map f (settled_row (gpt_table s c r n)) ≡ settled_row (gpt_table s' (bare c) r' n)
+  gpt_means : EachPair Means (gpt_table s c r) (gpt_table s' (bare c) r')
   unfolding gpt_table
-  gpt_means n =
-      table_row f (n == 8) _ _ _ _ getslot_means
-      (table_row f (n == 9) _ _ _ _ setslot_means
-      (table_row f (n == 10) _ _ _ _ getheader_means
-      (table_row f (n == 11) _ _ _ _ setheader_means
-      (table_row f (n == 12) _ _ _ _ setwindow_means refl))))
+  gpt_means =
+      (refl, getslot_means)
+      ▸ (refl, setslot_means)
+      ▸ (refl, getheader_means)
+      ▸ (refl, setheader_means)
+      ▸ (refl, setwindow_means)
+      ▸ tt
 
-  own_means : (kind : CapKind) (n : ℕ) → settled_map f (settled_row (own_table s c r kind n)) ≡ settled_row (own_table s' (bare c) r' kind n)
+  own_means : (kind : CapKind) → EachPair Means (own_table s c r kind) (own_table s' (bare c) r' kind)
   unfolding own_table
-  own_means Page n = page_means n
-  own_means CapPage n = cap_page_means n
-  own_means Gpt n = gpt_means n
-  own_means kind n = refl
+  own_means Page = page_means
+  own_means CapPage = cap_page_means
+  own_means Gpt = gpt_means
+  own_means kind = tt
+
+  table_means : EachPair Means (memory_table s c r c.kind) (memory_table s' (bare c) r' c.kind)
+  unfolding memory_table
+  table_means =
+      (refl, kind_means)
+      ▸ (refl, reduce_means)
+      ▸ (refl, getguard_means)
+      ▸ (refl, setguard_means)
+      ▸ (refl, getrestr_means)
+      ▸ own_means c.kind
 
   -- a request to a memory capability means the request to what the capability means
   pub memory_means : settled_map f (memory_operation s c r) ≡ memory_operation s' (bare c) r'
-  unfolding memory_operation memory_table
-  memory_means =
-      table_row f (w1 r == 0) _ _ _ _ kind_means
-      (table_row f (w1 r == 1) _ _ _ _ reduce_means
-      (table_row f (w1 r == 2) _ _ _ _ getguard_means
-      (table_row f (w1 r == 3) _ _ _ _ setguard_means
-      (table_row f (w1 r == 4) _ _ _ _ getrestr_means
-      (own_means c.kind (w1 r))))))
+  unfolding memory_operation
+  memory_means = by_pairs (λ x y. settled_map f x ≡ y) refl (memory_table s c r c.kind) (memory_table s' (bare c) r' c.kind) table_means (w1 r)
 
 -- ---- what each row changes
 
@@ -178,42 +186,20 @@ module _ (s : Store) (c : Capability) (r : Request) (live : is_live s.items c �
   abbrev Of : Settled → Type 0
   Of settled = Fits s c settled.answer
 
-  kind_fits : Of (settled (kind_row c))
-  unfolding kind_row
-  kind_fits = by_row Of (fits_refused s c) (kind_row c) (fits_words s c _ _ _)
-
-  reduce_fits : Of (settled (reduce_row c r))
-  unfolding reduce_row
-  reduce_fits = by_row Of (fits_refused s c) (reduce_row c r) (fits_cap s c _ (λ none. IsBehind-is_live s.items c live))
-
-  getguard_fits : Of (settled (getguard_row c))
-  unfolding getguard_row
-  getguard_fits = by_row Of (fits_refused s c) (getguard_row c) (fits_words s c _ _ _)
-
-  setguard_fits : Of (settled (setguard_row c r))
-  unfolding setguard_row
-  setguard_fits = by_row Of (fits_refused s c) (setguard_row c r) (fits_cap s c _ (λ none. IsBehind-is_live s.items c live))
-
-  getrestr_fits : Of (settled (getrestr_row c))
-  unfolding getrestr_row
-  getrestr_fits = by_row Of (fits_refused s c) (getrestr_row c) (fits_words s c _ _ _)
-
-  page_fits : c.kind ≡ Page → (n : ℕ) → Of (settled_row (page_table s c r n))
+  page_fits : c.kind ≡ Page → EachAnswer Of (page_table s c r)
   unfolding page_table clear_page_row copy_row
-  page_fits is n =
-      table_fits Of (n == 8) _ _ (by_row Of (fits_refused s c) (clear_page_row c) (fits_change s c _ (λ q. named) tt (λ none. tt)))
-      (table_fits Of (n == 9) _ _ (by_row Of (fits_refused s c) (copy_row s c r) (fits_change s c _ (λ q. named) tt (λ none. tt))) (fits_refused s c UnknownRequest))
+  page_fits is = fits_change s c _ (λ q. named) tt (λ none. tt) ▸ fits_change s c _ (λ q. named) tt (λ none. tt) ▸ tt
     where
       named : (object_name Page c.object ∷ []) ≡ (object_name c.kind c.object ∷ [])
       named = rw is refl
 
-  cap_page_fits : c.kind ≡ CapPage → (n : ℕ) → Of (settled_row (cappage_table s c r n))
+  cap_page_fits : c.kind ≡ CapPage → EachAnswer Of (cappage_table s c r)
   unfolding cappage_table clear_cappage_row get_row set_row
-  cap_page_fits is n =
-      table_fits Of (n == 8) _ _ (by_row Of (fits_refused s c) (clear_cappage_row c) (fits_change s c _ (λ q. named) tt (λ none. empty_cappage-each (IsBehind s.items) (null_behind s))))
-      (table_fits Of (n == 9) _ _ (by_row Of (fits_refused s c) (get_row s c r) (fits_cap s c _ (λ none. read_through_behind s.items c.restr _ (cap_behind s none c.object (w2 r)))))
-      (table_fits Of (n == 10) _ _ (by_row Of (fits_refused s c) (set_row s c r) (fits_change s c _ (λ q. named) tt (λ none. All-set (IsBehind s.items) (cappage_at s c.object) (w2 r) r.sent (IsBehind-is_live s.items r.sent sent) (cappage_behind s none c.object))))
-      (fits_refused s c UnknownRequest)))
+  cap_page_fits is =
+      fits_change s c _ (λ q. named) tt (λ none. empty_cappage-each (IsBehind s.items) (null_behind s))
+      ▸ fits_cap s c _ (λ none. read_through_behind s.items c.restr _ (cap_behind s none c.object (w2 r)))
+      ▸ fits_change s c _ (λ q. named) tt (λ none. All-set (IsBehind s.items) (cappage_at s c.object) (w2 r) r.sent (IsBehind-is_live s.items r.sent sent) (cappage_behind s none c.object))
+      ▸ tt
     where
       named : (object_name CapPage c.object ∷ []) ≡ (object_name c.kind c.object ∷ [])
       named = rw is refl
@@ -232,38 +218,42 @@ module _ (s : Store) (c : Capability) (r : Request) (live : is_live s.items c �
   unfolding window_of
   window_behind = either_behind (window_is_local r) local_of other_of (IsBehind-zero s.items local_of refl) (IsBehind-zero s.items other_of refl)
 
-  gpt_fits : c.kind ≡ Gpt → (n : ℕ) → Of (settled_row (gpt_table s c r n))
+  gpt_fits : c.kind ≡ Gpt → EachAnswer Of (gpt_table s c r)
   unfolding gpt_table getslot_row setslot_row getheader_row setheader_row setwindow_row
-  gpt_fits is n =
-      table_fits Of (n == 8) _ _ (by_row Of (fits_refused s c) (getslot_row s c r) (fits_cap s c _ (λ none. read_through_behind s.items c.restr _ (gpt_slot_behind s none c.object (w2 r)))))
-      (table_fits Of (n == 9) _ _ (by_row Of (fits_refused s c) (setslot_row c r) (fits_change s c _ (λ q. named) tt (λ none. IsBehind-is_live s.items r.sent sent)))
-      (table_fits Of (n == 10) _ _ (by_row Of (fits_refused s c) (getheader_row s c) (fits_words s c _ _ _))
-      (table_fits Of (n == 11) _ _ (by_row Of (fits_refused s c) (setheader_row c r) (fits_change s c _ (λ q. named) tt (λ none. tt)))
-      (table_fits Of (n == 12) _ _ (by_row Of (fits_refused s c) (setwindow_row c r) (fits_change s c _ (λ q. named) tt (λ none. window_behind)))
-      (fits_refused s c UnknownRequest)))))
+  gpt_fits is =
+      fits_cap s c _ (λ none. read_through_behind s.items c.restr _ (gpt_slot_behind s none c.object (w2 r)))
+      ▸ fits_change s c _ (λ q. named) tt (λ none. IsBehind-is_live s.items r.sent sent)
+      ▸ fits_words s c _ _ _
+      ▸ fits_change s c _ (λ q. named) tt (λ none. tt)
+      ▸ fits_change s c _ (λ q. named) tt (λ none. window_behind)
+      ▸ tt
     where
       named : (object_name Gpt c.object ∷ []) ≡ (object_name c.kind c.object ∷ [])
       named = rw is refl
 
-  own_fits : (kind : CapKind) → c.kind ≡ kind → (n : ℕ) → Of (settled_row (own_table s c r kind n))
+  own_fits : (kind : CapKind) → c.kind ≡ kind → EachAnswer Of (own_table s c r kind)
   unfolding own_table
-  own_fits Page is n = page_fits is n
-  own_fits CapPage is n = cap_page_fits is n
-  own_fits Gpt is n = gpt_fits is n
-  own_fits kind is n = fits_refused s c UnknownRequest
+  own_fits Page is = page_fits is
+  own_fits CapPage is = cap_page_fits is
+  own_fits Gpt is = gpt_fits is
+  own_fits kind is = tt
+
+  rows_fit : EachAnswer Of (memory_table s c r c.kind)
+  unfolding memory_table kind_row reduce_row getguard_row setguard_row getrestr_row
+  rows_fit =
+      fits_words s c _ _ _
+      ▸ fits_cap s c _ (λ none. IsBehind-is_live s.items c live)
+      ▸ fits_words s c _ _ _
+      ▸ fits_cap s c _ (λ none. IsBehind-is_live s.items c live)
+      ▸ fits_words s c _ _ _
+      ▸ own_fits c.kind refl
 
   -- a request to a memory capability changes the object that it names, or nothing, and leaves no capability ahead
   pub memory_fits : Fits s c (memory_operation s c r).answer
-  unfolding memory_operation memory_table
-  memory_fits =
-      table_fits Of (w1 r == 0) _ _ kind_fits
-      (table_fits Of (w1 r == 1) _ _ reduce_fits
-      (table_fits Of (w1 r == 2) _ _ getguard_fits
-      (table_fits Of (w1 r == 3) _ _ setguard_fits
-      (table_fits Of (w1 r == 4) _ _ getrestr_fits
-      (own_fits c.kind refl (w1 r))))))
+  unfolding memory_operation
+  memory_fits = by_table Of (fits_refused s c) (memory_table s c r c.kind) rows_fit (w1 r)
 
 -- a request that is refused does nothing and tells nothing
 pub memory_refused : (s : Store) (c : Capability) (r : Request) → (memory_operation s c r).code ≢ OkCode → (memory_operation s c r).answer ≡ nothing
 unfolding memory_operation
-memory_refused s c r = refused_row (memory_table s c r c.kind (w1 r))
+memory_refused s c r = refused_in (memory_table s c r c.kind) (w1 r)

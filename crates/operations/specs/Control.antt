@@ -16,7 +16,7 @@ use Rattle.endpoint_objects.specs.declared.endpoint.Endpoint.{Endpoint as Endpoi
 use Rattle.object_store.specs.Store.{Store, size_of, count_of, process_at, endpoint_at}
 use Rattle.operations.specs.System.{Reading, count_in}
 use Rattle.operations.specs.Change.{Change, EndpointIs, ProcessIs, Left, Readied, Woken, Destroyed}
-use Rattle.operations.specs.Row.{Row, Answer, Settled, nothing, tells, gives, does, always, unless_error, refused, settled_row}
+use Rattle.operations.specs.Row.{Row, Answer, Settled, nothing, tells, gives, does, always, unless_error, refused, settled_in}
 use Rattle.operations.specs.Request.{w1, w2, w3}
 use Rattle.operations.specs.Memory.{kind_row, bit}
 
@@ -61,15 +61,15 @@ unfoldable pub setpayload_row : Store → Capability → Request → Row
 setpayload_row s c r = always (does (EndpointIs c.object (record (endpoint_of s c) { payload = w2 r }) ∷ []))
 
 -- an endpoint: the row that has a number, if there is one
-unfoldable pub endpoint_table : Store → Capability → Request → ℕ → Option Row
-endpoint_table s c r number =
-    if number == 8 then Some (setrecipient_row s c r)
-    else (if number == 9 then Some (getid_row s c)
-    else (if number == 10 then Some (setid_row s c r)
-    else (if number == 11 then Some (setmatch_row s c r)
-    else (if number == 12 then Some (makeentry_row c r)
-    else (if number == 13 then Some (setpayload_row s c r)
-    else None)))))
+unfoldable pub endpoint_table : Store → Capability → Request → List (ℕ × Row)
+endpoint_table s c r =
+    (8, setrecipient_row s c r)
+    ∷ (9, getid_row s c)
+    ∷ (10, setid_row s c r)
+    ∷ (11, setmatch_row s c r)
+    ∷ (12, makeentry_row c r)
+    ∷ (13, setpayload_row s c r)
+    ∷ []
 
 -- ---- Process
 
@@ -144,18 +144,18 @@ unfoldable pub stop_row : Store → Capability → Row
 stop_row s c = unless_error (is_faulted (process_of s c).state) (does (stopping s c.object))
 
 -- a process
-unfoldable pub process_table : Store → Capability → Request → ℕ → Option Row
-process_table s c r number =
-    if number == 8 then Some (getreg_row s c r)
-    else (if number == 9 then Some (setreg_row s c r)
-    else (if number == 10 then Some (getcapreg_row s c r)
-    else (if number == 11 then Some (setcapreg_row s c r)
-    else (if number == 12 then Some (getslot_row s c r)
-    else (if number == 13 then Some (setslot_row s c r)
-    else (if number == 14 then Some (getstate_row s c)
-    else (if number == 15 then Some (resume_row s c)
-    else (if number == 16 then Some (stop_row s c)
-    else None))))))))
+unfoldable pub process_table : Store → Capability → Request → List (ℕ × Row)
+process_table s c r =
+    (8, getreg_row s c r)
+    ∷ (9, setreg_row s c r)
+    ∷ (10, getcapreg_row s c r)
+    ∷ (11, setcapreg_row s c r)
+    ∷ (12, getslot_row s c r)
+    ∷ (13, setslot_row s c r)
+    ∷ (14, getstate_row s c)
+    ∷ (15, resume_row s c)
+    ∷ (16, stop_row s c)
+    ∷ []
 
 -- ---- Schedule
 
@@ -168,11 +168,11 @@ unfoldable pub lower_row : Capability → Request → Row
 lower_row c r = unless_error (nat_lt c.object (w2 r)) (gives (schedule (w2 r)))
 
 -- a schedule
-unfoldable pub schedule_table : Capability → Request → ℕ → Option Row
-schedule_table c r number =
-    if number == 8 then Some (priority_row c)
-    else (if number == 9 then Some (lower_row c r)
-    else None)
+unfoldable pub schedule_table : Capability → Request → List (ℕ × Row)
+schedule_table c r =
+    (8, priority_row c)
+    ∷ (9, lower_row c r)
+    ∷ []
 
 -- ---- Range
 
@@ -208,11 +208,11 @@ destroy_row s sent = record {
 }
 
 -- a range
-unfoldable pub range_table : Reading → Store → Request → ℕ → Option Row
-range_table reading s r number =
-    if number == 8 then Some (getcap_row reading s r)
-    else (if number == 9 then Some (destroy_row s r.sent)
-    else None)
+unfoldable pub range_table : Reading → Store → Request → List (ℕ × Row)
+range_table reading s r =
+    (8, getcap_row reading s r)
+    ∷ (9, destroy_row s r.sent)
+    ∷ []
 
 -- ---- Discrim
 
@@ -221,25 +221,25 @@ unfoldable pub classify_row : Capability → Row
 classify_row sent = always (tells (number_of sent.kind) (bit (is_harmless sent)) 0)
 
 -- a discrim
-unfoldable pub discrim_table : Request → ℕ → Option Row
-discrim_table r number = if number == 8 then Some (classify_row r.sent) else None
+unfoldable pub discrim_table : Request → List (ℕ × Row)
+discrim_table r = (8, classify_row r.sent) ∷ []
 
 -- ---- all of these kinds
 
 -- what a kind has beyond the request `kind`
-unfoldable pub own_table : Reading → Store → Capability → Request → CapKind → ℕ → Option Row
-own_table reading s c r Endpoint number = endpoint_table s c r number
-own_table reading s c r Process number = process_table s c r number
-own_table reading s c r Schedule number = schedule_table c r number
-own_table reading s c r Range number = range_table reading s r number
-own_table reading s c r Discrim number = discrim_table r number
-own_table reading s c r _ number = None
+unfoldable pub own_table : Reading → Store → Capability → Request → CapKind → List (ℕ × Row)
+own_table reading s c r Endpoint = endpoint_table s c r
+own_table reading s c r Process = process_table s c r
+own_table reading s c r Schedule = schedule_table c r
+own_table reading s c r Range = range_table reading s r
+own_table reading s c r Discrim = discrim_table r
+own_table reading s c r _ = []
 
 -- the rows of a kind
-unfoldable pub control_table : Reading → Store → Capability → Request → CapKind → ℕ → Option Row
-control_table reading s c r kind number =
-    if number == 0 then Some (kind_row c)
-    else own_table reading s c r kind number
+unfoldable pub control_table : Reading → Store → Capability → Request → CapKind → List (ℕ × Row)
+control_table reading s c r kind =
+    (0, kind_row c)
+    ∷ own_table reading s c r kind
 
 -- whether it is the kind Null
 abbrev pub is_null : CapKind → Bool
@@ -250,4 +250,4 @@ is_null _ = false
 unfoldable pub control_operation : Reading → Store → Capability → Request → Settled
 control_operation reading s c r =
     if is_null c.kind then refused InvalidCap
-    else settled_row (control_table reading s c r c.kind (w1 r))
+    else settled_in (control_table reading s c r c.kind) (w1 r)

@@ -1,6 +1,6 @@
 -- Kernel operations of the memory kinds: Page, CapPage, GPT, Window and LocalWindow. (Coyotos; the numbers, the order
 -- of refusals and what each refuses are this project's.) One definition a row, and one table a kind.
-use Rattle.std.specs.Prelude.{ℕ, ◌+◌, ◌-◌, ◌*◌, ◌/◌, ◌%◌, ◌^◌, ◌==◌, nat_lt, nat_le, Bool, true, false, not, ◌&&◌, ◌||◌, if◌then◌else◌, [], ◌∷◌, Option, Some, None}
+use Rattle.std.specs.Prelude.{ℕ, ◌+◌, ◌-◌, ◌*◌, ◌/◌, ◌%◌, ◌^◌, ◌==◌, nat_lt, nat_le, Bool, true, false, not, ◌&&◌, ◌||◌, if◌then◌else◌, [], ◌∷◌, List}
 use Rattle.cap_format.specs.declared.kind.CapKind.{CapKind}
 use Rattle.cap_format.specs.declared.kind.CapKind.TheVariants.{Page, CapPage, Gpt}
 use Rattle.cap_format.specs.declared.code.Code.{Code}
@@ -8,7 +8,7 @@ use Rattle.cap_format.specs.declared.code.Code.TheVariants.{Ok as OkCode}
 use Rattle.cap_format.specs.declared.request.Request.{Request}
 use Rattle.cap_format.specs.Kind.{number_of, is_window}
 use Rattle.cap_format.specs.Restr.{has, RO, OP}
-use Rattle.cap_format.specs.Guard.{GuardValue, guard_of}
+use Rattle.cap_format.specs.Guard.{guard_of}
 use Rattle.cap_format.specs.Capability.{Capability, window, local_window, with_guard}
 use Rattle.cap_format.specs.Weakening.{reduced}
 use Rattle.gpt_objects.specs.Header.{header_of}
@@ -17,7 +17,7 @@ use Rattle.page_store.specs.CapPage.{cap_at, with_cap, empty_cappage}
 use Rattle.object_store.specs.Store.{Store, header_at, slot_at, page_at, cappage_at}
 use Rattle.operations.specs.Weak.{read_through}
 use Rattle.operations.specs.Change.{PageIs, CapPageIs, SlotIs, HeaderIs}
-use Rattle.operations.specs.Row.{Row, Settled, tells, gives, does, always, unless_error, with_access, settled_row}
+use Rattle.operations.specs.Row.{Row, Settled, tells, gives, does, always, unless_error, with_access, settled_in}
 use Rattle.operations.specs.Request.{w1, w2, w3, w4}
 
 -- ---- what the rows test
@@ -173,46 +173,46 @@ setwindow_row c r =
 -- ---- the tables: the row that has a number, if there is one
 
 -- a page
-unfoldable pub page_table : Store → Capability → Request → ℕ → Option Row
-page_table s c r number =
-    if number == 8 then Some (clear_page_row c)
-    else (if number == 9 then Some (copy_row s c r)
-    else None)
+unfoldable pub page_table : Store → Capability → Request → List (ℕ × Row)
+page_table s c r =
+    (8, clear_page_row c)
+    ∷ (9, copy_row s c r)
+    ∷ []
 
 -- a capability page
-unfoldable pub cappage_table : Store → Capability → Request → ℕ → Option Row
-cappage_table s c r number =
-    if number == 8 then Some (clear_cappage_row c)
-    else (if number == 9 then Some (get_row s c r)
-    else (if number == 10 then Some (set_row s c r)
-    else None))
+unfoldable pub cappage_table : Store → Capability → Request → List (ℕ × Row)
+cappage_table s c r =
+    (8, clear_cappage_row c)
+    ∷ (9, get_row s c r)
+    ∷ (10, set_row s c r)
+    ∷ []
 
 -- a GPT
-unfoldable pub gpt_table : Store → Capability → Request → ℕ → Option Row
-gpt_table s c r number =
-    if number == 8 then Some (getslot_row s c r)
-    else (if number == 9 then Some (setslot_row c r)
-    else (if number == 10 then Some (getheader_row s c)
-    else (if number == 11 then Some (setheader_row c r)
-    else (if number == 12 then Some (setwindow_row c r)
-    else None))))
+unfoldable pub gpt_table : Store → Capability → Request → List (ℕ × Row)
+gpt_table s c r =
+    (8, getslot_row s c r)
+    ∷ (9, setslot_row c r)
+    ∷ (10, getheader_row s c)
+    ∷ (11, setheader_row c r)
+    ∷ (12, setwindow_row c r)
+    ∷ []
 
 -- what a kind has beyond what all memory kinds have
-unfoldable pub own_table : Store → Capability → Request → CapKind → ℕ → Option Row
-own_table s c r Page number = page_table s c r number
-own_table s c r CapPage number = cappage_table s c r number
-own_table s c r Gpt number = gpt_table s c r number
-own_table s c r _ number = None
+unfoldable pub own_table : Store → Capability → Request → CapKind → List (ℕ × Row)
+own_table s c r Page = page_table s c r
+own_table s c r CapPage = cappage_table s c r
+own_table s c r Gpt = gpt_table s c r
+own_table s c r _ = []
 
 -- the rows of a memory kind
-unfoldable pub memory_table : Store → Capability → Request → CapKind → ℕ → Option Row
-memory_table s c r kind number =
-    if number == 0 then Some (kind_row c)
-    else (if number == 1 then Some (reduce_row c r)
-    else (if number == 2 then Some (getguard_row c)
-    else (if number == 3 then Some (setguard_row c r)
-    else (if number == 4 then Some (getrestr_row c)
-    else own_table s c r kind number))))
+unfoldable pub memory_table : Store → Capability → Request → CapKind → List (ℕ × Row)
+memory_table s c r kind =
+    (0, kind_row c)
+    ∷ (1, reduce_row c r)
+    ∷ (2, getguard_row c)
+    ∷ (3, setguard_row c r)
+    ∷ (4, getrestr_row c)
+    ∷ own_table s c r kind
 
 -- whether a capability is to a GPT
 abbrev pub is_gpt : CapKind → Bool
@@ -230,4 +230,4 @@ reads kind number code = if is_gpt kind && number == 8 && is_granted code then 1
 
 -- a request to a capability of a memory kind
 unfoldable pub memory_operation : Store → Capability → Request → Settled
-memory_operation s c r = settled_row (memory_table s c r c.kind (w1 r))
+memory_operation s c r = settled_in (memory_table s c r c.kind) (w1 r)

@@ -1,5 +1,5 @@
 -- The shape of every row of kernel operations: its refusals in their order, and what it comes to where none holds.
-use Rattle.std.specs.Prelude.{ℕ, Bool, false, if◌then◌else◌, List, [], ◌∷◌, Option, Some, None}
+use Rattle.std.specs.Prelude.{ℕ, Bool, false, if◌then◌else◌, List, [], ◌∷◌, Option, Some, None, ◌==◌}
 use Rattle.cap_format.specs.declared.code.Code.{Code}
 use Rattle.cap_format.specs.declared.code.Code.TheVariants.{Ok as OkCode, UnknownRequest, NoAccess, RequestError, CountSpent}
 use Rattle.cap_format.specs.declared.request.Reply.{Reply}
@@ -80,10 +80,10 @@ settled row =
     else (if row.count_spent then refused CountSpent
     else granted row.answer))
 
--- a request that has no row is unknown
-abbrev pub settled_row : Option Row → Settled
-settled_row None = refused UnknownRequest
-settled_row (Some row) = settled row
+-- what a request with this number comes to by a table, whose rows have their numbers: one that has no row is unknown
+abbrev pub settled_in : List (ℕ × Row) → ℕ → Settled
+settled_in [] number = refused UnknownRequest
+settled_in (entry ∷ rows) number = if number == entry.0 then settled entry.1 else settled_in rows number
 
 -- the reply: the code, and of what comes of it the words, the capability and the item that it changes
 abbrev pub reply_of : Settled → Reply

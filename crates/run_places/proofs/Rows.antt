@@ -14,12 +14,11 @@ use Rattle.process_objects.specs.declared.state.State.TheVariants.{Running, Rece
 use Rattle.object_store.specs.Store.{Store, gpt_at, cappage_at}
 use Rattle.operations.specs.System.{System, Meant, schedule_by}
 use Rattle.operations.specs.Change.{Change, PageIs, CapPageIs, SlotIs, HeaderIs, EndpointIs, ProcessIs, Left, Readied, Woken, Destroyed, applied, applied_all}
-use Rattle.operations.specs.Row.{Settled, refused, granted, settled, settled_row}
+use Rattle.operations.specs.Row.{Settled, refused, granted, settled}
 use Rattle.operations.specs.Request.{w1, w2, w3}
 use Rattle.operations.specs.Memory.{kind_row, reduce_row, getguard_row, setguard_row, getrestr_row, clear_page_row, copy_row, page_table, clear_cappage_row, get_row, set_row, cappage_table, getslot_row, setslot_row as setslot_of_gpt, getheader_row, setheader_row, setwindow_row, gpt_table, own_table as memory_own_table, memory_table, memory_operation}
 use Rattle.operations.specs.Control.{setrecipient_row, getid_row, setid_row, setmatch_row, makeentry_row, setpayload_row, endpoint_table, with_number, getreg_row, setreg_row, getcapreg_row, setcapreg_row, getslot_row as getslot_of_process, setslot_row as setslot_of_process, tells_state, process_of, getstate_row, resume_row, stop_row, process_table, priority_row, lower_row, schedule_table, obtained, getcap_row, is_process, destruction_of, destroy_row, range_table, classify_row, discrim_table, own_table, control_table, is_null, control_operation}
-use Rattle.operations.proofs.Settled.{by_row}
-use Rattle.operations.proofs.Fits.{table_fits}
+use Rattle.operations.proofs.Settled.{◌▸◌, EachAnswer, by_table}
 use Rattle.run_places.specs.Places.{HasPlaces}
 use Rattle.run_places.proofs.Objects.{IsWhole, HasAll, empty_cappage-has, with_capreg-has, with_slot-has, gpt-has, cappage-has, process-has, with_process-has, with_page-has, with_cappage-has, with_endpoint-has, set_gpt-has, readied-has, woken-has, destruction-has}
 
@@ -68,57 +67,23 @@ state-keeps (Faulted code address) = tt
 module _ (s : Store) (has : HasPlaces s) (c : Capability) (r : Request) where
   -- ---- pages, capability pages, GPTs and windows
 
-  page-keeps : (n : ℕ) → Keeps (settled_row (page_table s c r n))
-  unfolding page_table clear_page_row copy_row
-  page-keeps n =
-      table_fits Keeps (n == 8) _ _ (by_row Keeps refusal-keeps (clear_page_row c) (tt, tt))
-      (table_fits Keeps (n == 9) _ _ (by_row Keeps refusal-keeps (copy_row s c r) (tt, tt)) tt)
+  memory_own-keeps : (kind : CapKind) → EachAnswer Keeps (memory_own_table s c r kind)
+  unfolding memory_own_table page_table clear_page_row copy_row cappage_table clear_cappage_row get_row set_row gpt_table getslot_row setslot_of_gpt getheader_row setheader_row setwindow_row
+  memory_own-keeps Page = (tt, tt) ▸ (tt, tt) ▸ tt
+  memory_own-keeps CapPage = (empty_cappage-has, tt) ▸ tt ▸ (length-set (cappage_at s c.object) (w2 r) r.sent ∙ cappage-has s has c.object, tt) ▸ tt
+  memory_own-keeps Gpt = tt ▸ (tt, tt) ▸ tt ▸ (tt, tt) ▸ (tt, tt) ▸ tt
+  memory_own-keeps kind = tt
 
-  cappage-keeps : (n : ℕ) → Keeps (settled_row (cappage_table s c r n))
-  unfolding cappage_table clear_cappage_row get_row set_row
-  cappage-keeps n =
-      table_fits Keeps (n == 8) _ _ (by_row Keeps refusal-keeps (clear_cappage_row c) (empty_cappage-has, tt))
-      (table_fits Keeps (n == 9) _ _ (by_row Keeps refusal-keeps (get_row s c r) tt)
-      (table_fits Keeps (n == 10) _ _ (by_row Keeps refusal-keeps (set_row s c r) (length-set (cappage_at s c.object) (w2 r) r.sent ∙ cappage-has s has c.object, tt)) tt))
-
-  gpt-keeps : (n : ℕ) → Keeps (settled_row (gpt_table s c r n))
-  unfolding gpt_table getslot_row setslot_of_gpt getheader_row setheader_row setwindow_row
-  gpt-keeps n =
-      table_fits Keeps (n == 8) _ _ (by_row Keeps refusal-keeps (getslot_row s c r) tt)
-      (table_fits Keeps (n == 9) _ _ (by_row Keeps refusal-keeps (setslot_of_gpt c r) (tt, tt))
-      (table_fits Keeps (n == 10) _ _ (by_row Keeps refusal-keeps (getheader_row s c) tt)
-      (table_fits Keeps (n == 11) _ _ (by_row Keeps refusal-keeps (setheader_row c r) (tt, tt))
-      (table_fits Keeps (n == 12) _ _ (by_row Keeps refusal-keeps (setwindow_row c r) (tt, tt)) tt))))
-
-  memory_own-keeps : (kind : CapKind) (n : ℕ) → Keeps (settled_row (memory_own_table s c r kind n))
-  unfolding memory_own_table
-  memory_own-keeps Page n = page-keeps n
-  memory_own-keeps CapPage n = cappage-keeps n
-  memory_own-keeps Gpt n = gpt-keeps n
-  memory_own-keeps kind n = tt
+  memory_table-keeps : EachAnswer Keeps (memory_table s c r c.kind)
+  unfolding memory_table kind_row reduce_row getguard_row setguard_row getrestr_row
+  memory_table-keeps = tt ▸ tt ▸ tt ▸ tt ▸ tt ▸ memory_own-keeps c.kind
 
   -- of every operation of these kinds
   pub memory-keeps : AllWhole (memory_operation s c r).answer.changes
-  unfolding memory_operation memory_table kind_row reduce_row getguard_row setguard_row getrestr_row
-  memory-keeps =
-      table_fits Keeps (w1 r == 0) _ _ (by_row Keeps refusal-keeps (kind_row c) tt)
-      (table_fits Keeps (w1 r == 1) _ _ (by_row Keeps refusal-keeps (reduce_row c r) tt)
-      (table_fits Keeps (w1 r == 2) _ _ (by_row Keeps refusal-keeps (getguard_row c) tt)
-      (table_fits Keeps (w1 r == 3) _ _ (by_row Keeps refusal-keeps (setguard_row c r) tt)
-      (table_fits Keeps (w1 r == 4) _ _ (by_row Keeps refusal-keeps (getrestr_row c) tt)
-      (memory_own-keeps c.kind (w1 r))))))
+  unfolding memory_operation
+  memory-keeps = by_table Keeps refusal-keeps (memory_table s c r c.kind) memory_table-keeps (w1 r)
 
   -- ---- Null, endpoints, processes, schedules, Range and Discrim
-
-  endpoint-keeps : (n : ℕ) → Keeps (settled_row (endpoint_table s c r n))
-  unfolding endpoint_table setrecipient_row getid_row setid_row setmatch_row makeentry_row setpayload_row
-  endpoint-keeps n =
-      table_fits Keeps (n == 8) _ _ (by_row Keeps refusal-keeps (setrecipient_row s c r) (tt, tt))
-      (table_fits Keeps (n == 9) _ _ (by_row Keeps refusal-keeps (getid_row s c) tt)
-      (table_fits Keeps (n == 10) _ _ (by_row Keeps refusal-keeps (setid_row s c r) (tt, tt))
-      (table_fits Keeps (n == 11) _ _ (by_row Keeps refusal-keeps (setmatch_row s c r) (tt, tt))
-      (table_fits Keeps (n == 12) _ _ (by_row Keeps refusal-keeps (makeentry_row c r) tt)
-      (table_fits Keeps (n == 13) _ _ (by_row Keeps refusal-keeps (setpayload_row s c r) (tt, tt)) tt)))))
 
   old-has : HasAll (process_of s c)
   old-has = process-has s has c.object
@@ -127,56 +92,47 @@ module _ (s : Store) (has : HasPlaces s) (c : Capability) (r : Request) where
   unfolding with_number
   with_number-has i value = cond_both (i == 0) _ _ HasAll (λ e. old-has) (λ e. old-has)
 
-  process-keeps : (n : ℕ) → Keeps (settled_row (process_table s c r n))
+  process-keeps : EachAnswer Keeps (process_table s c r)
   unfolding process_table getreg_row setreg_row getcapreg_row setcapreg_row getslot_of_process setslot_of_process getstate_row resume_row stop_row
-  process-keeps n =
-      table_fits Keeps (n == 8) _ _ (by_row Keeps refusal-keeps (getreg_row s c r) tt)
-      (table_fits Keeps (n == 9) _ _ (by_row Keeps refusal-keeps (setreg_row s c r) (with_number-has (w2 r) (w3 r), tt))
-      (table_fits Keeps (n == 10) _ _ (by_row Keeps refusal-keeps (getcapreg_row s c r) tt)
-      (table_fits Keeps (n == 11) _ _ (by_row Keeps refusal-keeps (setcapreg_row s c r) (with_capreg-has (process_of s c) old-has (w2 r) r.sent, tt))
-      (table_fits Keeps (n == 12) _ _ (by_row Keeps refusal-keeps (getslot_of_process s c r) tt)
-      (table_fits Keeps (n == 13) _ _ (by_row Keeps refusal-keeps (setslot_of_process s c r) (with_slot-has (process_of s c) old-has (w2 r) r.sent, tt))
-      (table_fits Keeps (n == 14) _ _ (by_row Keeps refusal-keeps (getstate_row s c) (state-keeps (process_of s c).state))
-      (table_fits Keeps (n == 15) _ _ (by_row Keeps refusal-keeps (resume_row s c) (tt, tt))
-      (table_fits Keeps (n == 16) _ _ (by_row Keeps refusal-keeps (stop_row s c) (tt, (old-has, tt))) tt))))))))
+  process-keeps =
+      tt
+      ▸ (with_number-has (w2 r) (w3 r), tt)
+      ▸ tt
+      ▸ (with_capreg-has (process_of s c) old-has (w2 r) r.sent, tt)
+      ▸ tt
+      ▸ (with_slot-has (process_of s c) old-has (w2 r) r.sent, tt)
+      ▸ state-keeps (process_of s c).state
+      ▸ (tt, tt)
+      ▸ (tt, (old-has, tt))
+      ▸ tt
 
-  schedule-keeps : (n : ℕ) → Keeps (settled_row (schedule_table c r n))
-  unfolding schedule_table priority_row lower_row
-  schedule-keeps n =
-      table_fits Keeps (n == 8) _ _ (by_row Keeps refusal-keeps (priority_row c) tt)
-      (table_fits Keeps (n == 9) _ _ (by_row Keeps refusal-keeps (lower_row c r) tt) tt)
-
-  obtained-keeps : (kind : Option CapKind) (n : ℕ) → Keeps (settled (obtained Meant s kind n))
+  obtained-keeps : (kind : Option CapKind) → Keeps (granted (obtained Meant s kind (w3 r)).answer)
   unfolding obtained
-  obtained-keeps None n = tt
-  obtained-keeps (Some kind) n = by_row Keeps refusal-keeps (obtained Meant s (Some kind) n) tt
+  obtained-keeps None = tt
+  obtained-keeps (Some kind) = tt
 
   destroyed-keeps : (kind : CapKind) (n : ℕ) → AllWhole (destruction_of s kind n)
   unfolding destruction_of
   destroyed-keeps kind n = cond_both (is_process kind) _ _ AllWhole (λ e. (tt, (process-has s has n, (tt, (tt, tt))))) (λ e. (tt, tt))
 
-  range-keeps : (n : ℕ) → Keeps (settled_row (range_table Meant s r n))
+  range-keeps : EachAnswer Keeps (range_table Meant s r)
   unfolding range_table getcap_row destroy_row
-  range-keeps n =
-      table_fits Keeps (n == 8) _ _ (obtained-keeps (kind_with (w2 r)) (w3 r))
-      (table_fits Keeps (n == 9) _ _ (by_row Keeps refusal-keeps (destroy_row s r.sent) (destroyed-keeps r.sent.kind r.sent.object)) tt)
+  range-keeps = obtained-keeps (kind_with (w2 r)) ▸ destroyed-keeps r.sent.kind r.sent.object ▸ tt
 
-  discrim-keeps : (n : ℕ) → Keeps (settled_row (discrim_table r n))
-  unfolding discrim_table classify_row
-  discrim-keeps n = table_fits Keeps (n == 8) _ _ (by_row Keeps refusal-keeps (classify_row r.sent) tt) tt
+  own-keeps : (kind : CapKind) → EachAnswer Keeps (own_table Meant s c r kind)
+  unfolding own_table endpoint_table setrecipient_row getid_row setid_row setmatch_row makeentry_row setpayload_row schedule_table priority_row lower_row discrim_table classify_row
+  own-keeps Endpoint = (tt, tt) ▸ tt ▸ (tt, tt) ▸ (tt, tt) ▸ tt ▸ (tt, tt) ▸ tt
+  own-keeps Process = process-keeps
+  own-keeps Schedule = tt ▸ tt ▸ tt
+  own-keeps Range = range-keeps
+  own-keeps Discrim = tt ▸ tt
+  own-keeps kind = tt
 
-  own-keeps : (kind : CapKind) (n : ℕ) → Keeps (settled_row (own_table Meant s c r kind n))
-  unfolding own_table
-  own-keeps Endpoint n = endpoint-keeps n
-  own-keeps Process n = process-keeps n
-  own-keeps Schedule n = schedule-keeps n
-  own-keeps Range n = range-keeps n
-  own-keeps Discrim n = discrim-keeps n
-  own-keeps kind n = tt
+  table-keeps : EachAnswer Keeps (control_table Meant s c r c.kind)
+  unfolding control_table kind_row
+  table-keeps = tt ▸ own-keeps c.kind
 
   -- of every operation of these kinds
   pub control-keeps : AllWhole (control_operation Meant s c r).answer.changes
-  unfolding control_operation control_table kind_row
-  control-keeps =
-      cond_both (is_null c.kind) _ _ Keeps (λ e. tt)
-      (λ e. table_fits Keeps (w1 r == 0) _ _ (by_row Keeps refusal-keeps (kind_row c) tt) (own-keeps c.kind (w1 r)))
+  unfolding control_operation
+  control-keeps = cond_both (is_null c.kind) _ _ Keeps (λ e. tt) (λ e. by_table Keeps refusal-keeps (control_table Meant s c r c.kind) table-keeps (w1 r))

@@ -24,7 +24,7 @@ use Rattle.operations.specs.System.{System, Meant, system}
 use Rattle.operations.specs.Change.{item_in}
 use Rattle.operations.specs.Memory.{is_gpt, is_granted, kind_row, memory_operation}
 use Rattle.operations.specs.Request.{w1}
-use Rattle.operations.specs.Row.{Row, Settled, refused, settled, settled_row, reply_of}
+use Rattle.operations.specs.Row.{Settled, refused, settled, reply_of, settled_in}
 use Rattle.operations.specs.Control.{control_operation}
 use Rattle.invocation.specs.declared.callee.Callee.{Callee}
 use Rattle.invocation.specs.declared.callee.Callee.TheVariants.{Kernel, Open, Busy, Dead}
@@ -180,10 +180,10 @@ settled-reply w settled is = record { words = is.words; cap = is.cap }
 nothing-reply : (code : Code) → IsRangedReply (reply_of (refused code))
 nothing-reply code = record { words = zeros-in; cap = tt }
 
-kind-reply : (cap : Capability) (number : ℕ) → IsRangedReply (reply_of (settled_row (kind_table cap number)))
+kind-reply : (cap : Capability) (number : ℕ) → IsRangedReply (reply_of (settled_in (kind_table cap) number))
 unfolding kind_row
 kind-reply cap number =
-    cond_both (number == 0) _ _ (λ (row : Option Row). IsRangedReply (reply_of (settled_row row)))
+    cond_both (number == 0) _ _ (λ (settled : Settled). IsRangedReply (reply_of settled))
     (λ e. record { words = three-in (number_of cap.kind) 0 0 (let small = number_small cap.kind in omega (arith, small)) (omega arith) (omega arith); cap = tt })
     (λ e. nothing-reply UnknownRequest)
 

@@ -25,12 +25,12 @@ use Rattle.object_store.proofs.Ranged.{IsHeader-header_at}
 use Rattle.schedules.specs.Queues.{QueuesValue}
 use Rattle.operations.specs.System.{System, Meant, system, schedule_by}
 use Rattle.operations.specs.Change.{Change, PageIs, CapPageIs, SlotIs, HeaderIs, EndpointIs, ProcessIs, Left, Readied, Woken, Destroyed, applied, applied_all}
-use Rattle.operations.specs.Row.{Answer, Row, Settled, tells, gives, does, refused, granted, settled, settled_row}
+use Rattle.operations.specs.Row.{Answer, Row, Settled, tells, gives, does, refused, granted, settled, settled_in}
 use Rattle.operations.specs.Request.{w1, w2, w3, w4}
 use Rattle.operations.specs.Weak.{read_through}
 use Rattle.operations.specs.Memory.{is_guard, is_multiple, may_have, bit, window_is_local, window_l2g, window_error, window_of, kind_row, reduce_row, getguard_row, setguard_row, getrestr_row, clear_page_row, copy_row, page_table, clear_cappage_row, get_row, set_row, cappage_table, getslot_row, setslot_row as setslot_of_gpt, getheader_row, setheader_row, setwindow_row, gpt_table, own_table as memory_own_table, memory_table, memory_operation}
 use Rattle.operations.specs.Control.{setrecipient_row, getid_row, setid_row, setmatch_row, makeentry_row, setpayload_row, endpoint_table, number_in, with_number, getreg_row, setreg_row, getcapreg_row, setcapreg_row, getslot_row as getslot_of_process, setslot_row as setslot_of_process, tells_state, getstate_row, resume_row, stop_row, process_table, priority_row, lower_row, schedule_table, obtained, getcap_row, is_process, destruction_of, destroy_row, range_table, classify_row, discrim_table, own_table, control_table, is_null, control_operation}
-use Rattle.operations.proofs.Fits.{table_fits}
+use Rattle.operations.proofs.Settled.{◌▸◌, EachRow, by_rows}
 use Rattle.run_ranges.specs.Ranges.{IsModelCap, IsWord, IsByte, IsRangedState, IsRangedProcess, IsRangedEndpoint, AreInRanges}
 use Rattle.run_ranges.proofs.Words.{word_at}
 use Rattle.run_ranges.proofs.Objects.{null-in, empty_page-in, empty_cappage-in, process-in, page-in, cappage-in, endpoint-in, slot-in, cap-in, reg-in, capreg-in, process_slot-in, with_pc-in, with_reg-in, with_capreg-in, with_slot-in, with_state-in, with_process-in, with_page-in, with_cappage-in, with_endpoint-in, set_slot-in, set_header-in, destruction-in}
@@ -166,27 +166,33 @@ module _ (s : Store) (q : QueuesValue) (x : AreInRanges s) (c : Capability) (is 
   word : (i : ℕ) → IsWord (slice_index r.words i)
   word i = word_at r.words i words
 
-  kind-in : IsRangedRow (settled (kind_row c))
+  -- where nothing refuses a row, what it comes to is in its ranges
+  abbrev RowIn : Row → Type 0
+  RowIn row = row.request_error ≡ false → row.count_spent ≡ false → IsRangedRow (granted row.answer)
+
+  rows-in : (rows : List (ℕ × Row)) → EachRow RowIn rows → (n : ℕ) → IsRangedRow (settled_in rows n)
+  rows-in = by_rows IsRangedRow RowIn (row-in IsRangedRow refusal-in) (refusal-in UnknownRequest)
+
+  kind-in : IsRangedRow (granted (kind_row c).answer)
   unfolding kind_row
-  kind-in = row-in IsRangedRow refusal-in (kind_row c) (λ e f. tells-in _ 0 0 (let small = number_small c.kind in omega (arith, small)) (omega arith) (omega arith))
+  kind-in = tells-in _ 0 0 (let small = number_small c.kind in omega (arith, small)) (omega arith) (omega arith)
 
   -- ---- pages, capability pages, GPTs and windows
 
-  page_rows : (n : ℕ) → IsRangedRow (settled_row (page_table s c r n))
+  page_rows : EachRow RowIn (page_table s c r)
   unfolding page_table clear_page_row copy_row
-  page_rows n =
-      table_fits IsRangedRow (n == 8) _ _ (row-in IsRangedRow refusal-in (clear_page_row c) (λ e f. does-in (PageIs c.object empty_page) empty_page-in))
-      (table_fits IsRangedRow (n == 9) _ _ (row-in IsRangedRow refusal-in (copy_row s c r) (λ e f. does-in (PageIs c.object (page_at s r.sent.object)) (page-in s x r.sent.object)))
-      (refusal-in UnknownRequest))
+  page_rows =
+      (λ e f. does-in (PageIs c.object empty_page) empty_page-in)
+      ▸ (λ e f. does-in (PageIs c.object (page_at s r.sent.object)) (page-in s x r.sent.object))
+      ▸ tt
 
-  cappage_rows : (n : ℕ) → IsRangedRow (settled_row (cappage_table s c r n))
+  cappage_rows : EachRow RowIn (cappage_table s c r)
   unfolding cappage_table clear_cappage_row get_row set_row
-  cappage_rows n =
-      table_fits IsRangedRow (n == 8) _ _ (row-in IsRangedRow refusal-in (clear_cappage_row c) (λ e f. does-in (CapPageIs c.object empty_cappage) empty_cappage-in))
-      (table_fits IsRangedRow (n == 9) _ _ (row-in IsRangedRow refusal-in (get_row s c r) (λ e f. gives-in _ (read_through-in c.restr (cap_at (cappage_at s c.object) (w2 r)) (cap-in s x c.object (w2 r)))))
-      (table_fits IsRangedRow (n == 10) _ _ (row-in IsRangedRow refusal-in (set_row s c r) (λ e f.
-      does-in (CapPageIs c.object (with_cap (cappage_at s c.object) (w2 r) r.sent)) (All-set IsModelCap (cappage_at s c.object) (w2 r) r.sent sent (cappage-in s x c.object))))
-      (refusal-in UnknownRequest)))
+  cappage_rows =
+      (λ e f. does-in (CapPageIs c.object empty_cappage) empty_cappage-in)
+      ▸ (λ e f. gives-in _ (read_through-in c.restr (cap_at (cappage_at s c.object) (w2 r)) (cap-in s x c.object (w2 r))))
+      ▸ (λ e f. does-in (CapPageIs c.object (with_cap (cappage_at s c.object) (w2 r) r.sent)) (All-set IsModelCap (cappage_at s c.object) (w2 r) r.sent sent (cappage-in s x c.object)))
+      ▸ tt
 
   header-in : (nat_lt (w2 r) 12 || nat_lt 31 (w2 r) || nat_lt 3 (w3 r)) ≡ false → (ha bg : Bool) → IsHeader (record { l2v = w2 r; ha = ha; bg = bg })
   header-in none ha bg =
@@ -205,27 +211,31 @@ module _ (s : Store) (q : QueuesValue) (x : AreInRanges s) (c : Capability) (is 
       (λ e. (record { restr = omega arith; count = omega arith; guard = guard; unguarded = λ e. absurd (cc (e)); object = word 3; aligned = λ e. multiple; payload = omega arith; slot = omega arith }, refl))
       (λ e. (record { restr = omega arith; count = omega arith; guard = guard; unguarded = λ e. absurd (cc (e)); object = word 3; aligned = λ e. multiple; payload = omega arith; slot = omega arith }, refl))
 
-  gpt_rows : (n : ℕ) → IsRangedRow (settled_row (gpt_table s c r n))
-  unfolding gpt_table getslot_row setslot_of_gpt getheader_row setheader_row setwindow_row
-  gpt_rows n =
-      table_fits IsRangedRow (n == 8) _ _ (row-in IsRangedRow refusal-in (getslot_row s c r) (λ e f. gives-in _ (read_through-in c.restr (slot_at s.items c.object (w2 r)) (slot-in s x c.object (w2 r)))))
-      (table_fits IsRangedRow (n == 9) _ _ (row-in IsRangedRow refusal-in (setslot_of_gpt c r) (λ e f. does-in (SlotIs c.object (w2 r) r.sent) sent))
-      (table_fits IsRangedRow (n == 10) _ _ (row-in IsRangedRow refusal-in (getheader_row s c) (λ e f.
+  header_told-in : IsRangedRow (granted (getheader_row s c).answer)
+  unfolding getheader_row
+  header_told-in =
       let header = header_at s.items c.object in
       let high = (IsHeader-header_at s.items x.items c.object).high in
       let ha = bit-small header.ha in
       let bg = bit-small header.bg in
-      tells-in header.l2v (bit header.ha + 2 * bit header.bg) 0 (omega (arith, high)) (omega (arith, ha, bg)) (omega arith)))
-      (table_fits IsRangedRow (n == 11) _ _ (row-in IsRangedRow refusal-in (setheader_row c r) (λ e f. does-in (HeaderIs c.object _) (header-in e _ _)))
-      (table_fits IsRangedRow (n == 12) _ _ (row-in IsRangedRow refusal-in (setwindow_row c r) (λ e f. does-in (SlotIs c.object _ (window_of r)) (window-in e)))
-      (refusal-in UnknownRequest)))))
+      tells-in header.l2v (bit header.ha + 2 * bit header.bg) 0 (omega (arith, high)) (omega (arith, ha, bg)) (omega arith)
 
-  memory_own_rows : (kind : CapKind) (n : ℕ) → IsRangedRow (settled_row (memory_own_table s c r kind n))
+  gpt_rows : EachRow RowIn (gpt_table s c r)
+  unfolding gpt_table getslot_row setslot_of_gpt setheader_row setwindow_row
+  gpt_rows =
+      (λ e f. gives-in _ (read_through-in c.restr (slot_at s.items c.object (w2 r)) (slot-in s x c.object (w2 r))))
+      ▸ (λ e f. does-in (SlotIs c.object (w2 r) r.sent) sent)
+      ▸ (λ e f. header_told-in)
+      ▸ (λ e f. does-in (HeaderIs c.object _) (header-in e _ _))
+      ▸ (λ e f. does-in (SlotIs c.object _ (window_of r)) (window-in e))
+      ▸ tt
+
+  memory_own_rows : (kind : CapKind) → EachRow RowIn (memory_own_table s c r kind)
   unfolding memory_own_table
-  memory_own_rows Page n = page_rows n
-  memory_own_rows CapPage n = cappage_rows n
-  memory_own_rows Gpt n = gpt_rows n
-  memory_own_rows kind n = refusal-in UnknownRequest
+  memory_own_rows Page = page_rows
+  memory_own_rows CapPage = cappage_rows
+  memory_own_rows Gpt = gpt_rows
+  memory_own_rows kind = tt
 
   guarded-in : is_memory c.kind ≡ true → may_have c (w2 r) (w3 r) ≡ true → IsModelCap (with_guard c (guard_of (w2 r) (w3 r)))
   unfolding may_have
@@ -244,19 +254,20 @@ module _ (s : Store) (q : QueuesValue) (x : AreInRanges s) (c : Capability) (is 
         is.1,
       )
 
+  memory_rows : is_memory c.kind ≡ true → EachRow RowIn (memory_table s c r c.kind)
+  unfolding memory_table reduce_row getguard_row setguard_row getrestr_row
+  memory_rows memory =
+      (λ e f. kind-in)
+      ▸ (λ e f. gives-in (reduced c (w2 r)) (IsCapability-reduced c (w2 r) memory (let few : w2 r ≤ 31 = ltb-false _ _ e in omega (arith, few)) is.0, is.1))
+      ▸ (λ e f. tells-in c.guard.l2g c.guard.matches 0 (let high = is.0.guard.high in omega (arith, high)) (let small = matches_small c.guard is.0.guard in omega (arith, small)) (omega arith))
+      ▸ (λ e f. gives-in _ (guarded-in memory (not_false _ e)))
+      ▸ (λ e f. tells-in c.restr 0 0 (let below = is.0.restr in let most = (limits c.kind).restr in omega (arith, below, most)) (omega arith) (omega arith))
+      ▸ memory_own_rows c.kind
+
   -- of every operation of these kinds
   pub memory-in : is_memory c.kind ≡ true → IsRangedAnswer w (memory_operation s c r).answer
-  unfolding memory_operation memory_table reduce_row getguard_row setguard_row getrestr_row
-  memory-in memory =
-      table_fits IsRangedRow (w1 r == 0) _ _ kind-in
-      (table_fits IsRangedRow (w1 r == 1) _ _ (row-in IsRangedRow refusal-in (reduce_row c r) (λ e f.
-      gives-in (reduced c (w2 r)) (IsCapability-reduced c (w2 r) memory (let few : w2 r ≤ 31 = ltb-false _ _ e in omega (arith, few)) is.0, is.1)))
-      (table_fits IsRangedRow (w1 r == 2) _ _ (row-in IsRangedRow refusal-in (getguard_row c) (λ e f.
-      tells-in c.guard.l2g c.guard.matches 0 (let high = is.0.guard.high in omega (arith, high)) (let small = matches_small c.guard is.0.guard in omega (arith, small)) (omega arith)))
-      (table_fits IsRangedRow (w1 r == 3) _ _ (row-in IsRangedRow refusal-in (setguard_row c r) (λ e f. gives-in _ (guarded-in memory (not_false _ e))))
-      (table_fits IsRangedRow (w1 r == 4) _ _ (row-in IsRangedRow refusal-in (getrestr_row c) (λ e f.
-      tells-in c.restr 0 0 (let below = is.0.restr in let most = (limits c.kind).restr in omega (arith, below, most)) (omega arith) (omega arith)))
-      (memory_own_rows c.kind (w1 r))))))
+  unfolding memory_operation
+  memory-in memory = rows-in (memory_table s c r c.kind) (memory_rows memory) (w1 r)
 
   -- ---- Null, endpoints, processes, schedules, Range and Discrim
 
@@ -276,17 +287,17 @@ module _ (s : Store) (q : QueuesValue) (x : AreInRanges s) (c : Capability) (is 
         is.1,
       )
 
-  endpoint_rows : c.kind ≡ Endpoint → (n : ℕ) → IsRangedRow (settled_row (endpoint_table s c r n))
+  endpoint_rows : c.kind ≡ Endpoint → EachRow RowIn (endpoint_table s c r)
   unfolding endpoint_table setrecipient_row getid_row setid_row setmatch_row makeentry_row setpayload_row
-  endpoint_rows e n =
+  endpoint_rows k =
       let old = endpoint-in s x c.object in
-      table_fits IsRangedRow (n == 8) _ _ (row-in IsRangedRow refusal-in (setrecipient_row s c r) (λ f g. does-in (EndpointIs c.object _) (record { id = old.id; payload = old.payload; recipient = sent })))
-      (table_fits IsRangedRow (n == 9) _ _ (row-in IsRangedRow refusal-in (getid_row s c) (λ f g. tells-in _ _ _ old.id (let small = bit-small (endpoint_at s c.object).matching in omega (arith, small)) old.payload))
-      (table_fits IsRangedRow (n == 10) _ _ (row-in IsRangedRow refusal-in (setid_row s c r) (λ f g. does-in (EndpointIs c.object _) (record { id = word 1; payload = old.payload; recipient = old.recipient })))
-      (table_fits IsRangedRow (n == 11) _ _ (row-in IsRangedRow refusal-in (setmatch_row s c r) (λ f g. does-in (EndpointIs c.object _) (record { id = old.id; payload = old.payload; recipient = old.recipient })))
-      (table_fits IsRangedRow (n == 12) _ _ (row-in IsRangedRow refusal-in (makeentry_row c r) (λ f g. gives-in _ (entry-in e)))
-      (table_fits IsRangedRow (n == 13) _ _ (row-in IsRangedRow refusal-in (setpayload_row s c r) (λ f g. does-in (EndpointIs c.object _) (record { id = old.id; payload = word 1; recipient = old.recipient })))
-      (refusal-in UnknownRequest))))))
+      (λ e f. does-in (EndpointIs c.object _) (record { id = old.id; payload = old.payload; recipient = sent }))
+      ▸ (λ e f. tells-in _ _ _ old.id (let small = bit-small (endpoint_at s c.object).matching in omega (arith, small)) old.payload)
+      ▸ (λ e f. does-in (EndpointIs c.object _) (record { id = word 1; payload = old.payload; recipient = old.recipient }))
+      ▸ (λ e f. does-in (EndpointIs c.object _) (record { id = old.id; payload = old.payload; recipient = old.recipient }))
+      ▸ (λ e f. gives-in _ (entry-in k))
+      ▸ (λ e f. does-in (EndpointIs c.object _) (record { id = old.id; payload = word 1; recipient = old.recipient }))
+      ▸ tt
 
   number_in-in : (i : ℕ) → IsWord (number_in (process_at s c.object) i)
   unfolding number_in
@@ -296,21 +307,21 @@ module _ (s : Store) (q : QueuesValue) (x : AreInRanges s) (c : Capability) (is 
   unfolding with_number
   with_number-in i value small = cond_both (i == 0) _ _ IsRangedProcess (λ e. with_pc-in (process_at s c.object) (process-in s x c.object) value small) (λ e. with_reg-in (process_at s c.object) (process-in s x c.object) i value small)
 
-  process_rows : (n : ℕ) → IsRangedRow (settled_row (process_table s c r n))
+  process_rows : EachRow RowIn (process_table s c r)
   unfolding process_table getreg_row setreg_row getcapreg_row setcapreg_row getslot_of_process setslot_of_process getstate_row resume_row stop_row
-  process_rows n =
+  process_rows =
       let p = process_at s c.object in
       let old = process-in s x c.object in
-      table_fits IsRangedRow (n == 8) _ _ (row-in IsRangedRow refusal-in (getreg_row s c r) (λ e f. tells-in _ 0 0 (number_in-in (w2 r)) (omega arith) (omega arith)))
-      (table_fits IsRangedRow (n == 9) _ _ (row-in IsRangedRow refusal-in (setreg_row s c r) (λ e f. does-in (ProcessIs c.object _) (with_number-in (w2 r) (w3 r) (word 2))))
-      (table_fits IsRangedRow (n == 10) _ _ (row-in IsRangedRow refusal-in (getcapreg_row s c r) (λ e f. gives-in _ (capreg-in s x c.object (w2 r))))
-      (table_fits IsRangedRow (n == 11) _ _ (row-in IsRangedRow refusal-in (setcapreg_row s c r) (λ e f. does-in (ProcessIs c.object _) (with_capreg-in p old (w2 r) r.sent sent)))
-      (table_fits IsRangedRow (n == 12) _ _ (row-in IsRangedRow refusal-in (getslot_of_process s c r) (λ e f. gives-in _ (process_slot-in s x c.object (w2 r))))
-      (table_fits IsRangedRow (n == 13) _ _ (row-in IsRangedRow refusal-in (setslot_of_process s c r) (λ e f. does-in (ProcessIs c.object _) (with_slot-in p old (w2 r) r.sent sent)))
-      (table_fits IsRangedRow (n == 14) _ _ (row-in IsRangedRow refusal-in (getstate_row s c) (λ e f. state-changes w p.state old.state))
-      (table_fits IsRangedRow (n == 15) _ _ (row-in IsRangedRow refusal-in (resume_row s c) (λ e f. does-in (Readied c.object) tt))
-      (table_fits IsRangedRow (n == 16) _ _ (row-in IsRangedRow refusal-in (stop_row s c) (λ e f. record { changes = (tt, (with_state-in p old stopped (omega arith), tt)); words = zeros-in; cap = tt }))
-      (refusal-in UnknownRequest)))))))))
+      (λ e f. tells-in _ 0 0 (number_in-in (w2 r)) (omega arith) (omega arith))
+      ▸ (λ e f. does-in (ProcessIs c.object _) (with_number-in (w2 r) (w3 r) (word 2)))
+      ▸ (λ e f. gives-in _ (capreg-in s x c.object (w2 r)))
+      ▸ (λ e f. does-in (ProcessIs c.object _) (with_capreg-in p old (w2 r) r.sent sent))
+      ▸ (λ e f. gives-in _ (process_slot-in s x c.object (w2 r)))
+      ▸ (λ e f. does-in (ProcessIs c.object _) (with_slot-in p old (w2 r) r.sent sent))
+      ▸ (λ e f. state-changes w p.state old.state)
+      ▸ (λ e f. does-in (Readied c.object) tt)
+      ▸ (λ e f. record { changes = (tt, (with_state-in p old stopped (omega arith), tt)); words = zeros-in; cap = tt })
+      ▸ tt
 
   lowered-in : c.kind ≡ Schedule → nat_lt c.object (w2 r) ≡ false → IsModelCap (schedule (w2 r))
   lowered-in e low =
@@ -318,13 +329,12 @@ module _ (s : Store) (q : QueuesValue) (x : AreInRanges s) (c : Capability) (is 
       let most : w2 r ≤ c.object = ltb-false _ _ low in
       (record { restr = omega arith; count = omega arith; guard = IsGuard-none; unguarded = λ f. refl; object = omega (arith, below, most); aligned = λ f. absurd (cc (f)); payload = omega arith; slot = omega arith }, refl)
 
-  schedule_rows : c.kind ≡ Schedule → (n : ℕ) → IsRangedRow (settled_row (schedule_table c r n))
+  schedule_rows : c.kind ≡ Schedule → EachRow RowIn (schedule_table c r)
   unfolding schedule_table priority_row lower_row
-  schedule_rows e n =
-      table_fits IsRangedRow (n == 8) _ _ (row-in IsRangedRow refusal-in (priority_row c) (λ f g.
-      tells-in c.object 0 0 (let below = is.0.object in let most = (limits c.kind).object in omega (arith, below, most)) (omega arith) (omega arith)))
-      (table_fits IsRangedRow (n == 9) _ _ (row-in IsRangedRow refusal-in (lower_row c r) (λ f g. gives-in _ (lowered-in e f)))
-      (refusal-in UnknownRequest))
+  schedule_rows k =
+      (λ e f. tells-in c.object 0 0 (let below = is.0.object in let most = (limits c.kind).object in omega (arith, below, most)) (omega arith) (omega arith))
+      ▸ (λ e f. gives-in _ (lowered-in k e))
+      ▸ tt
 
   sized-in : (kind : CapKind) (n : ℕ) → n < size_of s.items kind → IsModelCap (to_object kind n 0)
   sized-in Page n there = object-in Page refl n (let most = x.items.counts.pages.size in omega (arith, there, most))
@@ -334,42 +344,43 @@ module _ (s : Store) (q : QueuesValue) (x : AreInRanges s) (c : Capability) (is 
   sized-in Process n there = object-in Process refl n (let most = x.items.counts.processes.size in omega (arith, there, most))
   sized-in kind n there = absurd (omega (arith, there))
 
-  obtained-in : (kind : Option CapKind) (n : ℕ) → IsRangedRow (settled (obtained Meant s kind n))
+  obtained-in : (kind : Option CapKind) → RowIn (obtained Meant s kind (w3 r))
   unfolding obtained
-  obtained-in None n = refusal-in RequestError
-  obtained-in (Some kind) n = row-in IsRangedRow refusal-in (obtained Meant s (Some kind) n) (λ e f. gives-in _ (sized-in kind n (ltb-true _ _ (not_false _ e))))
+  obtained-in None e f = absurd (true≢false e)
+  obtained-in (Some kind) e f = gives-in _ (sized-in kind (w3 r) (ltb-true _ _ (not_false _ e)))
 
   destroyed-in : (kind : CapKind) (n : ℕ) → (count_of s.items kind n == 1048575) ≡ false → AreRangedChanges w (destruction_of s kind n)
   unfolding destruction_of
   destroyed-in kind n unspent =
       cond_both (is_process kind) _ _ (AreRangedChanges w) (λ e. (tt, (with_state-in (process_at s n) (process-in s x n) stopped (omega arith), (tt, (unspent, tt))))) (λ e. (unspent, tt))
 
-  range_rows : (n : ℕ) → IsRangedRow (settled_row (range_table Meant s r n))
+  range_rows : EachRow RowIn (range_table Meant s r)
   unfolding range_table getcap_row destroy_row
-  range_rows n =
-      table_fits IsRangedRow (n == 8) _ _ (obtained-in (kind_with (w2 r)) (w3 r))
-      (table_fits IsRangedRow (n == 9) _ _ (row-in IsRangedRow refusal-in (destroy_row s r.sent) (λ e f. record { changes = destroyed-in r.sent.kind r.sent.object f; words = zeros-in; cap = tt }))
-      (refusal-in UnknownRequest))
+  range_rows =
+      obtained-in (kind_with (w2 r))
+      ▸ (λ e f. record { changes = destroyed-in r.sent.kind r.sent.object f; words = zeros-in; cap = tt })
+      ▸ tt
 
-  discrim_rows : (n : ℕ) → IsRangedRow (settled_row (discrim_table r n))
+  discrim_rows : EachRow RowIn (discrim_table r)
   unfolding discrim_table classify_row
-  discrim_rows n =
-      table_fits IsRangedRow (n == 8) _ _ (row-in IsRangedRow refusal-in (classify_row r.sent) (λ e f.
-      tells-in _ _ 0 (let small = number_small r.sent.kind in omega (arith, small)) (let small = bit-small (is_harmless r.sent) in omega (arith, small)) (omega arith)))
-      (refusal-in UnknownRequest)
+  discrim_rows =
+      (λ e f. tells-in _ _ 0 (let small = number_small r.sent.kind in omega (arith, small)) (let small = bit-small (is_harmless r.sent) in omega (arith, small)) (omega arith))
+      ▸ tt
 
-  own_rows : (kind : CapKind) → c.kind ≡ kind → (n : ℕ) → IsRangedRow (settled_row (own_table Meant s c r kind n))
+  own_rows : (kind : CapKind) → c.kind ≡ kind → EachRow RowIn (own_table Meant s c r kind)
   unfolding own_table
-  own_rows Endpoint e n = endpoint_rows e n
-  own_rows Process e n = process_rows n
-  own_rows Schedule e n = schedule_rows e n
-  own_rows Range e n = range_rows n
-  own_rows Discrim e n = discrim_rows n
-  own_rows kind e n = refusal-in UnknownRequest
+  own_rows Endpoint k = endpoint_rows k
+  own_rows Process k = process_rows
+  own_rows Schedule k = schedule_rows k
+  own_rows Range k = range_rows
+  own_rows Discrim k = discrim_rows
+  own_rows kind k = tt
+
+  table_rows : EachRow RowIn (control_table Meant s c r c.kind)
+  unfolding control_table
+  table_rows = (λ e f. kind-in) ▸ own_rows c.kind refl
 
   -- of every operation of these kinds
   pub control-in : IsRangedAnswer w (control_operation Meant s c r).answer
-  unfolding control_operation control_table
-  control-in =
-      cond_both (is_null c.kind) _ _ IsRangedRow (λ e. refusal-in InvalidCap)
-      (λ e. table_fits IsRangedRow (w1 r == 0) _ _ kind-in (own_rows c.kind refl (w1 r)))
+  unfolding control_operation
+  control-in = cond_both (is_null c.kind) _ _ IsRangedRow (λ e. refusal-in InvalidCap) (λ e. rows-in (control_table Meant s c r c.kind) table_rows (w1 r))
