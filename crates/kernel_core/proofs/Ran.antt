@@ -1,11 +1,10 @@
 -- Laws of runs: by parts, and event by event.
-use Rattle.std.proofs.Common.{◌≡◌, ℕ, ◌+◌, List, [], ◌∷◌, ◌++◌, refl, sym, ap, ◌∙◌, append_assoc, append-nil, arith}
+use Rattle.std.proofs.Common.{◌≡◌, ℕ, ◌+◌, List, [], ◌∷◌, ◌++◌, refl, sym, ap, ◌∙◌, append_assoc, arith}
 use Rattle.cap_format.specs.Capability.{Capability}
 use Rattle.cap_format.specs.declared.item.Item.{Item}
 use Rattle.object_store.specs.Store.{Items}
 use Rattle.walk_meaning.specs.declared.kind.Kind.{Kind}
 use Rattle.machine_state.specs.declared.event.Event.{Event}
-use Rattle.machine_state.specs.declared.record.Record.{Record}
 use Rattle.machine_state.specs.State.{State}
 use Rattle.machine_state.specs.Outcome.{Touch, kept_at, spent, kept_after}
 use Rattle.kernel_core.specs.Event.{event_of}
@@ -69,12 +68,6 @@ unfolding run_of run_state
 run_of-state s [] = refl
 run_of-state s (e ∷ es) = run_of-state (event_of s e).state es
 
--- its records
-pub run_of-records : (s : State) (es : List Event) → (run_of s es).records ≡ run_records s es
-unfolding run_of run_records
-run_of-records s [] = refl
-run_of-records s (e ∷ es) = ap (λ rs. (event_of s e).records ++ rs) (run_of-records (event_of s e).state es)
-
 -- its touches
 pub run_of-touches : (s : State) (es : List Event) → (run_of s es).touches ≡ run_touches s es
 unfolding run_of run_touches
@@ -94,50 +87,3 @@ module _ {K : Type 0} (cost : K → Items → Capability → ℕ → Kind → �
   spent-append k (t ∷ ts) us =
       let rest = spent-append (kept_at cost after without k t) ts us in
       omega (arith, rest)
-
-  -- what was done from the state `s0` on, and the run of the rest from the state `s`, are the run of the events from `s0`
-  pub record IsRun (k0 : K) (s0 : State) (events : List Event) (told0 : List Record) (fetches0 : ℕ) (k : K) (s : State) (rest : List Event) (told : List Record) (fetches : ℕ) : Type 0 where
-    pub state : run_state s rest ≡ run_state s0 events
-    pub records : told ++ run_records s rest ≡ told0 ++ run_records s0 events
-    pub counted : fetches + spent cost after without k (run_touches s rest) ≡ fetches0 + spent cost after without k0 (run_touches s0 events)
-    pub kept : kept_after cost after without k (run_touches s rest) ≡ kept_after cost after without k0 (run_touches s0 events)
-
-  -- at the start
-  pub is_run-start : (k : K) (s : State) (events : List Event) (told : List Record) (fetches : ℕ) → IsRun k s events told fetches k s events told fetches
-  is_run-start k s events told fetches = record { state = refl; records = refl; counted = refl; kept = refl }
-
-  -- after one event more
-  pub is_run-step : (k0 : K) (s0 : State) (events : List Event) (told0 : List Record) (fetches0 : ℕ) (k : K) (s : State) (e : Event) (rest : List Event) (told : List Record) (fetches : ℕ) (k1 : K) (s1 : State) (told1 : List Record) (fetches1 : ℕ)
-      → IsRun k0 s0 events told0 fetches0 k s (e ∷ rest) told fetches
-      → s1 ≡ (event_of s e).state → told1 ≡ told ++ (event_of s e).records
-      → fetches1 ≡ fetches + spent cost after without k (event_of s e).touches → k1 ≡ kept_after cost after without k (event_of s e).touches
-      → IsRun k0 s0 events told0 fetches0 k1 s1 rest told1 fetches1
-  is_run-step k0 s0 events told0 fetches0 k s e rest told fetches k1 s1 told1 fetches1 run state records counted kept =
-      let o = event_of s e in
-      let touches = run_touches-cons s e rest in
-      let sum = ap (spent cost after without k) touches ∙ spent-append k o.touches (run_touches o.state rest) in
-      record {
-        state = ap (λ x. run_state x rest) state ∙ (sym (run_state-cons s e rest) ∙ run.state);
-        records = rw (records, state) (append_assoc told o.records (run_records o.state rest) ∙ (ap (λ rs. told ++ rs) (sym (run_records-cons s e rest)) ∙ run.records));
-        counted = rw (kept, state, counted) (let before = run.counted in omega (arith, sum, before));
-        kept = rw (kept, state) (sym (kept_after-append k o.touches (run_touches o.state rest)) ∙ (ap (kept_after cost after without k) (sym touches) ∙ run.kept));
-      }
-
-  -- all of the run was done
-  pub record HasRun (k0 : K) (s0 : State) (events : List Event) (told0 : List Record) (fetches0 : ℕ) (k : K) (s : State) (told : List Record) (fetches : ℕ) : Type 0 where
-    pub state : s ≡ run_state s0 events
-    pub records : told ≡ told0 ++ run_records s0 events
-    pub counted : fetches ≡ fetches0 + spent cost after without k0 (run_touches s0 events)
-    pub kept : k ≡ kept_after cost after without k0 (run_touches s0 events)
-
-  -- at the end
-  pub is_run-end : (k0 : K) (s0 : State) (events : List Event) (told0 : List Record) (fetches0 : ℕ) (k : K) (s : State) (told : List Record) (fetches : ℕ)
-      → IsRun k0 s0 events told0 fetches0 k s [] told fetches → HasRun k0 s0 events told0 fetches0 k s told fetches
-  is_run-end k0 s0 events told0 fetches0 k s told fetches run =
-      let none = ap (spent cost after without k) (run_touches-nil s) in
-      record {
-        state = sym (run_state-nil s) ∙ run.state;
-        records = sym (append-nil told) ∙ (ap (λ rs. told ++ rs) (sym (run_records-nil s)) ∙ run.records);
-        counted = let all = run.counted in omega (arith, none, all);
-        kept = ap (kept_after cost after without k) (sym (run_touches-nil s)) ∙ run.kept;
-      }

@@ -17,12 +17,10 @@ mod loads;
 mod logging;
 mod operating;
 pub mod parts;
-mod runs;
 mod stores;
 mod system_calls;
 
 pub use events::{event, event_for, event_into};
 pub use laws::few_records;
 pub use machine_state::{Event, LogBytes, Machine, Notable, Observer, Record, Records};
-pub use runs::{Listener, run};
 pub use system_calls::SystemCall;
