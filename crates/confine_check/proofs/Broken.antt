@@ -8,7 +8,8 @@ use Rattle.object_store.specs.Store.{Store, size_of}
 use Rattle.machine_state.specs.State.{State}
 use Rattle.confinement.specs.Cut.{Cut, side_of, MayHold}
 use Rattle.confine_check.specs.declared.verdict.Breach.{Breach}
-use Rattle.confine_check.specs.Breach.{breach_by, breach_in, breach_with, broken_by, cap_in, first_from, found_by, may_hold, places_in, sleeper_of}
+use Rattle.object_store.specs.Places.{cap_in, places_in}
+use Rattle.confine_check.specs.Breach.{breach_by, breach_in, breach_with, broken_by, first_from, found_by, may_hold, sleeper_of}
 use Rattle.confine_check.specs.Found.{IsFirstBreach, meant_of, meant_of_kind, meant_of_object, rank_of, verdict_in}
 use Rattle.confine_check.proofs.Decided.{may_hold-passes, may_hold-says, none_each}
 use Rattle.confine_check.proofs.First.{first_zero, first_suc}

@@ -15,7 +15,8 @@ use Rattle.schedules.specs.Queues.{QueuesValue, sleepers_of}
 use Rattle.object_store.specs.Meaning.{is_live, live, meaning, state_map}
 use Rattle.confine_check.specs.declared.verdict.Breach.{Breach}
 use Rattle.confine_check.specs.declared.verdict.Verdict.TheVariants.{Yes}
-use Rattle.confine_check.specs.Breach.{first_from, is_range, is_sysctl, is_kernlog, may_share, may_hold, places_in, cap_in, breach_at, breach_of_object, breach_of_kind, breach_of, found_by, across_at, least_on, sleeper_of}
+use Rattle.object_store.specs.Places.{places_in, cap_in}
+use Rattle.confine_check.specs.Breach.{first_from, is_range, is_sysctl, is_kernlog, may_share, may_hold, breach_at, breach_of_object, breach_of_kind, breach_of, found_by, across_at, least_on, sleeper_of}
 use Rattle.confine_check.specs.Full.{AreFull}
 use Rattle.confinement.proofs.Held.{may-null}
 use Rattle.confinement.proofs.Sides.{same_side-tells, same_side-true}

@@ -3,7 +3,8 @@ use Rattle.std.proofs.Common.{◌≡◌, ℕ, zero, suc, ◌+◌, ◌-◌, ◌*�
 use Rattle.std.specs.Option.{option_or}
 use Rattle.cap_format.specs.declared.kind.CapKind.{CapKind}
 use Rattle.cap_format.specs.declared.kind.CapKind.TheVariants.{CapPage, Gpt, Endpoint, Process}
-use Rattle.confine_check.specs.Breach.{first_from, places_in, reads_in, object_reads}
+use Rattle.object_store.specs.Places.{places_in, reads_in, object_reads}
+use Rattle.confine_check.specs.Breach.{first_from}
 
 module _ {A : Type 0} (f : ℕ → Option A) where
   -- nothing is asked

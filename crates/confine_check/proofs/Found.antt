@@ -18,7 +18,8 @@ use Rattle.confine_check.specs.declared.verdict.Breach.{Breach}
 use Rattle.confine_check.specs.declared.verdict.Verdict.{Verdict}
 use Rattle.confine_check.specs.declared.verdict.Verdict.TheVariants.{Yes, Capability as CapabilityBreaks, Sleeper}
 use Rattle.confine_check.specs.Full.{AreFull}
-use Rattle.confine_check.specs.Breach.{breach_at, breach_by, breach_of, breach_of_kind, breach_of_object, breach_with, broken_by, cap_in, first_from, found_by, may_hold, object_reads, places_in, reads_in, sleeper_of, verdict_of}
+use Rattle.object_store.specs.Places.{cap_in, object_reads, places_in, reads_in}
+use Rattle.confine_check.specs.Breach.{breach_at, breach_by, breach_of, breach_of_kind, breach_of_object, breach_with, broken_by, first_from, found_by, may_hold, sleeper_of, verdict_of}
 use Rattle.confine_check.specs.Found.{kinds_before, meant, meant_of, meant_of_kind, meant_of_object, reads_to, verdict_in}
 use Rattle.confine_check.proofs.Decided.{either_holds, verdict_law}
 use Rattle.confine_check.proofs.First.{first_zero, first_suc}

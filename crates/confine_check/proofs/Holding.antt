@@ -14,7 +14,7 @@ use Rattle.endpoint_objects.specs.Endpoint.{empty_endpoint}
 use Rattle.object_store.specs.Store.{Store, size_of, gpt_at, slot_at, cappage_at, process_at, endpoint_at}
 use Rattle.object_store.specs.Meaning.{meaning, state_map}
 use Rattle.object_store.proofs.Means.{slot_at-map_of, cappage_at-state_map, process_at-state_map, endpoint_at-state_map}
-use Rattle.confine_check.specs.Breach.{places_in, cap_in}
+use Rattle.object_store.specs.Places.{places_in, cap_in}
 use Rattle.confine_check.specs.Full.{AreFull}
 
 module _ (P : CapKind → ℕ → Capability → Type 0) where

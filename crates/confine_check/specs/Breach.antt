@@ -11,6 +11,7 @@ use Rattle.page_store.specs.CapPage.{cap_at}
 use Rattle.process_objects.specs.Process.{capreg_of, slot_of}
 use Rattle.object_store.specs.Store.{Store, size_of, slot_at, cappage_at, process_at, endpoint_at}
 use Rattle.object_store.specs.Meaning.{live}
+use Rattle.object_store.specs.Places.{places_in, cap_in}
 use Rattle.schedules.specs.Queues.{QueuesValue, sleepers_of}
 use Rattle.confinement.specs.declared.cut_side.CutSide.{CutSide}
 use Rattle.confinement.specs.Cut.{Cut, side_of, same_side}
@@ -53,22 +54,6 @@ may_hold cut side c =
     (if is_counted c.kind then same_side (side_of cut (object_kind c.kind) c.object) side || (cut.weakly side && is_harmless c)
     else true)
     else false)
-
--- how many places for capabilities an object of a kind has
-abbrev pub places_in : CapKind → ℕ
-places_in CapPage = 256
-places_in Gpt = 16
-places_in Endpoint = 1
-places_in Process = 35
-places_in _ = 0
-
--- the capability in a place of an object, as it is stored: the slots of a process stand before its registers
-abbrev pub cap_in : Store → CapKind → ℕ → ℕ → Capability
-cap_in s CapPage n i = cap_at (cappage_at s n) i
-cap_in s Gpt n i = slot_at s.items n i
-cap_in s Endpoint n i = (endpoint_at s n).recipient
-cap_in s Process n i = if nat_lt i 3 then slot_of (process_at s n) i else capreg_of (process_at s n) (i - 3)
-cap_in s _ n i = null
 
 -- a capability in this place of this object, which may not stand there
 abbrev pub breach_with : CapKind → ℕ → ℕ → Capability → Breach
@@ -147,13 +132,3 @@ found_by None None = Yes
 -- what is found of a cut, of stored objects and of who stands where: capabilities before sleepers
 abbrev pub verdict_of : Cut → Store → QueuesValue → Verdict
 verdict_of cut s q = found_by (breach_of cut s) (sleeper_of cut q)
-
--- how many slots of GPTs are read for one place of an object
-abbrev pub reads_in : CapKind → ℕ
-reads_in Gpt = 1
-reads_in _ = 0
-
--- and for all of its places
-abbrev pub object_reads : CapKind → ℕ
-object_reads Gpt = 16
-object_reads _ = 0

@@ -10,7 +10,8 @@ use Rattle.confinement.specs.Cut.{Cut, side_of, MayHold}
 use Rattle.confine_check.specs.declared.verdict.Breach.{Breach}
 use Rattle.confine_check.specs.declared.verdict.Verdict.{Verdict}
 use Rattle.confine_check.specs.declared.verdict.Verdict.TheVariants.{Yes, Capability as CapabilityBreaks, Sleeper}
-use Rattle.confine_check.specs.Breach.{breach_by, cap_in, first_from, found_by, object_reads, places_in, reads_in, sleeper_of}
+use Rattle.object_store.specs.Places.{cap_in, object_reads, places_in, reads_in}
+use Rattle.confine_check.specs.Breach.{breach_by, first_from, found_by, sleeper_of}
 
 -- ---- by what the objects mean
 

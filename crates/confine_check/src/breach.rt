@@ -1,18 +1,17 @@
 //! Capabilities that may not stand where they do.
-ghost use Rattle.std.specs.Prelude.{ℕ, ◌≡◌, ◌<◌, ◌≤◌, ◌+◌, ◌-◌, ◌*◌, nat_lt, if◌then◌else◌, None, IfSome};
+ghost use Rattle.std.specs.Prelude.{ℕ, ◌≡◌, ◌<◌, ◌≤◌, ◌+◌, ◌*◌, None, IfSome};
 ghost use Rattle.cap_format.specs.declared.kind.CapKind.TheVariants.{Gpt};
-ghost use Rattle.process_objects.specs.Process.{slot_of, capreg_of};
 ghost use Rattle.object_store.specs.Store.{size_of};
+ghost use Rattle.object_store.specs.Places.{places_in, reads_in, object_reads};
 ghost use Rattle.confine_check.specs.Sides.{cut_of};
-ghost use Rattle.confine_check.specs.Breach.{may_hold, places_in, cap_in, breach_at, breach_of_object, breach_of_kind, breach_of, broken_by, reads_in, object_reads};
+ghost use Rattle.confine_check.specs.Breach.{may_hold, breach_at, breach_of_object, breach_of_kind, breach_of, broken_by};
 ghost use Rattle.confine_check.specs.Found.{kinds_before, reads_to};
 
 use crate::cut::Cut;
 use crate::verdict::Breach;
 use cap_format::{Cap, CapKind, is_harmless};
 use confinement::CutSide;
-use object_store::Objects;
-use process_objects::Process;
+use object_store::{Objects, cap_in, places, size};
 use std::sync::ledger::Ledger;
 use steps::Steps;
 
@@ -28,55 +27,6 @@ fn may_hold(cut: &Cut, side: CutSide, cap: Cap) -> bool
         return true;
     }
     cut.side_of(kind.object_kind(), cap.object()) == side || is_harmless(cap)
-}
-
-/// How many places for capabilities an object of a kind has, none where it is no kind of objects that hold any.
-pub fn places(kind: CapKind) -> u16
-    ensures { result ≡ places_in kind }
-{
-    match kind {
-        CapKind::CapPage => 256,
-        CapKind::Gpt => 16,
-        CapKind::Endpoint => 1,
-        CapKind::Process => 35,
-        _ => 0,
-    }
-}
-
-/// The capability in a place of a process: its slots stand before its registers.
-fn held_by(process: &Process, i: u8) -> Cap
-    requires { i < 35 }
-    ensures { result ≡
-        (if nat_lt i 3 then slot_of process.now i else capreg_of process.now (i - 3)) }
-{
-    if i < 3 {
-        process.slot(i)
-    } else {
-        process.capreg(i - 3)
-    }
-}
-
-/// The capability in a place of an object, as it is stored. Of a process its slots stand before its registers; a slot of
-/// a GPT is read, and so counted.
-pub fn cap_in<L: Ledger>(
-    objects: &Objects,
-    kind: CapKind,
-    n: u16,
-    i: u16,
-    fetches: &mut Steps<L>,
-) -> Cap
-    requires there { n < size_of objects.now.items kind }
-    requires place { i < places_in kind }
-    ensures value { result ≡ cap_in objects.now kind n i }
-    ensures counted { fetches.new ≡ fetches.old + reads_in kind }
-{
-    match kind {
-        CapKind::CapPage => objects.cappage(n).get(i as u8),
-        CapKind::Gpt => objects.gpt_slot(n, i as u8, fetches),
-        CapKind::Endpoint => objects.endpoint(n).recipient,
-        CapKind::Process => held_by(objects.process(n), i as u8),
-        _ => Cap::null(),
-    }
 }
 
 /// What the capability in a place of an object breaks.
@@ -126,21 +76,6 @@ fn breach_of_object<L: Ledger>(
         }
     }
     None
-}
-
-/// How many objects of a kind there are, none where it is no kind of objects.
-pub fn size(objects: &Objects, kind: CapKind) -> u16
-    ensures { result ≡ size_of objects.now.items kind }
-{
-    let sizes = objects.sizes();
-    match kind {
-        CapKind::Page => sizes.pages,
-        CapKind::CapPage => sizes.cappages,
-        CapKind::Gpt => sizes.gpts,
-        CapKind::Endpoint => sizes.endpoints,
-        CapKind::Process => sizes.processes,
-        _ => 0,
-    }
 }
 
 /// The first that breaks the cut in the objects of a kind.

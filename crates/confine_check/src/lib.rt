@@ -1,9 +1,8 @@
 //! A checker of a stated cut: which objects are on the left, and whether the two sides of a machine are kept apart.
 //!
 //! A cut gives each object a side, by lines that are read one at a time. `confined` says whether the cut holds; where it
-//! does, no event of any run leads across it. The passage over all places for capabilities is public by its parts, for
-//! other questions about a machine, and so are the fields that name objects, for other lines. Nothing here runs a machine or
-//! prints.
+//! does, no event of any run leads across it. The fields that name objects are public, for other lines. Nothing here runs a
+//! machine or prints.
 #![tactic(auto)]
 
 mod block;
@@ -17,7 +16,6 @@ mod sleeping;
 mod verdict;
 
 pub use block::Block;
-pub use breach::{cap_in, places, size};
 pub use checking::{confined, tell_full};
 pub use confinement::CutSide;
 pub use cut::Cut;

@@ -14,7 +14,8 @@ use Rattle.run_places.specs.Places.{HasPlaces}
 use Rattle.run_places.proofs.Reading.{slot-read, cap-read, capreg-read, process_slot-read, recipient-read}
 use Rattle.confine_check.specs.declared.verdict.Breach.{Breach}
 use Rattle.confine_check.specs.declared.verdict.Verdict.TheVariants.{Yes}
-use Rattle.confine_check.specs.Breach.{breach_by, cap_in, found_by, places_in, sleeper_of}
+use Rattle.object_store.specs.Places.{cap_in, places_in}
+use Rattle.confine_check.specs.Breach.{breach_by, found_by, sleeper_of}
 use Rattle.confine_check.specs.Found.{meant_of, meant_of_kind, meant_of_object}
 use Rattle.confine_check.specs.Sides.{cut_of}
 use Rattle.confine_check.proofs.Decided.{may_hold-says, may_hold-passes, none_each, each_none}

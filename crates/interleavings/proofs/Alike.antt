@@ -11,7 +11,7 @@ use Rattle.object_store.specs.Store.{Items, size_of, slot_at}
 use Rattle.schedules.specs.Queues.{QueuesValue}
 use Rattle.machine_state.specs.State.{State}
 use Rattle.independence.specs.Rewrite.{SameButData}
-use Rattle.confine_check.specs.Breach.{cap_in}
+use Rattle.object_store.specs.Places.{cap_in}
 use Rattle.separation_policy.specs.Policy.{PolicyValue}
 use Rattle.separation_check.specs.declared.crossing.Crossing.{Crossing}
 use Rattle.separation_check.specs.Crossings.{kind_crossings, sleeper_crossings}

@@ -9,7 +9,7 @@ use Rattle.object_store.specs.Store.{page_at}
 use Rattle.schedules.specs.Queues.{QueuesValue, stands_in}
 use Rattle.machine_state.specs.State.{State, process}
 use Rattle.independence.specs.Rewrite.{SameButData}
-use Rattle.confine_check.specs.Breach.{places_in}
+use Rattle.object_store.specs.Places.{places_in}
 use Rattle.separation_policy.specs.Policy.{PolicyValue}
 use Rattle.quiet_runs.specs.Finding.{is_below, runs}
 use Rattle.quiet_runs.specs.Reaching.{names}

@@ -6,6 +6,7 @@ pub mod Differ
 pub mod Ahead
 pub mod Destruction
 pub mod Object
+pub mod Places
 pub mod Saved
 pub mod Laws
 pub mod Lending

@@ -11,7 +11,7 @@ use Rattle.cap_format.specs.Kind.{number_of, is_counted, object_kind}
 use Rattle.cap_format.specs.Capability.{Capability}
 use Rattle.object_store.specs.Store.{Store, size_of, gpt_at, cappage_at}
 use Rattle.object_store.specs.Meaning.{state_map}
-use Rattle.confine_check.specs.Breach.{cap_in, places_in}
+use Rattle.object_store.specs.Places.{cap_in, places_in}
 use Rattle.confine_check.specs.Full.{AreFull}
 use Rattle.quiet_runs.specs.declared.reached_by.ReachedBy.{ReachedBy}
 use Rattle.quiet_runs.specs.declared.reached_by.ReachedBy.TheVariants.{Nobody, Alone, Several}

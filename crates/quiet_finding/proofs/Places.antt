@@ -13,7 +13,7 @@ use Rattle.process_objects.specs.Process.{ProcessValue}
 use Rattle.object_store.specs.Store.{Items, Store, size_of, counts_of, gpt_at, cappage_at, process_at}
 use Rattle.object_store.specs.Meaning.{is_current, is_live, meaning, state_map}
 use Rattle.object_store.proofs.Means.{gpt_at-items_map, cappage_at-state_map, process_at-state_map}
-use Rattle.confine_check.specs.Breach.{cap_in, places_in, reads_in, object_reads}
+use Rattle.object_store.specs.Places.{cap_in, places_in, reads_in, object_reads}
 use Rattle.confine_check.specs.Full.{AreFull}
 use Rattle.confine_check.proofs.Found.{cap_in-state_map}
 use Rattle.quiet_runs.specs.declared.reached_by.ReachedBy.{ReachedBy}

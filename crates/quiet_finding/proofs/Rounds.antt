@@ -9,7 +9,7 @@ use Rattle.cap_format.specs.Capability.{Capability, null}
 use Rattle.object_store.specs.declared.sizes.Sizes.{Sizes}
 use Rattle.object_store.specs.Store.{Store, size_of, sizes_of, gpt_at, cappage_at}
 use Rattle.object_store.specs.Meaning.{gpt_map, meaning, process_map, state_map}
-use Rattle.confine_check.specs.Breach.{places_in}
+use Rattle.object_store.specs.Places.{places_in}
 use Rattle.confine_check.specs.Full.{AreFull}
 use Rattle.quiet_runs.specs.declared.reached_by.ReachedBy.{ReachedBy}
 use Rattle.quiet_runs.specs.declared.reached_by.ReachedBy.TheVariants.{Nobody, Alone, Several}

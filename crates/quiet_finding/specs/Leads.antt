@@ -5,7 +5,7 @@ use Rattle.cap_format.specs.declared.kind.CapKind.TheVariants.{Null, Page, CapPa
 use Rattle.cap_format.specs.Capability.{Capability}
 use Rattle.object_store.specs.Store.{Store, size_of}
 use Rattle.object_store.specs.Meaning.{state_map}
-use Rattle.confine_check.specs.Breach.{cap_in, places_in}
+use Rattle.object_store.specs.Places.{cap_in, places_in}
 use Rattle.confine_check.specs.Full.{AreFull}
 use Rattle.quiet_finding.specs.declared.leads.Lead.{Lead}
 use Rattle.quiet_finding.specs.Reaching.{IsReaching, ReachingValue}

@@ -6,7 +6,7 @@ use Rattle.cap_format.specs.declared.kind.CapKind.TheVariants.{Page, Gpt, Window
 use Rattle.cap_format.specs.Capability.{Capability}
 use Rattle.object_store.specs.declared.sizes.Sizes.{Sizes}
 use Rattle.object_store.specs.Store.{Store, cappage_at}
-use Rattle.confine_check.specs.Breach.{cap_in, places_in}
+use Rattle.object_store.specs.Places.{cap_in, places_in}
 use Rattle.quiet_runs.specs.declared.reached_by.ReachedBy.{ReachedBy}
 use Rattle.quiet_runs.specs.declared.reached_by.ReachedBy.TheVariants.{Nobody, Alone, Several}
 use Rattle.quiet_runs.specs.Reaching.{joined, joined_below, caps_of, names, held_by, reached_within}

@@ -2,12 +2,11 @@
 ghost use Rattle.std.specs.Prelude.{◌≡◌, ◌↔◌, ◌<◌, ◌≤◌, ◌+◌, ◌*◌, IfOk, IsTrue};
 ghost use Rattle.object_store.specs.Store.{size_of};
 ghost use Rattle.object_store.specs.Meaning.{state_map};
-ghost use Rattle.confine_check.specs.Breach.{places_in, reads_in};
+ghost use Rattle.object_store.specs.Places.{places_in, reads_in};
 ghost use Rattle.quiet_finding.specs.Leads.{lead_in, lead_of, leads_of};
 
 use cap_format::{Cap, CapKind, OutOfMemory};
-use confine_check::{cap_in, places, size};
-use object_store::Objects;
+use object_store::{Objects, cap_in, places, size};
 use std::alloc::Global;
 use std::sync::ledger::Ledger;
 use steps::Steps;

@@ -3,7 +3,7 @@ ghost use Rattle.std.specs.Prelude.{◌≡◌, ◌<◌, ◌≤◌, ◌+◌, ◌*
 ghost use Rattle.cap_format.specs.declared.kind.CapKind.TheVariants.{Gpt};
 ghost use Rattle.object_store.specs.Store.{size_of};
 ghost use Rattle.object_store.specs.Meaning.{state_map};
-ghost use Rattle.confine_check.specs.Breach.{cap_in, places_in, reads_in, object_reads};
+ghost use Rattle.object_store.specs.Places.{cap_in, places_in, reads_in, object_reads};
 ghost use Rattle.confine_check.specs.Full.{AreFull};
 ghost use Rattle.quiet_runs.specs.Reaching.{joined};
 ghost use Rattle.quiet_finding.specs.Reaching.{to_gpt};
@@ -11,8 +11,7 @@ ghost use Rattle.quiet_finding.specs.Passing.{IsAfter, IsOfHolders, after_cap, j
 
 use crate::reaching::Reaching;
 use cap_format::{Cap, CapKind, OutOfMemory};
-use confine_check::{cap_in, places, size};
-use object_store::Objects;
+use object_store::{Objects, cap_in, places, size};
 use quiet_runs::ReachedBy;
 use std::alloc::Global;
 use std::sync::ledger::Ledger;

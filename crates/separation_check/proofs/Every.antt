@@ -10,7 +10,8 @@ use Rattle.cap_format.specs.Capability.{Capability}
 use Rattle.object_store.specs.Store.{size_of}
 use Rattle.schedules.specs.Queues.{sleepers_of, stands_in}
 use Rattle.machine_state.specs.State.{State}
-use Rattle.confine_check.specs.Breach.{is_range, is_sysctl, is_kernlog, places_in, cap_in}
+use Rattle.object_store.specs.Places.{places_in, cap_in}
+use Rattle.confine_check.specs.Breach.{is_range, is_sysctl, is_kernlog}
 use Rattle.confine_check.proofs.Decided.{is_range-kind}
 use Rattle.separation_policy.specs.Policy.{PolicyValue, domain_of, domain_named, may_halt, may_log, MayStand}
 use Rattle.separation_check.specs.declared.crossing.Crossing.{Crossing}

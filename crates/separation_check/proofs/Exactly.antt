@@ -8,7 +8,7 @@ use Rattle.object_store.specs.Store.{Store, size_of}
 use Rattle.object_store.specs.Meaning.{state_map}
 use Rattle.schedules.specs.Queues.{QueuesValue, sleepers_of, stands_in}
 use Rattle.operations.specs.System.{system}
-use Rattle.confine_check.specs.Breach.{places_in, cap_in}
+use Rattle.object_store.specs.Places.{places_in, cap_in}
 use Rattle.confine_check.specs.Full.{AreFull}
 use Rattle.confine_check.proofs.Holding.{PlacesHave, AllHave, each-has, has-all}
 use Rattle.confine_check.proofs.Found.{cap_in-state_map}

@@ -6,7 +6,7 @@ use Rattle.cap_format.specs.declared.kind.CapKind.{CapKind}
 use Rattle.cap_format.specs.declared.kind.CapKind.TheVariants.{CapPage, Gpt, Endpoint, Process}
 use Rattle.cap_format.specs.Capability.{Capability}
 use Rattle.object_store.specs.Store.{Store, size_of}
-use Rattle.confine_check.specs.Breach.{places_in}
+use Rattle.object_store.specs.Places.{places_in}
 use Rattle.separation_policy.specs.Policy.{PolicyValue}
 use Rattle.separation_check.specs.Crossings.{all_below, listed, crossing_by, object_crossings, kind_crossings, capability_crossings}
 use Rattle.separation_check.proofs.Gathered.{none-yet, below-suc}

@@ -5,7 +5,7 @@ use Rattle.cap_format.specs.declared.kind.CapKind.TheVariants.{CapPage, Gpt, End
 use Rattle.cap_format.specs.Capability.{Capability}
 use Rattle.object_store.specs.Meaning.{is_live, live, meaning, state_map}
 use Rattle.object_store.specs.Store.{Items, Store, size_of}
-use Rattle.confine_check.specs.Breach.{cap_in, places_in}
+use Rattle.object_store.specs.Places.{cap_in, places_in}
 use Rattle.confine_check.proofs.Found.{cap_in-state_map}
 use Rattle.separation_policy.specs.Policy.{PolicyValue, domain_of}
 use Rattle.separation_check.specs.Marks.{all_marks, both_marks, kind_marks, marks_below, marks_by, no_marks, object_marks}

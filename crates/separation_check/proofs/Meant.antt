@@ -7,7 +7,8 @@ use Rattle.cap_format.specs.Capability.{Capability, null, bare}
 use Rattle.object_store.specs.Store.{Items, Store, size_of}
 use Rattle.object_store.specs.Meaning.{is_live, live, meaning, state_map}
 use Rattle.schedules.specs.Queues.{QueuesValue, sleepers_of, stands_in}
-use Rattle.confine_check.specs.Breach.{is_range, places_in, cap_in}
+use Rattle.object_store.specs.Places.{places_in, cap_in}
+use Rattle.confine_check.specs.Breach.{is_range}
 use Rattle.confine_check.proofs.Found.{cap_in-state_map}
 use Rattle.separation_policy.specs.Policy.{PolicyValue, domain_of}
 use Rattle.separation_check.specs.declared.crossing.Crossing.{Crossing}

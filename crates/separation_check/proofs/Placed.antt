@@ -8,7 +8,7 @@ use Rattle.process_objects.specs.Process.{capreg_of, slot_of}
 use Rattle.object_store.specs.Store.{Store, size_of, process_at}
 use Rattle.run_places.specs.Places.{HasPlaces}
 use Rattle.run_places.proofs.Reading.{slot-read, cap-read, capreg-read, process_slot-read, recipient-read}
-use Rattle.confine_check.specs.Breach.{places_in, cap_in}
+use Rattle.object_store.specs.Places.{places_in, cap_in}
 use Rattle.separation_policy.specs.Policy.{PolicyValue, domain_of, MayStand, EachMayStand}
 use Rattle.separation_check.specs.declared.crossing.Crossing.{Crossing}
 use Rattle.separation_check.specs.Crossings.{listed, crossing_by, object_crossings, kind_crossings, capability_crossings, sleeper_crossings}

@@ -10,7 +10,8 @@ use Rattle.object_store.specs.Store.{Store, size_of}
 use Rattle.object_store.specs.Meaning.{live}
 use Rattle.schedules.specs.Queues.{QueuesValue, sleepers_of, stands_in}
 use Rattle.machine_state.specs.State.{State}
-use Rattle.confine_check.specs.Breach.{is_range, is_sysctl, is_kernlog, places_in, cap_in}
+use Rattle.object_store.specs.Places.{places_in, cap_in}
+use Rattle.confine_check.specs.Breach.{is_range, is_sysctl, is_kernlog}
 use Rattle.separation_policy.specs.Policy.{PolicyValue, domain_of, domain_named, may_write, may_halt, may_log, sees, sees_written}
 use Rattle.separation_check.specs.declared.crossing.Crossing.{Crossing}
 use Rattle.separation_check.specs.declared.crossing.Crossing.TheVariants.{Capability as CapabilityCrosses, Range as RangeStands, Halts, Logs, Sleeper}

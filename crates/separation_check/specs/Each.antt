@@ -8,7 +8,7 @@ use Rattle.cap_format.specs.Capability.{Capability}
 use Rattle.object_store.specs.Store.{Store, size_of}
 use Rattle.schedules.specs.Queues.{QueuesValue, sleepers_of, stands_in}
 use Rattle.machine_state.specs.State.{State}
-use Rattle.confine_check.specs.Breach.{places_in, cap_in}
+use Rattle.object_store.specs.Places.{places_in, cap_in}
 use Rattle.separation_policy.specs.Policy.{PolicyValue, domain_of, domain_named, may_halt, may_log, MayStand}
 use Rattle.separation_policy.specs.Making.{with_reading, with_writing}
 use Rattle.separation_check.specs.Crossings.{crossings_in, remedy_of}

@@ -7,7 +7,7 @@ use Rattle.cap_format.specs.Capability.{Capability}
 use Rattle.cap_format.specs.Kind.{number_of}
 use Rattle.object_store.specs.Store.{Store, size_of}
 use Rattle.machine_state.specs.State.{State}
-use Rattle.confine_check.specs.Breach.{places_in, cap_in}
+use Rattle.object_store.specs.Places.{places_in, cap_in}
 use Rattle.separation_policy.specs.DomainSet.{no_domains, with_domain, both_domains}
 use Rattle.separation_policy.specs.Policy.{PolicyValue, domain_of}
 use Rattle.separation_policy.specs.declared.domain_set.DomainSet.{DomainSet}

@@ -3,7 +3,7 @@ ghost use Rattle.std.specs.Prelude.{ℕ, ◌≡◌, ◌<◌, ◌≤◌, ◌+◌,
 ghost use Rattle.std.specs.Vec.{vec_len, vec_capacity};
 ghost use Rattle.cap_format.specs.declared.kind.CapKind.TheVariants.{Gpt};
 ghost use Rattle.object_store.specs.Store.{size_of};
-ghost use Rattle.confine_check.specs.Breach.{places_in, reads_in, object_reads};
+ghost use Rattle.object_store.specs.Places.{places_in, reads_in, object_reads};
 ghost use Rattle.separation_policy.specs.Closure.{IsClosure};
 ghost use Rattle.separation_check.specs.Marks.{object_marks, kind_marks, all_marks};
 ghost use Rattle.separation_check.specs.Crossings.{stored_cap, may_hold_page, may_name_of, crosses_by, halts_by, logs_by, crossing_by, listed, object_crossings, kind_crossings, capability_crossings};
@@ -12,8 +12,7 @@ use crate::crossing::Crossing;
 use crate::marks::{Marks, marks_by};
 use crate::remedy::is_page;
 use cap_format::{Cap, CapKind, is_harmless};
-use confine_check::{cap_in, places, size};
-use object_store::Objects;
+use object_store::{Objects, cap_in, places, size};
 use separation_policy::{Closure, Policy};
 use std::sync::ledger::Ledger;
 use steps::Steps;

@@ -2,14 +2,13 @@
 ghost use Rattle.std.specs.Prelude.{◌≡◌, ◌≤◌, ◌+◌, ◌*◌, length};
 ghost use Rattle.cap_format.specs.declared.kind.CapKind.TheVariants.{CapPage, Gpt, Endpoint, Process};
 ghost use Rattle.object_store.specs.Store.{size_of};
-ghost use Rattle.confine_check.specs.Breach.{places_in};
+ghost use Rattle.object_store.specs.Places.{places_in};
 ghost use Rattle.separation_check.specs.Crossings.{listed, process_crossings, sleeper_crossings, crossings_of};
 
 use crate::crossing::Crossing;
 use crate::sleeping::{sleeper_limit, sleeper_on};
 use cap_format::CapKind;
-use confine_check::{places, size};
-use object_store::Objects;
+use object_store::{Objects, places, size};
 use schedules::Queues;
 use separation_policy::Policy;
 

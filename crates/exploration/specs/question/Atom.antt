@@ -13,7 +13,7 @@ use Rattle.object_store.specs.Store.{Store, page_at}
 use Rattle.schedules.specs.Queues.{QueuesValue, priorities, hart_of, ready_queue, sleepers_of, stands_in}
 use Rattle.machine_state.specs.DataAccess.{number_of as number_spelled}
 use Rattle.machine_state.specs.State.{State, process, pc_of, register_of}
-use Rattle.confine_check.specs.Breach.{places_in, cap_in}
+use Rattle.object_store.specs.Places.{places_in, cap_in}
 use Rattle.separation_policy.specs.Policy.{PolicyValue}
 use Rattle.separation_check.specs.Crossings.{crossings_in}
 use Rattle.quiet_runs.specs.Finding.{is_below, runs}

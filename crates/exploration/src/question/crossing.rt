@@ -2,7 +2,7 @@
 ghost use Rattle.std.specs.Prelude.{◌≡◌, ◌<◌, ◌↔◌, false, is_some, length};
 ghost use Rattle.object_store.specs.Store.{size_of};
 ghost use Rattle.machine_state.specs.State.{state_of};
-ghost use Rattle.confine_check.specs.Breach.{places_in};
+ghost use Rattle.object_store.specs.Places.{places_in};
 ghost use Rattle.confinement.specs.Acts.{system_of};
 ghost use Rattle.separation_policy.specs.Closure.{IsClosure};
 ghost use Rattle.separation_policy.specs.Policy.{PolicyHolds};
@@ -10,9 +10,9 @@ ghost use Rattle.separation_check.specs.Crossings.{capability_crossings, crossin
 ghost use Rattle.exploration.specs.question.Atom.{crosses, is_any};
 
 use cap_format::CapKind;
-use confine_check::{places, size, tell_full};
+use confine_check::tell_full;
 use machine_state::Machine;
-use object_store::Objects;
+use object_store::{Objects, places, size};
 use schedules::Queues;
 use separation_check::{crossing_by, sleeper_limit, sleeper_on, stored_cap};
 use separation_policy::{Closure, Policy};

@@ -2,13 +2,12 @@
 ghost use Rattle.std.specs.Prelude.{◌≡◌, ◌<◌};
 ghost use Rattle.object_store.specs.Store.{size_of};
 ghost use Rattle.object_store.specs.Meaning.{state_map};
-ghost use Rattle.confine_check.specs.Breach.{cap_in, places_in};
+ghost use Rattle.object_store.specs.Places.{cap_in, places_in};
 ghost use Rattle.quiet_runs.specs.Reaching.{names};
 ghost use Rattle.exploration.specs.question.Atom.{object_holds};
 
 use cap_format::{Cap, CapKind};
-use confine_check::{cap_in, places};
-use object_store::Objects;
+use object_store::{Objects, cap_in, places};
 use std::sync::ledger::Ledger;
 use steps::Steps;
 

@@ -1,7 +1,8 @@
 use Rattle.std.proofs.Common.{◌≡◌, ◌+◌, ◌-◌, ◌*◌}
 use Rattle.object_store.specs.Store.{size_of}
 use Rattle.confine_check.specs.Sides.{cut_of}
-use Rattle.confine_check.specs.Breach.{first_from, breach_of_object, breach_of_kind, object_reads}
+use Rattle.object_store.specs.Places.{object_reads}
+use Rattle.confine_check.specs.Breach.{first_from, breach_of_object, breach_of_kind}
 use Rattle.confine_check.proofs.breach.breach_of_kind.Given as goal
 
 abbrev pub invariant-each : goal.invariant-each

@@ -2,7 +2,8 @@ use Rattle.std.proofs.Common.{◌≡◌, ℕ, ◌+◌, ◌*◌, ◌<◌, ◌≤�
 use Rattle.cap_format.specs.declared.kind.CapKind.TheVariants.{Gpt}
 use Rattle.object_store.specs.Store.{size_of}
 use Rattle.confine_check.specs.Sides.{cut_of}
-use Rattle.confine_check.specs.Breach.{places_in, reads_in, object_reads, breach_at, broken_by}
+use Rattle.object_store.specs.Places.{places_in, reads_in, object_reads}
+use Rattle.confine_check.specs.Breach.{breach_at, broken_by}
 use Rattle.confine_check.specs.Found.{kinds_before, reads_to}
 use Rattle.confine_check.proofs.First.{first_next, first_here, first_past, reads-more, reads-places}
 use Rattle.confine_check.proofs.Found.{found-at}

@@ -1,6 +1,7 @@
 use Rattle.std.proofs.Common.{◌≡◌, ◌+◌, ◌-◌, ◌*◌}
 use Rattle.confine_check.specs.Sides.{cut_of}
-use Rattle.confine_check.specs.Breach.{first_from, breach_at, breach_of_object, places_in, reads_in}
+use Rattle.object_store.specs.Places.{places_in, reads_in}
+use Rattle.confine_check.specs.Breach.{first_from, breach_at, breach_of_object}
 use Rattle.confine_check.proofs.breach.breach_of_object.Given as goal
 
 abbrev pub invariant-each : goal.invariant-each

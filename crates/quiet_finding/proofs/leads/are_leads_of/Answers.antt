@@ -3,7 +3,7 @@ use Rattle.std.proofs.lemmas.List.{same_lists, get_or_default}
 use Rattle.cap_format.specs.declared.kind.CapKind.TheVariants.{Null}
 use Rattle.object_store.specs.Store.{size_of}
 use Rattle.object_store.specs.Meaning.{state_map}
-use Rattle.confine_check.specs.Breach.{places_in}
+use Rattle.object_store.specs.Places.{places_in}
 use Rattle.quiet_finding.specs.declared.leads.Lead.{Lead}
 use Rattle.quiet_finding.specs.Leads.{lead_in, lead_to, leads_of}
 use Rattle.quiet_finding.proofs.Leading.{get-listed, length-listed}

@@ -1,7 +1,7 @@
 use Rattle.std.proofs.Common.{◌≡◌, ◌<◌, ◌+◌, ◌*◌, ℕ, get_or}
 use Rattle.cap_format.specs.declared.kind.CapKind.TheVariants.{Null}
 use Rattle.object_store.specs.Meaning.{state_map}
-use Rattle.confine_check.specs.Breach.{reads_in}
+use Rattle.object_store.specs.Places.{reads_in}
 use Rattle.quiet_finding.specs.Leads.{lead_in, lead_to}
 use Rattle.quiet_finding.proofs.leads.are_leads_of.Given as goal
 

@@ -2,7 +2,7 @@ use Rattle.std.proofs.Common.{◌≡◌, ◌<◌, ◌≤◌, ◌*◌, ◌/◌, �
 use Rattle.std.proofs.lemmas.Nat.{div_below}
 use Rattle.object_store.specs.Store.{size_of}
 use Rattle.object_store.specs.Meaning.{meaning, state_map}
-use Rattle.confine_check.specs.Breach.{cap_in, places_in}
+use Rattle.object_store.specs.Places.{cap_in, places_in}
 use Rattle.confine_check.proofs.Found.{cap_in-state_map}
 use Rattle.quiet_finding.specs.Leads.{lead_of}
 use Rattle.quiet_finding.proofs.Leading.{some-places}

@@ -1,6 +1,6 @@
 use Rattle.std.proofs.Common.{◌≡◌, ◌+◌, ◌*◌}
 use Rattle.object_store.specs.Meaning.{state_map}
-use Rattle.confine_check.specs.Breach.{reads_in}
+use Rattle.object_store.specs.Places.{reads_in}
 use Rattle.quiet_finding.specs.Leads.{lead_in, listed}
 use Rattle.quiet_finding.proofs.leads.leads_of.Given as goal
 

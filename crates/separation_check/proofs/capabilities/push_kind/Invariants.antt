@@ -1,6 +1,6 @@
 use Rattle.std.proofs.Common.{◌≡◌, ◌+◌, ◌*◌, ◌++◌}
 use Rattle.std.specs.Vec.{vec_capacity}
-use Rattle.confine_check.specs.Breach.{object_reads}
+use Rattle.object_store.specs.Places.{object_reads}
 use Rattle.separation_check.specs.Marks.{marks_below, object_marks}
 use Rattle.separation_check.specs.Crossings.{all_below, object_crossings, stored_cap}
 use Rattle.separation_check.proofs.capabilities.push_kind.Given as goal

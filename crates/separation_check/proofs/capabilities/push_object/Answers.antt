@@ -1,6 +1,6 @@
 use Rattle.std.proofs.Common.{◌+◌, ◌<◌, ◌++◌, List, Option, length, refl, ap, ◌∙◌, arith, sym, ap₂, ℕ}
 use Rattle.cap_format.specs.Capability.{Capability}
-use Rattle.confine_check.specs.Breach.{places_in}
+use Rattle.object_store.specs.Places.{places_in}
 use Rattle.separation_check.specs.declared.crossing.Crossing.{Crossing}
 use Rattle.separation_check.specs.Crossings.{listed, crossing_by, stored_cap}
 use Rattle.separation_policy.specs.Policy.{domain_of}

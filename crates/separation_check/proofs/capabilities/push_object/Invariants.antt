@@ -1,6 +1,6 @@
 use Rattle.std.proofs.Common.{◌≡◌, ◌+◌, ◌*◌, ◌++◌}
 use Rattle.std.specs.Vec.{vec_capacity}
-use Rattle.confine_check.specs.Breach.{reads_in}
+use Rattle.object_store.specs.Places.{reads_in}
 use Rattle.separation_policy.specs.Policy.{domain_of}
 use Rattle.separation_check.specs.Marks.{marks_below, marks_by}
 use Rattle.separation_check.specs.Crossings.{all_below, listed, crossing_by, stored_cap}

@@ -1,5 +1,5 @@
 use Rattle.std.proofs.Common.{◌≡◌, ◌∙◌, Bool, Option, true, false, is_some, sym, ap, arith}
-use Rattle.confine_check.specs.Breach.{places_in}
+use Rattle.object_store.specs.Places.{places_in}
 use Rattle.separation_check.specs.declared.crossing.Crossing.{Crossing}
 use Rattle.separation_check.specs.Crossings.{crossing_by, listed, stored_cap}
 use Rattle.exploration.specs.question.Atom.{is_any}

@@ -1,6 +1,6 @@
 use Rattle.std.proofs.Common.{◌∙◌, sym, arith}
 use Rattle.object_store.specs.Meaning.{state_map}
-use Rattle.confine_check.specs.Breach.{cap_in, places_in}
+use Rattle.object_store.specs.Places.{cap_in, places_in}
 use Rattle.quiet_runs.specs.Reaching.{names}
 use Rattle.exploration.proofs.Some.{some-here, some-more, some-zero}
 use Rattle.exploration.proofs.question.object_holds.object_holds.Goals as goal

@@ -1,6 +1,6 @@
 use Rattle.std.proofs.Common.{◌≡◌, false}
 use Rattle.object_store.specs.Meaning.{state_map}
-use Rattle.confine_check.specs.Breach.{cap_in}
+use Rattle.object_store.specs.Places.{cap_in}
 use Rattle.quiet_runs.specs.Finding.{is_below}
 use Rattle.quiet_runs.specs.Reaching.{names}
 use Rattle.exploration.proofs.question.object_holds.object_holds.Given as goal

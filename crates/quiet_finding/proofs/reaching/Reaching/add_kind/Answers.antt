@@ -1,6 +1,6 @@
 use Rattle.std.proofs.Common.{◌≡◌, ℕ, ◌+◌, ◌*◌, suc, ap, ◌∙◌, subst, arith}
 use Rattle.object_store.specs.Meaning.{state_map}
-use Rattle.confine_check.specs.Breach.{object_reads, places_in}
+use Rattle.object_store.specs.Places.{object_reads, places_in}
 use Rattle.quiet_runs.specs.declared.reached_by.ReachedBy.{ReachedBy}
 use Rattle.quiet_finding.specs.Passing.{IsAfter, by_objects, by_places, holder_of, in_objects, in_places}
 use Rattle.quiet_finding.proofs.After.{after-more, after-none}

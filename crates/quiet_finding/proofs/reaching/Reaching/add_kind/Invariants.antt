@@ -1,6 +1,6 @@
 use Rattle.std.proofs.Common.{◌≡◌, ◌+◌, ◌*◌}
 use Rattle.object_store.specs.Meaning.{state_map}
-use Rattle.confine_check.specs.Breach.{object_reads}
+use Rattle.object_store.specs.Places.{object_reads}
 use Rattle.quiet_finding.specs.Passing.{IsAfter, by_objects, in_objects}
 use Rattle.quiet_finding.proofs.reaching.Reaching.add_kind.Given as goal
 

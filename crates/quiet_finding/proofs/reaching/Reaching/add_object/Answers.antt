@@ -1,6 +1,6 @@
 use Rattle.std.proofs.Common.{◌≡◌, ℕ, ◌+◌, ◌*◌, suc, subst, sym, ap, ◌∙◌, arith}
 use Rattle.object_store.specs.Meaning.{state_map}
-use Rattle.confine_check.specs.Breach.{cap_in, reads_in}
+use Rattle.object_store.specs.Places.{cap_in, reads_in}
 use Rattle.quiet_finding.specs.Reaching.{ReachingValue}
 use Rattle.quiet_finding.specs.Passing.{IsAfter, after_cap, by_cap, by_places, in_places}
 use Rattle.quiet_finding.proofs.After.{after-cap, after-more, after-none}

@@ -1,6 +1,6 @@
 use Rattle.std.proofs.Common.{◌≡◌, ◌+◌, ◌*◌}
 use Rattle.object_store.specs.Meaning.{state_map}
-use Rattle.confine_check.specs.Breach.{reads_in}
+use Rattle.object_store.specs.Places.{reads_in}
 use Rattle.quiet_finding.specs.Passing.{IsAfter, by_places, in_places}
 use Rattle.quiet_finding.proofs.reaching.Reaching.add_object.Given as goal
 
