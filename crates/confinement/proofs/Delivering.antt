@@ -15,9 +15,9 @@ use Rattle.schedules.specs.Ready.{readied, woken, runs_of}
 use Rattle.invocation.specs.declared.message.Message.{Message}
 use Rattle.invocation.specs.Answerer.{Answer, answerer}
 use Rattle.invocation.specs.Answerer.Answer.{Dead, Open, Busy}
-use Rattle.invocation.specs.Delivery.{passed, passed_at, accepted, accepting, number_given, told as told_process, given, received, delivered}
+use Rattle.invocation.specs.Delivery.{passed, passed_at, accepted, accepting, number_given, told_process, given, received, delivered}
 use Rattle.operations.specs.System.{System, Reading, system, with_store, with_runs, schedule_by, count_in}
-use Rattle.fault_path.specs.message_path.Messages.{told, waiting, receiving, listening}
+use Rattle.fault_path.specs.message_path.Messages.{told_system, waiting, receiving, listening}
 use Rattle.fault_path.specs.Fault.{is_answer, handler_of, fault_message, faulted, answered, heard_by, fault_of}
 use Rattle.confinement.specs.declared.cut_side.CutSide.{CutSide}
 use Rattle.confinement.specs.Cut.{Cut, side_of, MayHold, EachHeldBy, HoldsFor}
@@ -96,8 +96,8 @@ module _ (cut : Cut) (side : CutSide) where
 
   -- a message through an endpoint to a process
   pub acts-told : (reading : Reading) (w : System) (e q : ℕ) (message : Message) → side_of cut Endpoint e ≡ side → side_of cut Process q ≡ side → AllMayHold cut side message.caps → HoldsFor cut side w
-      → Acts cut side w (told reading w e q message)
-  unfolding told
+      → Acts cut side w (told_system reading w e q message)
+  unfolding told_system
   acts-told reading w e q message endpoint process all holds =
       let v = with_store w (delivered w.store e q message) in
       acts-then cut side w v (with_runs v (readied (schedule_by reading v.store q) q (runs_of v.store v.queues)))
@@ -162,7 +162,7 @@ module _ (cut : Cut) (side : CutSide) where
       let cap = to_object Process p (count_in reading w.store.items Process p) in
       let v = faulted w p code address in
       let message = fault_message cap (process_at w.store p) code address payload in
-      acts-then cut side w v (told reading v e q message)
+      acts-then cut side w v (told_system reading v e q message)
       (acts-faulted w p code address own holds)
       (λ h. acts-told reading v e q message answers.0 answers.1 (may-own cut side cap refl own, tt) h)
 

@@ -17,7 +17,7 @@ use Rattle.kernel_core.specs.Run.{run_state, run_touches}
 use Rattle.kernel_core.specs.State.{State, state_of}
 use Rattle.schedule_replay.specs.Replay.{Accords, HasReasons, Ran, Replays, StopsInLast, WritesRun, run_answer}
 use Rattle.schedule_replay.specs.Scheduled.{AtEnd, OnParts, Scheduled, ends, preceded, scheduled}
-use Rattle.schedule_replay.specs.Told.{told}
+use Rattle.schedule_replay.specs.Told.{lines_told}
 use Rattle.schedule_replay.specs.declared.counts.Counts.{Counts}
 use Rattle.schedule_replay.specs.declared.mode.Mode.{Mode}
 use Rattle.schedule_replay.specs.declared.replayed.Replayed.{Replayed}
@@ -96,7 +96,7 @@ module _ {T K : Type 0} (kept : T → K) (cost : K → Items → Capability → 
     reasons-at a is = subst (HasReasons (source_faults old) (source_faults new) (sink_faults begun) (sink_faults mid)) is reasons
 
     -- all events were run
-    whole-at : (a : Replayed) (all : Scheduled) → Appends (taken begun) (taken mid) (told runner.mode s r.events) → (r.events ≡ all.events) × (a ≡ run_answer s all)
+    whole-at : (a : Replayed) (all : Scheduled) → Appends (taken begun) (taken mid) (lines_told runner.mode s r.events) → (r.events ≡ all.events) × (a ≡ run_answer s all)
         → IsWhole (taken begun) (taken mid) f g fetched (finished_by runner (state_of n) (kept n.translator) a) (if_ended (runner.fetches (state_of n)) a) (course s all)
     whole-at a all written accords =
         let state : run_state s r.events ≡ state_of n = sym r.ran.state in
@@ -112,7 +112,7 @@ module _ {T K : Type 0} (kept : T → K) (cost : K → Items → Capability → 
           for_last = ap (λ t. if_ended (runner.fetches t) a) state;
         }))
 
-    came-at : (a : Replayed) → answer ≡ a → Appends (taken begun) (taken mid) (told runner.mode s r.events) → OnParts (ahead lines (held old)) (λ parts. (r.events ≡ (sched parts).events) × (a ≡ run_answer s (sched parts)))
+    came-at : (a : Replayed) → answer ≡ a → Appends (taken begun) (taken mid) (lines_told runner.mode s r.events) → OnParts (ahead lines (held old)) (λ parts. (r.events ≡ (sched parts).events) × (a ≡ run_answer s (sched parts)))
         → (a ≢ answers.ReadFault) → (a ≢ answers.WriteFault) → (is_finished (finished_by runner (state_of n) (kept n.translator) a).exit ≡ true → IsAtEnd (held new)) → Whole a
     came-at a is written accords unread uncut end = record {
       whole = on_all (ahead lines (held old)) _ _ (λ parts both. whole-at a (sched parts) written both) accords;
@@ -144,7 +144,7 @@ module _ {T K : Type 0} (kept : T → K) (cost : K → Items → Capability → 
             goes_on = subst (λ (all : Scheduled). AwaitsMore (course s all).last.exit) all refl;
             written =
                 subst (λ (all : Scheduled). Appends (taken begun) (taken mid) (course s all).records) all
-                (subst (λ es. Appends (taken begun) (taken mid) (told runner.mode s es)) events (text-at answers.ReadFault is));
+                (subst (λ es. Appends (taken begun) (taken mid) (lines_told runner.mode s es)) events (text-at answers.ReadFault is));
             fetched =
                 subst (λ (all : Scheduled). g ≡ f + fetched (course s all).touches) all
                 (subst (λ es. g ≡ f + fetched (run_touches s es)) events (all-counted f g r.events r.ran));
@@ -160,12 +160,12 @@ module _ {T K : Type 0} (kept : T → K) (cost : K → Items → Capability → 
     front-at all rest is stops =
         let mode : Mode = runner.mode in
         let last : Output = (course s all).last in
-        let parts : told mode s all.events ≡ told mode s r.events ++ told mode (run_state s r.events) rest = ap (told mode s) is ∙ told-append mode s r.events rest in
-        let text : told mode s all.events ++ last.text ≡ told mode s r.events ++ (told mode (run_state s r.events) rest ++ last.text) =
-        ap (λ t. t ++ last.text) parts ∙ append_assoc (told mode s r.events) (told mode (run_state s r.events) rest) last.text in
-        let some : AppendsSome (taken begun) (taken mid) (told mode s r.events) = (stops.count, stops.short, stops.written) in
+        let parts : lines_told mode s all.events ≡ lines_told mode s r.events ++ lines_told mode (run_state s r.events) rest = ap (lines_told mode s) is ∙ told-append mode s r.events rest in
+        let text : lines_told mode s all.events ++ last.text ≡ lines_told mode s r.events ++ (lines_told mode (run_state s r.events) rest ++ last.text) =
+        ap (λ t. t ++ last.text) parts ∙ append_assoc (lines_told mode s r.events) (lines_told mode (run_state s r.events) rest) last.text in
+        let some : AppendsSome (taken begun) (taken mid) (lines_told mode s r.events) = (stops.count, stops.short, stops.written) in
         subst (AppendsSome (taken begun) (taken mid)) (sym text)
-        (cut_before (taken begun) (taken mid) (told mode s r.events) (told mode (run_state s r.events) rest ++ last.text) some)
+        (cut_before (taken begun) (taken mid) (lines_told mode s r.events) (lines_told mode (run_state s r.events) rest ++ last.text) some)
 
     cut : answer ≡ answers.WriteFault → CameCut held source_faults taken sink_faults lines lines' old new begun mid f g fetched here
     cut is = record {

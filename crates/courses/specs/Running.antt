@@ -10,7 +10,7 @@ use Rattle.kernel_core.specs.Outcome.{kept_after}
 use Rattle.kernel_core.specs.Run.{run_state, run_touches}
 use Rattle.kernel_core.specs.State.{State}
 use Rattle.map_cache.specs.declared.mapping.Mapping.{Mapping}
-use Rattle.schedule_replay.specs.Told.{told}
+use Rattle.schedule_replay.specs.Told.{lines_told}
 use Rattle.schedule_replay.specs.Scheduled.{Scheduled}
 use Rattle.schedule_replay.specs.Replay.{run_answer}
 use Rattle.schedule_replay.specs.declared.counts.Counts.{Counts}
@@ -50,7 +50,7 @@ module _ {K : Type 0} (cost : K → Items → Capability → ℕ → Kind → �
   -- the events of a run come first, and then what its answer comes to
   abbrev pub run_course : Runner K → State → List Event → Replayed → Course
   run_course runner s events answer = record {
-    records = told runner.mode s events;
+    records = lines_told runner.mode s events;
     touches = run_touches s events;
     last = finished_by runner (run_state s events) (kept_after cost after without start (run_touches s events)) answer;
     last_fetches = if_ended (runner.fetches (run_state s events)) answer;

@@ -12,7 +12,7 @@ use Rattle.judged_lines.specs.declared.stop.Stop.TheVariants as stops
 use Rattle.schedule_replay.specs.Counts.{counts_of, events_alone}
 use Rattle.schedule_replay.specs.Replay.{Accords, Follows, WritesRun, run_answer}
 use Rattle.schedule_replay.specs.Scheduled.{AtEnd, AtFault, AtLimit, OnParts, Scheduled, scheduled}
-use Rattle.schedule_replay.specs.Told.{told as told_of}
+use Rattle.schedule_replay.specs.Told.{lines_told}
 use Rattle.schedule_replay.specs.declared.counts.Counts.{Counts}
 use Rattle.schedule_replay.specs.declared.mode.Mode.TheVariants.{Silent}
 use Rattle.schedule_replay.specs.declared.replayed.Replayed.{Replayed}
@@ -49,7 +49,7 @@ from-start held source_faults taken sink_faults lines lines' old new mid out sta
 pub no_write : (start : State) (taken taken' : Option (List ℕ)) (events : List Event) (answer : Replayed) → WritesRun Silent start taken taken' events answer → answer ≢ answers.WriteFault
 no_write start taken taken' events answer text is =
     let stops = subst (WritesRun Silent start taken taken' events) is text in
-    let none : length (told_of Silent start events) ≡ 0 = ap length (silent_untold (run_records start events)) in
+    let none : length (lines_told Silent start events) ≡ 0 = ap length (silent_untold (run_records start events)) in
     let short = stops.short in
     omega (arith, none, short)
 

@@ -21,7 +21,7 @@ use Rattle.invocation.specs.Answerer.{Answer}
 use Rattle.invocation.specs.Answerer.Answer.{Open}
 use Rattle.invocation.specs.Target.{is_receiving}
 use Rattle.invocation.specs.Delivery.{message_map, changed_by_message}
-use Rattle.fault_path.specs.message_path.Messages.{told}
+use Rattle.fault_path.specs.message_path.Messages.{told_system}
 use Rattle.operations.specs.System.{System, Reading, system, count_in}
 use Rattle.fault_path.specs.Fault.{faulted, answered, handler_of, heard_by, fault_of, fault_message, fault_names}
 
@@ -54,10 +54,10 @@ message_means s t p code address payload message there items is = rw (items, is,
 -- a process is faulted, and then another is told of it
 pub reported_after : (reading : Reading) (w v : System) (p : ℕ) (code : FaultCode) (address payload e to : ℕ) (message : Message) (u : System)
     → message ≡ fault_message (to_object Process p (count_in reading w.store.items Process p)) (process_at w.store p) code address payload
-    → u ≡ faulted w p code address → v ≡ told reading u e to message → v ≡ answered reading w p code address payload (Open e to)
+    → u ≡ faulted w p code address → v ≡ told_system reading u e to message → v ≡ answered reading w p code address payload (Open e to)
 unfolding answered
 reported_after reading w v p code address payload e to message u is_message first second =
-    second ∙ (ap (λ (z : System). told reading z e to message) first ∙ ap (told reading (faulted w p code address) e to) is_message)
+    second ∙ (ap (λ (z : System). told_system reading z e to message) first ∙ ap (told_system reading (faulted w p code address) e to) is_message)
 
 -- what became of the fault is what becomes of it by who hears it
 pub heard_after : (reading : Reading) (w v : System) (map : Store) (p : ℕ) (code : FaultCode) (address : ℕ) (handler : Option Capability) (cap : Capability) (a : Answer)

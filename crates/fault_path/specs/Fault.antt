@@ -14,7 +14,7 @@ use Rattle.invocation.specs.declared.message.Message.{Message}
 use Rattle.invocation.specs.Answerer.{Answer, answerer}
 use Rattle.invocation.specs.Answerer.Answer.{Dead, Open, Busy}
 use Rattle.operations.specs.System.{System, system, Reading, count_in}
-use Rattle.fault_path.specs.message_path.Messages.{told, waiting}
+use Rattle.fault_path.specs.message_path.Messages.{told_system, waiting}
 use Rattle.fault_path.specs.declared.outcome.Outcome.{Outcome}
 use Rattle.fault_path.specs.declared.outcome.Outcome.TheVariants.{Delivered, MustWait, Unheard}
 
@@ -53,7 +53,7 @@ answered reading w p code address payload Dead = faulted w p code address
 answered reading w p code address payload (Busy q) = waiting w p q
 answered reading w p code address payload (Open e q) =
     let cap = to_object Process p (count_in reading w.store.items Process p) in
-    told reading (faulted w p code address) e q (fault_message cap (process_at w.store p) code address payload)
+    told_system reading (faulted w p code address) e q (fault_message cap (process_at w.store p) code address payload)
 
 -- what it comes to
 abbrev pub outcome_of : Answer → Outcome

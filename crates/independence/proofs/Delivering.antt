@@ -16,7 +16,7 @@ use Rattle.invocation.specs.Answerer.{Answer}
 use Rattle.invocation.specs.Answerer.Answer.{Dead, Open, Busy}
 use Rattle.invocation.specs.Delivery.{passed, passed_at, received, delivered}
 use Rattle.operations.specs.System.{System, Meant, system, with_store}
-use Rattle.fault_path.specs.message_path.Messages.{told, waiting, receiving, listening}
+use Rattle.fault_path.specs.message_path.Messages.{told_system, waiting, receiving, listening}
 use Rattle.fault_path.specs.Fault.{handler_of, fault_message, faulted, answered, heard_by, fault_of}
 use Rattle.confinement.specs.declared.cut_side.CutSide.TheVariants.{Right}
 use Rattle.confinement.specs.Cut.{Cut, side_of}
@@ -53,8 +53,8 @@ module _ (cut : Cut) (f : Overlay cut) (start : System) where
   -- a message through an endpoint to a process
   pub beside-told : (w v : System) → Two w v → (e q : ℕ) (message : Message) → side_of cut Endpoint e ≡ Right → side_of cut Process q ≡ Right
       → AllMayHold cut Right message.caps
-      → Two (told Meant w e q message) (told Meant v e q message)
-  unfolding told
+      → Two (told_system Meant w e q message) (told_system Meant v e q message)
+  unfolding told_system
   beside-told w v b e q message endpoint process all =
       let x = with_store w (delivered w.store e q message) in
       let y = with_store v (delivered v.store e q message) in
@@ -102,7 +102,7 @@ module _ (cut : Cut) (f : Overlay cut) (start : System) where
   beside-answered w v b p code address payload (Busy q) right answers = beside-waiting w v b p q right
   beside-answered w v b p code address payload (Open e q) right answers =
       let cap = to_object Process p 0 in
-      subst (λ (process : ProcessValue). Two (answered Meant w p code address payload (Open e q)) (told Meant (faulted v p code address) e q (fault_message cap process code address payload)))
+      subst (λ (process : ProcessValue). Two (answered Meant w p code address payload (Open e q)) (told_system Meant (faulted v p code address) e q (fault_message cap process code address payload)))
       (same-process cut f start w v b p right)
       (beside-told (faulted w p code address) (faulted v p code address) (beside-faulted w v b p code address right) e q (fault_message cap (process_at w.store p) code address payload)
       answers.0 answers.1 (may-own cut Right cap refl right, tt))

@@ -21,22 +21,22 @@ use Rattle.object_store.specs.Object.{Stays, object_name}
 use Rattle.object_store.proofs.Stays.{stays_then, stays_more, stays_endpoint, stays_process}
 use Rattle.invocation.specs.declared.message.Message.{Message}
 use Rattle.invocation.specs.Target.{is_receiving}
-use Rattle.invocation.specs.Delivery.{accepted, accepting, number_given, given, told, received, passed, passed_at, delivered, message_map, changed_by_message}
+use Rattle.invocation.specs.Delivery.{accepted, accepting, number_given, given, told_process, received, passed, passed_at, delivered, message_map, changed_by_message}
 use Rattle.invocation.proofs.Given.{given_map, given_each, given-slots}
 
 -- ---- the receiver
 
 -- words change no capability
-told_map : (f : Capability → Capability) (process : ProcessValue) (id number : ℕ) (message : Message) → process_map f (told process id number message) ≡ told (process_map f process) id number (message_map f message)
-unfolding told
+told_map : (f : Capability → Capability) (process : ProcessValue) (id number : ℕ) (message : Message) → process_map f (told_process process id number message) ≡ told_process (process_map f process) id number (message_map f message)
+unfolding told_process
 told_map f process id number message = refl
 
-told-capregs : (process : ProcessValue) (id number : ℕ) (message : Message) → (told process id number message).capregs ≡ process.capregs
-unfolding told
+told-capregs : (process : ProcessValue) (id number : ℕ) (message : Message) → (told_process process id number message).capregs ≡ process.capregs
+unfolding told_process
 told-capregs process id number message = refl
 
-told-slots : (process : ProcessValue) (id number : ℕ) (message : Message) → (told process id number message).slots ≡ process.slots
-unfolding told
+told-slots : (process : ProcessValue) (id number : ℕ) (message : Message) → (told_process process id number message).slots ≡ process.slots
+unfolding told_process
 told-slots process id number message = refl
 
 -- what a receiver means is what it meant, with the meaning of the message
@@ -46,19 +46,19 @@ received_map f null_is process id message =
     let accept = accepted process.state in
     let number = number_given accept message.caps in
     let count : length (map f message.caps) ≡ length message.caps = length-map message.caps f in
-    given_map f null_is (told process id number message) (accepting accept) message.caps
+    given_map f null_is (told_process process id number message) (accepting accept) message.caps
     ∙ ap (λ x. given x (accepting accept) (map f message.caps))
-    (told_map f process id number message ∙ ap (λ n. told (process_map f process) id (min n accept.caps) (message_map f message)) (sym count))
+    (told_map f process id number message ∙ ap (λ n. told_process (process_map f process) id (min n accept.caps) (message_map f message)) (sym count))
 
 -- capabilities that are given to the registers that accept them make the receiver, after its registers were written
 pub received_by : (process : ProcessValue) (id : ℕ) (message : Message) (accept : AcceptValue) (number : ℕ) → accept ≡ accepted process.state → IsAccept accept
-    → number ≡ min (length message.caps) (length (accepting accept)) → given (told process id number message) (accepting accept) message.caps ≡ received process id message
+    → number ≡ min (length message.caps) (length (accepting accept)) → given (told_process process id number message) (accepting accept) message.caps ≡ received process id message
 unfolding received
 received_by process id message accept number accept_is range number_is =
     let registers : length (accepting accept) ≡ accept.caps = length-take-le accept.caps accept.regs (omega (arith, range.four, range.caps)) in
     let same : number ≡ number_given accept message.caps = number_is ∙ ap (min (length message.caps)) registers in
-    ap (λ n. given (told process id n message) (accepting accept) message.caps) same
-    ∙ ap (λ (a : AcceptValue). given (told process id (number_given a message.caps) message) (accepting a) message.caps) accept_is
+    ap (λ n. given (told_process process id n message) (accepting accept) message.caps) same
+    ∙ ap (λ (a : AcceptValue). given (told_process process id (number_given a message.caps) message) (accepting a) message.caps) accept_is
 
 -- a receiver keeps its slots, its state and its pc
 pub received-slots : (process : ProcessValue) (id : ℕ) (message : Message) → (received process id message).slots ≡ process.slots
@@ -69,7 +69,7 @@ received-slots process id message = given-slots _ _ _ ∙ told-slots process id 
 pub received_each : (P : Capability → Type 0) → P null → (process : ProcessValue) (id : ℕ) (message : Message) → All P message.caps → All P process.capregs → All P (received process id message).capregs
 unfolding received
 received_each P of_null process id message new old =
-    given_each P of_null (told process id (number_given (accepted process.state) message.caps) message) (accepting (accepted process.state)) message.caps new
+    given_each P of_null (told_process process id (number_given (accepted process.state) message.caps) message) (accepting (accepted process.state)) message.caps new
     (rw (told-capregs process id (number_given (accepted process.state) message.caps) message) old)
 
 -- ---- the endpoint

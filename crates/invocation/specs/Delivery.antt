@@ -59,8 +59,8 @@ worded process words =
 
 -- the process with its registers as a message from an endpoint with this id leaves them: x10 the status, x11 to x14 the
 -- words, x15 the entry's payload, x16 the number of bytes delivered, x22 the id
-unfoldable pub told : ProcessValue → ℕ → ℕ → Message → ProcessValue
-told process id number message =
+unfoldable pub told_process : ProcessValue → ℕ → ℕ → Message → ProcessValue
+told_process process id number message =
     with_reg (with_reg (with_reg (worded (with_reg process 10 (status_of message.cut number)) message.words) 15 message.payload) 16 message.length) 22 id
 
 -- the process with capabilities written to registers, in their order: a register named twice keeps the later one
@@ -73,7 +73,7 @@ given process (i ∷ is) (cap ∷ caps) = given (with_capreg process i cap) is c
 unfoldable pub received : ProcessValue → ℕ → Message → ProcessValue
 received process id message =
     let accept = accepted process.state in
-    given (told process id (number_given accept message.caps) message) (accepting accept) message.caps
+    given (told_process process id (number_given accept message.caps) message) (accepting accept) message.caps
 
 -- ---- both
 

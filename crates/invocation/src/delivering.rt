@@ -8,7 +8,7 @@ ghost use Rattle.object_store.specs.Meaning.{meaning, state_map};
 ghost use Rattle.object_store.specs.Ahead.{IsBehind, NoneAhead};
 ghost use Rattle.object_store.specs.Object.{Stays};
 ghost use Rattle.invocation.specs.Target.{is_receiving};
-ghost use Rattle.invocation.specs.Delivery.{accepted, accepting, number_given, given, told, received, passed_at, delivered, message_map, changed_by_message};
+ghost use Rattle.invocation.specs.Delivery.{accepted, accepting, number_given, given, told_process, received, passed_at, delivered, message_map, changed_by_message};
 
 use crate::message::Message;
 use cap_format::Cap;
@@ -78,10 +78,10 @@ fn receive(receiver: &mut Process, id: u32, message: &Message)
 }
 
 /// Writes the registers that tell a message.
-#[tactic(auto, unfolding(crate::specs::Delivery::told))]
+#[tactic(auto, unfolding(crate::specs::Delivery::told_process))]
 fn tell(receiver: &mut Process, id: u32, number: u8, message: &Message)
     requires { number ≤ 4 }
-    ensures { receiver.new ≡ told receiver.old id number message.now }
+    ensures { receiver.new ≡ told_process receiver.old id number message.now }
 {
     let cut = if message.cut { 256 } else { 0 };
     receiver.set_reg(10, 1 + cut + 65536 * u32::from(number));

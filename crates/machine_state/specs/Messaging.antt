@@ -3,13 +3,13 @@ use Rattle.std.specs.Prelude.{ℕ}
 use Rattle.process_objects.specs.Accept.{AcceptValue}
 use Rattle.invocation.specs.declared.message.Message.{Message}
 use Rattle.operations.specs.System.{Meant, system}
-use Rattle.fault_path.specs.message_path.Messages.{told, waiting, listening}
+use Rattle.fault_path.specs.message_path.Messages.{told_system, waiting, listening}
 use Rattle.machine_state.specs.State.{State}
 use Rattle.machine_state.specs.Setters.{set_system}
 
 -- a message reaches process `q` through endpoint `e`, and makes it ready
 unfoldable pub told_state : State → ℕ → ℕ → Message → State
-told_state s e q message = set_system s (told Meant (system s.store s.queues) e q message)
+told_state s e q message = set_system s (told_system Meant (system s.store s.queues) e q message)
 
 -- process `p` leaves its place and is the last sleeper of process `q`
 unfoldable pub waiting_state : State → ℕ → ℕ → State

@@ -5,7 +5,7 @@ use Rattle.cap_format.specs.declared.kind.CapKind.TheVariants.{Schedule}
 use Rattle.schedules.specs.Queues.{QueuesValue}
 use Rattle.schedules.specs.Ready.{readied_queues}
 use Rattle.invocation.specs.declared.message.Message.{Message}
-use Rattle.fault_path.specs.message_path.Messages.{told}
+use Rattle.fault_path.specs.message_path.Messages.{told_system}
 use Rattle.machine_state.specs.State.{State, IsOnHart}
 use Rattle.machine_state.specs.Messaging.{told_state}
 
@@ -16,7 +16,7 @@ readied_harts kind priority q p = refl
 
 -- so the harts are as before a message
 told_harts : (s : State) (e q : ℕ) (message : Message) → (told_state s e q message).queues.harts ≡ s.queues.harts
-unfolding told_state told
+unfolding told_state told_system
 told_harts s e q message = readied_harts _ _ s.queues q
 
 -- and who stands on one stands there yet

@@ -18,7 +18,7 @@ use Rattle.string_move.specs.declared.piece.Piece.{Piece}
 use Rattle.string_move.specs.declared.span.Span.{Span}
 use Rattle.string_move.specs.Spans.{spans}
 use Rattle.string_move.specs.Move.{size_of_pieces, gathered, with_piece, scattered, copied as bytes_copied}
-use Rattle.fault_path.specs.message_path.Messages.{told, waiting, listening}
+use Rattle.fault_path.specs.message_path.Messages.{told_system, waiting, listening}
 use Rattle.fault_path.specs.Fault.{answered as fault_answered, faulted as fault_faulted, handler_of, heard_by}
 use Rattle.walk_meaning.specs.declared.kind.Kind.{Kind}
 use Rattle.walk_meaning.specs.declared.kind.Kind.TheVariants.{Load, Store as Put}
@@ -53,7 +53,7 @@ IsFollowed s o = Follows s.store.items o.touches o.state.store.items
 
 fault_answered-items : (s : State) (p : ℕ) (code : FaultCode) (address payload : ℕ) (answer : Answer)
     → s.store.items ≡ (fault_answered Meant (system s.store s.queues) p code address payload answer).store.items
-unfolding fault_answered fault_faulted waiting told delivered_to
+unfolding fault_answered fault_faulted waiting told_system delivered_to
 fault_answered-items s p code address payload Nobody = refl
 fault_answered-items s p code address payload (Busied q) = refl
 fault_answered-items s p code address payload (Receiver e q) = refl
@@ -63,7 +63,7 @@ unfolding fault fault_state
 fault-follows s p code address handler = fault_answered-items s p code address (handler_of s.store p handler).payload (heard_by s.store p handler)
 
 told-items : (s : State) (e q : ℕ) (message : Message) → s.store.items ≡ (told_state s e q message).store.items
-unfolding told_state told delivered_to
+unfolding told_state told_system delivered_to
 told-items s e q message = refl
 
 wait-follows : (s : State) (p q : ℕ) → IsFollowed s (wait_on s p q)

@@ -19,10 +19,10 @@ use Rattle.invocation.specs.declared.message.Message.{Message}
 use Rattle.invocation.specs.Invocation.{InvocationValue}
 use Rattle.invocation.specs.Answerer.{Answer}
 use Rattle.invocation.specs.Answerer.Answer.{Dead, Open, Busy}
-use Rattle.invocation.specs.Delivery.{passed, passed_at, accepted, accepting, number_given, told as told_process, given, received, delivered as delivered_to}
+use Rattle.invocation.specs.Delivery.{passed, passed_at, accepted, accepting, number_given, told_process, given, received, delivered as delivered_to}
 use Rattle.string_move.specs.declared.piece.Piece.{Piece}
 use Rattle.string_move.specs.Move.{size_of_pieces, gathered, with_piece, scattered, copied}
-use Rattle.fault_path.specs.message_path.Messages.{told, waiting, receiving, listening}
+use Rattle.fault_path.specs.message_path.Messages.{told_system, waiting, receiving, listening}
 use Rattle.fault_path.specs.Fault.{answered as fault_answered, faulted, handler_of, heard_by}
 use Rattle.machine_state.specs.State.{State, process, schedule_slot}
 use Rattle.machine_state.specs.Setters.{advance, leave, set_registers}
@@ -73,8 +73,8 @@ delivered_to-has s has e q message =
     with_process-has (passed_at s e) (with_endpoint-has s has e (passed (endpoint_at s e))) q
     (received (process_at s q) (endpoint_at s e).id message) (received-has (process_at s q) (process-has s has q) (endpoint_at s e).id message)
 
-told-has : (w : System) → HasPlaces w.store → (e q : ℕ) (message : Message) → HasPlaces (told Meant w e q message).store
-unfolding told
+told-has : (w : System) → HasPlaces w.store → (e q : ℕ) (message : Message) → HasPlaces (told_system Meant w e q message).store
+unfolding told_system
 told-has w has e q message =
     let s = delivered_to w.store e q message in
     readied-has s (delivered_to-has w.store has e q message) w.queues (schedule_by Meant s q) q

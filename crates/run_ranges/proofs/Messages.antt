@@ -21,9 +21,9 @@ use Rattle.schedules.specs.Ready.{Runs, runs_of, process_in, readied_process, re
 use Rattle.invocation.specs.declared.message.Message.{Message}
 use Rattle.invocation.specs.Answerer.{Answer, answerer}
 use Rattle.invocation.specs.Answerer.Answer.{Dead, Open, Busy}
-use Rattle.invocation.specs.Delivery.{passed, passed_at, accepted, accepting, number_given, status_of, told as told_process, given, received, delivered}
+use Rattle.invocation.specs.Delivery.{passed, passed_at, accepted, accepting, number_given, status_of, told_process, given, received, delivered}
 use Rattle.operations.specs.System.{System, Meant, system, schedule_by}
-use Rattle.fault_path.specs.message_path.Messages.{told, waiting, receiving, listening}
+use Rattle.fault_path.specs.message_path.Messages.{told_system, waiting, receiving, listening}
 use Rattle.fault_path.specs.Fault.{is_answer, handler_of, heard_by, fault_message, faulted, answered}
 use Rattle.walk_meaning.specs.declared.at.At.{At}
 use Rattle.walk_meaning.specs.declared.kind.Kind.{Kind}
@@ -107,8 +107,8 @@ delivered-in s r e q message m =
     with_process-in (passed_at s e) (with_endpoint-in s r e (passed (endpoint_at s e)) (passed-in (endpoint_at s e) (endpoint-in s r e))) q
     (received (process_at s q) (endpoint_at s e).id message) (received-in (process_at s q) (process-in s r q) (endpoint_at s e).id message (endpoint-in s r e).id m)
 
-told-in : (w : System) → AreInRanges w.store → (e q : ℕ) (message : Message) → IsRangedMessage message → AreInRanges (told Meant w e q message).store
-unfolding told
+told-in : (w : System) → AreInRanges w.store → (e q : ℕ) (message : Message) → IsRangedMessage message → AreInRanges (told_system Meant w e q message).store
+unfolding told_system
 told-in w r e q message m =
     let s = delivered w.store e q message in
     readied_at-in s (delivered-in w.store r e q message m) (schedule_by Meant s q) q w.queues

@@ -15,7 +15,7 @@ use Rattle.untraced_steps.specs.Untraced.{RanUntraced, TellsNothing}
 use Rattle.schedule_replay.specs.Counts.{AreAtMost, and_more}
 use Rattle.schedule_replay.specs.First.{RunsFirst}
 use Rattle.schedule_replay.specs.Replay.{Ran}
-use Rattle.schedule_replay.specs.Told.{lines_of, told}
+use Rattle.schedule_replay.specs.Told.{lines_of, lines_told}
 use Rattle.schedule_replay.specs.declared.counts.Counts.{Counts}
 use Rattle.schedule_replay.specs.declared.mode.Mode.{Mode}
 use Rattle.schedule_replay.specs.declared.mode.Mode.TheVariants.{Trace}
@@ -45,7 +45,7 @@ module _ {T K : Type 0} (kept : T → K) (cost : K → Items → Capability → 
   record RunsEvents (mode : Mode) (all left : List Event) (m : MachineValue T) (fetches : ℕ) (n : MachineValue T) (fetches' : ℕ) (entries : List Record) (counts counts' : Counts) (events : List Event) : Type 0 where
     pub split : all ≡ events ++ left
     pub ran : Ran kept cost after without m fetches n fetches' events
-    pub lines : lines_of mode entries ≡ told mode (state_of m) events
+    pub lines : lines_of mode entries ≡ lines_told mode (state_of m) events
     pub counted : counts' ≡ and_more counts (length events) (run_records (state_of m) events)
     pub most : (most : ℕ) → AreAtMost most counts → AreAtMost (most + 65 * length events) counts'
 

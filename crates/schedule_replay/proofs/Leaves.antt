@@ -6,10 +6,10 @@ use Rattle.std.specs.Io.KnownBytes.{Appends}
 use Rattle.std.proofs.KnownBytes.{Appends-trans}
 use Rattle.coy_io.specs.Pieces.{AppendsSome}
 use Rattle.coy_io.specs.Written.{Writes}
-use Rattle.schedule_replay.specs.Leaves.{Leaves}
+use Rattle.schedule_replay.specs.Leaves.{LeavesText}
 
 -- one more piece was written
-pub leaves_less : (old now new : Option (List ℕ)) (whole piece rest : List ℕ) → Leaves old now whole (piece ++ rest) → Appends now new piece → Leaves old new whole rest
+pub leaves_less : (old now new : Option (List ℕ)) (whole piece rest : List ℕ) → LeavesText old now whole (piece ++ rest) → Appends now new piece → LeavesText old new whole rest
 leaves_less old now new whole piece rest l more = record {
   front = l.front ++ piece;
   written = Appends-trans old now new l.front piece l.written more;
@@ -17,11 +17,11 @@ leaves_less old now new whole piece rest l more = record {
 }
 
 -- nothing is left
-pub leaves_none : (old now : Option (List ℕ)) (whole : List ℕ) → Leaves old now whole [] → Appends old now whole
+pub leaves_none : (old now : Option (List ℕ)) (whole : List ℕ) → LeavesText old now whole [] → Appends old now whole
 leaves_none old now whole l = subst (Appends old now) (sym (l.split ∙ append-nil l.front)) l.written
 
 -- writing failed in the next piece
-pub leaves_some : (old now new : Option (List ℕ)) (whole piece rest : List ℕ) → Leaves old now whole (piece ++ rest) → AppendsSome now new piece → AppendsSome old new whole
+pub leaves_some : (old now new : Option (List ℕ)) (whole piece rest : List ℕ) → LeavesText old now whole (piece ++ rest) → AppendsSome now new piece → AppendsSome old new whole
 leaves_some old now new whole piece rest l some =
     let n = some.0 in
     let below : n < length piece = some.1 in
@@ -34,7 +34,7 @@ leaves_some old now new whole piece rest l some =
 -- ---- where a part of the text is kept back, to be written with what comes behind it
 
 -- more text comes behind
-pub leaves_more : (old now : Option (List ℕ)) (whole rest more : List ℕ) → Leaves old now whole rest → Leaves old now (whole ++ more) (rest ++ more)
+pub leaves_more : (old now : Option (List ℕ)) (whole rest more : List ℕ) → LeavesText old now whole rest → LeavesText old now (whole ++ more) (rest ++ more)
 leaves_more old now whole rest more l = record {
   front = l.front;
   written = l.written;
@@ -42,7 +42,7 @@ leaves_more old now whole rest more l = record {
 }
 
 -- a part of what was left was written
-pub leaves_on : (old now new : Option (List ℕ)) (whole text rest behind : List ℕ) → Leaves old now whole (text ++ behind) → Leaves now new text rest → Leaves old new whole (rest ++ behind)
+pub leaves_on : (old now new : Option (List ℕ)) (whole text rest behind : List ℕ) → LeavesText old now whole (text ++ behind) → LeavesText now new text rest → LeavesText old new whole (rest ++ behind)
 leaves_on old now new whole text rest behind l m = record {
   front = l.front ++ m.front;
   written = Appends-trans old now new l.front m.front l.written m.written;
@@ -52,7 +52,7 @@ leaves_on old now new whole text rest behind l m = record {
 }
 
 -- what was kept back is written at the end
-pub leaves_done : {T E : Type 0} (r : Result T E) (old now new : Option (List ℕ)) (whole text : List ℕ) → Leaves old now whole (text ++ [])
+pub leaves_done : {T E : Type 0} (r : Result T E) (old now new : Option (List ℕ)) (whole text : List ℕ) → LeavesText old now whole (text ++ [])
     → OnOk r (Appends now new text) → OnErr r (AppendsSome now new text) → Writes old new r whole
 leaves_done (Ok v) old now new whole text l done cut = leaves_none old new whole (leaves_less old now new whole text [] l done)
 leaves_done (Err e) old now new whole text l done cut = leaves_some old now new whole text [] l cut

@@ -20,7 +20,7 @@ use Rattle.schedule_replay.specs.Lines.{FailsOn}
 use Rattle.schedule_replay.specs.Replay.{Accords, FailsBehind, Follows, Ran, Replays, WritesRun, answer_at, run_answer, stop_answer}
 use Rattle.schedule_replay.specs.Scheduled.{Scheduled, Ending, AtEnd, AtFault, AtLimit, ends, preceded, scheduled, EndHere, IsNextLine, Reads}
 use Rattle.schedule_replay.specs.First.{RunsFirst}
-use Rattle.schedule_replay.specs.Told.{lines_of, told}
+use Rattle.schedule_replay.specs.Told.{lines_of, lines_told}
 use Rattle.schedule_replay.specs.declared.counts.Counts.{Counts}
 use Rattle.listing_read.specs.declared.fault.ScheduleFault.{ScheduleFault}
 use Rattle.judged_lines.specs.declared.stop.Stop.{Stop}
@@ -100,7 +100,7 @@ follows-stop answer_of harts old now new held held' held'' events counts stops.R
 
 -- a text that was written whole, by the answer of a stop
 stop-writes : (mode : Mode) (s : State) (taken taken' : Option (List ℕ)) (events : List Event) (counts : Counts) (stop : Stop ScheduleFault)
-    → Appends taken taken' (told mode s events) → WritesRun mode s taken taken' events (stop_answer counts stop)
+    → Appends taken taken' (lines_told mode s events) → WritesRun mode s taken taken' events (stop_answer counts stop)
 stop-writes mode s taken taken' events counts stops.End written = written
 stop-writes mode s taken taken' events counts (stops.Refused line fault) written = written
 stop-writes mode s taken taken' events counts stops.TooLong written = written
@@ -112,7 +112,7 @@ module _ {T K : Type 0} (kept : T → K) (cost : K → Items → Capability → 
   pub record SoFar (n : MachineValue T) (now : Reader) (held' taken' : Option (List ℕ)) (fetches' : ℕ) (counts : Counts) (left : List Event) : Type 0 where
     pub done : List Event
     pub ran : Ran kept cost after without m fetches n fetches' done
-    pub text : Appends taken taken' (told mode (state_of m) done)
+    pub text : Appends taken taken' (lines_told mode (state_of m) done)
     pub reads : Reads m.objects.harts old now held held' (done ++ left)
     pub counted : counts ≡ counts_of (state_of m) done
     pub most : AreAtMost (65 * length done) counts
@@ -133,9 +133,9 @@ module _ {T K : Type 0} (kept : T → K) (cost : K → Items → Capability → 
   module _ (n : MachineValue T) (now : Reader) (held' taken' : Option (List ℕ)) (fetches' : ℕ) (counts : Counts) where
     -- what is written of events in a state that others led to
     told-behind : (done events : List Event) → Ran kept cost after without m fetches n fetches' done
-        → told mode (state_of m) (done ++ events) ≡ told mode (state_of m) done ++ told mode (state_of n) events
+        → lines_told mode (state_of m) (done ++ events) ≡ lines_told mode (state_of m) done ++ lines_told mode (state_of n) events
     told-behind done events ran =
-        told-append mode (state_of m) done events ∙ ap (λ s. told mode (state_of m) done ++ told mode s events) (sym ran.state)
+        told-append mode (state_of m) done events ∙ ap (λ s. lines_told mode (state_of m) done ++ lines_told mode s events) (sym ran.state)
 
     -- these events more were run, written and counted
     pub so_far-performed : (n1 : MachineValue T) (taken1 : Option (List ℕ)) (fetches1 : ℕ) (entries : List Record) (counts1 : Counts) (all split left : List Event)
@@ -151,7 +151,7 @@ module _ {T K : Type 0} (kept : T → K) (cost : K → Items → Capability → 
           done = s.done ++ events;
           ran = ran-trans kept cost after without m n n1 fetches fetches' fetches1 s.done events s.ran first.ran;
           text = subst (Appends taken taken1) (sym (told-behind s.done events s.ran))
-              (Appends-trans taken taken' taken1 (told mode (state_of m) s.done) (told mode (state_of n) events) s.text (subst (Appends taken' taken1) first.lines written));
+              (Appends-trans taken taken' taken1 (lines_told mode (state_of m) s.done) (lines_told mode (state_of n) events) s.text (subst (Appends taken' taken1) first.lines written));
           reads = reads-same m.objects.harts old now held held' (s.done ++ split) ((s.done ++ events) ++ left)
               (ap (λ es. s.done ++ es) whole ∙ sym (append_assoc s.done events left)) s.reads;
           counted =
@@ -189,16 +189,16 @@ module _ {T K : Type 0} (kept : T → K) (cost : K → Items → Capability → 
     replays-cut n1 taken1 fetches1 entries counts1 all split left is first s some =
         let events : List Event = first.before ++ first.last ∷ [] in
         let whole : split ≡ events ++ left = is ∙ first.split in
-        let before : List ℕ = told mode (state_of m) s.done in
-        let text : told mode (state_of m) (s.done ++ events) ≡ before ++ lines_of mode entries =
+        let before : List ℕ = lines_told mode (state_of m) s.done in
+        let text : lines_told mode (state_of m) (s.done ++ events) ≡ before ++ lines_of mode entries =
         told-behind s.done events s.ran ∙ ap (λ lines. before ++ lines) (sym first.lines) in
-        let quiet : told mode (state_of m) (s.done ++ first.before) ≡ before =
+        let quiet : lines_told mode (state_of m) (s.done ++ first.before) ≡ before =
         told-behind s.done first.before s.ran ∙ ap (λ lines. before ++ lines) first.quiet ∙ append-nil before in
         let quiet_size = ap length quiet in
         let count : ℕ = some.0 in
         let short : count < length (lines_of mode entries) = some.1 in
-        let size : length (told mode (state_of m) (s.done ++ events)) ≡ length before + length (lines_of mode entries) = ap length text ∙ length-append before (lines_of mode entries) in
-        let front : take (length before + count) (told mode (state_of m) (s.done ++ events)) ≡ before ++ take count (lines_of mode entries) =
+        let size : length (lines_told mode (state_of m) (s.done ++ events)) ≡ length before + length (lines_of mode entries) = ap length text ∙ length-append before (lines_of mode entries) in
+        let front : take (length before + count) (lines_told mode (state_of m) (s.done ++ events)) ≡ before ++ take count (lines_of mode entries) =
         ap (take (length before + count)) text ∙ take-append-add before (lines_of mode entries) count in
         record {
           events = s.done ++ events;

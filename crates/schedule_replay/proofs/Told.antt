@@ -13,7 +13,7 @@ use Rattle.schedule_replay.specs.declared.mode.Mode.{Mode}
 use Rattle.schedule_replay.specs.declared.mode.Mode.TheVariants.{Silent, Records, Trace}
 use Rattle.run_text.specs.Record.{record_text}
 use Rattle.kernel_core.specs.Noted.{is_detail, untraced}
-use Rattle.schedule_replay.specs.Told.{are_untold, line_of, lines_of, told}
+use Rattle.schedule_replay.specs.Told.{are_untold, line_of, lines_of, lines_told}
 
 pub lines_of-nil : (mode : Mode) → lines_of mode [] ≡ []
 unfolding lines_of
@@ -77,10 +77,10 @@ untraced_lines Records other (entry ∷ entries) = by (untraced_lines Records ot
 
 -- ---- the lines of events
 
-pub told-nil : (mode : Mode) (s : State) → told mode s [] ≡ []
+pub told-nil : (mode : Mode) (s : State) → lines_told mode s [] ≡ []
 told-nil mode s = ap (lines_of mode) (run_records-nil s) ∙ lines_of-nil mode
 
-pub told-append : (mode : Mode) (s : State) (first second : List Event) → told mode s (first ++ second) ≡ told mode s first ++ told mode (run_state s first) second
+pub told-append : (mode : Mode) (s : State) (first second : List Event) → lines_told mode s (first ++ second) ≡ lines_told mode s first ++ lines_told mode (run_state s first) second
 told-append mode s first second =
     ap (lines_of mode) (run_records-append s first second) ∙ lines_of-append mode (run_records s first) (run_records (run_state s first) second)
 

@@ -11,7 +11,7 @@ use Rattle.kernel_core.specs.Run.{run_records}
 use Rattle.kernel_core.specs.State.{state_of}
 use Rattle.schedule_replay.specs.Counts.{AreAtMost, and_more}
 use Rattle.schedule_replay.specs.Replay.{Ran}
-use Rattle.schedule_replay.specs.Told.{lines_of, told}
+use Rattle.schedule_replay.specs.Told.{lines_of, lines_told}
 use Rattle.schedule_replay.specs.declared.counts.Counts.{Counts}
 use Rattle.schedule_replay.specs.declared.mode.Mode.{Mode}
 
@@ -23,7 +23,7 @@ pub record RunsFirst {T K : Type 0} (kept : T → K) (cost : K → Items → Cap
   pub last : Event
   pub split : all ≡ (before ++ last ∷ []) ++ left
   pub ran : Ran kept cost after without m fetches n fetches' (before ++ last ∷ [])
-  pub quiet : told mode (state_of m) before ≡ []
-  pub lines : lines_of mode entries ≡ told mode (state_of m) (before ++ last ∷ [])
+  pub quiet : lines_told mode (state_of m) before ≡ []
+  pub lines : lines_of mode entries ≡ lines_told mode (state_of m) (before ++ last ∷ [])
   pub counted : counts' ≡ and_more counts (length (before ++ last ∷ [])) (run_records (state_of m) (before ++ last ∷ []))
   pub most : (most : ℕ) → AreAtMost most counts → AreAtMost (most + 65 * length (before ++ last ∷ [])) counts'

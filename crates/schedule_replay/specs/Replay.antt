@@ -15,7 +15,7 @@ use Rattle.kernel_core.specs.State.{State, state_of}
 use Rattle.schedule_replay.specs.Counts.{counts_of, events_alone}
 use Rattle.schedule_replay.specs.Lines.{FailsOn}
 use Rattle.schedule_replay.specs.Scheduled.{Scheduled, Ending, AtEnd, AtFault, AtLimit, OnParts, scheduled, ends, preceded}
-use Rattle.schedule_replay.specs.Told.{told}
+use Rattle.schedule_replay.specs.Told.{lines_told}
 use Rattle.schedule_replay.specs.declared.counts.Counts.{Counts}
 use Rattle.listing_read.specs.declared.fault.ScheduleFault.{ScheduleFault}
 use Rattle.judged_lines.specs.declared.stop.Stop.{Stop}
@@ -86,14 +86,14 @@ pub record StopsInLast (mode : Mode) (s : State) (taken taken' : Option (List �
   pub last : Event
   pub all : events ≡ before ++ last ∷ []
   pub count : ℕ
-  pub written : Appends taken taken' (take count (told mode s events))
-  pub behind : length (told mode s before) ≤ count
-  pub short : count < length (told mode s events)
+  pub written : Appends taken taken' (take count (lines_told mode s events))
+  pub behind : length (lines_told mode s before) ≤ count
+  pub short : count < length (lines_told mode s events)
 
 -- what was written of these events: all their records, or a front of them where writing failed
 abbrev pub WritesRun : Mode → State → Option (List ℕ) → Option (List ℕ) → List Event → Replayed → Type 0
 WritesRun mode s taken taken' events answers.WriteFault = StopsInLast mode s taken taken' events
-WritesRun mode s taken taken' events answer = Appends taken taken' (told mode s events)
+WritesRun mode s taken taken' events answer = Appends taken taken' (lines_told mode s events)
 
 -- why a replay ends with a fault of reading or of writing, by the counts of both objects' faults
 pub record HasReasons (unread unread' unwritten unwritten' : ℕ) (answer : Replayed) : Type 0 where

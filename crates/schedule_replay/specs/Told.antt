@@ -33,5 +33,5 @@ lines_of mode [] = []
 lines_of mode (entry ∷ entries) = line_of mode entry ++ lines_of mode entries
 
 -- the lines of all records of events
-abbrev pub told : Mode → State → List Event → List ℕ
-told mode s events = lines_of mode (run_records s events)
+abbrev pub lines_told : Mode → State → List Event → List ℕ
+lines_told mode s events = lines_of mode (run_records s events)

@@ -5,7 +5,7 @@ ghost use Rattle.coy_io.specs.Causes.{HasCause};
 ghost use Rattle.coy_io.specs.Pieces.{AppendsSome};
 ghost use Rattle.kernel_core.specs.Machine.{IsRecord};
 ghost use Rattle.coy_io.specs.Written.{Writes};
-ghost use Rattle.schedule_replay.specs.Leaves.{Leaves};
+ghost use Rattle.schedule_replay.specs.Leaves.{LeavesText};
 ghost use Rattle.schedule_replay.specs.Told.{are_untold, is_told, line_of, lines_of};
 ghost use Rattle.kernel_core.specs.Noted.{is_detail};
 
@@ -66,7 +66,7 @@ fn gather<K: Sink>(
 ) -> Result<(), WriteFault>
     requires { IsRecord entry.now }
     ensures ok { let text = buffer.old ++ line_of mode entry.now in
-        OnOk result (Leaves (K.taken output.old) (K.taken output.new) text buffer.new) }
+        OnOk result (LeavesText (K.taken output.old) (K.taken output.new) text buffer.new) }
     ensures err { let text = buffer.old ++ line_of mode entry.now in
         OnErr result (AppendsSome (K.taken output.old) (K.taken output.new) text) }
     ensures cause { HasCause (K.faults output.old) (K.faults output.new) result }
@@ -82,7 +82,7 @@ fn gather<K: Sink>(
 /// Writes the lines that are not written yet where there may be no room for one more.
 fn make_room<K: Sink>(buffer: &mut LineBuf, output: &mut K) -> Result<(), WriteFault>
     ensures ok { let old = K.taken output.old in let new = K.taken output.new in
-        OnOk result (Leaves old new buffer.old buffer.new) }
+        OnOk result (LeavesText old new buffer.old buffer.new) }
     ensures room { OnOk result (length buffer.new ≤ 200) }
     ensures err { let old = K.taken output.old in let new = K.taken output.new in
         OnErr result (AppendsSome old new buffer.old) }

@@ -29,7 +29,7 @@ use Rattle.confinement.specs.Cut.{Cut, same_side, Holds}
 use Rattle.confinement.specs.Acts.{SameSizes, system_of}
 use Rattle.confinement.specs.authority.Authority.{Authority}
 use Rattle.confinement.specs.authority.Within.{may_change, StaysWithin}
-use Rattle.confinement.specs.isolation.Turns.{Turn, turns, told}
+use Rattle.confinement.specs.isolation.Turns.{Turn, turns, side_records}
 use Rattle.separation_policy.specs.declared.policy.Domain.{Domain}
 use Rattle.separation_policy.specs.declared.stage.Stage.{Stage}
 use Rattle.separation_policy.specs.DomainSet.{no_domains, has_domain}
@@ -271,7 +271,7 @@ turns_for policy a s es = turns (view_cut policy a) Left s es
 
 -- what is told of these processes
 abbrev pub told_for : PolicyValue → ℕ → State → List Event → List Record
-told_for policy a s es = told (view_cut policy a) Left s es
+told_for policy a s es = side_records (view_cut policy a) Left s es
 
 -- two runs in which the same is told of the view of domain `a`, and which end in states that are the same for it
 pub record AlikeFor (policy : PolicyValue) (a : ℕ) (s t : State) (es fs : List Event) : Type 0 where

@@ -17,7 +17,7 @@ use Rattle.map_cache.specs.Cache.{tlb_at}
 use Rattle.shared_leaves.specs.declared.key.Key.{Key}
 use Rattle.shared_leaves.specs.declared.key.Table.{Table}
 use Rattle.shared_leaves.specs.declared.key.Table.TheVariants.{Root}
-use Rattle.shared_leaves.specs.declared.leaves.Leaves.{Leaves}
+use Rattle.shared_leaves.specs.declared.leaves.LeafTables.{LeafTables}
 use Rattle.producers.specs.declared.producer.Produced.{Produced}
 use Rattle.producers.specs.Producer.{cut}
 use Rattle.shared_leaves.specs.Key.{is_leaf, own_key, producer_key, root_key, same_key, with_key}
@@ -26,11 +26,11 @@ use Rattle.shared_leaves.specs.Cache.{IsCache, SharedCache, entry_for, kept_of, 
 use Rattle.shared_leaves.specs.Coherent.{IsCoherent, IsEntry, IsLink, IsRecorded}
 
 -- the parts as one value
-abbrev pub value_of : Leaves → SharedCache
+abbrev pub value_of : LeafTables → SharedCache
 value_of m = record { tables = m.tables; keys = m.keys.items; tlbs = m.tlbs.items; records = m.records }
 
 -- what is always true of the parts
-abbrev pub IsKept : Leaves → Type 0
+abbrev pub IsKept : LeafTables → Type 0
 IsKept m = IsCache m.tables m.keys.items m.tlbs.items m.records
 
 -- the use of a key's frame

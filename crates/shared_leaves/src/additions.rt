@@ -9,7 +9,7 @@ ghost use Rattle.shared_leaves.specs.Kept.{background_reads};
 ghost use Rattle.shared_leaves.specs.Effects.{Agrees, IsKept, Remembers, addition_for, value_of};
 
 use crate::key::Key;
-use crate::leaves::Leaves;
+use crate::leaves::LeafTables;
 use arrayvec::ArrayVec;
 use cap_format::{Cap, CapKind, Item};
 use guard_math::Block;
@@ -20,7 +20,7 @@ use walk_meaning::Noted;
 /// The reads on which an entry depends: those of a trail, and one of a background GPT.
 type EntryReads = ArrayVec<Noted, 67>;
 
-impl Leaves {
+impl LeafTables {
     /// Adds where a walk ended, by its producer and its reads; these have the producer's header.
     pub fn remember_walk(
         &mut self,

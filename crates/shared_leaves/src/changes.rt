@@ -14,13 +14,13 @@ ghost use Rattle.shared_leaves.specs.Coherent.{IsCoherent};
 ghost use Rattle.shared_leaves.specs.Effects.{Forgets, IsKept, value_of};
 
 use crate::key::Table;
-use crate::leaves::Leaves;
+use crate::leaves::LeafTables;
 use cap_format::Item;
 use guard_math::Block;
 use map_cache::drop_all;
 use sv32_tables::SharedPool;
 
-impl Leaves {
+impl LeafTables {
     /// Takes out the pages and the links whose walks read an item, and what was noted of it.
     pub fn forget_item(&mut self, item: Item)
         requires { IsKept self.old }
@@ -60,7 +60,7 @@ impl Leaves {
     }
 }
 
-impl Leaves {
+impl LeafTables {
     /// Whether a frame is a root.
     fn is_root(&self, frame: u16) -> bool
         requires { frame < length self.now.keys.items }

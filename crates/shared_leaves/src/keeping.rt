@@ -13,14 +13,14 @@ ghost use Rattle.shared_leaves.specs.Effects.{Agrees, Connects, HasFrame, IsBlan
 ghost use Rattle.sv32_tables.specs.SharedHistory.{MakesFrame};
 
 use crate::key::{Key, Table};
-use crate::leaves::{Leaves, Wanting, frame_of};
+use crate::leaves::{LeafTables, Wanting, frame_of};
 use cap_format::Cap;
 use map_cache::{drop_all, hold};
 use sv32_tables::{Leaf, PoolFull, SharedPool};
 use tlb_model::fill_law;
 use walk_meaning::Noted;
 
-impl Leaves {
+impl LeafTables {
     /// Adds the page of an address, with what its link and its entry depend on. Where a frame or a record
     /// is wanting it forgets everything first.
     pub fn remember(

@@ -20,7 +20,7 @@ pub struct Wanting;
 
 /// The tables with what each frame is for, the caches of the harts, and the records of what walks read.
 #[derive(Drop)]
-pub struct Leaves {
+pub struct LeafTables {
     pub tables: SharedPool,
     /// What each frame in use is for, by its number.
     pub keys: ArrayVec<Key, 256>,
@@ -28,15 +28,15 @@ pub struct Leaves {
     pub records: Depends,
 }
 
-impl Leaves {
+impl LeafTables {
     /// Nothing kept, for so many harts. No other call takes memory.
-    pub fn new(alloc: Global, harts: u8) -> Result<Leaves, OutOfMemory>
+    pub fn new(alloc: Global, harts: u8) -> Result<LeafTables, OutOfMemory>
         ensures blank { IfOk result (λ m. IsBlank (value_of m)) }
         ensures nothing { IfOk result (λ m. kept_of (value_of m) ≡ nothing) }
         ensures kept { IfOk result (λ m. IsKept m) }
         ensures harts { IfOk result (λ m. length m.tlbs.items ≡ harts) }
     {
-        Ok(Leaves {
+        Ok(LeafTables {
             tables: SharedPool::new(alloc)?,
             keys: ArrayVec::new(),
             tlbs: empty_tlbs(alloc, harts)?,

@@ -18,7 +18,7 @@ ghost use Rattle.shared_leaves.specs.Coherent.{IsCoherent, IsFreshLeaf};
 ghost use Rattle.shared_leaves.specs.Effects.{AnswersHeld, IsBlank, value_of};
 
 use crate::key::Key;
-use crate::leaves::{Leaves, frame_of};
+use crate::leaves::{LeafTables, frame_of};
 use cap_format::{Cap, CapKind, Item, OutOfMemory};
 use object_store::Objects;
 use producers::region_law;
@@ -40,7 +40,7 @@ use walk_meaning::{Kind, WalkFault};
 /// wanting everything is forgotten.
 #[derive(Drop)]
 pub struct SharedLeaves {
-    leaves: Leaves,
+    leaves: LeafTables,
     /// Where a walk writes its reads.
     trail: Trail,
 }
@@ -66,7 +66,7 @@ impl SharedLeaves {
         ensures harts { IfOk result (λ cache. length cache.tlbs ≡ harts) }
     {
         Ok(SharedLeaves {
-            leaves: Leaves::new(alloc, harts)?,
+            leaves: LeafTables::new(alloc, harts)?,
             trail: Trail::new(),
         })
     }

@@ -13,7 +13,7 @@ ghost use Rattle.shared_leaves.specs.Cache.{kept_of, leaf_for};
 ghost use Rattle.shared_leaves.specs.Coherent.{IsCoherent};
 ghost use Rattle.shared_leaves.specs.Effects.{AnswersHeld, ChangesHart, IsHeld, IsKept, value_of};
 
-use crate::leaves::Leaves;
+use crate::leaves::LeafTables;
 use cap_format::{Cap, CapKind};
 use map_cache::{allows, reached_leaf};
 use object_store::Objects;
@@ -24,7 +24,7 @@ use sv32_tables::Leaf;
 use walk_engine::{Hit, Trail};
 use walk_meaning::{Kind, WalkFault, kind_law, page_law, place_law, reads_law};
 
-impl Leaves {
+impl LeafTables {
     /// Translates a data access. The trail is where a walk writes its reads.
     pub fn translate<L: Ledger>(
         &mut self,

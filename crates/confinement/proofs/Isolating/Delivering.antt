@@ -16,7 +16,7 @@ use Rattle.invocation.specs.Answerer.{Answer, answerer}
 use Rattle.invocation.specs.Answerer.Answer.{Dead, Open, Busy}
 use Rattle.invocation.specs.Delivery.{passed, passed_at, received, delivered}
 use Rattle.operations.specs.System.{System, Meant, system, with_store}
-use Rattle.fault_path.specs.message_path.Messages.{told, waiting, receiving, listening}
+use Rattle.fault_path.specs.message_path.Messages.{told_system, waiting, receiving, listening}
 use Rattle.fault_path.specs.Fault.{handler_of, fault_message, faulted, answered, heard_by, fault_of}
 use Rattle.confinement.specs.declared.cut_side.CutSide.{CutSide}
 use Rattle.confinement.specs.Cut.{Cut, side_of, MayHold}
@@ -55,8 +55,8 @@ module _ (cut : Cut) (side : CutSide) where
   -- a message through an endpoint to a process
   pub match-told : (w v : System) → Match cut side w v → (e q : ℕ) (message : Message) → side_of cut Endpoint e ≡ side → side_of cut Process q ≡ side
       → AllMayHold cut side message.caps
-      → Match cut side (told Meant w e q message) (told Meant v e q message)
-  unfolding told
+      → Match cut side (told_system Meant w e q message) (told_system Meant v e q message)
+  unfolding told_system
   match-told w v m e q message endpoint process all =
       let x = with_store w (delivered w.store e q message) in
       let y = with_store v (delivered v.store e q message) in
@@ -105,7 +105,7 @@ module _ (cut : Cut) (side : CutSide) where
   match-answered w v m p code address payload (Busy q) own answers = match-waiting w v m p q own answers
   match-answered w v m p code address payload (Open e q) own answers =
       let cap = to_object Process p 0 in
-      subst (λ (process : ProcessValue). Match cut side (answered Meant w p code address payload (Open e q)) (told Meant (faulted v p code address) e q (fault_message cap process code address payload)))
+      subst (λ (process : ProcessValue). Match cut side (answered Meant w p code address payload (Open e q)) (told_system Meant (faulted v p code address) e q (fault_message cap process code address payload)))
       (same-process cut side w v m.agree p own)
       (match-told (faulted w p code address) (faulted v p code address) (match-faulted w v m p code address own) e q (fault_message cap (process_at w.store p) code address payload)
       answers.0 answers.1 (may-own cut side cap refl own, tt))

@@ -11,7 +11,7 @@ use Rattle.confinement.specs.Cut.{Cut, Holds}
 use Rattle.confinement.specs.Acts.{system_of}
 use Rattle.confinement.proofs.Runs.{holds-for, holds-event}
 use Rattle.confinement.specs.isolation.Agree.{Agree}
-use Rattle.confinement.specs.isolation.Turns.{Turn, turn_of, turns, told}
+use Rattle.confinement.specs.isolation.Turns.{Turn, turn_of, turns, side_records}
 use Rattle.confinement.specs.isolation.Laws.{SameAccess, Unseen, SameTurn}
 use Rattle.confinement.specs.isolation.Isolation.{AlikeRuns, Isolation}
 use Rattle.confinement.proofs.Isolating.Agreeing.{same-gpt}
@@ -33,14 +33,14 @@ module _ (cut : Cut) (side : CutSide) (s : State) (e : Event) (es : List Event) 
   unfolding turns
   turns-other other = ap (λ (ts : List Turn). ts ++ turns cut side then es) (of_side-none cut side (performer s e) (λ p. turn_of e p ∷ []) other)
 
-  told-mine : Mine cut side (performer s e) → told cut side s (e ∷ es) ≡ (event_of s e).records ++ told cut side then es
-  unfolding told
-  told-mine m = ap (λ (rs : List Record). rs ++ told cut side then es) (of_side-mine cut side (performer s e) (λ p. (event_of s e).records) m)
+  told-mine : Mine cut side (performer s e) → side_records cut side s (e ∷ es) ≡ (event_of s e).records ++ side_records cut side then es
+  unfolding side_records
+  told-mine m = ap (λ (rs : List Record). rs ++ side_records cut side then es) (of_side-mine cut side (performer s e) (λ p. (event_of s e).records) m)
 
-  told-other : NotMine cut side (performer s e) → told cut side s (e ∷ es) ≡ told cut side then es
-  unfolding told
+  told-other : NotMine cut side (performer s e) → side_records cut side s (e ∷ es) ≡ side_records cut side then es
+  unfolding side_records
   told-other other =
-      ap (λ (rs : List Record). rs ++ told cut side then es) (of_side-none cut side (performer s e) (λ p. (event_of s e).records) other)
+      ap (λ (rs : List Record). rs ++ side_records cut side then es) (of_side-none cut side (performer s e) (λ p. (event_of s e).records) other)
 
   ends-behind : run_state s (e ∷ es) ≡ run_state then es
   unfolding run_state
@@ -104,7 +104,7 @@ module _ (cut : Cut) (side : CutSide) (alone : cut.weakly side ≡ false) where
   -- ---- no event is left of the first
 
   none-left : (s t : State) → Both s t → (fs : List Event) → turns cut side s [] ≡ turns cut side t fs → AlikeRuns cut side s t [] fs
-  unfolding turns told run_state
+  unfolding turns side_records run_state
   none-left s t both [] e = record { records = refl; ends = both.agree }
   none-left s t both (f ∷ fs) e = on (whose cut side (performer t f)) (λ b h. none-left s (event_of t f).state b fs h)
     where

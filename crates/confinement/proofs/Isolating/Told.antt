@@ -12,7 +12,7 @@ use Rattle.kernel_core.specs.Run.{run_records}
 use Rattle.confinement.specs.declared.cut_side.CutSide.{CutSide}
 use Rattle.confinement.specs.declared.cut_side.CutSide.TheVariants.{Left, Right}
 use Rattle.confinement.specs.Cut.{Cut, side_of, same_side}
-use Rattle.confinement.specs.isolation.Turns.{of_side, told}
+use Rattle.confinement.specs.isolation.Turns.{of_side, side_records}
 use Rattle.confinement.specs.isolation.Laws.{IsMerged, AllTold}
 
 -- ---- an event that nobody performs
@@ -52,8 +52,8 @@ module _ (cut : Cut) where
 
 -- by induction on the events
 pub all_told : AllTold
-unfolding run_records told
+unfolding run_records side_records
 all_told cut s [] = (refl, refl)
 all_told cut s (e ∷ es) =
     let t = (event_of s e).state in
-    merged-event cut (performer s e) (event_of s e).records (run_records t es) (told cut Left t es) (told cut Right t es) (idle-told s e) (all_told cut t es)
+    merged-event cut (performer s e) (event_of s e).records (run_records t es) (side_records cut Left t es) (side_records cut Right t es) (idle-told s e) (all_told cut t es)

@@ -7,12 +7,12 @@ use Rattle.confinement.specs.declared.cut_side.CutSide.{CutSide}
 use Rattle.confinement.specs.Cut.{Cut}
 use Rattle.confinement.specs.Acts.{system_of}
 use Rattle.confinement.specs.isolation.Agree.{Agree, Apart}
-use Rattle.confinement.specs.isolation.Turns.{turns, told}
+use Rattle.confinement.specs.isolation.Turns.{turns, side_records}
 
 -- two runs, each of the events of a list from a state on, in which the same is told of this side, and which end in states
 -- that agree on it
 pub record AlikeRuns (cut : Cut) (side : CutSide) (s t : State) (es fs : List Event) : Type 0 where
-  pub records : told cut side s es ≡ told cut side t fs
+  pub records : side_records cut side s es ≡ side_records cut side t fs
   pub ends : Agree cut side (system_of (run_state s es)) (system_of (run_state t fs))
 
 -- Two runs that give this side's processes the same turns in the same order are alike for this side, whatever the other

@@ -14,7 +14,7 @@ use Rattle.confinement.specs.declared.cut_side.CutSide.TheVariants.{Left, Right}
 use Rattle.confinement.specs.Cut.{Cut, side_of, MayHold, Holds}
 use Rattle.confinement.specs.Acts.{system_of}
 use Rattle.confinement.specs.isolation.Agree.{Agree, Apart}
-use Rattle.confinement.specs.isolation.Turns.{turn_of, told}
+use Rattle.confinement.specs.isolation.Turns.{turn_of, side_records}
 
 -- An access through a space that this side may hold comes to the same in both states, its fault's handler included.
 abbrev pub SameAccess : Type 0
@@ -55,4 +55,4 @@ IsMerged {A = A} (z ∷ zs) xs ys =
 -- All that is told in a run is told of one of both sides.
 abbrev pub AllTold : Type 0
 AllTold = (cut : Cut) (s : State) (es : List Event)
-    → IsMerged (run_records s es) (told cut Left s es) (told cut Right s es)
+    → IsMerged (run_records s es) (side_records cut Left s es) (side_records cut Right s es)

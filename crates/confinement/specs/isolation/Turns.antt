@@ -31,7 +31,7 @@ turns cut side s (e ∷ es) =
     of_side cut side (performer s e) (λ p. turn_of e p ∷ []) ++ turns cut side (event_of s e).state es
 
 -- the records of the events that this side's processes perform, in their order
-unfoldable pub told : Cut → CutSide → State → List Event → List Record
-told cut side s [] = []
-told cut side s (e ∷ es) =
-    of_side cut side (performer s e) (λ p. (event_of s e).records) ++ told cut side (event_of s e).state es
+unfoldable pub side_records : Cut → CutSide → State → List Event → List Record
+side_records cut side s [] = []
+side_records cut side s (e ∷ es) =
+    of_side cut side (performer s e) (λ p. (event_of s e).records) ++ side_records cut side (event_of s e).state es

@@ -14,8 +14,8 @@ use Rattle.invocation.specs.Delivery.{delivered}
 use Rattle.operations.specs.System.{System, Reading, system, with_store, with_runs, schedule_by}
 
 -- a message through endpoint `e` to process `q`, which is made ready
-unfoldable pub told : Reading → System → ℕ → ℕ → Message → System
-told reading w e q message =
+unfoldable pub told_system : Reading → System → ℕ → ℕ → Message → System
+told_system reading w e q message =
     let s = delivered w.store e q message in
     with_runs (with_store w s) (readied (schedule_by reading s q) q (runs_of s w.queues))
 

@@ -10,7 +10,7 @@ ghost use Rattle.schedules.specs.Ready.{Agrees, runs_of};
 ghost use Rattle.invocation.specs.Target.{is_receiving};
 ghost use Rattle.invocation.specs.Delivery.{message_map, changed_by_message};
 ghost use Rattle.operations.specs.System.{system, Stored, Meant};
-ghost use Rattle.fault_path.specs.message_path.Messages.{told};
+ghost use Rattle.fault_path.specs.message_path.Messages.{told_system};
 
 use invocation::{Message, deliver};
 use object_store::Objects;
@@ -18,17 +18,17 @@ use schedules::Queues;
 
 /// A message through an endpoint to process `to`, which receives. It is told, and made ready. The bytes of a string are
 /// the caller's.
-#[tactic(auto, using(crate::proofs::Receiver::receiving_nowhere, crate::proofs::Receiver::told_but), unfolding(crate::specs::message_path::Messages::told))]
+#[tactic(auto, using(crate::proofs::Receiver::receiving_nowhere, crate::proofs::Receiver::told_but), unfolding(crate::specs::message_path::Messages::told_system))]
 pub fn tell(objects: &mut Objects, queues: &mut Queues, endpoint: u16, to: u16, message: Message)
     requires endpoint { endpoint < size_of objects.old.items Endpoint }
     requires receives { is_receiving (process_at objects.old to).state ≡ true }
     requires sizes { length queues.old.sleepers ≡ size_of objects.old.items Process }
     requires agrees { Agrees (runs_of objects.old queues.old) }
     ensures after { let w = system objects.old queues.old in
-        system objects.new queues.new ≡ told Stored w endpoint to message }
+        system objects.new queues.new ≡ told_system Stored w endpoint to message }
     ensures means { let w = system (state_map objects.old) queues.old in
         system (state_map objects.new) queues.new ≡
-        told Meant w endpoint to (message_map (meaning objects.old.items) message) }
+        told_system Meant w endpoint to (message_map (meaning objects.old.items) message) }
     ensures items { objects.new.items ≡ objects.old.items }
     ensures harts { objects.new.harts ≡ objects.old.harts }
     ensures processes { length queues.new.sleepers ≡ length queues.old.sleepers }
