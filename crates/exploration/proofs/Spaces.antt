@@ -1,5 +1,5 @@
 -- A space whose tables grow stays the same space.
-use Rattle.std.proofs.Common.{◌≡◌, ℕ, suc, [], ◌∷◌, ◌<◌, inl, inr, Bool, List, length, get_or, replicate, All, refl, sym, ap, ◌∙◌, subst}
+use Rattle.std.proofs.Common.{◌≡◌, ℕ, suc, [], ◌∷◌, ◌<◌, inl, inr, Bool, List, length, get_or, replicate, All, sym, ap, ◌∙◌, subst}
 use Rattle.std.proofs.lemmas.List.{get_or_default}
 use Rattle.machine_state.specs.declared.event.Event.{Event}
 use Rattle.machine_state.specs.declared.event.Event.TheVariants.{Step, Tick}
@@ -45,12 +45,6 @@ module _ (question : QuestionValue) (policy : PolicyValue) (indifferent : Bool) 
     held = held_grown old new key grows is.held;
     is_known = λ known. subst (λ (s : State). IsIndifferent question policy s) (sym (state_grown old new key grows is.held)) (is.is_known known);
   }
-
-  -- nothing was added
-  pub keeps_all : (t : TablesValue) (start : Key)
-      → Keeps (searched_of question policy (state_in t start)) (λ (key : Key). IsHeld question policy indifferent t key) (λ (key : Key). state_in t key)
-      (searched_of question policy (state_in t start)) (λ (key : Key). IsHeld question policy indifferent t key) (λ (key : Key). state_in t key)
-  keeps_all t start = record { system = refl; still = λ key held. held; stays = λ key held. refl }
 
   -- tables grew
   pub keeps_grown : (old new : TablesValue) (start : Key) → GrowTables old new → Held old start

@@ -1,16 +1,8 @@
 -- What is counted of one list of touches behind another.
-use Rattle.std.proofs.Common.{◌≡◌, ◌+◌, List, [], ◌∷◌, ◌++◌, arith, true, false}
+use Rattle.std.proofs.Common.{◌≡◌, ◌+◌, List, [], ◌∷◌, ◌++◌, arith}
 use Rattle.machine_state.specs.Outcome.{Touch}
 use Rattle.machine_state.specs.Outcome.Touch.{DataAccess, CapAccess, GptCall, Changed}
-use Rattle.fetch_economy.specs.Counts.{accesses, slot_reads}
-
-pub slot_reads-append : (ts us : List Touch) → slot_reads (ts ++ us) ≡ slot_reads ts + slot_reads us
-slot_reads-append [] us = omega arith
-slot_reads-append (DataAccess o space address kind ∷ ts) us = slot_reads-append ts us
-slot_reads-append (CapAccess o space address kind ∷ ts) us = slot_reads-append ts us
-slot_reads-append (GptCall true ∷ ts) us = omega (arith, slot_reads-append ts us)
-slot_reads-append (GptCall false ∷ ts) us = omega (arith, slot_reads-append ts us)
-slot_reads-append (Changed item ∷ ts) us = slot_reads-append ts us
+use Rattle.fetch_economy.specs.Counts.{accesses}
 
 pub accesses-append : (ts us : List Touch) → accesses (ts ++ us) ≡ accesses ts + accesses us
 accesses-append [] us = omega arith

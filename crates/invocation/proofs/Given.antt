@@ -59,15 +59,3 @@ unfolding given
 given-slots process [] caps = refl
 given-slots process (i ∷ is) [] = refl
 given-slots process (i ∷ is) (c ∷ cs) = given-slots (with_capreg process i c) is cs
-
-pub given-state : (process : ProcessValue) (is : List ℕ) (caps : List Capability) → (given process is caps).state ≡ process.state
-unfolding given
-given-state process [] caps = refl
-given-state process (i ∷ is) [] = refl
-given-state process (i ∷ is) (c ∷ cs) = given-state (with_capreg process i c) is cs
-
-pub given-pc : (process : ProcessValue) (is : List ℕ) (caps : List Capability) → (given process is caps).pc ≡ process.pc
-unfolding given
-given-pc process [] caps = refl
-given-pc process (i ∷ is) [] = refl
-given-pc process (i ∷ is) (c ∷ cs) = given-pc (with_capreg process i c) is cs

@@ -191,12 +191,6 @@ module _ (old mid new : Reader) (held held' held'' : Option (List ℕ)) (stateme
       refused (old.number + 1) (ahead old held) (ahead new held'') _ (mid.number + 1) fault (line_advances follows reads)
       (makes_line (old.number + 1) follows.given statements place (mid.number + 1) new.line (Err fault) follows.makes says)
 
-  -- a fault of the lines to come is one of all
-  pub cause_follows : (fault : ListingFault) → Follows old mid held held' statements place → IsCause fault place (mid.number + 1) (ahead mid held')
-      → IsCause fault Header (old.number + 1) (ahead old held)
-  cause_follows fault follows cause =
-      caused (old.number + 1) (ahead old held) (ahead mid held') follows.given statements place (mid.number + 1) fault follows.advances follows.makes cause
-
   -- the source failed, and the lines given make no listing yet
   pub gives_front : Follows old mid held held' statements place → IsStopped mid new held' held'' → GivesFront old new held held''
   gives_front follows stopped =

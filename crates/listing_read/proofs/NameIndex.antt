@@ -1,20 +1,19 @@
 -- That what is found by the index is what stands among the namings.
-use Rattle.std.proofs.Common.{ℕ, ◌≡◌, ◌==◌, ◌||◌, refl, sym, ap, ◌∙◌, subst, arith, length-append, take-append-drop, take_at, Bool, true, false, cond, is_eq, nat_cmp, List, [], ◌∷◌, ◌++◌, length, take, drop, find, Vec, Option, Some, None, is_some, option_map, bytes_eq, BTreeMap}
+use Rattle.std.proofs.Common.{ℕ, ◌≡◌, ◌==◌, refl, sym, ap, ◌∙◌, subst, take-append-drop, true, false, is_eq, nat_cmp, List, [], ◌∷◌, take, drop, find, Vec, Option, Some, None, is_some, option_map, bytes_eq, BTreeMap}
 use Rattle.std.specs.Option.{option_or}
 use Rattle.std.specs.Cmp.{eq_by_cmp_equiv}
 use Rattle.std.specs.Cmp.Lexicographic.{slice_cmp, nat_list_cmp_total}
-use Rattle.std.specs.Map.{KeepsOthers, lookup}
-use Rattle.std.specs.BTreeMap.{is_at, IsEmpty, IsUnchanged, Updates}
+use Rattle.std.specs.Map.{KeepsOthers}
+use Rattle.std.specs.BTreeMap.{is_at, Updates}
 use Rattle.std.proofs.lemmas.Bool.{or_parts, and_left, cond-false, cond_both, both_ways, false_from_ne_true}
-use Rattle.std.proofs.lemmas.List.{take-append-le}
-use Rattle.std.proofs.lemmas.List.Folds.{find-append, list_any-append}
+use Rattle.std.proofs.lemmas.List.Folds.{find-append}
 use Rattle.std.proofs.lemmas.Map.Text.{is_eq-slice_cmp}
 use Rattle.std.proofs.lemmas.Slice.Eq.{bytes_eq-Decides}
 use Rattle.cap_format.specs.declared.kind.CapKind.{CapKind}
 use Rattle.cap_format.specs.Kind.{number_of}
 use Rattle.listing_read.specs.declared.names.Naming.{Naming}
 use Rattle.listing_read.specs.Names.{gives, stands_for, is_taken, number_called}
-use Rattle.listing_read.specs.NameIndex.{IsFirst, IsFound, place_in, IsIndex, Notes}
+use Rattle.listing_read.specs.NameIndex.{IsFirst, IsFound, place_in, Notes}
 
 -- a name that isn't given stands for nothing
 find-untaken : (kind : CapKind) (name : List ℕ) (namings : List Naming) → is_taken name namings ≡ false → find (stands_for kind name) namings ≡ None
@@ -41,41 +40,6 @@ number_called-drop kind name namings place first =
     ∙ ap (λ found. option_or found rest) (find-untaken kind name (take place namings) first.not_before) in
     ap (option_map (λ naming. naming.number)) (sym whole)
 
-module _ (name : List ℕ) (namings : List Naming) (naming : Naming) where
-  -- whether it was given with one naming more
-  taken_with : (before : Bool) → is_taken name namings ≡ before → is_taken name (namings ++ naming ∷ []) ≡ (before || (gives name naming || false))
-  taken_with before is = list_any-append (gives name) namings (naming ∷ []) ∙ ap (λ b. b || (gives name naming || false)) is
-
-  -- what was found stays where it is
-  found_stays : (place : ℕ) → IsFirst name namings place → IsFirst name (namings ++ naming ∷ []) place
-  found_stays place first =
-      let within = first.within in
-      record {
-        within = omega (arith, within, length-append namings (naming ∷ []));
-        given = taken_with true first.given;
-        not_before = ap (is_taken name) (take-append-le place namings (naming ∷ []) (omega (arith, within))) ∙ first.not_before;
-      }
-
-  -- a name that is new is found at the new naming
-  found_last : is_taken name namings ≡ false → gives name naming ≡ true → IsFirst name (namings ++ naming ∷ []) (length namings)
-  found_last free here = record {
-    within = omega (arith, length-append namings (naming ∷ []));
-    given = taken_with false free ∙ ap (λ b. b || false) here;
-    not_before = ap (is_taken name) (take_at namings (naming ∷ []) (length namings) refl) ∙ free;
-  }
-
-  -- what is found with one naming more
-  found_with : (before : Option ℕ) → IsFound name namings before → IsFound name (namings ++ naming ∷ []) (option_or before (cond (gives name naming) (Some (length namings)) None))
-  found_with (Some place) first = found_stays place first
-  found_with None free =
-      cond_both (gives name naming) (Some (length namings)) None (IsFound name (namings ++ naming ∷ [])) (found_last free)
-      (λ apart. taken_with false free ∙ ap (λ b. b || false) apart)
-
--- a place that is there stays, whatever would be noted
-option_or-some : (place other : Option ℕ) → is_some place ≡ true → place ≡ option_or place other
-option_or-some None other some = absurd (both_ways false refl some)
-option_or-some (Some place) other some = refl
-
 -- no place
 pub none_from_not_some : (place : Option ℕ) → is_some place ≡ false → place ≡ None
 none_from_not_some None not = refl
@@ -94,27 +58,6 @@ apart name other key differ here =
     ∙ false_from_ne_true (bytes_eq other key) (λ too. both_ways (bytes_eq name other) differ ((bytes_eq-Decides name other).1 (same ∙ sym ((bytes_eq-Decides other key).0 too))))
 
 module _ {Z : Type 0} where
-  -- of no namings
-  pub index_empty : (places : BTreeMap (Vec ℕ Z) ℕ) (namings : List Naming) → IsEmpty places → namings ≡ [] → IsIndex places namings
-  index_empty places namings empty none name = rw (empty, none) refl
-
-  -- what holds of the places that are found holds of an index with the same entries
-  pub index_stays : (old new : BTreeMap (Vec ℕ Z) ℕ) (namings : List Naming) → IsUnchanged old new → IsIndex old namings → IsIndex new namings
-  index_stays old new namings same is name =
-      subst (λ entries. IsFound name namings (lookup (is_at (λ key. slice_cmp nat_cmp name key.items)) entries)) (sym same) (is name)
-
-  -- the index of one naming more
-  pub index_with : (old new : BTreeMap (Vec ℕ Z) ℕ) (namings : List Naming) (naming : Naming) → Notes old new naming.name (length namings) → IsIndex old namings → IsIndex new (namings ++ naming ∷ [])
-  index_with old new namings naming notes is name =
-      subst (IsFound name (namings ++ naming ∷ [])) (sym (notes name)) (found_with name namings naming (place_in old name) (is name))
-
-  -- a name that has a place needs no other
-  pub notes_nothing : (places : BTreeMap (Vec ℕ Z) ℕ) (noted : List ℕ) (place : ℕ) → is_some (place_in places noted) ≡ true → Notes places places noted place
-  notes_nothing places noted place has name =
-      cond_both (bytes_eq noted name) (Some place) None (λ note. place_in places name ≡ option_or (place_in places name) note)
-      (λ same. option_or-some (place_in places name) (Some place) (subst (λ n. is_some (place_in places n) ≡ true) ((bytes_eq-Decides noted name).0 same) has))
-      (λ differ. option_or-none (place_in places name))
-
   module _ (old new : BTreeMap (Vec ℕ Z) ℕ) (key : Vec ℕ Z) (place : ℕ) where
     -- the name that is inserted
     inserted_here : Updates (λ x y. slice_cmp nat_cmp x.items y.items) old new key (Some place) → place_in new key.items ≡ Some place

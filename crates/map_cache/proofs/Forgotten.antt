@@ -25,9 +25,9 @@ use Rattle.map_cache.specs.Effects.{Forgets, IsBlank, Keeps, Remembers, hits, le
 use Rattle.depend_table.proofs.Notes.{any-items, notes_of-kept}
 use Rattle.map_cache.proofs.Codes.{space_coding}
 use Rattle.map_cache.proofs.Keyed.{root_at-some}
-use Rattle.map_cache.proofs.Invariant.{cache-clear, if-false, if-true, root_made, root_space}
+use Rattle.map_cache.proofs.Invariant.{cache-clear, if-false, root_made, root_space}
 use Rattle.map_cache.proofs.Coherence.{coherent-clear}
-use Rattle.map_cache.proofs.Economy.{fits-alone, fits-within}
+use Rattle.map_cache.proofs.Economy.{fits-alone}
 use Rattle.map_cache.proofs.Installing.{Made}
 use Rattle.map_cache.proofs.Blank.{blank-bare, starts}
 use Rattle.depend_table.proofs.Coded.{one_key, key_itself, key_tells}
@@ -115,10 +115,6 @@ forgets-more v w x item first second = record {
   harts = second.harts ∙ first.harts;
 }
 
--- none
-pub forgets-none : (v : CacheValue) (item : Item) → Forgets v v item
-forgets-none v item = record { keys = refl; leaves = λ s p low. refl; records = λ d. refl; coherent = λ o coherent. coherent; harts = refl }
-
 -- where no record of the item is left, what is kept is what the change leaves
 pub forgotten : (v w : CacheValue) (item : Item) → Forgets v w item → ((root : ℕ) (block : BlockValue) → has w.records (depend item root block) ≡ false) → kept_of w ≡ kept_without (kept_of v) item
 forgotten v w item forgets none = λ i. record {
@@ -181,23 +177,6 @@ kept-blank v blank = λ i. record {
     held : (s : Capability) (p : ℕ) (b : Bool) → (b && is_some (leaf_for v s p)) ≡ false
     held s p true = ap is_some (blank-bare v blank s p)
     held s p false = refl
-
--- what is kept by a cache fits
-pub fits-kept : (v : CacheValue) → IsCache v.tables v.keys v.tlbs v.records → fits (kept_of v) ≡ true
-fits-kept v cache = fits-within (kept_of v) cache.most_keys (omega (arith, cache.noted, cache.most_records))
-
--- an addition that was done
-pub remembers-kept : (v w : CacheValue) (hart page : ℕ) (space : Capability) (leaf : Leaf) (reads : List Noted) → IsCache w.tables w.keys w.tlbs w.records → Keeps v w hart space page leaf reads → Remembers v w hart space page leaf reads
-remembers-kept v w hart page space leaf reads cache keeps = record {
-  kept = keeps.kept ∙ sym (if-true (fits (added (kept_of v) space page reads)) (added (kept_of v) space page reads) (added nothing space page reads) fit);
-  coherent = keeps.coherent;
-  held = keeps.held;
-  others = λ k differs. keeps.others k differs ∙ sym (if-true (fits (added (kept_of v) space page reads)) (tlb_at v.tlbs k) [] fit);
-  harts = keeps.harts;
-}
-  where
-    fit : fits (added (kept_of v) space page reads) ≡ true
-    fit = ap fits (sym keeps.kept) ∙ fits-kept w cache
 
 -- an addition after everything was forgotten
 pub remembers-anew : (v b w : CacheValue) (hart page : ℕ) (space : Capability) (leaf : Leaf) (reads : List Noted) → fits (added (kept_of v) space page reads) ≡ false → IsBlank b → length b.tlbs ≡ length v.tlbs

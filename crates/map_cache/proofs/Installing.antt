@@ -22,7 +22,7 @@ use Rattle.depend_table.proofs.Members.{has-added, has-added_itself}
 use Rattle.walk_meaning.specs.declared.noted.Noted.{Noted}
 use Rattle.map_cache.specs.declared.key.Key.{Key}
 use Rattle.map_cache.specs.Key.{has_key, region_key, root_key, same_space, with_key}
-use Rattle.map_cache.specs.Kept.{added, note_order, noted_all}
+use Rattle.map_cache.specs.Kept.{note_order, noted_all}
 use Rattle.map_cache.specs.Cache.{CacheValue, IsCache, cache_of, leaf_for, leaf_in, note_of, notes_of, root_at, space_at, tlb_at}
 use Rattle.map_cache.specs.Coherent.{IsCoherent}
 use Rattle.map_cache.specs.Effects.{Keeps, NotesReads, RootsSpace, SetsPage}
@@ -190,10 +190,6 @@ reads-append v w x space root xs ys first second = record {
       (each_map (λ n. has w.records (depend n.item root n.block) ≡ true) (λ n. has x.records (depend n.item root n.block) ≡ true) (λ n there. second.stay (depend n.item root n.block) there) xs first.there) second.there;
 }
 
--- no read recorded
-pub reads-none : (v : CacheValue) (space : Capability) (root : ℕ) → NotesReads v v space root []
-reads-none v space root = record { tables = refl; keys = refl; tlbs = refl; notes = refl; stay = λ d there. there; there = tt }
-
 -- where some reads are too many, so are all
 pub reads-wanting : (v w : CacheValue) (space : Capability) (root : ℕ) (xs ys zs : List Noted) → NotesReads v w space root xs → 16384 < len (noted_all (notes_of w.keys w.records) space ys)
     → 16384 < len (noted_all (notes_of v.keys v.records) space (xs ++ (ys ++ zs)))
@@ -226,10 +222,6 @@ module _ (v0 v1 v2 : CacheValue) (root page : ℕ) (space : Capability) (reads :
     (roots : RootsSpace v0 v1 space root) (notes : NotesReads v1 v2 (space_at v1.keys root) root reads) where
   pub noted : NotesReads v1 v2 space root reads
   noted = subst (λ (s : Capability). NotesReads v1 v2 s root reads) (space_at-at v1.keys root (root_key space) roots.here) notes
-
-  -- the root's key is there still
-  pub still-here : slice_get v2.keys root ≡ Some (root_key space)
-  still-here = ap (λ (ks : List Key). slice_get ks root) notes.keys ∙ roots.here
 
   -- and it still has no leaf there
   pub still-bare : IsCache v1.tables v1.keys v1.tlbs v1.records → page < 2 ^ 20 → leaf_for v0 space page ≡ None → leaf_at v2.tables root page ≡ None

@@ -25,7 +25,7 @@ use Rattle.map_cache.specs.Key.{has_key, region_key, root_key, with_key}
 use Rattle.map_cache.specs.Kept.{Note}
 use Rattle.map_cache.specs.Cache.{HasKey, IsBacked, IsCache, notes_of, root_at, space_at, tlb_at}
 use Rattle.map_cache.proofs.Keyed.{notes_of-more}
-use Rattle.map_cache.proofs.Keyed.{HasKey-more, root_at-is, root_at-some, space_at-at}
+use Rattle.map_cache.proofs.Keyed.{HasKey-more, root_at-some, space_at-at}
 use Rattle.depend_table.proofs.Coded.{apart-more, at-has, has-at, one_key}
 use Rattle.depend_table.proofs.Notes.{IsAlone, noted-added, noted-taken}
 use Rattle.depend_table.proofs.Tests.{one_or_not, same_numbers, same_tests}
@@ -49,10 +49,6 @@ module _ (t : PoolValue) (keys : List Key) (tlbs : List (List Entry)) (ds : List
   root_space r made =
       let key = cache.frame r Root made in
       key.1 ∙ ap (λ (s : Capability). Some (root_key s)) (sym (space_at-at keys r (root_key key.0) key.1))
-
-  -- a space's root is found
-  pub root_found : (r : ℕ) → IsRoot t r → root_at keys (space_at keys r) ≡ Some r
-  root_found r made = root_at-is keys (space_at keys r) r cache.apart (root_space r made)
 
   -- a frame with the key of a root is one
   pub root_made : (r : ℕ) (space : Capability) → slice_get keys r ≡ Some (root_key space) → IsRoot t r

@@ -10,7 +10,7 @@ use Rattle.sv32_tables.proofs.Leaves.{leaf_at-zero}
 use Rattle.map_cache.specs.declared.key.Key.{Key}
 use Rattle.map_cache.specs.declared.mapping.Mapping.{Mapping}
 use Rattle.map_cache.specs.Cache.{CacheValue}
-use Rattle.map_cache.specs.Mappings.{HasNext, entries_at, entries_from, entries_in, entries_under, page_entries, mapping_of, mappings_left, place_at, start}
+use Rattle.map_cache.specs.Mappings.{HasNext, entries_at, entries_from, entries_in, entries_under, page_entries, mapping_of, mappings_left, place_at}
 use Rattle.depend_table.proofs.Tests.{one_or_not}
 
 -- no page
@@ -123,11 +123,6 @@ module _ (v : CacheValue) (frame page : ℕ) (k : Key) (at : slice_get v.keys fr
       ∙ ap (λ (ms : List Mapping). mapping_of k.space found leaf ∷ ms) (sym (
       ap (entries_at v.tables frame (found + 1)) (drop-at v.keys frame k at)
       ∙ ap (λ (r : Option ℕ). entries_under v.tables frame k.space (found + 1) r ++ entries_in v.tables (suc frame) (drop (suc frame) v.keys)) root))
-
-  -- or none of a region's frame
-  pub left-region : (region : ℕ) → k.region ≡ Some region → mappings_left v (place_at frame page) ≡ mappings_left v (place_at (frame + 1) 0)
-  left-region region is =
-      left-at ∙ ap (λ (r : Option ℕ). entries_under v.tables frame k.space page r ++ entries_in v.tables (suc frame) (drop (suc frame) v.keys)) is ∙ left-behind
 
   -- or none of the root's
   pub left-none : k.region ≡ None → ((p : ℕ) → page ≤ p → p < 2 ^ 20 → leaf_at v.tables frame p ≡ None) → mappings_left v (place_at frame page) ≡ mappings_left v (place_at (frame + 1) 0)

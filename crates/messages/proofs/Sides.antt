@@ -42,10 +42,6 @@ module _ {T : Type 0} (t : Translator T) (notes : Record → List Record) (Elsew
     pub kept : kept_after t.cost t.after t.without (t.kept n) rest.touches ≡ kept_after t.cost t.after t.without (t.kept m) all.touches
     pub others : (h : ℕ) → Elsewhere h → spared_by t.after t.spared (t.kept n) rest.touches (t.cache n h) ≡ spared_by t.after t.spared (t.kept m) all.touches (t.cache m h)
 
-  -- at the start
-  pub on_way_start : (all : Side) (m : T) (told : List Record) (fetches : ℕ) → IsOnWay all m told fetches all [] m told fetches
-  on_way_start all m told fetches = record { pieces_are = refl; fault_is = refl; records_are = refl; counted = refl; kept = refl; others = λ h elsewhere. refl }
-
   -- after an access more, which reached
   pub on_way_more : (all : Side) (m : T) (told0 : List Record) (fetches0 : ℕ) (s : State) (q : ℕ) (kind : Kind) (span : Span) (rest : List Span) (hit : Hit) (pieces : List Piece) (n : T) (told : List Record) (fetches : ℕ) (n1 : T) (fetches1 : ℕ)
       → IsOnWay all m told0 fetches0 (side s q kind (span ∷ rest)) pieces n told fetches

@@ -15,7 +15,7 @@ use Rattle.process_objects.specs.Process.{ProcessValue, capreg_of, capreg_set, s
 use Rattle.endpoint_objects.specs.declared.endpoint.Endpoint.{Endpoint as EndpointValue}
 use Rattle.endpoint_objects.specs.Endpoint.{empty_endpoint}
 use Rattle.object_store.specs.declared.sizes.Sizes.{Sizes}
-use Rattle.object_store.specs.Store.{Items, Contents, Store, gpt_at, slot_at, cappage_at, process_at, endpoint_at, set_count, set_gpt, set_slot, set_header, with_items, with_page, with_cappage, with_process, with_endpoint, emptied_gpts, emptied_contents, emptied, empty_store}
+use Rattle.object_store.specs.Store.{Items, Contents, Store, gpt_at, slot_at, cappage_at, process_at, endpoint_at, set_gpt, set_slot, set_header, with_items, with_page, with_cappage, with_process, with_endpoint, emptied_gpts, emptied_contents, emptied, empty_store}
 use Rattle.object_store.specs.Meaning.{gpt_map, process_map, endpoint_map, contents_map, store_map}
 use Rattle.object_store.specs.Ahead.{EachCapability}
 use Rattle.object_store.proofs.Lists.{map-map, map-same, All-at}
@@ -109,16 +109,6 @@ module _ (P : Capability → Type 0) (of_null : P null) where
   pub EachCapability-set_gpt : (s : Store) (g : ℕ) (gpt : GptValue) → All P gpt.slots → EachCapability P s → EachCapability P (with_items s (set_gpt s.items g gpt))
   EachCapability-set_gpt s g gpt new each = record {
     slots = All-set (λ (x : GptValue). All P x.slots) s.items.gpts g gpt new each.slots;
-    cappages = each.cappages;
-    capregs = each.capregs;
-    process_slots = each.process_slots;
-    recipients = each.recipients;
-  }
-
-  -- another count, which is no capability
-  pub EachCapability-set_count : (s : Store) (kind : CapKind) (n count : ℕ) → EachCapability P s → EachCapability P (with_items s (set_count s.items kind n count))
-  EachCapability-set_count s kind n count each = record {
-    slots = each.slots;
     cappages = each.cappages;
     capregs = each.capregs;
     process_slots = each.process_slots;

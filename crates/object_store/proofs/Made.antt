@@ -1,14 +1,14 @@
 -- What a capability means that was made of another or of an object's number, whether it is live, and that it is not ahead.
-use Rattle.std.proofs.Common.{◌≡◌, ℕ, ◌<◌, true, false, if◌then◌else◌, refl, sym, ap, ◌∙◌, arith}
+use Rattle.std.proofs.Common.{◌≡◌, ℕ, ◌<◌, true, if◌then◌else◌, refl, sym, ap, ◌∙◌, arith}
 use Rattle.std.proofs.lemmas.Bool.{and_from, lt-ltb, eq-eqb}
 use Rattle.cap_format.specs.declared.kind.CapKind.{CapKind}
 use Rattle.cap_format.specs.declared.kind.CapKind.TheVariants.{Page, CapPage, Gpt, Endpoint, Process}
-use Rattle.cap_format.specs.Kind.{is_counted, is_object, object_kind}
+use Rattle.cap_format.specs.Kind.{is_object}
 use Rattle.cap_format.specs.Guard.{GuardValue}
 use Rattle.cap_format.specs.Capability.{Capability, null, bare, to_object, entry, with_guard}
 use Rattle.cap_format.specs.Weakening.{reduced, weakened}
 use Rattle.object_store.specs.Store.{Items, counts_of, size_of, count_of}
-use Rattle.object_store.specs.Meaning.{is_current, is_live, live, meaning}
+use Rattle.object_store.specs.Meaning.{is_current, is_live, meaning}
 use Rattle.object_store.specs.Ahead.{IsBehind}
 use Rattle.object_store.proofs.Live.{meaning_live, meaning-weakened, IsBehind-is_live, IsBehind-weakened}
 
@@ -32,14 +32,6 @@ behind_weakened o c behind = IsBehind-weakened o c behind
 
 -- ---- of a kind that names no object
 
--- a capability that names no object is live
-pub is_live_uncounted : (o : Items) (c : Capability) → is_counted c.kind ≡ false → is_live o c ≡ true
-is_live_uncounted o c not = ap (λ b. if b then is_current (counts_of o.counts (object_kind c.kind)) c.object c.count else true) not
-
--- and means itself without its count
-pub meaning_uncounted : (o : Items) (c : Capability) → is_counted c.kind ≡ false → meaning o c ≡ bare c
-meaning_uncounted o c not = meaning_live o c (is_live_uncounted o c not)
-
 -- ---- of an object
 
 -- the count of an object that is there is current
@@ -53,10 +45,6 @@ is_live_entry o e payload there = current_of o Endpoint e there
 -- it means the entry of the abstract machine
 pub meaning_entry : (o : Items) (e payload : ℕ) → e < size_of o Endpoint → meaning o (entry e (count_of o Endpoint e) payload) ≡ entry e 0 payload
 meaning_entry o e payload there = meaning_live o (entry e (count_of o Endpoint e) payload) (is_live_entry o e payload there)
-
--- it is not ahead
-pub behind_entry : (o : Items) (e payload : ℕ) → e < size_of o Endpoint → IsBehind o (entry e (count_of o Endpoint e) payload)
-behind_entry o e payload there = IsBehind-is_live o (entry e (count_of o Endpoint e) payload) (is_live_entry o e payload there)
 
 -- a capability to a process that is there is live
 pub is_live_process : (o : Items) (p : ℕ) → p < size_of o Process → is_live o (to_object Process p (count_of o Process p)) ≡ true

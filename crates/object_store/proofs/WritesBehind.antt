@@ -4,15 +4,14 @@ use Rattle.std.specs.List.{All}
 use Rattle.std.proofs.lemmas.List.Elements.{All-set}
 use Rattle.cap_format.specs.Capability.{Capability, null}
 use Rattle.gpt_objects.specs.Header.{HeaderValue}
-use Rattle.page_store.specs.CapPage.{cap_at, with_cap, empty_cappage}
+use Rattle.page_store.specs.CapPage.{cap_at, with_cap}
 use Rattle.process_objects.specs.declared.state.State.{State}
-use Rattle.process_objects.specs.Process.{ProcessValue, slot_of, capreg_of, with_pc, with_reg, with_regs, with_capreg, with_slot, with_state}
+use Rattle.process_objects.specs.Process.{ProcessValue, slot_of, capreg_of, with_capreg, with_state}
 use Rattle.endpoint_objects.specs.declared.endpoint.Endpoint.{Endpoint as EndpointValue}
-use Rattle.endpoint_objects.specs.Endpoint.{raised}
 use Rattle.object_store.specs.Store.{Store, slot_at, cappage_at, process_at, endpoint_at, set_slot, set_header, with_items, with_page, with_cappage, with_process, with_endpoint}
 use Rattle.object_store.specs.Ahead.{IsBehind, NoneAhead}
 use Rattle.object_store.proofs.Live.{IsBehind-null}
-use Rattle.object_store.proofs.Each.{slot_at-each, cappage_at-each, cap_at-each, capregs-each, capreg_of-each, capreg_set-each, process_slots-each, process_slot-each, recipient-each, empty_cappage-each}
+use Rattle.object_store.proofs.Each.{slot_at-each, cappage_at-each, cap_at-each, capregs-each, capreg_of-each, capreg_set-each, process_slots-each, process_slot-each, recipient-each}
 use Rattle.object_store.proofs.Behind.{NoneAhead-set_slot, NoneAhead-set_header, NoneAhead-with_page, NoneAhead-with_cappage, NoneAhead-with_process, NoneAhead-with_endpoint}
 
 -- Null is not ahead
@@ -56,18 +55,6 @@ module _ (s : Store) (none : NoneAhead s) where
       (subst (All (IsBehind s.items)) (sym capregs) (capregs-each (IsBehind s.items) (null_behind s) s none p))
       (subst (All (IsBehind s.items)) (sym slots) (process_slots-each (IsBehind s.items) (null_behind s) s none p))
 
-  -- another pc
-  pub put_pc_behind : (p pc : ℕ) → NoneAhead (with_process s p (with_pc (process_at s p) pc))
-  put_pc_behind p pc = put_process_behind p (with_pc (process_at s p) pc) refl refl
-
-  -- another number in register `i`
-  pub put_reg_behind : (p i value : ℕ) → NoneAhead (with_process s p (with_reg (process_at s p) i value))
-  put_reg_behind p i value = put_process_behind p (with_reg (process_at s p) i value) refl refl
-
-  -- other registers
-  pub put_regs_behind : (p : ℕ) (regs : List ℕ) → NoneAhead (with_process s p (with_regs (process_at s p) regs))
-  put_regs_behind p regs = put_process_behind p (with_regs (process_at s p) regs) refl refl
-
   -- another state
   pub put_state_behind : (p : ℕ) (state : State) → NoneAhead (with_process s p (with_state (process_at s p) state))
   put_state_behind p state = put_process_behind p (with_state (process_at s p) state) refl refl
@@ -78,17 +65,6 @@ module _ (s : Store) (none : NoneAhead s) where
       NoneAhead-with_process s none p (with_capreg (process_at s p) i c)
       (capreg_set-each (IsBehind s.items) (null_behind s) (process_at s p).capregs i c behind (capregs-each (IsBehind s.items) (null_behind s) s none p))
       (process_slots-each (IsBehind s.items) (null_behind s) s none p)
-
-  -- a capability copied from one register of the process to another
-  pub put_copy_behind : (p from to : ℕ) → NoneAhead (with_process s p (with_capreg (process_at s p) to (capreg_of (process_at s p) from)))
-  put_copy_behind p from to = put_capreg_behind p to (capreg_of (process_at s p) from) (capreg_behind p from)
-
-  -- another capability in slot `i`
-  pub put_slot_behind : (p i : ℕ) (c : Capability) → IsBehind s.items c → NoneAhead (with_process s p (with_slot (process_at s p) i c))
-  put_slot_behind p i c behind =
-      NoneAhead-with_process s none p (with_slot (process_at s p) i c)
-      (capregs-each (IsBehind s.items) (null_behind s) s none p)
-      (All-set (IsBehind s.items) (process_at s p).slots i c behind (process_slots-each (IsBehind s.items) (null_behind s) s none p))
 
   -- ---- a GPT, a page, a capability page, an endpoint
 
@@ -108,18 +84,6 @@ module _ (s : Store) (none : NoneAhead s) where
   pub put_cap_behind : (n i : ℕ) (c : Capability) → IsBehind s.items c → NoneAhead (with_cappage s n (with_cap (cappage_at s n) i c))
   put_cap_behind n i c behind = NoneAhead-with_cappage s none n (with_cap (cappage_at s n) i c) (All-set (IsBehind s.items) (cappage_at s n) i c behind (cappage_behind n))
 
-  -- a capability page that is erased
-  pub put_erased_behind : (n : ℕ) → NoneAhead (with_cappage s n empty_cappage)
-  put_erased_behind n = NoneAhead-with_cappage s none n empty_cappage (empty_cappage-each (IsBehind s.items) (null_behind s))
-
-  -- a capability page copied from another
-  pub put_cappage_copy_behind : (n from : ℕ) → NoneAhead (with_cappage s n (cappage_at s from))
-  put_cappage_copy_behind n from = NoneAhead-with_cappage s none n (cappage_at s from) (cappage_behind from)
-
   -- an endpoint with a recipient that is not ahead
   pub put_endpoint_behind : (n : ℕ) (v : EndpointValue) → IsBehind s.items v.recipient → NoneAhead (with_endpoint s n v)
   put_endpoint_behind n v behind = NoneAhead-with_endpoint s none n v behind
-
-  -- an endpoint that goes on to its next payload
-  pub put_raised_behind : (n : ℕ) → NoneAhead (with_endpoint s n (raised (endpoint_at s n)))
-  put_raised_behind n = put_endpoint_behind n (raised (endpoint_at s n)) (recipient_behind n)

@@ -40,12 +40,6 @@ strip-choice true s t u v e f = e
 strip-choice false s t u v e f = f
 
 module _ (w : At) (h : Option ℕ) (l : ℕ) (same : min l 22 ≡ min w.l2 22) where
-  -- a state with another holding GPT and address, stripped
-  size_of_next : (holding background : Option ℕ) (restr : Restr) (address : ℕ) (m : ℕ) (x y : ℕ) → x ≡ y
-      → ◌≡◌ {A = At} (record { holding = holding; background = background; handler = None; restr = restr; address = address; l2 = x }) (record { holding = holding; background = background; handler = None; restr = restr; address = address; l2 = y })
-  size_of_next holding background restr address m x y e =
-      ap (λ (n : ℕ). record { holding = holding; background = background; handler = None; restr = restr; address = address; l2 = n }) e
-
   slot_same : (header : HeaderValue) (g i : ℕ) (kind : Kind) → strip (at_slot header g i kind (with_size w h l)) ≡ strip (at_slot header g i kind w)
   slot_same header g i kind =
       strip-choice (nat_lt 15 i || is_reserved header i)

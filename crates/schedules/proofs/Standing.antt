@@ -1,10 +1,10 @@
 -- What each change of the queues makes of the number of places where a process stands.
-use Rattle.std.proofs.Common.{◌≡◌, ◌≢◌, ℕ, zero, suc, ◌+◌, ◌<◌, ◌≤◌, ◌==◌, Bool, true, false, ◌||◌, List, [], ◌∷◌, ◌++◌, map, slice_set, slice_index_or, length, refl, ap, arith, cond, Option, Some, None, IfSome}
+use Rattle.std.proofs.Common.{◌≡◌, ◌≢◌, ℕ, ◌+◌, ◌<◌, ◌≤◌, ◌==◌, Bool, true, false, ◌||◌, List, [], ◌∷◌, ◌++◌, map, slice_set, slice_index_or, length, refl, ap, arith, cond, Option, Some, None, IfSome}
 use Rattle.std.specs.List.{sum_by}
 use Rattle.std.specs.Bool.{if◌then◌else◌}
 use Rattle.std.proofs.lemmas.List.Sums.{sum_by-set, sum_by-cons}
 use Rattle.std.proofs.lemmas.Bool.Decides.{nat_tests}
-use Rattle.schedules.specs.Queues.{QueuesValue, stands_in, without, hart_without, enqueued, asleep, left, ready_queue, sleepers_of, hart_of, first_of, rest_of, taken_from, highest_below}
+use Rattle.schedules.specs.Queues.{QueuesValue, stands_in, without, hart_without, enqueued, asleep, left, ready_queue, sleepers_of, hart_of, first_of, rest_of, taken_from}
 use Rattle.schedules.specs.Standing.{times_in, times_on, standing}
 
 -- one more at the end of a list
@@ -136,17 +136,3 @@ standing-taken q h x (Some k) within empty there =
     let split = first-rest x (ready_queue q k) in
     let before : times_on x (hart_of q h) ≡ 0 = rw empty refl in
     omega (arith, list, hart, split, before)
-
--- the queue found is one of those looked at
-pub highest_below-within : (ready : List (List ℕ)) (n : ℕ) → IfSome (highest_below ready n) (λ k. k < n)
-unfolding highest_below
-highest_below-within ready zero = tt
-highest_below-within ready (suc n) = on (length (slice_index_or ready n []) == 0) (highest_below-within ready n)
-  where
-    more : (next : Option ℕ) → IfSome next (λ k. k < n) → IfSome next (λ k. k < suc n)
-    more None h = tt
-    more (Some k) h = omega (arith, h)
-
-    on : (b : Bool) → IfSome (highest_below ready n) (λ k. k < n) → IfSome (if b then highest_below ready n else Some n) (λ k. k < suc n)
-    on true h = more _ h
-    on false h = omega arith

@@ -24,7 +24,7 @@ use Rattle.shared_leaves.specs.Cache.{IsCache, SharedCache, cache_of, entry_for,
 use Rattle.shared_leaves.specs.Coherent.{IsCoherent, IsEntry, IsLink, IsRecorded}
 use Rattle.shared_leaves.specs.Effects.{Agrees, Connects, HasFrame, IsBlank, IsDue, IsWalked, Keeps, NotesReads, Remembers, SameEntriesFor, SetsPlace}
 use Rattle.shared_leaves.proofs.Blank.{kept-blank, starts}
-use Rattle.shared_leaves.proofs.Economy.{fits-alone, fits-within, over-keys, over-notes}
+use Rattle.shared_leaves.proofs.Economy.{fits-alone, over-keys, over-notes}
 use Rattle.shared_leaves.proofs.Filed.{Made, if-false, if-true}
 use Rattle.shared_leaves.proofs.Invariant.{cache-fill, leaf_by, root_made}
 use Rattle.shared_leaves.proofs.Keyed.{key_at-at}
@@ -264,30 +264,9 @@ entries-over v w x y space page root table add first second at noted more =
     let long : len (noted_all (notes_of y.keys y.records) (key_at y.keys table) add.entry_reads) ≡ len (noted_all (noted_all (notes_of v.keys v.records) (root_key space) add.link_reads) add.key add.entry_reads) = (λ i. len (noted_all (links i) (keyed i) add.entry_reads)) in
     subst (λ (m : ℕ). 16384 < m) long more)
 
--- what is kept by a cache fits
-pub fits-kept : (v : SharedCache) → IsCache v.tables v.keys v.tlbs v.records → fits (kept_of v) ≡ true
-fits-kept v cache = fits-within (kept_of v) cache.most_keys (omega (arith, cache.noted, cache.most_records))
-
-and-true : (x y : Bool) → y ≡ true → (x && y) ≡ x
-and-true true y is = is
-and-true false y is = refl
-
 and-false : (x y : Bool) → y ≡ false → (x && y) ≡ false
 and-false true y is = is
 and-false false y is = refl
-
--- an addition that was done
-pub remembers-kept : (v w : SharedCache) (hart page : ℕ) (space : Capability) (leaf : Entry) (add : Addition) → IsCache w.tables w.keys w.tlbs w.records → Keeps v w hart space page leaf add → Remembers v w hart space page leaf add
-remembers-kept v w hart page space leaf add cache keeps = record {
-  kept = keeps.kept ∙ sym (if-true (fits (added (kept_of v) space page add)) (added (kept_of v) space page add) (added nothing space page add) (ap fits (sym keeps.kept) ∙ fits-kept w cache));
-  coherent = keeps.coherent;
-  held = keeps.held;
-  others = λ k differs.
-      keeps.others k differs
-      ∙ ap (λ (b : Bool). if b then tlb_at v.tlbs k else [])
-      (sym (and-true (has_no_other ((kept_of v).links space (page / 1024)) add.key) (fits (added (kept_of v) space page add)) (ap fits (sym keeps.kept) ∙ fits-kept w cache)));
-  harts = keeps.harts;
-}
 
 -- an addition after everything was forgotten
 pub remembers-anew : (v b w : SharedCache) (hart page : ℕ) (space : Capability) (leaf : Entry) (add : Addition) → fits (added (kept_of v) space page add) ≡ false → IsBlank b → length b.tlbs ≡ length v.tlbs

@@ -34,10 +34,6 @@ forgets-more v w x item first second = record {
   harts = second.harts ∙ first.harts;
 }
 
--- none
-pub forgets-none : (v : SharedCache) (item : Item) → Forgets v v item
-forgets-none v item = record { keys = refl; links = λ s r low. refl; entries = λ k j low. refl; records = λ d. refl; coherent = λ o coherent. coherent; harts = refl }
-
 -- where no record of the item is left, what is kept is what the change leaves
 module _ (v w : SharedCache) (item : Item) (forgets : Forgets v w item) (none : (root : ℕ) (block : BlockValue) → has w.records (depend item root block) ≡ false) where
   unnoted : (d : Depend) → has w.records d ≡ true → same_item d.item item ≡ true → ⊥

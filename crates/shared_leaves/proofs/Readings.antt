@@ -103,10 +103,6 @@ reads-append v w x key frame xs ys first second = record {
       (each_map (λ n. has w.records (depend n.item frame n.block) ≡ true) (λ n. has x.records (depend n.item frame n.block) ≡ true) (λ n there. second.stay (depend n.item frame n.block) there) xs first.there) second.there;
 }
 
--- no read recorded
-pub reads-none : (v : SharedCache) (key : Key) (frame : ℕ) → NotesReads v v key frame []
-reads-none v key frame = record { tables = refl; keys = refl; tlbs = refl; notes = refl; stay = λ d there. there; there = tt }
-
 -- where some reads are too many, so are all
 reads-wanting : (v w : SharedCache) (key : Key) (frame : ℕ) (xs ys zs : List Noted) → NotesReads v w key frame xs → 16384 < len (noted_all (notes_of w.keys w.records) key ys)
     → 16384 < len (noted_all (notes_of v.keys v.records) key (xs ++ (ys ++ zs)))

@@ -18,7 +18,7 @@ use Rattle.state_parts.specs.Keys.{objects_of, values_of, Reads, store_by}
 use Rattle.state_parts.specs.Looking.{IsTarget}
 use Rattle.state_parts.specs.Standing.{StandingValue, standing_at, nowhere}
 use Rattle.state_parts.specs.Space.{TablesValue, AreTables, Held, store_of, standing_of, state_in}
-use Rattle.state_parts.specs.States.{tables_of, IsDesk, IsStanding, GrowTables}
+use Rattle.state_parts.specs.States.{tables_of, IsDesk, IsStanding}
 use Rattle.state_parts.proofs.Brought.{reads_grown}
 use Rattle.state_parts.proofs.Holding.{means_live}
 
@@ -26,10 +26,6 @@ module _ (z : Sizes) (names : List ObjectName) (T T' : List ObjectValue) (S S' :
   -- they are tables still
   pub tables_grown : AreTables (tables_of z names T S) → AreTables (tables_of z names T' S')
   tables_grown tables = record { names = tables.names; objects = apart; standings = apart_too }
-
-  -- with all that was there
-  pub tables_grow : AreTables (tables_of z names T S) → GrowTables (tables_of z names T S) (tables_of z names T' S')
-  tables_grow tables = record { sizes = refl; names = refl; objects = grows; standings = grows_too; tables = tables_grown tables }
 
   -- the desk has the same numbers
   pub desk_grown : (desk : Store) (at : List ℕ) → IsDesk (tables_of z names T S) desk at → IsDesk (tables_of z names T' S') desk at

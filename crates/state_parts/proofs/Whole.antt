@@ -18,7 +18,7 @@ use Rattle.object_store.specs.Object.ObjectValue.{OfPage, OfCapPage, OfGpt, OfPr
 use Rattle.object_store.specs.Saved.{Saved, saved_of, restored, AreThere}
 use Rattle.object_store.proofs.Same.{size_in_store}
 use Rattle.object_store.proofs.Restored.{restored_same, size_of_same}
-use Rattle.state_parts.specs.Keys.{AreAll, named_in, objects_of, values_of, saved_by, store_by}
+use Rattle.state_parts.specs.Keys.{AreAll, objects_of, values_of, saved_by, store_by}
 
 -- ---- objects that are not there
 
@@ -54,18 +54,6 @@ named_or_past s names kind n all = elim (cases_lt n (size_of s.items kind)) [
   | inl there ↦ inl (all.all kind n (subst (λ (k : ℕ). n < k) (sym (size_in_store s kind)) there))
   | inr past ↦ inr past
 ]
-
--- an object of the same list is the same
-pub among_same : (s t : Store) (names : List ObjectName) (kind : CapKind) (n : ℕ) → objects_of names s ≡ objects_of names t → IsAmong kind n names → SameObject kind n s t
-among_same s t [] kind n same among = elim among [ ]
-among_same s t (name ∷ names) kind n same (inl here) = rw (here.0, here.1) first
-  where
-    first : named_in s name ≡ named_in t name
-    first = cc
-among_same s t (name ∷ names) kind n same (inr later) = among_same s t names kind n rest later
-  where
-    rest : objects_of names s ≡ objects_of names t
-    rest = cc
 
 -- ---- the store of its objects
 

@@ -3,7 +3,7 @@ use Rattle.std.proofs.Common.{◌≡◌, ◌≢◌, ◌⊎◌, inl, inr, ℕ, �
 use Rattle.std.specs.List.{slice_get}
 use Rattle.std.specs.Prelude.{slice_index, slice_set}
 use Rattle.std.proofs.lemmas.Bool.Decides.{eqb_tells, nat_tests}
-use Rattle.std.proofs.lemmas.List.{length-set, get_or-set_other}
+use Rattle.std.proofs.lemmas.List.{get_or-set_other}
 use Rattle.std.proofs.lemmas.Grind.{get_or-set_at}
 use Rattle.std.proofs.lemmas.Option.{slice_get_within}
 use Rattle.sv32_tables.specs.declared.leaf.Leaf.{Leaf as Entry}
@@ -39,32 +39,6 @@ module _ (words : List ℕ) (uses : List SharedUse) (frame index word : ℕ) (u 
           get_or-set_other words place (f * 1024 + i) word 0
           (λ same. let frames : f ≡ frame = omega (arith, same, within, inside) in
           other_unequal f frame i index e frames (omega (arith, same, within, inside)))
-
-  -- a word that suits its frame leaves the pool one
-  pub shared-written : IsWordOf uses u word → IsShared new uses
-  shared-written suits =
-      shared-changed words new uses pool (length-set words place word)
-      (λ k past. let used = slice_get_within uses frame u there in get_or-set_other words place k word 0 (λ same. omega (arith, same, past, used, inside)))
-      (λ f i v made within. on f i v made within (eqb_tells f frame) (eqb_tells i index))
-    where
-      on : (f i : ℕ) (v : SharedUse) → slice_get uses f ≡ Some v → i < 1024
-          → ((eqb f frame ≡ true) × (f ≡ frame)) ⊎ ((eqb f frame ≡ false) × (f ≢ frame))
-          → ((eqb i index ≡ true) × (i ≡ index)) ⊎ ((eqb i index ≡ false) × (i ≢ index))
-          → IsWordOf uses v (word_at new f i)
-      on f i v made within (inl same) (inl also) =
-          let frames = same.1 in
-          let kind : u ≡ v = cc in
-          subst (λ (w : ℕ). IsWordOf uses v w)
-          (sym (get_or-set_at words place (f * 1024 + i) word 0 (omega (arith, frames, also.1)) (shared_inside words uses frame index u pool there inside)))
-          (subst (λ (x : SharedUse). IsWordOf uses x word) kind suits)
-      on f i v made within (inl same) (inr other) =
-          subst (λ (w : ℕ). IsWordOf uses v w)
-          (sym (get_or-set_other words place (f * 1024 + i) word 0 (λ e. other.1 (omega (arith, e, same.1)))))
-          (pool.word f i v made within)
-      on f i v made within (inr other) which =
-          subst (λ (w : ℕ). IsWordOf uses v w)
-          (sym (get_or-set_other words place (f * 1024 + i) word 0 (λ e. other.1 (omega (arith, e, within, inside)))))
-          (pool.word f i v made within)
 
 -- a choice between words, read
 pub read_choice : {X : Type 0} (f : ℕ → X) (b : Bool) (t e : ℕ) → f (if b then t else e) ≡ (if b then f t else f e)

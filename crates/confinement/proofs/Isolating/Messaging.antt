@@ -56,11 +56,6 @@ pub record SameString (cut : Cut) (on : CutSide) (x y : Side) : Type 0 where
   pub may : StringFaultOwn cut on x.fault
 
 module _ (cut : Cut) (on : CutSide) where
-  -- one record in front of the same
-  pub alike-recorded : (r : Record) (o u : Outcome) → Alike cut on o u
-      → Alike cut on (record { state = o.state; records = r ∷ o.records; touches = o.touches; changed = o.changed }) (record { state = u.state; records = r ∷ u.records; touches = u.touches; changed = u.changed })
-  alike-recorded r o u a = record { records = ap (λ (rs : List Record). r ∷ rs) a.records; state = a.state }
-
   -- one part behind another
   pub alike-followed : (o u x y : Outcome) → o.records ≡ u.records → Alike cut on x y → Alike cut on (followed o x) (followed u y)
   alike-followed o u x y e a = record { records = ap₂ (λ (rs qs : List Record). rs ++ qs) e a.records; state = a.state }
