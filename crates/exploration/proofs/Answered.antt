@@ -18,11 +18,11 @@ use Rattle.breadth_first.specs.declared.answer.Explored.{Explored}
 use Rattle.breadth_first.specs.declared.answer.Explored.TheVariants.{Found, Closed, Open}
 use Rattle.breadth_first.specs.declared.answer.Limits.{Limits}
 use Rattle.breadth_first.specs.declared.answer.Size.{Size}
-use Rattle.exploration.specs.question.Question.{QuestionValue, first_failing, holds, is_count, is_ever}
-use Rattle.exploration.specs.Asking.{asking}
+use Rattle.questions.specs.Question.{QuestionValue, first_failing, holds, is_count, is_ever}
+use Rattle.questions.specs.Asking.{asking}
 use Rattle.exploration.specs.Explored.{AllCanCome, AllSeen, AreCounted, AreDistinct, CanCome, FailsAt, IsExact, IsFirst, IsLimited, IsReached, IsSafe, LostAt, NoneFails, Says, SomeAt, SomeSeen, come_to, limits_of, system_of}
 use Rattle.exploration.specs.Laws.{ExactLaw, OneAnswerLaw, SaysLaw}
-use Rattle.exploration.proofs.Numbers.{asking-earlier, asking-has, asking-is}
+use Rattle.questions.proofs.Numbers.{asking-earlier, asking-has, asking-is}
 use Rattle.exploration.proofs.Runs.{after-is, after-on}
 use Rattle.exploration.proofs.Safe.{fails-some, safe-none}
 

@@ -13,10 +13,10 @@ use Rattle.kernel_core.specs.Event.{event_of}
 use Rattle.kernel_core.specs.Run.{run_state}
 use Rattle.kernel_core.proofs.Ran.{run_state-cons, run_state-nil}
 use Rattle.quiet_runs.specs.Runs.{Watch}
-use Rattle.exploration.specs.declared.question.choice.Choice.{Choice}
-use Rattle.exploration.specs.declared.question.choice.Choice.TheVariants.{Steps, Tick as TimerTick}
-use Rattle.exploration.specs.question.Choice.{AreChoices, after, all_choices, choice_at, choice_events, step_below, tick_below}
-use Rattle.exploration.specs.question.Question.{choices_by, choices_of, watch_for}
+use Rattle.questions.specs.declared.choice.Choice.{Choice}
+use Rattle.questions.specs.declared.choice.Choice.TheVariants.{Steps, Tick as TimerTick}
+use Rattle.questions.specs.Choice.{AreChoices, after, all_choices, choice_at, choice_events, step_below, tick_below}
+use Rattle.questions.specs.Question.{choices_by, choices_of, watch_for}
 use Rattle.exploration.specs.Explored.{IsSafe}
 use Rattle.exploration.specs.Laws.{EveryEventLaw}
 

@@ -7,9 +7,9 @@ use Rattle.kernel_core.proofs.Ran.{run_state-append, run_state-nil}
 use Rattle.quiet_runs.specs.Runs.{Watch}
 use Rattle.separation_policy.specs.Policy.{PolicyValue}
 use Rattle.breadth_first.specs.Paths.{after as after_in}
-use Rattle.exploration.specs.declared.question.choice.Choice.{Choice}
-use Rattle.exploration.specs.question.Choice.{after, after_choice, choice_at, choice_events, counted_events, counted_path}
-use Rattle.exploration.specs.question.Question.{QuestionValue, choices_of, watch_for}
+use Rattle.questions.specs.declared.choice.Choice.{Choice}
+use Rattle.questions.specs.Choice.{after, after_choice, choice_at, choice_events, counted_events, counted_path}
+use Rattle.questions.specs.Question.{QuestionValue, choices_of, watch_for}
 use Rattle.exploration.specs.Explored.{system_of}
 
 module _ (question : QuestionValue) (policy : PolicyValue) (same : State → State → Bool) (s : State) where

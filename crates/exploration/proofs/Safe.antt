@@ -6,10 +6,10 @@ use Rattle.std.proofs.lemmas.List.Quantifiers.{position-Some}
 use Rattle.std.proofs.lemmas.List.Sums.{fails_before_first}
 use Rattle.machine_state.specs.State.{State}
 use Rattle.separation_policy.specs.Policy.{PolicyValue}
-use Rattle.exploration.specs.declared.question.asks.Asks.TheVariants.{Never}
-use Rattle.exploration.specs.question.Atom.{crosses}
-use Rattle.exploration.specs.question.Question.{QuestionValue, fails, first_failing, holds, is_never, property_of}
-use Rattle.exploration.specs.Asking.{property_at}
+use Rattle.questions.specs.declared.asks.Asks.TheVariants.{Never}
+use Rattle.questions.specs.Atom.{crosses}
+use Rattle.questions.specs.Question.{QuestionValue, fails, first_failing, holds, is_never, property_of}
+use Rattle.questions.specs.Asking.{property_at}
 use Rattle.exploration.specs.Explored.{AsksNever, IsSafe}
 
 -- where there is no first, there is none

@@ -1,8 +1,7 @@
 -- A space whose tables grow stays the same space.
-use Rattle.std.proofs.Common.{◌≡◌, ℕ, suc, [], ◌∷◌, ◌<◌, inl, inr, Bool, List, length, get_or, replicate, All, sym, ap, ◌∙◌, subst}
+use Rattle.std.proofs.Common.{◌≡◌, ℕ, [], ◌∷◌, ◌<◌, inl, inr, Bool, List, length, get_or, All, sym, ap, ◌∙◌, subst}
 use Rattle.std.proofs.lemmas.List.{get_or_default}
 use Rattle.machine_state.specs.declared.event.Event.{Event}
-use Rattle.machine_state.specs.declared.event.Event.TheVariants.{Step, Tick}
 use Rattle.machine_state.specs.State.{State}
 use Rattle.kernel_core.specs.Event.{event_of}
 use Rattle.kernel_core.specs.Run.{run_state}
@@ -17,15 +16,15 @@ use Rattle.breadth_first.specs.declared.answer.Explored.{Explored}
 use Rattle.breadth_first.specs.declared.answer.Limits.{Limits}
 use Rattle.breadth_first.specs.Answer.{IsAnswer}
 use Rattle.breadth_first.specs.Kept.{Keeps}
-use Rattle.exploration.specs.declared.question.choice.Choice.{Choice}
-use Rattle.exploration.specs.declared.question.choice.Choice.TheVariants.{Tick as TimerTick}
-use Rattle.exploration.specs.declared.question.asks.Asks.{Asks}
-use Rattle.exploration.specs.question.Choice.{after_choice, choice_at}
-use Rattle.exploration.specs.question.Question.{PropertyValue, QuestionValue, IsIndifferent, choices_of, watch_for, is_count, is_ever}
-use Rattle.exploration.specs.Asking.{asking}
+use Rattle.questions.specs.declared.choice.Choice.{Choice}
+use Rattle.questions.specs.declared.choice.Choice.TheVariants.{Tick as TimerTick}
+use Rattle.questions.specs.declared.asks.Asks.{Asks}
+use Rattle.questions.specs.Choice.{after_choice, choice_at}
+use Rattle.questions.specs.Question.{PropertyValue, QuestionValue, IsIndifferent, choices_of, watch_for, is_count, is_ever}
+use Rattle.questions.specs.Asking.{asking}
 use Rattle.exploration.specs.Explored.{limits_of, system_of}
 use Rattle.exploration.specs.Laws.{IsAnswerTo}
-use Rattle.exploration.proofs.Numbers.{asking-there}
+use Rattle.questions.proofs.Numbers.{asking-there}
 use Rattle.state_parts.specs.declared.key.Key.{Key}
 use Rattle.state_parts.specs.Key.{KeyValue}
 use Rattle.state_parts.specs.KeyLaws.{key_in, key_decides}
@@ -36,7 +35,7 @@ use Rattle.state_parts.specs.Standing.{nowhere}
 use Rattle.state_parts.specs.Space.{TablesValue, Held, IsKept, state_in}
 use Rattle.state_parts.specs.States.{GrowTables}
 use Rattle.state_parts.proofs.Alike.{held_grown, keys_alike, state_grown}
-use Rattle.exploration.specs.machine_space.Space.{IsHeld, IsSpace, after_steps, searched_of}
+use Rattle.exploration.specs.machine_space.Space.{IsHeld, IsSpace, searched_of}
 
 module _ (question : QuestionValue) (policy : PolicyValue) (indifferent : Bool) where
   -- where tables grew, a key that was held is
@@ -103,24 +102,6 @@ module _ (t : TablesValue) (a b : Key) (same : key_in b ≡ key_in a) (held : He
     held = held_copy;
     is_known = λ known. subst (λ (s : State). IsIndifferent question policy s) (sym state_copy) (is.is_known known);
   }
-
--- ---- steps
-
--- one step more, before the others
-pub steps-more : (hart n : ℕ) (s t : State) → t ≡ (event_of s (Step hart)).state → after_steps hart n t ≡ after_steps hart (suc n) s
-steps-more hart n s t is = ap (after_steps hart n) is ∙ sym (run_state-cons s (Step hart) (replicate n (Step hart)))
-
--- none
-pub steps-none : (hart : ℕ) (s : State) → after_steps hart 0 s ≡ s
-steps-none hart s = run_state-nil s
-
--- one event alone
-pub event-alone : (e : Event) (s t : State) → t ≡ (event_of s e).state → t ≡ run_state s (e ∷ [])
-event-alone e s t is = is ∙ sym (run_state-nil (event_of s e).state) ∙ sym (run_state-cons s e [])
-
--- a tick of a hart's timer
-pub tick-chosen : (watch : Watch) (choice : Choice) (hart : ℕ) (s t : State) → choice ≡ TimerTick hart → t ≡ (event_of s (Tick hart)).state → t ≡ after_choice watch s choice
-tick-chosen watch choice hart s t is led = subst (λ (c : Choice). t ≡ after_choice watch s c) (sym is) (event-alone (Tick hart) s t led)
 
 -- a choice of the question by its number, where what is watched is what the question looks at
 pub next-means : (question : QuestionValue) (watch : Watch) (choices : List Choice) (n : ℕ) (choice d : Choice) (s t : State) → watch ≡ watch_for question.properties → choices ≡ choices_of question → n < length choices

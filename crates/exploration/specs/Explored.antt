@@ -12,9 +12,9 @@ use Rattle.breadth_first.specs.declared.answer.Size.{Size}
 use Rattle.breadth_first.specs.declared.answer.Count.{Count}
 use Rattle.breadth_first.specs.declared.answer.Explored.{Explored}
 use Rattle.breadth_first.specs.declared.answer.Explored.TheVariants.{Found, Closed, Open}
-use Rattle.exploration.specs.question.Choice.{AreChoices, after, after_choice, choice_at}
-use Rattle.exploration.specs.question.Question.{QuestionValue, choices_of, first_failing, holds, is_count, is_ever, is_never, watch_for}
-use Rattle.exploration.specs.Asking.{asking, property_at}
+use Rattle.questions.specs.Choice.{AreChoices, after, after_choice, choice_at}
+use Rattle.questions.specs.Question.{QuestionValue, choices_of, first_failing, holds, is_count, is_ever, is_never, watch_for}
+use Rattle.questions.specs.Asking.{asking, property_at}
 
 -- what is searched for a question: the states of the abstract machine from this one on, where `same` compares two
 abbrev pub system_of : QuestionValue → PolicyValue → (State → State → Bool) → State → System State

@@ -10,8 +10,8 @@ use Rattle.breadth_first.specs.System.{IsEquality}
 use Rattle.breadth_first.specs.Answer.{IsAnswer}
 use Rattle.breadth_first.specs.Told.{told}
 use Rattle.breadth_first.specs.declared.answer.Explored.{Explored}
-use Rattle.exploration.specs.question.Question.{QuestionValue, is_count, is_ever}
-use Rattle.exploration.specs.Asking.{asking}
+use Rattle.questions.specs.Question.{QuestionValue, is_count, is_ever}
+use Rattle.questions.specs.Asking.{asking}
 use Rattle.exploration.specs.Explored.{IsExact, IsSafe, NoneFails, Says, limits_of, system_of}
 
 -- an answer of a search for a question, from a state on, in which states are compared by some equality of states

@@ -1,5 +1,3 @@
-pub mod question
-pub mod Asking
 pub mod Explored
 pub mod Shown
 pub mod Laws

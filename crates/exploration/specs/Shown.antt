@@ -4,9 +4,9 @@ use Rattle.machine_state.specs.State.{State}
 use Rattle.breadth_first.specs.declared.answer.Explored.{Explored}
 use Rattle.breadth_first.specs.declared.answer.Explored.TheVariants.{Found, Closed, Open}
 use Rattle.breadth_first.specs.declared.answer.Lost.{Lost}
-use Rattle.exploration.specs.declared.question.choice.Choice.{Choice}
-use Rattle.exploration.specs.question.Choice.{counted_path}
-use Rattle.exploration.specs.question.Question.{QuestionValue, choices_of, watch_for}
+use Rattle.questions.specs.declared.choice.Choice.{Choice}
+use Rattle.questions.specs.Choice.{counted_path}
+use Rattle.questions.specs.Question.{QuestionValue, choices_of, watch_for}
 
 -- the choices that lead to a state that can't come to what it should, where there is one
 abbrev pub lost_path : Option Lost → List ℕ

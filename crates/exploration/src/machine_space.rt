@@ -1,15 +1,12 @@
 //! The states of a machine as the space that a search goes through for a question, and the search.
 //!
-//! It joins what keeps states, what judges them, what finds quiet steps and what searches. Nothing here knows of lines and
+//! It joins what keeps states, what judges them, what choices do to them and what searches. Nothing here knows of lines and
 //! texts.
 
 mod asked;
 mod begun;
-mod choosing;
 mod exploring;
 mod limits;
-mod looks;
 mod space;
-mod watching;
 
 pub use exploring::{Answered, explore_machine};

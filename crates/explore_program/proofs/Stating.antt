@@ -15,7 +15,7 @@ use Rattle.question_lines.specs.declared.said.Next.TheVariants as nexts
 use Rattle.question_lines.specs.declared.said.Said.{Said}
 use Rattle.question_lines.specs.declared.said.Said.TheVariants as saids
 use Rattle.question_lines.specs.QuestionLine.{after_line, after_said, is_of_policy, question_line}
-use Rattle.exploration.specs.question.Question.{QuestionValue}
+use Rattle.questions.specs.Question.{QuestionValue}
 use Rattle.coy_text.specs.Words.{words_of}
 use Rattle.schedule_replay.specs.Lines.{FailsOn, ReadsOn}
 use Rattle.schedule_replay.proofs.ReadOn.{fails_on, on_lines, reads_on-line, reads_on-trans}

@@ -7,11 +7,11 @@ use Rattle.breadth_first.specs.Told.{LostValue, Told, TellsFound, TellsClosed, T
 use Rattle.breadth_first.specs.declared.answer.Explored.{Explored}
 use Rattle.breadth_first.specs.declared.answer.Explored.TheVariants as answers
 use Rattle.breadth_first.specs.declared.answer.Size.{Size}
-use Rattle.exploration.specs.declared.question.choice.Choice.{Choice}
-use Rattle.exploration.specs.question.Choice.{counted_path}
-use Rattle.exploration.specs.question.Question.{choices_of, is_ever, watch_for}
+use Rattle.questions.specs.declared.choice.Choice.{Choice}
+use Rattle.questions.specs.Choice.{counted_path}
+use Rattle.questions.specs.Question.{choices_of, is_ever, watch_for}
 use Rattle.exploration.specs.Shown.{shown_of, told_path}
-use Rattle.exploration.specs.Asking.{asking, property_at}
+use Rattle.questions.specs.Asking.{asking, property_at}
 use Rattle.exploration.specs.Explored.{IsExact, IsSafe, NoneFailsWithin, Says}
 use Rattle.interleavings.specs.Laws.{EachHartRuns}
 use Rattle.quiet_runs.specs.Laws.{AreHarts}

@@ -6,7 +6,7 @@ use Rattle.coy_io.specs.Reader.{Reader, ahead}
 use Rattle.coy_text.specs.Words.{words_of}
 use Rattle.object_store.specs.declared.sizes.Sizes.{Sizes}
 use Rattle.separation_policy.specs.Making.{first_policy}
-use Rattle.exploration.specs.question.Question.{nothing_asked}
+use Rattle.questions.specs.Question.{nothing_asked}
 use Rattle.question_lines.specs.QuestionLine.{as_untaken, is_of_policy, line_answer, line_policy, line_question}
 use Rattle.listing_read.specs.declared.object_fault.QuestionFault.{QuestionFault}
 use Rattle.listing_read.specs.declared.object_fault.QuestionFault.TheVariants.{LineTooLong}

@@ -10,8 +10,8 @@ use Rattle.kernel_core.specs.State.{State}
 use Rattle.breadth_first.specs.declared.answer.Explored.{Explored}
 use Rattle.breadth_first.specs.declared.answer.Explored.TheVariants as answers
 use Rattle.exploration.specs.Explored.{AsksEver, IsExact, IsSafe, Says}
-use Rattle.exploration.specs.declared.question.choice.Choice.{Choice}
-use Rattle.exploration.specs.question.Question.{holds}
+use Rattle.questions.specs.declared.choice.Choice.{Choice}
+use Rattle.questions.specs.Question.{holds}
 use Rattle.exploration.specs.Laws.{IsAnswerTo}
 use Rattle.exploration.specs.Shown.{shown_of}
 use Rattle.interleavings.specs.Laws.{EachHartRuns, OnlyRuns}

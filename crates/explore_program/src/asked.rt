@@ -3,8 +3,8 @@ ghost use Rattle.std.specs.Prelude.{◌≡◌, IfOk};
 ghost use Rattle.explore_program.specs.Stated.{first_asked};
 
 use cap_format::OutOfMemory;
-use exploration::question::Question;
 use object_store::Sizes;
+use questions::Question;
 use separation_policy::Policy;
 use std::alloc::Global;
 

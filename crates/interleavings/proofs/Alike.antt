@@ -15,7 +15,7 @@ use Rattle.object_store.specs.Places.{cap_in}
 use Rattle.separation_policy.specs.Policy.{PolicyValue}
 use Rattle.separation_check.specs.declared.crossing.Crossing.{Crossing}
 use Rattle.separation_check.specs.Crossings.{kind_crossings, sleeper_crossings}
-use Rattle.exploration.specs.question.Atom.{is_any, crosses}
+use Rattle.questions.specs.Atom.{is_any, crosses}
 
 module _ (s t : State) (same : SameButData s t) where
   -- the capability in each place

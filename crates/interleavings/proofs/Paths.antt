@@ -9,9 +9,9 @@ use Rattle.kernel_core.specs.Run.{run_state}
 use Rattle.quiet_runs.specs.Runs.{Watch, after_run, after_runs, after_step, after_steps}
 use Rattle.quiet_runs.specs.Finding.{quiet_steps}
 use Rattle.quiet_runs.specs.Laws.{AreHarts}
-use Rattle.exploration.specs.declared.question.choice.Choice.{Choice}
-use Rattle.exploration.specs.declared.question.choice.Choice.TheVariants.{Steps, Run, Tick}
-use Rattle.exploration.specs.question.Choice.{AreChoices, after, after_choice, choice_at}
+use Rattle.questions.specs.declared.choice.Choice.{Choice}
+use Rattle.questions.specs.declared.choice.Choice.TheVariants.{Steps, Run, Tick}
+use Rattle.questions.specs.Choice.{AreChoices, after, after_choice, choice_at}
 use Rattle.interleavings.specs.Laws.{IsRunOf}
 
 -- so many steps of a hart, as events

@@ -13,12 +13,12 @@ use Rattle.object_store.specs.Places.{places_in}
 use Rattle.separation_policy.specs.Policy.{PolicyValue}
 use Rattle.quiet_runs.specs.Finding.{is_below, runs}
 use Rattle.quiet_runs.specs.Reaching.{names}
-use Rattle.exploration.specs.declared.question.asks.Asks.TheVariants.{Never}
-use Rattle.exploration.specs.declared.question.atom.Atom.{Atom}
-use Rattle.exploration.specs.declared.question.atom.Condition.{Condition}
-use Rattle.exploration.specs.declared.question.atom.Condition.TheVariants as conditions
-use Rattle.exploration.specs.question.Atom.{all_hold, atom_holds, condition_holds, crosses, has_word, is_asleep, is_faulted, is_faulted_by, is_receiving, is_stuck}
-use Rattle.exploration.specs.question.Question.{PropertyValue, pages_in, processes_in, property_of}
+use Rattle.questions.specs.declared.asks.Asks.TheVariants.{Never}
+use Rattle.questions.specs.declared.atom.Atom.{Atom}
+use Rattle.questions.specs.declared.atom.Condition.{Condition}
+use Rattle.questions.specs.declared.atom.Condition.TheVariants as conditions
+use Rattle.questions.specs.Atom.{all_hold, atom_holds, condition_holds, crosses, has_word, is_asleep, is_faulted, is_faulted_by, is_receiving, is_stuck}
+use Rattle.questions.specs.Question.{PropertyValue, pages_in, processes_in, property_of}
 use Rattle.interleavings.specs.Laws.{SeesOnlyLaw}
 use Rattle.interleavings.proofs.Watched.{stands-alone, stands-first, stands-of, stands-second}
 use Rattle.interleavings.proofs.Alike.{caps-same, crosses-same}

@@ -5,8 +5,8 @@ use Rattle.separation_policy.specs.Policy.{PolicyValue}
 use Rattle.quiet_runs.specs.Runs.{after_runs, after_steps}
 use Rattle.quiet_runs.specs.Finding.{quiet_steps}
 use Rattle.quiet_runs.specs.Laws.{AreHarts, CanRun, EverLaw, FoundLaw, NeverLaw, SimulationLaw}
-use Rattle.exploration.specs.question.Choice.{after}
-use Rattle.exploration.specs.question.Question.{QuestionValue, choices_of, holds, watch_for}
+use Rattle.questions.specs.Choice.{after}
+use Rattle.questions.specs.Question.{QuestionValue, choices_of, holds, watch_for}
 use Rattle.exploration.specs.Explored.{AllCanCome, AsksEver, AsksNever, NoneFails}
 use Rattle.interleavings.specs.Laws.{EachHartRuns, EverStepwiseLaw, NeverStepwiseLaw, OnlyRuns, WithinStepwiseLaw}
 use Rattle.interleavings.proofs.Seeing.{sees_only_law}

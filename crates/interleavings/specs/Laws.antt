@@ -5,9 +5,9 @@ use Rattle.machine_state.specs.State.{State}
 use Rattle.separation_policy.specs.Policy.{PolicyValue}
 use Rattle.quiet_runs.specs.Runs.{SeesOnly, after_steps}
 use Rattle.quiet_runs.specs.Laws.{AreHarts, CanCome}
-use Rattle.exploration.specs.declared.question.choice.Choice.{Choice}
-use Rattle.exploration.specs.declared.question.choice.Choice.TheVariants.{Run}
-use Rattle.exploration.specs.question.Question.{QuestionValue, choices_of, holds, watch_for}
+use Rattle.questions.specs.declared.choice.Choice.{Choice}
+use Rattle.questions.specs.declared.choice.Choice.TheVariants.{Run}
+use Rattle.questions.specs.Question.{QuestionValue, choices_of, holds, watch_for}
 use Rattle.exploration.specs.Explored.{AllCanCome, AsksEver, IsSafe, NoneFails, NoneFailsWithin}
 
 -- each hart of the question's machine can be run

@@ -5,7 +5,7 @@ use Rattle.std.proofs.Math.Seq.{drop-length}
 use Rattle.std.proofs.lemmas.List.{drop_more}
 use Rattle.object_store.specs.declared.sizes.Sizes.{Sizes}
 use Rattle.listing_read.specs.Faults.{◌>>=◌}
-use Rattle.exploration.specs.declared.question.atom.Atom.{Atom}
+use Rattle.questions.specs.declared.atom.Atom.{Atom}
 use Rattle.listing_read.specs.declared.object_fault.QuestionFault.{QuestionFault}
 use Rattle.question_lines.specs.declared.fault.Untaken.{Untaken}
 use Rattle.question_lines.specs.declared.fault.Untaken.TheVariants.{Refused, OutOfMemory}

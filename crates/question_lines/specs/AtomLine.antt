@@ -5,9 +5,9 @@ use Rattle.coy_text.specs.Words.{field}
 use Rattle.object_store.specs.declared.sizes.Sizes.{Sizes}
 use Rattle.listing_read.specs.Faults.{◌>>=◌, ensured}
 use Rattle.confine_check.specs.Fields.{kind_of}
-use Rattle.exploration.specs.declared.question.atom.Atom.{Atom}
-use Rattle.exploration.specs.declared.question.atom.Condition.{Condition}
-use Rattle.exploration.specs.declared.question.atom.Condition.TheVariants as conditions
+use Rattle.questions.specs.declared.atom.Atom.{Atom}
+use Rattle.questions.specs.declared.atom.Condition.{Condition}
+use Rattle.questions.specs.declared.atom.Condition.TheVariants as conditions
 use Rattle.listing_read.specs.declared.object_fault.QuestionFault.{QuestionFault}
 use Rattle.listing_read.specs.declared.object_fault.QuestionFault.TheVariants.{UnknownAtom, WrongWords, BadOrder}
 use Rattle.question_lines.specs.Faults.{as_question}

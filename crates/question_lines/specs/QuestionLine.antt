@@ -9,12 +9,12 @@ use Rattle.listing_read.specs.declared.object_fault.PolicyFault.{PolicyFault}
 use Rattle.separation_policy.specs.Policy.{PolicyValue}
 use Rattle.separation_lines.specs.PolicyLine.{policy_line, after_line as policy_after_line}
 use Rattle.separation_lines.specs.declared.said.Said.{Said as PolicySaid}
-use Rattle.exploration.specs.declared.question.asks.Asks.{Asks}
-use Rattle.exploration.specs.declared.question.asks.Asks.TheVariants.{Never, Ever, Count}
-use Rattle.exploration.specs.declared.question.choice.Choice.{Choice}
-use Rattle.exploration.specs.declared.question.choice.Choice.TheVariants.{Steps, Run, Tick}
-use Rattle.exploration.specs.question.Choice.{IsChoiceOf}
-use Rattle.exploration.specs.question.Question.{IsPropertyOf, QuestionValue, property_of, with_choice, with_depth, with_property, with_states}
+use Rattle.questions.specs.declared.asks.Asks.{Asks}
+use Rattle.questions.specs.declared.asks.Asks.TheVariants.{Never, Ever, Count}
+use Rattle.questions.specs.declared.choice.Choice.{Choice}
+use Rattle.questions.specs.declared.choice.Choice.TheVariants.{Steps, Run, Tick}
+use Rattle.questions.specs.Choice.{IsChoiceOf}
+use Rattle.questions.specs.Question.{IsPropertyOf, QuestionValue, property_of, with_choice, with_depth, with_property, with_states}
 use Rattle.listing_read.specs.declared.object_fault.QuestionFault.{QuestionFault}
 use Rattle.listing_read.specs.declared.object_fault.QuestionFault.TheVariants.{LineTooLong, BadByte, UnknownQuestion, UnknownEvent, WrongWords, OfPolicy}
 use Rattle.question_lines.specs.declared.fault.Untaken.{Untaken}

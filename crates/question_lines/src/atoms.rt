@@ -2,7 +2,7 @@
 ghost use Rattle.std.specs.Prelude.{◌≡◌, ◌≤◌, ◌+◌, ◌++◌, ◌∷◌, [], length, take, IfOk, IfErr, OnOk};
 ghost use Rattle.std.specs.List.{All};
 ghost use Rattle.coy_text.specs.Words.{words_of};
-ghost use Rattle.exploration.specs.question.Atom.{IsAtomOf};
+ghost use Rattle.questions.specs.Atom.{IsAtomOf};
 ghost use Rattle.question_lines.specs.AtomLine.{atom_from, atoms_from, before_and, negated_from, plain_from, IsPushed};
 ghost use Rattle.question_lines.specs.QuestionLine.{IsUntaken};
 
@@ -10,9 +10,9 @@ use crate::atom_words::AtomWords;
 use crate::conditions::condition;
 use crate::fault::Untaken;
 use coy_text::{word, word_count, words_from};
-use exploration::question::Atom;
 use listing_read::QuestionFault;
 use object_store::Sizes;
+use questions::Atom;
 use std::alloc::Global;
 
 /// The atoms of a text, with `and` between them.

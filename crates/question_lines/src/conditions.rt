@@ -3,7 +3,7 @@ ghost use Rattle.std.specs.Prelude.{◌≡◌, ◌<◌, ◌≤◌, ◌==◌, ◌
 ghost use Rattle.object_store.specs.Sizes.{size_in};
 ghost use Rattle.cap_format.specs.declared.kind.CapKind.TheVariants.{Process};
 ghost use Rattle.listing_read.specs.Faults.{ensured};
-ghost use Rattle.exploration.specs.question.Atom.{IsConditionOf};
+ghost use Rattle.questions.specs.Atom.{IsConditionOf};
 ghost use Rattle.listing_read.specs.declared.object_fault.QuestionFault.TheVariants.{WrongWords};
 ghost use Rattle.question_lines.specs.AtomLine.{alone, condition_from, faulted_as, faulted_atom, holds_atom, last_from, pc_atom, process_condition, process_from, receiving_atom, reg_atom, running_atom, sleeps_atom, word_atom};
 
@@ -11,9 +11,9 @@ use crate::atom_words::AtomWords;
 use crate::fields::{code, has_words, object, offset, register, value};
 use cap_format::CapKind;
 use confine_check::read_kind;
-use exploration::question::Condition;
 use listing_read::QuestionFault;
 use object_store::Sizes;
+use questions::Condition;
 
 /// The condition that some words are.
 #[tactic(auto, unfolding(crate::specs::AtomLine::condition_from))]

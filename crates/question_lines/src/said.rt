@@ -1,5 +1,5 @@
 //! What a line of a question says.
-use exploration::question::{Choice, Property};
+use questions::{Choice, Property};
 
 /// What the next line belongs to.
 #[derive(Clone, Copy)]

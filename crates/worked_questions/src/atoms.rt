@@ -3,9 +3,9 @@ ghost use Rattle.std.specs.Prelude.{◌≡◌};
 ghost use Rattle.steps.specs.Permit.{permit_for};
 
 use crate::starts::{barred, machine_of};
-use exploration::question::{Question, holds};
 use kernel_core::{Event, Machine, event};
 use question_lines::read_question;
+use questions::{Question, holds};
 use separation_policy::{Closure, Policy};
 use std::alloc::Global;
 use std::marker::Brand;

@@ -1,10 +1,10 @@
 //! Lines of a question, and their faults.
 
 use crate::starts::barred;
-use exploration::question::Question;
 use listing_read::PolicyFault;
 use object_store::Sizes;
 use question_lines::{Next, QuestionFault, Untaken, read_question};
+use questions::Question;
 use separation_policy::Policy;
 use std::alloc::Global;
 use std::process::Abort;

@@ -1,25 +1,19 @@
 -- What a space of a machine's states keeps. (Own.)
-use Rattle.std.specs.Prelude.{◌≡◌, ℕ, ◌<◌, ◌^◌, Bool, List, length, replicate, IsTrue}
+use Rattle.std.specs.Prelude.{◌≡◌, ◌<◌, ◌^◌, Bool, List, length, IsTrue}
 use Rattle.std.specs.List.{All}
-use Rattle.machine_state.specs.declared.event.Event.TheVariants.{Step}
 use Rattle.machine_state.specs.State.{State}
-use Rattle.kernel_core.specs.Run.{run_state}
 use Rattle.separation_policy.specs.Policy.{PolicyValue}
 use Rattle.separation_policy.specs.Closure.{ClosureValue, IsClosure}
 use Rattle.breadth_first.specs.System.{System}
 use Rattle.quiet_finding.specs.Watched.{WatchedValue, watch_of}
-use Rattle.exploration.specs.declared.question.choice.Choice.{Choice}
-use Rattle.exploration.specs.question.Choice.{IsChoiceOf}
-use Rattle.exploration.specs.question.Question.{QuestionValue, IsIndifferent, choices_of, watch_for}
+use Rattle.questions.specs.declared.choice.Choice.{Choice}
+use Rattle.questions.specs.Choice.{IsChoiceOf}
+use Rattle.questions.specs.Question.{QuestionValue, IsIndifferent, choices_of, watch_for}
 use Rattle.exploration.specs.Explored.{system_of}
 use Rattle.state_parts.specs.declared.key.Key.{Key}
 use Rattle.state_parts.specs.Same.{same_state}
 use Rattle.state_parts.specs.Space.{TablesValue, Held, state_in}
 use Rattle.state_parts.specs.States.{StatesValue}
-
--- the state after so many steps of a hart
-abbrev pub after_steps : ℕ → ℕ → State → State
-after_steps hart times s = run_state s (replicate times (Step hart))
 
 -- a key stands for a state, to which the policy makes no difference if that is known (`indifferent`)
 pub record IsHeld (question : QuestionValue) (policy : PolicyValue) (indifferent : Bool) (tables : TablesValue) (key : Key) : Type 0 where

@@ -3,12 +3,11 @@ ghost use Rattle.std.specs.Prelude.{◌≡◌, ◌<◌, ◌^◌, length, IfOk};
 ghost use Rattle.std.specs.List.{All};
 ghost use Rattle.separation_policy.specs.Closure.{IsClosure};
 ghost use Rattle.quiet_finding.specs.Watched.{watch_of};
-ghost use Rattle.exploration.specs.question.Choice.{IsChoiceOf};
-ghost use Rattle.exploration.specs.question.Question.{choices_of, watch_for};
+ghost use Rattle.questions.specs.Choice.{IsChoiceOf};
+ghost use Rattle.questions.specs.Question.{choices_of, watch_for};
 
-use crate::machine_space::watching::watched_in;
-use crate::question::{Choice, Question};
 use cap_format::OutOfMemory;
+use questions::{Choice, Question, watched_in};
 use quiet_finding::Watched;
 use separation_policy::{Closure, Policy};
 use std::alloc::Global;

@@ -2,8 +2,8 @@
 ghost use Rattle.std.specs.Prelude.{◌≡◌, ◌<◌, IfSome};
 ghost use Rattle.exploration.specs.Explored.{limits_of};
 
-use crate::question::Question;
 use breadth_first::Limits;
+use questions::Question;
 
 /// How far the search for a question goes.
 pub(crate) fn limits_of(question: &Question) -> Limits

@@ -1,18 +1,16 @@
 //! The states of a machine as a space.
 ghost use Rattle.std.specs.Prelude.{◌≡◌, IfOk};
 ghost use Rattle.object_store.specs.Store.{sizes_of};
-ghost use Rattle.exploration.specs.question.Choice.{AreChoices, counted_path};
-ghost use Rattle.exploration.specs.question.Question.{choices_of, watch_for};
+ghost use Rattle.questions.specs.Choice.{AreChoices, counted_path};
+ghost use Rattle.questions.specs.Question.{choices_of, watch_for};
 
-use crate::machine_space::choosing::{chosen, counted};
-use crate::machine_space::looks::Looks;
-use crate::machine_space::watching::watched_in;
-use crate::question::{Choice, Question, first_failing, holds};
 use breadth_first::Space;
 use cap_format::OutOfMemory;
 use machine_state::Records;
+use questions::{Choice, Question, first_failing, holds, watched_in};
 use quiet_finding::Watched;
 use separation_policy::{Closure, Policy, integrity};
+use state_choices::{Looks, chosen, counted};
 use state_parts::{Key, States};
 use std::alloc::{AllocError, Global};
 use std::marker::Model;

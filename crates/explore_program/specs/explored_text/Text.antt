@@ -6,10 +6,10 @@ use Rattle.breadth_first.specs.declared.answer.Explored.{Explored}
 use Rattle.breadth_first.specs.declared.answer.Explored.TheVariants.{Found, Closed, Open}
 use Rattle.breadth_first.specs.declared.answer.Lost.{Lost}
 use Rattle.breadth_first.specs.declared.answer.Size.{Size}
-use Rattle.exploration.specs.declared.question.choice.Choice.{Choice}
-use Rattle.exploration.specs.declared.question.choice.Choice.TheVariants.{Steps, Run, Tick}
-use Rattle.exploration.specs.question.Question.{PropertyValue, is_count, is_ever}
-use Rattle.exploration.specs.Asking.{asking, property_at}
+use Rattle.questions.specs.declared.choice.Choice.{Choice}
+use Rattle.questions.specs.declared.choice.Choice.TheVariants.{Steps, Run, Tick}
+use Rattle.questions.specs.Question.{PropertyValue, is_count, is_ever}
+use Rattle.questions.specs.Asking.{asking, property_at}
 use Rattle.run_text.specs.Each.{each_below}
 
 -- ---- choices, as the lines of a schedule

@@ -5,7 +5,7 @@ ghost use Rattle.explore_program.specs.explored_text.Text.{choice_text, choices_
 
 use coy_io::{Sink, WriteFault, put_bytes};
 use coy_text::LineBuf;
-use exploration::question::Choice;
+use questions::Choice;
 
 /// Writes choices whose steps are counted.
 pub(crate) fn put_choices<K: Sink>(choices: &[Choice], output: &mut K) -> Result<(), WriteFault>

@@ -1,15 +1,14 @@
 //! What was counted.
 ghost use Rattle.std.specs.Prelude.{◌≡◌, ◌≤◌, ◌<◌, ◌+◌, ◌++◌, [], length, slice_index, slice_index_or};
 ghost use Rattle.coy_io.specs.Written.{WroteTo};
-ghost use Rattle.exploration.specs.question.Question.{is_count};
-ghost use Rattle.exploration.specs.Asking.{asking};
+ghost use Rattle.questions.specs.Question.{is_count};
+ghost use Rattle.questions.specs.Asking.{asking};
 ghost use Rattle.explore_program.specs.explored_text.Text.{count_text, counted_text, counts_text, first_text, no_count};
 
 use breadth_first::Count;
 use coy_io::{Sink, WriteFault, put_bytes};
 use coy_text::LineBuf;
-use exploration::line_of;
-use exploration::question::Property;
+use questions::{Property, line_of};
 
 /// Writes a line for each count, where `counted` are the numbers of the properties.
 pub(crate) fn put_counts<K: Sink>(

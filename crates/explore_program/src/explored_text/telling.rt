@@ -1,8 +1,8 @@
 //! What is told of an exploration.
 ghost use Rattle.std.specs.Prelude.{◌≡◌, ◌≤◌, length, codes};
 ghost use Rattle.coy_io.specs.Written.{WroteTo};
-ghost use Rattle.exploration.specs.question.Question.{is_count, is_ever};
-ghost use Rattle.exploration.specs.Asking.{asking};
+ghost use Rattle.questions.specs.Question.{is_count, is_ever};
+ghost use Rattle.questions.specs.Asking.{asking};
 ghost use Rattle.explore_program.specs.explored_text.Text.{closed_text, explored_text, led_to};
 
 use crate::explored_text::choices::put_choices;
@@ -10,8 +10,7 @@ use crate::explored_text::counts::{number_at, put_counts};
 use crate::explored_text::sizes::{put_led, put_size};
 use breadth_first::{Explored, Lost, Size};
 use coy_io::{Sink, WriteFault};
-use exploration::line_of;
-use exploration::question::{Choice, Property};
+use questions::{Choice, Property, line_of};
 
 /// Writes what an exploration came to. `shown` are the choices that lead to the state that it tells, with their steps counted;
 /// `evers` and `counted` are the numbers of the properties that say `ever` and `count`.

@@ -1,7 +1,7 @@
 use Rattle.std.proofs.Common.{List, refl, subst}
 use Rattle.machine_state.specs.State.{state_of}
 use Rattle.courses.specs.Ending.{EndsIn}
-use Rattle.exploration.specs.declared.question.choice.Choice.{Choice}
+use Rattle.questions.specs.declared.choice.Choice.{Choice}
 use Rattle.explore_program.specs.Told.{told_by, told_with}
 use Rattle.explore_program.proofs.Setting.{nothing_told}
 use Rattle.explore_program.proofs.Verdicts.{answer-finished, done-holds, stepwise-within}

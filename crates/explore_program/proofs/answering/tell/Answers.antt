@@ -3,8 +3,8 @@ use Rattle.coy_io.specs.Written.{Wrote}
 use Rattle.courses.specs.Ending.{Ends}
 use Rattle.courses.specs.declared.exit.Exit.{Exit}
 use Rattle.explore_program.specs.explored_text.Text.{explored_text}
-use Rattle.exploration.specs.question.Question.{PropertyValue}
-use Rattle.exploration.specs.declared.question.choice.Choice.{Choice}
+use Rattle.questions.specs.Question.{PropertyValue}
+use Rattle.questions.specs.declared.choice.Choice.{Choice}
 use Rattle.explore_program.specs.Told.{exit_of, told_with, written_exit}
 use Rattle.explore_program.proofs.Verdicts.{answer-finished, ends-written}
 use Rattle.explore_program.proofs.answering.tell.Goals as goal

@@ -1,7 +1,7 @@
 use Rattle.std.proofs.Common.{◌≡◌, ◌∙◌, ◌==◌, Bool, true, false, if◌then◌else◌, List, length, Result, Ok, sym, ap, subst}
 use Rattle.std.proofs.lemmas.Bool.{eq-eqb, ne_eqb}
 use Rattle.coy_text.specs.Words.{words_of}
-use Rattle.exploration.specs.declared.question.atom.Atom.{Atom}
+use Rattle.questions.specs.declared.atom.Atom.{Atom}
 use Rattle.listing_read.specs.declared.object_fault.QuestionFault.{QuestionFault}
 use Rattle.question_lines.specs.AtomLine.{atoms_from}
 use Rattle.question_lines.specs.QuestionLine.{IsUntaken}

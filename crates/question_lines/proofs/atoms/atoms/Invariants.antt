@@ -1,7 +1,7 @@
 use Rattle.std.proofs.Common.{◌≡◌, length}
 use Rattle.std.specs.List.{All}
 use Rattle.coy_text.specs.Words.{words_of}
-use Rattle.exploration.specs.question.Atom.{IsAtomOf}
+use Rattle.questions.specs.Atom.{IsAtomOf}
 use Rattle.question_lines.specs.AtomLine.{atoms_from}
 use Rattle.question_lines.proofs.Parting.{behind}
 use Rattle.question_lines.proofs.atoms.atoms.Given as goal

@@ -1,6 +1,6 @@
 use Rattle.std.proofs.Common.{ℕ, List, subst, sym}
-use Rattle.exploration.specs.question.Choice.{AreChoices}
-use Rattle.exploration.specs.question.Question.{QuestionValue, choices_of}
+use Rattle.questions.specs.Choice.{AreChoices}
+use Rattle.questions.specs.Question.{QuestionValue, choices_of}
 use Rattle.exploration.proofs.Shown.{answer-choices}
 use Rattle.exploration.proofs.machine_space.exploring.explore_machine.Goals as goal
 

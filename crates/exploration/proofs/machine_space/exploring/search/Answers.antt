@@ -1,8 +1,8 @@
 use Rattle.std.proofs.Common.{◌∙◌, List, ap, refl, sym}
 use Rattle.machine_state.specs.State.{State}
 use Rattle.breadth_first.specs.System.{System}
-use Rattle.exploration.specs.question.Question.{PropertyValue, QuestionValue, is_count, is_ever}
-use Rattle.exploration.specs.Asking.{asking}
+use Rattle.questions.specs.Question.{PropertyValue, QuestionValue, is_count, is_ever}
+use Rattle.questions.specs.Asking.{asking}
 use Rattle.exploration.specs.Explored.{limits_of}
 use Rattle.exploration.proofs.Spaces.{answered, asked-there}
 use Rattle.exploration.proofs.machine_space.exploring.search.Goals as goal

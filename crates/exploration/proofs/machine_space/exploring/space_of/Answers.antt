@@ -1,6 +1,6 @@
 use Rattle.std.proofs.Common.{◌∙◌, subst, sym}
 use Rattle.machine_state.specs.State.{State}
-use Rattle.exploration.specs.question.Question.{IsIndifferent}
+use Rattle.questions.specs.Question.{IsIndifferent}
 use Rattle.exploration.proofs.machine_space.exploring.space_of.Goals as goal
 
 pub invariant_of-result : goal.invariant_of-result

@@ -3,7 +3,7 @@ use Rattle.map_cache.specs.Cache.{CacheValue}
 use Rattle.machine_state.specs.Machine.{MachineValue}
 use Rattle.machine_state.specs.State.{State, state_of}
 use Rattle.state_parts.specs.Space.{state_in}
-use Rattle.exploration.specs.question.Question.{IsIndifferent, holds}
+use Rattle.questions.specs.Question.{IsIndifferent, holds}
 use Rattle.exploration.proofs.machine_space.space.MachineSpaceSpace.passes.Goals as goal
 
 pub go-requires : goal.go-requires

@@ -2,8 +2,8 @@ use Rattle.std.proofs.Common.{◌<◌, length, ap, arith, subst, sym}
 use Rattle.machine_state.specs.State.{State}
 use Rattle.quiet_finding.specs.Watched.{watch_of}
 use Rattle.state_parts.specs.Space.{state_in}
-use Rattle.exploration.specs.question.Choice.{choice_events}
-use Rattle.exploration.specs.question.Question.{IsIndifferent}
+use Rattle.questions.specs.Choice.{choice_events}
+use Rattle.questions.specs.Question.{IsIndifferent}
 use Rattle.exploration.proofs.Spaces.{indifferent-run, keeps_grown, next-means, space_grown}
 use Rattle.exploration.proofs.machine_space.space.MachineSpaceSpace.successor.Goals as goal
 

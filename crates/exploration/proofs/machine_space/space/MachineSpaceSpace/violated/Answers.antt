@@ -3,7 +3,7 @@ use Rattle.map_cache.specs.Cache.{CacheValue}
 use Rattle.machine_state.specs.Machine.{MachineValue}
 use Rattle.machine_state.specs.State.{State, state_of}
 use Rattle.state_parts.specs.Space.{state_in}
-use Rattle.exploration.specs.question.Question.{IsIndifferent, first_failing}
+use Rattle.questions.specs.Question.{IsIndifferent, first_failing}
 use Rattle.exploration.proofs.machine_space.space.MachineSpaceSpace.violated.Goals as goal
 
 pub first_failing-requires-clause-indifferent : goal.first_failing-requires-clause-indifferent

@@ -1,7 +1,0 @@
-use Rattle.std.proofs.Common.{◌≡◌, false}
-use Rattle.separation_check.specs.Crossings.{all_below, crossing_by, listed, stored_cap}
-use Rattle.exploration.specs.question.Atom.{is_any}
-use Rattle.exploration.proofs.question.crossing.object_crosses.Given as goal
-
-abbrev pub invariant-each : goal.invariant-each
-invariant-each g l = is_any (all_below (λ i. listed (crossing_by l.policy l.kind l.n i (stored_cap l.objects l.kind l.n i))) l.i) ≡ false

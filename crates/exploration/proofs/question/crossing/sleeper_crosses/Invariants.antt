@@ -1,7 +1,0 @@
-use Rattle.std.proofs.Common.{◌≡◌, false}
-use Rattle.separation_check.specs.Crossings.{all_below, process_crossings}
-use Rattle.exploration.specs.question.Atom.{is_any}
-use Rattle.exploration.proofs.question.crossing.sleeper_crosses.Given as goal
-
-abbrev pub invariant-each : goal.invariant-each
-invariant-each l = is_any (all_below (process_crossings l.policy l.queues) l.p) ≡ false

@@ -1,7 +1,0 @@
-use Rattle.std.proofs.Common.{◌≡◌, true, take}
-use Rattle.machine_state.specs.State.{state_of}
-use Rattle.exploration.specs.question.Atom.{all_hold}
-use Rattle.exploration.proofs.question.judging.all_hold.Given as goal
-
-abbrev pub invariant-each : goal.invariant-each
-invariant-each g l = all_hold l.crossing (state_of l.machine) (take l.atom-index l.atoms) ≡ true

@@ -1,7 +1,0 @@
-use Rattle.std.proofs.Common.{◌≡◌, ◌<◌, ℕ, false, slice_index_or}
-use Rattle.machine_state.specs.State.{state_of}
-use Rattle.exploration.specs.question.Question.{PropertyValue, fails}
-use Rattle.exploration.proofs.question.judging.failing.Given as goal
-
-abbrev pub invariant-each : goal.invariant-each
-invariant-each g l = (k : ℕ) (d : PropertyValue) → k < l.i → fails l.crossing (state_of l.machine) (slice_index_or l.properties k d) ≡ false

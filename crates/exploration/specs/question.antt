@@ -1,3 +1,0 @@
-pub mod Choice
-pub mod Atom
-pub mod Question

@@ -1,0 +1,8 @@
+pub mod Numbers
+pub mod Reading
+pub mod Choices
+pub mod Some
+pub mod Any
+pub mod First
+pub mod About
+mod Collecting

@@ -1,0 +1,19 @@
+use Rattle.std.proofs.Common.{◌∙◌, sym, arith}
+use Rattle.object_store.specs.Meaning.{state_map}
+use Rattle.object_store.specs.Places.{cap_in, places_in}
+use Rattle.quiet_runs.specs.Reaching.{names}
+use Rattle.questions.proofs.Some.{some-here, some-more, some-zero}
+use Rattle.questions.proofs.object_holds.object_holds.Goals as goal
+
+pub each-init : goal.each-init
+each-init g c = some-zero (λ i. names (cap_in (state_map c.args.objects.now) c.args.kind c.args.n i) c.args.of c.args.named)
+
+pub returns-then-place_holds : goal.returns-then-place_holds
+returns-then-place_holds g c =
+    sym (some-here (λ i. names (cap_in (state_map c.args.objects.now) c.args.kind c.args.n i) c.args.of c.args.named) (places_in c.args.kind) c.each.i
+    (omega (arith, c.places-i-end.ensures, c.each-test.true)) (sym c.place_holds.ensures ∙ c.if-place_holds.true))
+
+pub each-preserved : goal.each-preserved
+each-preserved g c =
+    some-more (λ i. names (cap_in (state_map c.args.objects.now) c.args.kind c.args.n i) c.args.of c.args.named) c.each.i c.each.invariant
+    (sym c.place_holds.ensures ∙ c.if-place_holds.false)

@@ -1,0 +1,4 @@
+pub mod Choice
+pub mod Atom
+pub mod Question
+pub mod Asking

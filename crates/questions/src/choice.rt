@@ -1,0 +1,34 @@
+//! What may come next.
+ghost use Rattle.std.specs.Prelude.{◌≡◌, ◌≤◌, ◌++◌, ◌∷◌, IfOk};
+ghost use Rattle.std.specs.List.{All};
+ghost use Rattle.questions.specs.Choice.{IsChoiceOf, step_below, tick_below, all_choices};
+
+use cap_format::OutOfMemory;
+use std::alloc::Global;
+
+/// One choice of what comes next.
+#[derive(Clone, Copy)]
+pub enum Choice {
+    /// So many steps of one hart, 1 to 1,000,000.
+    Steps { hart: u8, times: u32 },
+    /// A step of a hart, and then its steps that are quiet: as long as the next one is, and no more than 4,096.
+    Run { hart: u8 },
+    /// A tick of a hart's timer.
+    Tick { hart: u8 },
+}
+
+/// All choices of one event on a machine with so many harts: a step of each hart, and then a tick of each.
+#[tactic(auto, using(crate::proofs::Choices::step_more, crate::proofs::Choices::tick_more, crate::proofs::Choices::steps_none, crate::proofs::Choices::ticks_none))]
+pub fn all_choices(alloc: Global, harts: u8) -> Result<Vec<Choice>, OutOfMemory>
+    ensures value { IfOk result (λ choices. choices.items ≡ all_choices harts) }
+    ensures range { IfOk result (λ choices. All (IsChoiceOf harts) choices.items) }
+{
+    let mut choices = Vec::new(alloc);
+    'steps: for hart in 0..harts {
+        choices.push(Choice::Steps { hart, times: 1 })?;
+    }
+    'ticks: for hart in 0..harts {
+        choices.push(Choice::Tick { hart })?;
+    }
+    Ok(choices)
+}

@@ -1,0 +1,27 @@
+//! Questions about all states that a machine can come to: what may come next, what must not or can always be, and the judging
+//! of one machine by reading it.
+//!
+//! Nothing here knows how lines state a question, or how states are gone through.
+#![tactic(auto)]
+
+mod asks;
+mod atom;
+mod choice;
+mod crossing;
+mod judging;
+mod object_holds;
+mod properties;
+mod property;
+mod question;
+mod standing;
+mod watching;
+
+pub use asks::Asks;
+pub use atom::{Atom, Condition};
+pub use choice::{Choice, all_choices};
+pub use crossing::crosses;
+pub use judging::{first_failing, holds, is_indifferent};
+pub use properties::{asking, line_of};
+pub use property::Property;
+pub use question::Question;
+pub use watching::watched_in;

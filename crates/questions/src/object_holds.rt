@@ -1,0 +1,61 @@
+//! What an object holds.
+ghost use Rattle.std.specs.Prelude.{◌≡◌, ◌<◌};
+ghost use Rattle.object_store.specs.Store.{size_of};
+ghost use Rattle.object_store.specs.Meaning.{state_map};
+ghost use Rattle.object_store.specs.Places.{cap_in, places_in};
+ghost use Rattle.quiet_runs.specs.Reaching.{names};
+ghost use Rattle.questions.specs.Atom.{object_holds};
+
+use cap_format::{Cap, CapKind};
+use object_store::{Objects, cap_in, places};
+use std::sync::ledger::Ledger;
+use steps::Steps;
+
+/// Whether a capability names an object; an entry names its endpoint.
+fn names_object(cap: Cap, of: CapKind, named: u16) -> bool
+    ensures { result ≡ names cap of named }
+{
+    let kind = cap.kind();
+    kind.is_counted() && kind.object_kind() == of && cap.object() == named as u32
+}
+
+/// Whether the capability in a place of an object names another, where it is live.
+fn place_holds<L: Ledger>(
+    objects: &Objects,
+    kind: CapKind,
+    n: u16,
+    i: u16,
+    of: CapKind,
+    named: u16,
+    fetches: &mut Steps<L>,
+) -> bool
+    requires there { n < size_of objects.now.items kind }
+    requires place { i < places_in kind }
+    ensures { result ≡ names (cap_in (state_map objects.now) kind n i) of named }
+{
+    names_object(
+        objects.live(cap_in(objects, kind, n, i, fetches)),
+        of,
+        named,
+    )
+}
+
+/// Whether an object holds, in any of its places, a live capability that names another.
+pub(crate) fn object_holds<L: Ledger>(
+    objects: &Objects,
+    kind: CapKind,
+    n: u16,
+    of: CapKind,
+    named: u16,
+    fetches: &mut Steps<L>,
+) -> bool
+    requires { n < size_of objects.now.items kind }
+    ensures { result ≡ object_holds (state_map objects.now) kind n of named }
+{
+    'each: for i in 0..places(kind) {
+        if place_holds(objects, kind, n, i, of, named, fetches) {
+            return true;
+        }
+    }
+    false
+}

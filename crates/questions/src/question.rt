@@ -1,0 +1,123 @@
+//! A question about all states that a machine can come to.
+ghost use Rattle.std.specs.Prelude.{◌≡◌, ◌<◌, ◌≤◌, OnOk, OnErr, IfOk, length, IfSome};
+ghost use Rattle.std.specs.List.{All};
+ghost use Rattle.questions.specs.Choice.{IsChoiceOf};
+ghost use Rattle.questions.specs.Question.{IsPropertyOf, nothing_asked, with_choice, with_property, with_depth, with_states, choices_of};
+
+use crate::choice::{Choice, all_choices};
+use crate::property::Property;
+use cap_format::OutOfMemory;
+use object_store::Sizes;
+use std::alloc::Global;
+use std::marker::Model;
+
+/// What may come next, what is asked of the states that are reached, and how far they are gone through.
+#[derive(Drop)]
+pub struct Question {
+    sizes: Sizes,
+    choices: Vec<Choice>,
+    properties: Vec<Property>,
+    depth: Option<u32>,
+    states: Option<u32>,
+}
+
+impl Model for Question {
+    ghost use Rattle.questions.specs.Question.{QuestionValue, IsQuestion, question_of};
+
+    ghost Value = { QuestionValue };
+
+    ghost view = { λ q. question_of q.sizes q.choices.items q.properties.items q.depth q.states };
+
+    ghost invariant = { λ q. IsQuestion (question_of q.sizes q.choices.items q.properties.items q.depth q.states) };
+}
+
+impl Question {
+    /// Nothing is asked yet of a machine of these sizes.
+    pub fn new(alloc: Global, sizes: Sizes) -> Question
+        ensures { result ≡ nothing_asked sizes }
+    {
+        Question {
+            sizes,
+            choices: Vec::new(alloc),
+            properties: Vec::new(alloc),
+            depth: None,
+            states: None,
+        }
+    }
+
+    /// The sizes of the machine that is asked about.
+    pub fn sizes(&self) -> Sizes
+        ensures { result ≡ self.now.sizes }
+    {
+        self.sizes
+    }
+
+    /// The choices, in the order in which they are tried: those that were stated, or each event of each hart.
+    pub fn choices(&self, alloc: Global) -> Result<Vec<Choice>, OutOfMemory>
+        ensures value { IfOk result (λ choices. choices.items ≡ choices_of self.now) }
+        ensures range { IfOk result (λ choices. All (IsChoiceOf self.now.sizes.harts) choices.items) }
+    {
+        if self.choices.is_empty() {
+            return all_choices(alloc, self.sizes.harts);
+        }
+        Ok(self.choices.to_vec(alloc)?)
+    }
+
+    /// What is asked, in the order of the lines.
+    pub fn properties(&self) -> &[Property]
+        ensures value { result.now ≡ self.now.properties }
+        ensures range { All (IsPropertyOf self.now.sizes) result.now }
+    {
+        &self.properties
+    }
+
+    /// How many choices lead to the last states that are gone on from, if that is limited.
+    pub fn depth(&self) -> Option<u32>
+        ensures { result ≡ self.now.depth }
+    {
+        self.depth
+    }
+
+    /// How many states are kept, at least 1, if that is limited.
+    pub fn states(&self) -> Option<u32>
+        ensures value { result ≡ self.now.states }
+        ensures some { IfSome result (λ most. 1 ≤ most) }
+    {
+        self.states
+    }
+
+    /// States a choice.
+    pub fn may(&mut self, choice: Choice) -> Result<(), OutOfMemory>
+        requires { IsChoiceOf self.old.sizes.harts choice }
+        ensures ok { OnOk result (self.new ≡ with_choice self.old choice) }
+        ensures err { OnErr result (self.new ≡ self.old) }
+    {
+        self.choices.push(choice)?;
+        Ok(())
+    }
+
+    /// Asks something.
+    pub fn ask(&mut self, property: Property) -> Result<(), OutOfMemory>
+        requires { IsPropertyOf self.old.sizes property }
+        ensures ok { OnOk result (self.new ≡ with_property self.old property) }
+        ensures err { OnErr result (self.new ≡ self.old) }
+    {
+        self.properties.push(property)?;
+        Ok(())
+    }
+
+    /// Goes no further than so many choices.
+    pub fn limit_depth(&mut self, depth: u32)
+        ensures { self.new ≡ with_depth self.old depth }
+    {
+        self.depth = Some(depth);
+    }
+
+    /// Keeps no more than so many states.
+    pub fn limit_states(&mut self, states: u32)
+        requires { 1 ≤ states }
+        ensures { self.new ≡ with_states self.old states }
+    {
+        self.states = Some(states);
+    }
+}

@@ -1,0 +1,3 @@
+pub mod Performed
+mod Quiet
+mod Counting

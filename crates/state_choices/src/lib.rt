@@ -1,0 +1,11 @@
+//! What a choice of a question does to the states of a machine: so many steps of a hart, a step with the quiet ones after it, or
+//! a tick.
+//!
+//! It joins what keeps states and what finds quiet steps. Nothing here knows of properties, of policies or of a search.
+#![tactic(auto)]
+
+mod choosing;
+mod looks;
+
+pub use choosing::{chosen, counted};
+pub use looks::Looks;
