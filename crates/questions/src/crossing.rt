@@ -1,8 +1,9 @@
 //! Whether a policy holds of a machine, found without memory: what crosses is not told.
-ghost use Rattle.std.specs.Prelude.{◌≡◌, ◌<◌, ◌↔◌, false, is_some, length};
+ghost use Rattle.std.specs.Prelude.{◌≡◌, ◌<◌, ◌≤◌, ◌+◌, ◌*◌, ◌↔◌, false, is_some, length};
 ghost use Rattle.object_store.specs.Store.{size_of};
 ghost use Rattle.machine_state.specs.State.{state_of};
-ghost use Rattle.object_store.specs.Places.{places_in};
+ghost use Rattle.cap_format.specs.declared.kind.CapKind.TheVariants.{Gpt};
+ghost use Rattle.object_store.specs.Places.{object_reads, places_in};
 ghost use Rattle.confinement.specs.Acts.{system_of};
 ghost use Rattle.separation_policy.specs.Closure.{IsClosure};
 ghost use Rattle.separation_policy.specs.Policy.{PolicyHolds};
@@ -20,7 +21,8 @@ use std::sync::ledger::Ledger;
 use steps::Steps;
 use walk_engine::Translator;
 
-/// Whether something in a machine is not allowed by the policy, of which this is the closure.
+/// Whether something in a machine is not allowed by the policy, of which this is the closure. Each slot of a GPT is read once,
+/// but none after the first that crosses.
 pub fn crosses<T: Translator, L: Ledger>(
     machine: &Machine<T>,
     policy: &Policy,
@@ -30,6 +32,9 @@ pub fn crosses<T: Translator, L: Ledger>(
     requires { IsClosure policy.now closure.now }
     ensures value { result ≡ crosses policy.now (state_of machine.now) }
     ensures exactly { (result ≡ false) ↔ PolicyHolds policy.now (system_of (state_of machine.now)) }
+    ensures counted { result ≡ false → fetches.new ≡ fetches.old + 16 * size_of machine.now.objects.items Gpt }
+    ensures least { fetches.old ≤ fetches.new }
+    ensures most { fetches.new ≤ fetches.old + 16 * size_of machine.now.objects.items Gpt }
 {
     tell_full(machine.objects());
     any_crosses(
@@ -59,7 +64,10 @@ fn any_crosses<L: Ledger>(
 ) -> bool
     requires closure { IsClosure policy.now closure.now }
     requires processes { length queues.now.sleepers ≡ size_of objects.now.items CapKind.Process }
-    ensures { result ≡ is_any (crossings_of policy.now objects.now queues.now) }
+    ensures value { result ≡ is_any (crossings_of policy.now objects.now queues.now) }
+    ensures counted { result ≡ false → fetches.new ≡ fetches.old + 16 * size_of objects.now.items Gpt }
+    ensures least { fetches.old ≤ fetches.new }
+    ensures most { fetches.new ≤ fetches.old + 16 * size_of objects.now.items Gpt }
 {
     if capability_crosses(objects, policy, closure, fetches) {
         return true;
@@ -75,7 +83,10 @@ fn capability_crosses<L: Ledger>(
     fetches: &mut Steps<L>,
 ) -> bool
     requires { IsClosure policy.now closure.now }
-    ensures { result ≡ is_any (capability_crossings policy.now (stored_cap objects.now) objects.now) }
+    ensures value { result ≡ is_any (capability_crossings policy.now (stored_cap objects.now) objects.now) }
+    ensures counted { result ≡ false → fetches.new ≡ fetches.old + 16 * size_of objects.now.items Gpt }
+    ensures least { fetches.old ≤ fetches.new }
+    ensures most { fetches.new ≤ fetches.old + 16 * size_of objects.now.items Gpt }
 {
     let in_pages = kind_crosses(objects, policy, closure, CapKind::CapPage, fetches);
     if in_pages {
@@ -101,8 +112,12 @@ fn kind_crosses<L: Ledger>(
     fetches: &mut Steps<L>,
 ) -> bool
     requires { IsClosure policy.now closure.now }
-    ensures { result ≡ is_any
+    ensures value { result ≡ is_any
         (kind_crossings policy.now (stored_cap objects.now) kind (size_of objects.now.items kind)) }
+    ensures counted { result ≡ false →
+        fetches.new ≡ fetches.old + object_reads kind * size_of objects.now.items kind }
+    ensures least { fetches.old ≤ fetches.new }
+    ensures most { fetches.new ≤ fetches.old + object_reads kind * size_of objects.now.items kind }
 {
     'each: for n in 0..size(objects, kind) {
         if object_crosses(objects, policy, closure, kind, n, fetches) {
@@ -123,7 +138,10 @@ fn object_crosses<L: Ledger>(
 ) -> bool
     requires closure { IsClosure policy.now closure.now }
     requires there { n < size_of objects.now.items kind }
-    ensures { result ≡ is_any (object_crossings policy.now (stored_cap objects.now) kind n) }
+    ensures value { result ≡ is_any (object_crossings policy.now (stored_cap objects.now) kind n) }
+    ensures counted { result ≡ false → fetches.new ≡ fetches.old + object_reads kind }
+    ensures least { fetches.old ≤ fetches.new }
+    ensures most { fetches.new ≤ fetches.old + object_reads kind }
 {
     'each: for i in 0..places(kind) {
         let cap = stored_cap(objects, kind, n, i, fetches);

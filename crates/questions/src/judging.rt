@@ -1,13 +1,13 @@
 //! One machine, judged by reading it.
-ghost use Rattle.std.specs.Prelude.{◌≡◌, ◌<◌, ◌≤◌, ◌+◌, ◌||◌, not, length, IsTrue};
-ghost use Rattle.std.specs.List.{All, list_any, position};
-ghost use Rattle.cap_format.specs.declared.kind.CapKind.TheVariants.{Process};
+ghost use Rattle.std.specs.Prelude.{◌≡◌, ◌<◌, ◌≤◌, ◌+◌, ◌*◌, ◌||◌, not, false, length, slice_index_or, [], IsTrue};
+ghost use Rattle.std.specs.List.{All, list_any, position, sum_by};
+ghost use Rattle.cap_format.specs.declared.kind.CapKind.TheVariants.{Gpt, Process};
 ghost use Rattle.object_store.specs.Store.{size_of, sizes_of};
 ghost use Rattle.machine_state.specs.State.{state_of, process};
 ghost use Rattle.questions.specs.Atom.{IsAtomOf, IsConditionOf, all_hold, atom_holds, condition_holds, crosses, has_word, is_faulted, is_faulted_by, is_receiving, is_stuck};
 ghost use Rattle.separation_policy.specs.Closure.{IsClosure};
 ghost use Rattle.quiet_runs.specs.Finding.{runs};
-ghost use Rattle.questions.specs.Question.{IsPropertyOf, IsIndifferent, fails, first_failing, holds, is_about_policy};
+ghost use Rattle.questions.specs.Question.{IsPropertyOf, IsIndifferent, fails, first_failing, holds, is_about_policy, property_of};
 
 use crate::asks::Asks;
 use crate::atom::{Atom, Condition};
@@ -38,12 +38,16 @@ pub fn is_indifferent<T: Translator, L: Ledger>(
     ensures value { result ≡
         (not (list_any is_about_policy question.now.properties) || not (crosses policy.now (state_of machine.now))) }
     ensures indifferent { IsTrue result → IsIndifferent question.now policy.now (state_of machine.now) }
+    ensures unasked { list_any is_about_policy question.now.properties ≡ false → fetches.new ≡ fetches.old }
+    ensures least { fetches.old ≤ fetches.new }
+    ensures most { fetches.new ≤ fetches.old + 16 * size_of machine.now.objects.items Gpt }
 {
     !ask_policy(question.properties()) || !crosses(machine, policy, closure, fetches)
 }
 
 /// The first `never` of a question that fails in the state of a machine, by its number among the properties. The policy is
-/// looked at only where it may make a difference (not `indifferent`).
+/// looked at only where it may make a difference (not `indifferent`): then each slot of a GPT is read once at most, and for
+/// each atom the slots of one GPT.
 pub fn first_failing<T: Translator, L: Ledger>(
     question: &Question,
     policy: &Policy,
@@ -55,7 +59,12 @@ pub fn first_failing<T: Translator, L: Ledger>(
     requires sizes { question.now.sizes ≡ sizes_of machine.now.objects }
     requires closure { IsClosure policy.now closure.now }
     requires indifferent { IsTrue indifferent → IsIndifferent question.now policy.now (state_of machine.now) }
-    ensures { result ≡ first_failing question.now policy.now (state_of machine.now) }
+    ensures value { result ≡ first_failing question.now policy.now (state_of machine.now) }
+    ensures least { fetches.old ≤ fetches.new }
+    ensures most { fetches.new ≤ fetches.old + 16 * size_of machine.now.objects.items Gpt
+        + 16 * sum_by (λ property. length property.atoms) question.now.properties }
+    ensures few { IsTrue indifferent → fetches.new ≤ fetches.old
+        + 16 * sum_by (λ property. length property.atoms) question.now.properties }
 {
     let properties = question.properties();
     if indifferent {
@@ -81,7 +90,12 @@ pub fn holds<T: Translator, L: Ledger>(
     requires closure { IsClosure policy.now closure.now }
     requires indifferent { IsTrue indifferent → IsIndifferent question.now policy.now (state_of machine.now) }
     requires there { property < length question.now.properties }
-    ensures { result ≡ holds question.now policy.now (state_of machine.now) property }
+    ensures value { result ≡ holds question.now policy.now (state_of machine.now) property }
+    ensures least { fetches.old ≤ fetches.new }
+    ensures most { let asked = slice_index_or question.now.properties property (property_of 0 Asks.Never []) in
+        fetches.new ≤ fetches.old + 16 * size_of machine.now.objects.items Gpt + 16 * length asked.atoms }
+    ensures few { let asked = slice_index_or question.now.properties property (property_of 0 Asks.Never []) in
+        IsTrue indifferent → fetches.new ≤ fetches.old + 16 * length asked.atoms }
 {
     let property = &question.properties()[property];
     if indifferent {
@@ -120,7 +134,9 @@ fn failing<T: Translator, L: Ledger>(
     fetches: &mut Steps<L>,
 ) -> Option<usize>
     requires { All (IsPropertyOf (sizes_of machine.now.objects)) properties.now }
-    ensures { result ≡ position (fails crossing (state_of machine.now)) properties.now }
+    ensures value { result ≡ position (fails crossing (state_of machine.now)) properties.now }
+    ensures least { fetches.old ≤ fetches.new }
+    ensures most { fetches.new ≤ fetches.old + 16 * sum_by (λ property. length property.atoms) properties.now }
 {
     'each: for i in 0..properties.len() {
         if fails(&properties[i], crossing, machine, fetches) {
@@ -138,7 +154,9 @@ fn fails<T: Translator, L: Ledger>(
     fetches: &mut Steps<L>,
 ) -> bool
     requires { IsPropertyOf (sizes_of machine.now.objects) property.now }
-    ensures { result ≡ fails crossing (state_of machine.now) property.now }
+    ensures value { result ≡ fails crossing (state_of machine.now) property.now }
+    ensures least { fetches.old ≤ fetches.new }
+    ensures most { fetches.new ≤ fetches.old + 16 * length property.now.atoms }
 {
     matches!(property.asks(), Asks::Never) && all_hold(property.atoms(), crossing, machine, fetches)
 }
@@ -151,7 +169,9 @@ fn all_hold<T: Translator, L: Ledger>(
     fetches: &mut Steps<L>,
 ) -> bool
     requires { All (IsAtomOf (sizes_of machine.now.objects)) atoms.now }
-    ensures { result ≡ all_hold crossing (state_of machine.now) atoms.now }
+    ensures value { result ≡ all_hold crossing (state_of machine.now) atoms.now }
+    ensures least { fetches.old ≤ fetches.new }
+    ensures most { fetches.new ≤ fetches.old + 16 * length atoms.now }
 {
     'each: for atom in atoms {
         if !atom_holds(*atom, crossing, machine, fetches) {
@@ -169,13 +189,15 @@ fn atom_holds<T: Translator, L: Ledger>(
     fetches: &mut Steps<L>,
 ) -> bool
     requires { IsAtomOf (sizes_of machine.now.objects) atom }
-    ensures { result ≡ atom_holds crossing (state_of machine.now) atom }
+    ensures value { result ≡ atom_holds crossing (state_of machine.now) atom }
+    ensures least { fetches.old ≤ fetches.new }
+    ensures most { fetches.new ≤ fetches.old + 16 }
 {
     let holds = condition_holds(atom.condition, crossing, machine, fetches);
     if atom.negated { !holds } else { holds }
 }
 
-/// Whether a condition does.
+/// Whether a condition does. At most the slots of one GPT are read.
 fn condition_holds<T: Translator, L: Ledger>(
     condition: Condition,
     crossing: bool,
@@ -183,7 +205,9 @@ fn condition_holds<T: Translator, L: Ledger>(
     fetches: &mut Steps<L>,
 ) -> bool
     requires { IsConditionOf (sizes_of machine.now.objects) condition }
-    ensures { result ≡ condition_holds crossing condition (state_of machine.now) }
+    ensures value { result ≡ condition_holds crossing condition (state_of machine.now) }
+    ensures least { fetches.old ≤ fetches.new }
+    ensures most { fetches.new ≤ fetches.old + 16 }
 {
     let objects = machine.objects();
     match condition {

@@ -1,8 +1,8 @@
 //! What an object holds.
-ghost use Rattle.std.specs.Prelude.{◌≡◌, ◌<◌};
+ghost use Rattle.std.specs.Prelude.{◌≡◌, ◌<◌, ◌≤◌, ◌+◌};
 ghost use Rattle.object_store.specs.Store.{size_of};
 ghost use Rattle.object_store.specs.Meaning.{state_map};
-ghost use Rattle.object_store.specs.Places.{cap_in, places_in};
+ghost use Rattle.object_store.specs.Places.{cap_in, object_reads, places_in, reads_in};
 ghost use Rattle.quiet_runs.specs.Reaching.{names};
 ghost use Rattle.questions.specs.Atom.{object_holds};
 
@@ -31,7 +31,8 @@ fn place_holds<L: Ledger>(
 ) -> bool
     requires there { n < size_of objects.now.items kind }
     requires place { i < places_in kind }
-    ensures { result ≡ names (cap_in (state_map objects.now) kind n i) of named }
+    ensures value { result ≡ names (cap_in (state_map objects.now) kind n i) of named }
+    ensures counted { fetches.new ≡ fetches.old + reads_in kind }
 {
     names_object(
         objects.live(cap_in(objects, kind, n, i, fetches)),
@@ -40,7 +41,7 @@ fn place_holds<L: Ledger>(
     )
 }
 
-/// Whether an object holds, in any of its places, a live capability that names another.
+/// Whether an object holds, in any of its places, a live capability that names another. Each slot of a GPT is read once at most.
 pub(crate) fn object_holds<L: Ledger>(
     objects: &Objects,
     kind: CapKind,
@@ -50,7 +51,9 @@ pub(crate) fn object_holds<L: Ledger>(
     fetches: &mut Steps<L>,
 ) -> bool
     requires { n < size_of objects.now.items kind }
-    ensures { result ≡ object_holds (state_map objects.now) kind n of named }
+    ensures value { result ≡ object_holds (state_map objects.now) kind n of named }
+    ensures least { fetches.old ≤ fetches.new }
+    ensures most { fetches.new ≤ fetches.old + object_reads kind }
 {
     'each: for i in 0..places(kind) {
         if place_holds(objects, kind, n, i, of, named, fetches) {

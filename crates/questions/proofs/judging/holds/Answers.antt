@@ -8,23 +8,23 @@ use Rattle.questions.specs.Question.{PropertyValue, property_holds, property_of}
 use Rattle.questions.proofs.About.{all-alike, indifferent-holds}
 use Rattle.questions.proofs.judging.holds.Goals as goal
 
-pub returns-then-indifferent : goal.returns-then-indifferent
-returns-then-indifferent g c =
+pub returns-then-indifferent-clause-value : goal.returns-then-indifferent-clause-value
+returns-then-indifferent-clause-value g c =
     let s : State = state_of c.args.machine.now in
     let p = c.index-properties-property.result in
     let within : c.args.property < length c.properties.result.now = omega (arith, c.requires.there, ap length c.properties.ensures.value) in
     let there = get_or_read c.properties.result.now c.args.property p within c.index-properties-property.is (property_of 0 Never []) in
-    c.all_hold.ensures ∙ ap (λ (atoms : List Atom). all_hold false s atoms) c.atoms.ensures
+    c.all_hold.ensures.value ∙ ap (λ (atoms : List Atom). all_hold false s atoms) c.atoms.ensures
     ∙ ap (property_holds false s) (there ∙ ap (λ (ps : List PropertyValue). get_or ps c.args.property (property_of 0 Never [])) c.properties.ensures.value)
     ∙ indifferent-holds c.args.question.now c.args.policy.now s c.tell_uncrossed.ensures c.args.property (property_of 0 Never []) c.requires.there (c.requires.indifferent c.if-indifferent.true)
 
-pub returns : goal.returns
-returns g c =
+pub returns-clause-value : goal.returns-clause-value
+returns-clause-value g c =
     let s : State = state_of c.args.machine.now in
     let crossing = crosses c.args.policy.now s in
     let p = c.index-properties-property.result in
     let within : c.args.property < length c.properties.result.now = omega (arith, c.requires.there, ap length c.properties.ensures.value) in
     let there = get_or_read c.properties.result.now c.args.property p within c.index-properties-property.is (property_of 0 Never []) in
-    c.all_hold-2.ensures ∙ ap (λ (atoms : List Atom). all_hold false s atoms) c.atoms-2.ensures
+    c.all_hold-2.ensures.value ∙ ap (λ (atoms : List Atom). all_hold false s atoms) c.atoms-2.ensures
     ∙ all-alike false crossing s p.atoms (sym c.about_policy.ensures ∙ c.if-about_policy.false)
     ∙ ap (property_holds crossing s) (there ∙ ap (λ (ps : List PropertyValue). get_or ps c.args.property (property_of 0 Never [])) c.properties.ensures.value)

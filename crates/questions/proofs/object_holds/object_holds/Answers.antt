@@ -6,14 +6,20 @@ use Rattle.questions.proofs.Some.{some-here, some-more, some-zero}
 use Rattle.questions.proofs.object_holds.object_holds.Goals as goal
 
 pub each-init : goal.each-init
-each-init g c = some-zero (λ i. names (cap_in (state_map c.args.objects.now) c.args.kind c.args.n i) c.args.of c.args.named)
+each-init g c = record {
+  none = some-zero (λ i. names (cap_in (state_map c.args.objects.now) c.args.kind c.args.n i) c.args.of c.args.named);
+  fetches = omega arith;
+}
 
-pub returns-then-place_holds : goal.returns-then-place_holds
-returns-then-place_holds g c =
+pub returns-then-place_holds-clause-value : goal.returns-then-place_holds-clause-value
+returns-then-place_holds-clause-value g c =
     sym (some-here (λ i. names (cap_in (state_map c.args.objects.now) c.args.kind c.args.n i) c.args.of c.args.named) (places_in c.args.kind) c.each.i
-    (omega (arith, c.places-i-end.ensures, c.each-test.true)) (sym c.place_holds.ensures ∙ c.if-place_holds.true))
+    (omega (arith, c.places-i-end.ensures, c.each-test.true)) (sym c.place_holds.ensures.value ∙ c.if-place_holds.true))
 
 pub each-preserved : goal.each-preserved
-each-preserved g c =
-    some-more (λ i. names (cap_in (state_map c.args.objects.now) c.args.kind c.args.n i) c.args.of c.args.named) c.each.i c.each.invariant
-    (sym c.place_holds.ensures ∙ c.if-place_holds.false)
+each-preserved g c = record {
+  none =
+      some-more (λ i. names (cap_in (state_map c.args.objects.now) c.args.kind c.args.n i) c.args.of c.args.named) c.each.i c.each.invariant.none
+      (sym c.place_holds.ensures.value ∙ c.if-place_holds.false);
+  fetches = omega (arith, c.place_holds.ensures.counted, c.each.invariant.fetches);
+}

@@ -19,4 +19,4 @@ holds-requires-clause-indifferent g c =
 pub returns-clause-value : goal.returns-clause-value
 returns-clause-value g c =
     let i = c.self.inside in
-    rw (← c.self.view_is) (c.holds.ensures ∙ ap (λ (s : State). holds i.question.now i.policy.now s c.args.test) (ap (λ (m : MachineValue CacheValue). state_of m) c.machine.ensures.value ∙ c.in-Ok.ensures.state))
+    rw (← c.self.view_is) (c.holds.ensures.value ∙ ap (λ (s : State). holds i.question.now i.policy.now s c.args.test) (ap (λ (m : MachineValue CacheValue). state_of m) c.machine.ensures.value ∙ c.in-Ok.ensures.state))

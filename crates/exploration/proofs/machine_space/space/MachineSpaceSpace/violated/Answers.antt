@@ -18,4 +18,4 @@ pub returns-clause-value : goal.returns-clause-value
 returns-clause-value g c =
     let i = c.self.inside in
     let stands = rw (← c.self.view_is) at c.requires.stands in
-    rw (← c.self.view_is) (c.first_failing.ensures ∙ ap (λ (s : State). first_failing i.question.now i.policy.now s) (ap (λ (m : MachineValue CacheValue). state_of m) c.machine.ensures.value ∙ stands))
+    rw (← c.self.view_is) (c.first_failing.ensures.value ∙ ap (λ (s : State). first_failing i.question.now i.policy.now s) (ap (λ (m : MachineValue CacheValue). state_of m) c.machine.ensures.value ∙ stands))
