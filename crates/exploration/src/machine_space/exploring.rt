@@ -45,7 +45,25 @@ pub fn explore_machine<'a, W: Watcher, L: Ledger>(
         answered.shown.items ≡ shown_of question.now (state_of machine) answered.explored) }
 {
     let mut space = space_of(alloc, machine, question, policy, fetches)?;
-    let explored = search(alloc, &mut space, question, watcher)?;
+    answer_of(alloc, &mut space, question, watcher)
+}
+
+/// The answer of a search of a space, with the choices that it tells. The space is lent, so that what it owns is dropped in one
+/// place of its owner, and not at each of the exits here.
+fn answer_of<'a, W: Watcher, L: Ledger>(
+    alloc: Global,
+    space: &mut MachineSpace<'a, L>,
+    question: &Question,
+    watcher: &mut W,
+) -> Result<Answered, OutOfMemory>
+    requires question { space.old.question ≡ question.now }
+    requires sizes { sizes_of space.old.start.store ≡ question.now.sizes }
+    ensures answer { IfOk result (λ answered.
+        IsAnswerTo space.old.question space.old.policy space.old.start answered.explored) }
+    ensures shown { IfOk result (λ answered.
+        answered.shown.items ≡ shown_of question.now space.old.start answered.explored) }
+{
+    let explored = search(alloc, space, question, watcher)?;
     let shown = space.counted_from_start(question, told_path(&explored))?;
     Ok(Answered { explored, shown })
 }

@@ -1,11 +1,19 @@
-use Rattle.std.proofs.Common.{ℕ, List, subst, sym}
-use Rattle.questions.specs.Choice.{AreChoices}
-use Rattle.questions.specs.Question.{QuestionValue, choices_of}
-use Rattle.exploration.proofs.Shown.{answer-choices}
+use Rattle.std.proofs.Common.{◌≡◌, IfOk, subst}
+use Rattle.machine_state.specs.State.{State, state_of}
+use Rattle.separation_policy.specs.Policy.{PolicyValue}
+use Rattle.questions.specs.Question.{QuestionValue}
+use Rattle.exploration.specs.Laws.{IsAnswerTo}
+use Rattle.exploration.specs.Shown.{shown_of}
 use Rattle.exploration.proofs.machine_space.exploring.explore_machine.Goals as goal
 
-pub counted_from_start-requires-clause-path : goal.counted_from_start-requires-clause-path
-counted_from_start-requires-clause-path g c =
-    let are = answer-choices c.in_ok-space.space.question c.in_ok-space.space.policy c.in_ok-space.space.start c.in_ok-explored.explored c.in_ok-explored.ensures.answer in
-    subst (λ (q : QuestionValue). AreChoices (choices_of q) c.told_path.result.now) c.in_ok-space.ensures.question
-    (subst (λ (path : List ℕ). AreChoices (choices_of c.in_ok-space.space.question) path) (sym c.told_path.ensures) are)
+pub returns-clause-answer : goal.returns-clause-answer
+returns-clause-answer g c =
+    let space = c.in_ok-space.space in
+    let made = c.in_ok-space.ensures in
+    subst (λ (q : QuestionValue). IfOk c.answer_of.result (λ answered. IsAnswerTo q c.args.policy.now (state_of c.args.machine) answered.explored)) made.question
+    (subst (λ (p : PolicyValue). IfOk c.answer_of.result (λ answered. IsAnswerTo space.question p (state_of c.args.machine) answered.explored)) made.policy
+    (subst (λ (s : State). IfOk c.answer_of.result (λ answered. IsAnswerTo space.question space.policy s answered.explored)) made.start c.answer_of.ensures.answer))
+
+pub returns-clause-shown : goal.returns-clause-shown
+returns-clause-shown g c =
+    subst (λ (s : State). IfOk c.answer_of.result (λ answered. answered.shown.items ≡ shown_of c.args.question.now s answered.explored)) c.in_ok-space.ensures.start c.answer_of.ensures.shown
