@@ -12,6 +12,11 @@ class Wrong(Exception):
     """What is wrong with a plan or a program, in a sentence."""
 
 
+def complaint(path, line, wrong):
+    """What is said of a plan that is wrong: of a line, or (0) of the whole."""
+    return f"{path}{f', line {line}' if line else ''}: {wrong}"
+
+
 def need(truth, sentence):
     if not truth:
         raise Wrong(re.sub(rf"(\S{{{MOST_SHOWN}}})\S+", r"\1..", sentence))
