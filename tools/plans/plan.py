@@ -1,12 +1,12 @@
 """What the lines of a plan say."""
 import re
 
-from plans.program import MOST_PAGES, Program
+from plans.program import MACHINE_PAGES, MOST_PAGES, Program
 from plans.question import ASKING, question_line
 from plans.words import (AREA, PAGE, TOP, Wrong, is_domain_name, is_name, letters, need, number, page_address,
                          pages_for, restricted)
 
-LIMITS = {"pages": 4096, "capability pages": 256, "GPTs": 1024, "processes": 256, "endpoints": 1024}
+LIMITS = {"pages": MACHINE_PAGES, "capability pages": 256, "GPTs": 1024, "processes": 256, "endpoints": 1024}
 
 
 class Endpoint:
@@ -39,11 +39,11 @@ class Plan:
 
     def __init__(self, folder, directory):
         self.folder, self.directory = folder, directory
-        self.at, self.harts, self.gpts, self.cappages = 0, 1, 0, 0
+        self.at, self.harts, self.gpts, self.cappages = 0, None, 0, 0
         self.things, self.lines, self.domains, self.allowed = {}, {}, {}, []
         self.question = []
         self.pages, self.named_pages, self.schedule, self.mapped = [], [], [], []
-        self.page_count = 0
+        self.page_count, self.said, self.passed = 0, {}, {}
         self.waiting = {turn: [] for turn in self.TURNS}
 
     # -- things and their names
@@ -54,6 +54,11 @@ class Plan:
         other = self.things.get(thing.name)
         need(other is None, f"line {self.lines.get(thing.name)} has {other and other.kind} {thing.name}")
         self.things[thing.name], self.lines[thing.name] = thing, self.at
+
+    def once(self, what):
+        """Refuses what a line before this one says already."""
+        need(what not in self.said, f"line {self.said.get(what)} says {what}")
+        self.said[what] = self.at
 
     def all(self, kind):
         return [thing for thing in self.things.values() if thing.kind == kind]
@@ -100,14 +105,24 @@ class Plan:
         if count <= self.room():
             self.pages.extend(contents)
             self.named_pages.extend([about] * count)
-        self.page_count += count
+        self.count_pages(count)
         return first
+
+    def count_pages(self, count):
+        """Counts pages, and puts down the line with which they became more than a machine has."""
+        self.page_count += count
+        self.pass_limit("pages", self.page_count)
+
+    def pass_limit(self, what, count):
+        if count > LIMITS[what]:
+            self.passed.setdefault(what, self.at)
 
     # -- programs
 
     def program_line(self, words):
         made = Program(len(self.all("program")), words)
         self.add(made)
+        self.pass_limit("processes", made.number + 1)
         other = next(one for one in self.all("program") if one.file == made.file)
         need(other.libc == made.libc, f"{made.file} is to be linked both with the C library and without it: line "
              f"{self.lines[other.name]} says the other")
@@ -130,9 +145,14 @@ class Plan:
         made = Endpoint(words[0], len(self.all("endpoint")), None, number(words[4], "an id", TOP - 1, 16),
                         "match" if words[5:] else "plain")
         self.add(made)
+        self.pass_limit("endpoints", made.number + 1)
 
         def recipient():
             made.recipient = self.program(words[2])
+            other = next((one for one in self.all("endpoint") if one is not made and one.recipient is made.recipient
+                          and one.ident == made.ident), None)
+            need(not other, f"line {other and self.lines[other.name]} has an endpoint to {words[2]} with id {words[4]}: "
+                 "the program couldn't tell at which of them a message came")
         self.wait("names", recipient)
 
     def page_line(self, words):
@@ -144,6 +164,7 @@ class Plan:
         need(len(words) >= 2 and words[2:3] in ([], ["from"]) and len(words) != 3, "pages NAME N [from FILE [OFFSET]]")
         count = number(words[1], "the number of pages", MOST_PAGES)
         need(count > 0, "there is at least one page")
+        need(count <= MACHINE_PAGES, f"pages {words[0]} {count}: a machine has {MACHINE_PAGES:,} pages in all")
         contents = self.contents(words[3:], count)
         self.add(Memory(words[0], "page", self.new_pages(count, contents, words[0]), count, True))
 
@@ -164,6 +185,7 @@ class Plan:
         need(len(words) == 1, "cappage NAME")
         self.add(Memory(words[0], "cappage", self.cappages, 1, False))
         self.cappages += 1
+        self.pass_limit("capability pages", self.cappages)
 
     # -- places
 
@@ -205,6 +227,7 @@ class Plan:
 
     def handler_line(self, words):
         need(len(words) == 3, "handler PROGRAM ENDPOINT PAYLOAD")
+        self.once(f"handler {words[0]}")
 
         def name():
             self.program(words[0]).handler = self.entry(words[1:])
@@ -303,6 +326,7 @@ class Plan:
 
     def harts_line(self, words):
         need(len(words) == 1, "harts N")
+        self.once("harts")
         self.harts = number(words[0], "the number of harts", TOP - 1)
         need(self.harts > 0, "there is at least one hart")
         need(self.harts <= 8, f"the plan asks for {self.harts:,} harts, a machine has 8")
@@ -345,6 +369,7 @@ class Plan:
             method = getattr(self, words[0] + "_line", None) if re.fullmatch("[a-z]+", words[0]) else None
             need(method, f"no line of a plan begins with {words[0]}")
             method(words[1:])
+        self.harts = self.harts or 1
         self.at = 0
         self.within_limits({"pages": self.page_count})
         for turn in ("said places", "chosen places"):
@@ -372,6 +397,7 @@ class Plan:
 
     def within_limits(self, counts):
         for what, count in counts.items():
+            self.at = self.passed.get(what, 0)
             need(count <= LIMITS[what], f"the system needs {count:,} {what}, a machine has {LIMITS[what]:,}")
 
     def files(self, data):

@@ -7,8 +7,9 @@ from plans.words import AREA, PAGE, TOP, is_file_name, need, number, page_addres
 
 DATA = AREA  # where data stand that a plan adds to a program without any
 MOST_PAGES = TOP // PAGE
-FORM = ("program NAME FILE [libc] priority P [data PAGES] [stack PAGES [at ADDRESS]] [heap PAGES [at ADDRESS]] [stop] "
-        "[args WORD ..]")
+MACHINE_PAGES = 4096
+FORM = ("program NAME FILE [libc] priority P [data PAGES] [stack PAGES [at ADDRESS] | stack none] "
+        "[heap PAGES [at ADDRESS]] [stop] [args WORD ..]")
 
 
 class Program:
@@ -55,7 +56,12 @@ class Program:
 
     def size_and_place(self, word, rest):
         """The size of the stack or the heap, and where it begins if that is said; the words behind it."""
-        self.sizes[word] = number(rest[0], f"{word} pages", MOST_PAGES)
+        if word == "stack" and rest[0] == "none":
+            self.sizes[word] = 0
+            return rest[1:]
+        size = self.sizes[word] = number(rest[0], f"{word} pages", MOST_PAGES)
+        need(size or word != "stack", "a stack has at least one page; a program that stores nothing there has `stack none`")
+        need(size <= MACHINE_PAGES, f"{word} {size}: a machine has {MACHINE_PAGES:,} pages in all")
         if rest[1:2] != ["at"]:
             return rest[1:]
         need(len(rest) > 2, "an address is missing behind at")
@@ -78,7 +84,7 @@ class Program:
             self.space.claim(one.first_page() * PAGE, size, rights, one.name, ("segment", "image", "more"))
         count = elf.count_of(segments)
         if count > plan.room():
-            plan.page_count += count  # they are told, and not made
+            plan.count_pages(count)  # they are told, and not made
             segments = []
         for at, content, writable, executable, names in elf.pages_of(segments):
             page = self.own_pages(plan, 1, [content], " and ".join(names))
@@ -126,6 +132,7 @@ class Program:
             texts = [word.encode() + b"\0" for word in (self.name, *(self.args or []))]
             array = 4 * (len(texts) + 1)
             taken = array + sum(map(len, texts)) + 15 & ~15
+            need(self.sizes["stack"], f"the words for {self.name} stand on its stack, and it has none")
             need(taken <= self.sizes["stack"] * PAGE,
                  f"the words for {self.name} take {taken} bytes, and its stack has {self.sizes['stack'] * PAGE}")
             start = (end - taken) % TOP
