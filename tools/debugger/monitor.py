@@ -9,6 +9,7 @@ LOAD, STORE, SYSTEM = 0x03, 0x23, 0x73  # opcodes
 LETTERS = {"r": "no stores", "x": "no fetches", "w": "weakened", "o": "opaque", "n": "no handlers behind it"}
 HELP = """\
 monitor event [N]       the number of the event that comes next; with N the next continue goes there
+monitor record [N]      the number of the record that comes next; with N the next continue goes to the event that writes it
 monitor caps [NAME]     what a process holds: the selected one, or the one of this name or number
 monitor queues          harts, ready queues, and who sleeps on whom
 monitor messages        the last ten messages, with faults that were heard
@@ -60,6 +61,17 @@ class Monitor:
             self.session.goal = int(number)
             yield f"the next continue or reverse-continue goes to event {number}"
 
+    def do_record(self, number=None):
+        if number is None:
+            yield f"record {self.run.at(self.session.at).record_count() + 1} comes next"
+            return
+        event = self.run.event_of_record(int(number)) if number.isdecimal() else None
+        if event is None:
+            yield f"a record is a number from 1 to {self.run.at(self.run.schedule.count).record_count()}"
+        else:
+            self.session.goal = event
+            yield f"event {event} writes record {int(number)}: the next continue or reverse-continue goes there"
+
     def do_process(self, word="all"):
         number = None if word == "all" else self.named(word)
         if word != "all" and number is None:
@@ -100,8 +112,8 @@ class Monitor:
                    if " to " in one[1])]
         if not found:
             yield f"no message in the last {min(self.session.at, MOST_BACK)} events"
-        for event, line in sorted(found)[-MESSAGES:]:
-            yield f"event {event}: {self.message(line.split())}"
+        for event, line, number in sorted(found)[-MESSAGES:]:
+            yield f"event {event}, record {number}: {self.message(line.split())}"
 
     def message(self, words):
         """A record of a message, or of a fault that was heard, in words."""
@@ -123,8 +135,8 @@ class Monitor:
         if not found:
             yield f"no fault in the last {min(self.session.at, MOST_BACK)} events"
             return
-        event, line = found[0]
-        yield f"the last fault, at event {event}: {self.session.fault_in_words(event + 1, line)}"
+        event, line, number = found[0]
+        yield f"the last fault, at event {event}, record {number}: {self.session.fault_in_words(event + 1, line)}"
         yield from self.reason(event, line.split())
 
     def reason(self, event, words):

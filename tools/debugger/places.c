@@ -8,7 +8,8 @@
 
    A command is a letter, and behind F four bytes with a length and as many bytes:
        F  the next bytes of the input
-       C  copy: the new process connects to the same path, and says how many bytes of output were written until then
+       C  copy: the new process connects to the same path, and says how many bytes of output were written until then,
+          and how many lines they end
        L  loud: output is sent from here on (at first it is counted alone)
        E  the end of the input
    A process ends when its socket is closed. */
@@ -25,7 +26,7 @@
 enum { INPUT = 0, OUTPUT = 1 };
 
 static int line = -1; /* the socket, if this is the program that is meant */
-static uint64_t written;
+static uint64_t written[2]; /* bytes of output, and line feeds among them */
 static int loud, ended;
 static char *fed;
 static size_t length, used;
@@ -61,7 +62,7 @@ static void meet(void) {
     if (line < 0 || connect(line, (struct sockaddr *)&place, sizeof place) != 0) {
         _exit(100);
     }
-    give(&written, sizeof written);
+    give(written, sizeof written);
 }
 
 static void copy(void) {
@@ -126,7 +127,12 @@ ssize_t write(int file, const void *from, size_t count) {
     if (line < 0 || file != OUTPUT) {
         return syscall(SYS_write, file, from, count);
     }
-    written += count;
+    const char *at = from, *behind = at + count;
+    written[0] += count;
+    while ((at = memchr(at, '\n', (size_t)(behind - at)))) {
+        written[1]++;
+        at++;
+    }
     if (loud) {
         give(from, count);
     }

@@ -25,6 +25,7 @@ MOST_AHEAD = 20_000_000  # how many events are gone through while gdb asks nothi
 STEPS_BACK = (4096, 256)  # where a way of more events leaves a process too
 COMPILERS = ("cc", "gcc", "clang")
 WAIT = 60  # seconds for a process to answer
+UNPROVED = {"ASAN_OPTIONS": "detect_leaks=0"}  # a program of ./try looks for leaks at its end, which takes a copy long
 
 
 class Trouble(Exception):
@@ -49,11 +50,11 @@ class Process:
     """A process of the program at an event, before it."""
 
     def __init__(self, run, at):
-        self.run, self.at, self.length = run, at, None
+        self.run, self.at, self.told = run, at, None
         try:
             self.socket, _ = run.listener.accept()
             self.socket.settimeout(WAIT)
-            self.written, = struct.unpack("<Q", self.take(8))
+            self.written, self.lines = struct.unpack("<QQ", self.take(16))
         except OSError:
             raise Trouble(f"the program {run.program} doesn't answer")
 
@@ -78,7 +79,7 @@ class Process:
         """Performs the events up to `to`."""
         if to > self.at:
             self.feed(self.run.schedule.text(self.at, to))
-            self.at, self.length = to, None
+            self.at, self.told = to, None
 
     def end(self, loud=True):
         """Ends the input; the output from where it became loud. The process is gone behind it."""
@@ -92,8 +93,8 @@ class Process:
         self.socket.close()
         return b"".join(pieces)
 
-    def lines_until_state(self):
-        """How many bytes of records a copy writes that ends here."""
+    def until_state(self):
+        """How many bytes of records the run has up to here, and how many records: those of a copy that ends here."""
         other = self.copy()
         other.socket.sendall(b"LE")
         data = b""
@@ -101,17 +102,21 @@ class Process:
             at = place_of_state(data)
             if at is not None:
                 other.socket.close()
-                return other.written + at
+                return other.written + at, other.lines + data.count(b"\n", 0, at)
             came = other.socket.recv(1 << 16)
             if not came:
                 raise Trouble("the program ended without a state")
             data += came
 
+    def has_told(self):
+        self.told = self.told or self.until_state()
+        return self.told
+
     def record_bytes(self):
-        """How many bytes of records the run has up to here."""
-        if self.length is None:
-            self.length = self.lines_until_state()
-        return self.length
+        return self.has_told()[0]
+
+    def record_count(self):
+        return self.has_told()[1]
 
     def close(self):
         self.socket.close()
@@ -164,7 +169,7 @@ class Run:
         """Starts the program, and gives it the listing: a process at the first event."""
         self.children.append(subprocess.Popen(
             [self.program, word], stdin=subprocess.DEVNULL, stdout=subprocess.DEVNULL,
-            env={**os.environ, "LD_PRELOAD": self.library, "COYOTOS_PLACES": f"{self.room.name}/line"}))
+            env={**os.environ, **UNPROVED, "LD_PRELOAD": self.library, "COYOTOS_PLACES": f"{self.room.name}/line"}))
         first = Process(self, 0)
         first.feed(self.listing)
         return first
@@ -276,13 +281,29 @@ class Run:
         """
         if stretch.fetches() == stretch.behind - stretch.first:
             return stretch.first + stretch.text.count(b"\nfetch ", 0, offset + len(b"\nfetch ")) - 1
-        first, behind, low, high = stretch.first, stretch.behind, stretch.base, stretch.base + len(stretch.text) - 1
-        wanted, process, owned, by_half = stretch.base + offset, self.at(stretch.first), False, False
+        ends = stretch.base, stretch.base + len(stretch.text) - 1
+        return self.writer(stretch.base + offset, stretch.first, stretch.behind, *ends, Process.record_bytes)
+
+    def event_of_record(self, number):
+        """The event that wrote a record, by its number from 1 on; None where there is no such record."""
+        count = self.at(self.schedule.count).record_count()
+        if not 0 < number <= count:
+            return None
+        return self.writer(number - 1, 0, self.schedule.count, 0, count, Process.record_count)
+
+    def records_before(self, stretch, offset):
+        """How many records stand in the run before the one behind the line feed at this offset of a stretch."""
+        return self.at(stretch.first).record_count() + stretch.text.count(b"\n", 0, offset)
+
+    def writer(self, wanted, first, behind, low, high, measure):
+        """The event from `first` on and before `behind` by which more than `wanted` was written, by a measure of what a
+        process wrote: that is `low` before the first and `high` at the end."""
+        process, owned, by_half = self.at(first), False, False
         while behind - first > 1:
             middle = (first + behind) // 2 if by_half else likely(wanted, first, behind, low, high)
             other = process.copy()
             other.go(middle)
-            length = other.record_bytes()
+            length = measure(other)
             if length <= wanted:
                 if owned:
                     process.close()
@@ -297,6 +318,6 @@ class Run:
 
 
 def likely(wanted, first, behind, low, high):
-    """An event between the two, which wrote the byte if all write as much."""
+    """An event between the two, which wrote what is wanted if all write as much."""
     middle = first + (behind - first) * (wanted - low) // max(high - low, 1)
     return min(max(middle, first + 1), behind - 1)

@@ -285,13 +285,14 @@ class Search:
 
 
 def last_records(run, at, word, count, most):
-    """The last records with this word in the `most` events before one: pairs of an event and the record."""
+    """The last records with this word in the `most` events before one: each with its event and its number."""
     found, size, lowest = [], FIRST_LOOK, max(at - most, 0)
     while at > lowest and len(found) < count:
         stretch = run.stretch(max(at - size, lowest), at)
         place = stretch.text.rfind(b"\n%s " % word)
         while place >= 0 and len(found) < count:
-            found.append((run.event_of(stretch, place), line_at(stretch.text, place)))
+            found.append((run.event_of(stretch, place), line_at(stretch.text, place),
+                          run.records_before(stretch, place) + 1))
             place = stretch.text.rfind(b"\n%s " % word, 0, place)
         at, size = stretch.first, min(4 * size, MOST_LOOK)
     return found

@@ -3,9 +3,11 @@ import itertools
 import re
 
 from runs import crossings, frames
+from runs.calls import FOLLOWED, Calls
 from runs.counting import Counts
 from runs.ends import ends
 from runs.harts import Harts
+from runs.output import Output
 from runs.programs import Programs
 from runs.records import message, text_of, told
 from runs.schedule import Schedule
@@ -15,18 +17,12 @@ from runs.steps import steps_of
 MARKS = ("msg", "fault", "log", "destroy", "halt")
 KINDS = (*MARKS, "fetch", "load", "store", "capload", "capstore", "insn")
 MARKED = {kind.encode() for kind in MARKS}
-PIECE = 1 << 20  # bytes that are read at once
-BEFORE = 8192  # bytes of the records of one step, at most
-MOST_CALLS, MOST_TOLD = 1000, 20  # calls that are kept, and told
+MOST_TOLD = 20  # calls that are told
 LOG_PIECE = 512  # digits of a full piece of the log, behind which its line may go on
 MOST_KNOWN = 1000  # records of which the words are kept, as the same often come again
-REFUSAL = re.compile(r"(refused \d+ \w+|too long|usage: .*)")
-LINKS = (b"x1", b"x5")
-LINKING = rb"insn \d+ \w{8} jalr? (?:x[15] [^\n]*|x0 0\(x[15]\))"
-FOLLOWED = re.compile(rb"\ninsn (\d+) (\w{8}) (jalr? (?:x[15] [^\n]*|x0 0\(x[15]\)))")
 BUSY = re.compile(rb"\n(?:insn \d+ \w{8} e(?:call|break)\n|fault |msg |log |destroy |halt |cap)")
 LEAST_QUIET = 2000  # bytes of records that are taken together
-RETURNS = (b"jalr x0 0(x1)", b"jalr x0 0(x5)")
+UNKNOWN = "?"
 
 
 class Wrong(Exception):
@@ -36,36 +32,6 @@ class Wrong(Exception):
 class Options:
     symbols = process = only = program = None
     profile = coverage = False
-
-
-class Calls:
-    """The calls from which each process has not returned, followed through a trace."""
-
-    def __init__(self, programs):
-        self.programs, self.stacks, self.first = programs, {}, {}
-
-    def is_first(self, process, pc):
-        """Whether a call stands where the program begins."""
-        if (process, pc) not in self.first:
-            self.first[process, pc] = pc == self.programs.entries.get(process) \
-                or self.programs.function(process, pc)[0] == "_start"
-        return self.first[process, pc]
-
-    def follow(self, process, pc, insn):
-        """An instruction that jumps and may link."""
-        stack = self.stacks.setdefault(process, [])
-        if insn.split(b" ", 2)[1] in LINKS:
-            if stack and self.is_first(process, pc):
-                stack.clear()  # it begins anew
-            stack.append(pc)
-            if len(stack) > MOST_CALLS:
-                del stack[0]
-        elif insn in RETURNS and stack:
-            stack.pop()
-
-    def of(self, process):
-        """The places of the calls, the innermost first."""
-        return self.stacks.get(process, [])[::-1]
 
 
 class Explainer:
@@ -82,15 +48,16 @@ class Explainer:
         self.counts = Counts(self.programs) if options.profile or options.coverage else None
         kinds = options.only.split(",") if options.only else () if self.counts else MARKS
         self.wanted = {kind.encode() for kind in kinds}
-        self.calls, self.open, self.rest, self.refusal, self.known = Calls(self.programs), {}, [], "", {}
-        self.fronts = {}
+        self.calls, self.open, self.known, self.fronts = Calls(self.programs), {}, {}, {}
+        self.number, self.harts = 0, None
         self.width = max((len(self.programs.process(first)) for first, _, _ in self.programs.names["process"]), default=9)
 
     # -- what is read
 
-    def read(self, output):
+    def read(self, stream):
         """Tells all of an output."""
-        pieces = self.pieces(output)
+        self.output = Output(stream)
+        pieces = self.output.pieces()
         first = next(pieces, b"")
         if crossings.is_told(first[:20].decode("ascii", "replace")):
             for line in itertools.chain(*map(bytes.splitlines, [first, *pieces])):
@@ -103,74 +70,41 @@ class Explainer:
         if self.counts and not self.is_trace:
             raise Wrong("instructions are in a trace alone, as `coyotos trace` writes it")
         if self.wanted and first:
-            self.say(f"{'record':>9}  " + ("hart  " if self.is_trace else "") + "program")
-        self.harts = None
-        records = itertools.chain([first], pieces)
-        if self.is_trace and Schedule(self.listing).harts > 1 and self.wanted:
+            self.say(("    event    record  hart  " if self.is_trace else "   record  ") + "program")
+        records = self.counted(itertools.chain([first], pieces))
+        if self.is_trace and self.wanted:
             self.by_steps(records)
         else:
             self.by_lines(records)
         return self.end()
 
-    def pieces(self, output):
-        """The records, as pieces of whole lines; what stands behind them is kept. A line that is cut is none."""
-        left = b""
-        while data := output.read(PIECE):
-            data = left + data
-            cut = data.rfind(b"\n") + 1
-            left, data = data[cut:], data[:cut]
-            at = 0 if data.startswith(b"state\n") else data.find(b"\nstate\n") + 1
-            if data.startswith(b"state\n") or at:
-                yield from self.records(data[:at])
-                self.rest = (data[at:] + left + output.read()).decode().splitlines()[1:]
-                return
-            yield from self.records(data)
-        if REFUSAL.fullmatch(left.decode("ascii", "replace")):
-            self.refusal = left.decode()
-
-    def records(self, data):
-        """A piece, if it has lines; a refusal at the end is none."""
-        last = data.rfind(b"\n", 0, -1) + 1
-        if REFUSAL.fullmatch(data[last:-1].decode("ascii", "replace")):
-            self.refusal, data = data[last:-1].decode(), data[:last]
-        if self.counts:
-            self.counts.add(data)
-        if data:
+    def counted(self, pieces):
+        """The pieces, of which the instructions are counted where that was asked for."""
+        for data in pieces:
+            if self.counts:
+                self.counts.add(data)
             yield data
 
     # -- records
 
     def by_lines(self, pieces):
-        """Tells records without looking at each step: of what nobody wants to see, nothing is read but where it ends."""
-        follows = self.is_trace and b"fault" in self.wanted
-        forms = [b"(?:%s) [^\n]*" % b"|".join(sorted(self.wanted))] if self.wanted else []
-        forms += [LINKING] if follows and b"insn" not in self.wanted else []
-        sought = re.compile(b"\n(%s)" % b"|".join(forms)) if forms else None
-        before, base, hart = b"", 0, "0" if self.is_trace else None
+        """Tells the records that `run` wrote: of what nobody wants to see, nothing is read but where it ends."""
+        sought = re.compile(rb"\n((?:%s) [^\n]*)" % b"|".join(sorted(self.wanted))) if self.wanted else None
         for data in pieces:
-            block, number, at = b"\n" + data, base, 0
+            block, at = b"\n" + data, 0
             for found in sought.finditer(block) if sought else ():
-                start, line = found.start(), found[1]
-                number, at = number + block.count(b"\n", at, start), start
-                known = self.known.get(line)
+                self.number, at = self.number + block.count(b"\n", at, found.start()), found.start()
+                known = self.known.get(found[1])
                 if known is not None and not self.open:
-                    self.lines.append(f"{number + 1:>9}  {known}")
-                    continue
-                if line[:2] == b"in" and follows and b" jal" in line:
-                    words = line.split(b" ", 3)
-                    self.calls.follow(int(words[1]), int(words[2], 16), words[3])
-                step = (None, None, None)
-                if self.is_trace and line[:2] in (b"fa", b"de"):
-                    step = last_step(before, block, found.end())
-                self.record(line, number, hart, *step)
-            base += data.count(b"\n")
-            before = block[-BEFORE:]
+                    self.lines.append(f"{self.number + 1:>9}  {known}")
+                else:
+                    self.record(found[1], f"{self.number + 1:>9}  ")
+            self.number += block.count(b"\n", at) - 1
             self.flush()
 
     def by_steps(self, pieces):
-        """Tells records with their harts, for which the steps are looked at."""
-        self.harts = Harts(self.listing, Schedule(self.listing), self.options.program)
-        self.number, left = 0, b""
+        """Tells the records of a trace with their events and harts, for which the steps are looked at."""
+        self.harts, left = Harts(self.listing, Schedule(self.listing), self.options.program), b""
         for data in pieces:
             data = left + data
             cut = data.rfind(b"\nfetch ") + 1
@@ -208,20 +142,25 @@ class Explainer:
                 end(process, pc, insn, rest)
                 if insn and insn[:3] == b"jal":
                     follow(process, int(pc, 16), insn)
-            if not rest and not are_all:
-                continue
-            told_hart, place = "?" if hart is None else str(hart), behind - len(rest)
-            if are_all and page:
-                self.record(b"fetch %d %s %s" % (process, pc, page), first, told_hart)
-                if insn:
-                    self.record(b"insn %d %s %s" % (process, pc, insn), first + 1, told_hart)
-            for line in rest:
-                self.record(line, place, told_hart, process, pc, insn)
-                place += 1
+            if rest or are_all:
+                self.step(hart, process, pc, insn, rest, first, behind, page if are_all else None)
         self.number += len(lines)
 
-    def record(self, line, number, hart, process=None, pc=None, insn=None):
-        """Tells a record, if it is wanted, with what is known of its step."""
+    def step(self, hart, process, pc, insn, rest, first, behind, page):
+        """Tells the records of a step; with its fetch and its instruction, if there is a page to tell of."""
+        event, hart = self.harts.event, 0 if len(self.harts.on) == 1 else hart
+        event = UNKNOWN if event is None else event
+        hart = UNKNOWN if hart is None else hart
+        fronts = [f"{event:>9}{number:>10}{hart:>6}  " for number in range(first + 1, behind + 1)]
+        if page:
+            self.record(b"fetch %d %s %s" % (process, pc, page), fronts[0])
+            if insn:
+                self.record(b"insn %d %s %s" % (process, pc, insn), fronts[1])
+        for line, front in zip(rest, fronts[len(fronts) - len(rest):]):
+            self.record(line, front, process, pc, insn)
+
+    def record(self, line, number, process=None, pc=None, insn=None):
+        """Tells a record, if it is wanted, behind its number, with what is known of its step."""
         words = line.split(b" ") if self.who else line.split(b" ", 2)
         kind = words[0]
         if kind not in self.wanted:
@@ -229,31 +168,30 @@ class Explainer:
         owner = process if kind == b"destroy" else int(words[1])
         if self.who and not self.is_asked_for(kind, words, owner):
             return
-        behind = self.front(hart, owner)
+        front = self.front(owner)
         if kind == b"log":
             text, is_full = text_of(words[2]), len(words[2]) == LOG_PIECE
             if is_full or owner in self.open or "\n" in text[:-1]:
-                self.log(f"{number + 1:>9}  {behind}", owner, text, is_full)
+                self.log(number + front, owner, text, is_full)
                 return
-            behind = '{}log "{}"\n'.format(behind, text.rstrip("\n"))
+            behind = 'log "{}"\n'.format(text.rstrip("\n"))
         elif kind == b"msg":
-            behind = f"{behind}{message(line, self.programs)}\n"
+            behind = f"{message(line, self.programs)}\n"
         else:
-            behind += f'{told(line, self.programs, b"" if pc and insn is None else insn)}\n'
+            behind = f'{told(line, self.programs, b"" if pc and insn is None else insn)}\n'
         self.has_told = True
-        self.lines.append(f"{number + 1:>9}  {behind}")
+        self.lines.append(f"{number}{front}{behind}")
         if kind == b"fault" and pc is not None:
-            self.say(f"{'':>11}at {self.programs.place(owner, int(pc, 16))}")
-            self.tell_calls(owner, self.calls.of(owner))
+            self.say(f"{'':>21}at {self.programs.place(owner, int(pc, 16))}")
+            self.tell_calls(owner, self.calls.of(owner), 21)
         elif self.harts is None and kind in (b"msg", b"log"):
-            self.keep(line, behind)
+            self.keep(line, front + behind)
 
-    def front(self, hart, owner):
-        """The hart and the program of a record, as they stand in front of it."""
-        if (hart, owner) not in self.fronts:
-            self.fronts[hart, owner] = (f"{hart:>4}  " if hart is not None else "") \
-                + (self.programs.process(owner) if owner is not None else "").ljust(self.width + 2)
-        return self.fronts[hart, owner]
+    def front(self, owner):
+        """The program of a record, as it stands in front of it."""
+        if owner not in self.fronts:
+            self.fronts[owner] = (self.programs.process(owner) if owner is not None else "").ljust(self.width + 2)
+        return self.fronts[owner]
 
     def keep(self, line, told_line):
         """Keeps how a record was told that is told the same wherever it stands, for the first of them."""
@@ -265,13 +203,13 @@ class Explainer:
             and int(words[5]) in self.who
         return owner in self.who or heard
 
-    def tell_calls(self, process, places):
+    def tell_calls(self, process, places, indent=11):
         """The places of calls, the innermost first."""
         self.programs.look_up(process, places[:MOST_TOLD])
         for place in places[:MOST_TOLD]:
-            self.say(f"{'':>11}called from {self.programs.place(process, place)}")
+            self.say(f"{'':>{indent}}called from {self.programs.place(process, place)}")
         if len(places) > MOST_TOLD:
-            self.say(f"{'':>11}and {len(places) - MOST_TOLD:,} calls further out")
+            self.say(f"{'':>{indent}}and {len(places) - MOST_TOLD:,} calls further out")
 
     def log(self, front, process, piece, is_full):
         """A piece of the log as lines; a full piece without an end of a line waits for the next one."""
@@ -295,19 +233,19 @@ class Explainer:
             self.say_all(self.counts.profile())
         if self.counts and self.options.coverage:
             self.say_all(self.counts.coverage())
-        if self.refusal:
-            self.say(f"The run ended where the program said: {self.refusal} (tools/why says why)")
-        elif self.rest[-1:] != ["end"]:
+        if self.output.refusal:
+            self.say(f"The run ended where the program said: {self.output.refusal} (tools/why says why)")
+        elif not self.output.is_whole:
             self.say("The output ends before the end of the last state.")
         else:
-            self.tell_state(State(self.rest))
+            self.tell_state(State(self.output.rest))
         self.flush()
 
     def tell_state(self, state):
         if self.harts and self.harts.lost:
-            self.say("On which harts things ran is not known from the first ? on: name a --program to ask.")
+            self.say("Events and harts are not known from the first ? on: name a --program to ask.")
         elif self.harts and not self.harts.agrees(state.harts, state.is_halted):
-            self.say("The harts told above don't agree with the last state: don't rely on them.")
+            self.say("The events and harts told above don't agree with the last state: don't rely on them.")
         if self.has_told:
             self.say("")
         if state.is_halted:
@@ -332,13 +270,3 @@ class Explainer:
         if self.lines:
             self.out(self.lines)
             self.lines = []
-
-
-def last_step(before, block, end):
-    """Process, pc and instruction of the step to which the record belongs that ends here; what is in front of the block
-    is known, too."""
-    near = block[max(0, end - BEFORE):end]
-    near = before + near if end < BEFORE else near
-    first = near.rfind(b"\nfetch ", 0, near.rfind(b"\n"))
-    *_, (process, pc, insn, *_) = steps_of(near[max(0, first):].strip(b"\n").split(b"\n"))
-    return process, pc, insn

@@ -1,7 +1,7 @@
-"""On which hart each step of a trace was.
+"""On which hart each step of a trace was, and which event of the schedule it was.
 
-Records don't name harts. The events of the schedule do, so it has to be found out which event each step was. Three things
-are so of every run (docs/machine.md):
+Records name neither. So it has to be found out which event each step was, and the event says its hart. Three things are
+so of every run (docs/machine.md):
 
 - a step of a hart that has a process begins with a record of that process, unless the process had to wait for a busy
   handler of the fault of its fetch;
@@ -85,6 +85,11 @@ class Harts:
         self.silent, self.seen = 0, {}  # calls that may have stopped or resumed somebody, and how many at one's last step
 
     # -- which event a step was
+
+    @property
+    def event(self):
+        """The event that the last step was, counted from 0 on; None where it isn't known."""
+        return None if self.lost else self.events.number - 1
 
     def step(self, process, pc, at):
         """The hart of the next step, of this process at this address, with its first record at this place of the trace;
