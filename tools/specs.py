@@ -24,6 +24,33 @@ def crates():
             yield words[0]
 
 
+def layers():
+    """The layers of crates.txt, lowest first: the name of each, and its crates with those that each stands on."""
+    found = []
+    for line in (TOP / "crates.txt").read_text().splitlines():
+        if line.startswith("#"):
+            found.append((line.lstrip("# ").partition(":")[0], {}))
+        elif ":" in line:
+            head, _, below = line.partition(":")
+            found[-1][1][head.split()[0]] = below.split()
+    return found
+
+
+def top_comment(crate):
+    """The comment at the top of a crate, by its paragraphs."""
+    paragraphs = [[]]
+    root = next((path for path in (CRATES / crate / "src" / name for name in ("lib.rt", "main.rt")) if path.is_file()), None)
+    for line in root.read_text().splitlines() if root else ():
+        if not line.startswith("//!"):
+            break
+        words = line[len("//!"):].split()
+        if words:
+            paragraphs[-1] += words
+        elif paragraphs[-1]:
+            paragraphs.append([])
+    return [" ".join(words) for words in paragraphs if words]
+
+
 def spec_files(crate):
     """The files of specs/ in their reading order, which is that of Lib.antt."""
     folder = CRATES / crate / "specs"
