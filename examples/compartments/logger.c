@@ -1,8 +1,7 @@
 /* Logs for both. Who sent is told by the payload of the entry, which a sender holds and can't change. */
 #include "coyotos.h"
+#include "plan.h"
 
-enum { LOG = 1, CONTROL = 2 };
-enum { RED = 1, BLUE = 2, FAULT_OF_BLUE = 3 };
 enum { NAME = 6, TEXT = 32 };
 
 static char line[NAME + TEXT];
@@ -16,11 +15,11 @@ static void put_name(const char *name) {
 coy_word main(void) {
     for (;;) {
         struct coy_answer came = coy_receive(line + NAME, TEXT, 0);
-        if (came.payload == FAULT_OF_BLUE) {
-            coy_kernlog_log(LOG, "blue: fault", 11);
-            coy_sysctl_halt(CONTROL);
+        if (came.payload == PAYLOAD_MESSAGES_HANDLER_BLUE) {
+            coy_kernlog_log(KERNLOG, "blue: fault", 11);
+            coy_sysctl_halt(SYSCTL);
         }
-        put_name(came.payload == RED ? "red:  " : "blue: ");
-        coy_kernlog_log(LOG, line, NAME + came.length);
+        put_name(came.payload == PAYLOAD_MESSAGES_RED ? "red:  " : "blue: ");
+        coy_kernlog_log(KERNLOG, line, NAME + came.length);
     }
 }

@@ -1,8 +1,8 @@
 /* Writes to the page that it shares with blue. */
 #include "coyotos.h"
+#include "plan.h"
 
-enum { LOGGER = 1 };
-#define SHARED ((volatile coy_word *)0x00030000)
+#define SHARED ((volatile coy_word *)AT_SHARED)
 
 coy_word main(void) {
     static const char text[] __attribute__((aligned(4))) = "from red";
@@ -10,6 +10,6 @@ coy_word main(void) {
     SHARED[1] = words[0];
     SHARED[2] = words[1];
     SHARED[0] = 1; /* blue waits for this */
-    coy_send(LOGGER, 0, "wrote", 5);
+    coy_send(ENTRY_MESSAGES, 0, "wrote", 5);
     return 0;
 }

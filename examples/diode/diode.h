@@ -5,6 +5,7 @@
 #define DIODE_H
 
 #include "coyotos.h"
+#include "plan.h"
 
 /* how many readings there are */
 #ifndef READING_COUNT
@@ -22,8 +23,8 @@ struct diode {
     volatile struct reading readings[ROOM];
 };
 
-#define READINGS ((struct diode *)0x00030000)
-#define ALARMS ((struct diode *)0x00031000)
+#define READINGS ((struct diode *)AT_READINGS)
+#define ALARMS ((struct diode *)AT_ALARMS)
 
 static inline void diode_put(struct diode *to, struct reading reading) {
     volatile struct reading *at = &to->readings[to->count % ROOM];

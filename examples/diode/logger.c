@@ -1,8 +1,6 @@
 /* Tells the log of each alarm. It alone holds the log. */
 #include "diode.h"
 
-enum { LOG = 1 };
-
 static char line[] = "reading 00: 00";
 
 static void put_number(char *at, coy_word value) {
@@ -18,6 +16,6 @@ coy_word main(void) {
         struct reading alarm = diode_get(ALARMS, seen);
         put_number(line + 8, alarm.number);
         put_number(line + 12, alarm.value);
-        coy_kernlog_log(LOG, line, sizeof line - 1);
+        coy_kernlog_log(KERNLOG, line, sizeof line - 1);
     }
 }

@@ -5,16 +5,13 @@
 #include <string.h>
 
 #include "libc.h"
+#include "plan.h"
 
-enum {
-    PORTER = 2, ORDERS = 3, AREA = 4, SPARE = 5, SECOND_PAGE = 6, POCKET = 7, SPACE = 9, FAULTS = 10, SCHEDULE = 11,
-    RANGE = 12, DISCRIM = 13, CONTROL = 14, FAULTED = 20
-};
-enum { FAULTS_ID = 0xf };
-#define TABLE ((const char *)0x00500000)
-#define START ((const char *)0x00502000)
-#define BOARD ((volatile coy_word *)0x00600000)
-#define SLOTS ((char *)0x00601000)
+enum { FAULTED = 20 };
+#define TABLE ((const char *)AT_TABLE)
+#define START ((const char *)AT_START)
+#define BOARD ((volatile coy_word *)AT_BOARD)
+#define SLOTS ((char *)AT_POCKET)
 
 static void show_memory(int count, char **words) {
     for (int i = 0; i < count; i++) {
@@ -40,8 +37,8 @@ static const char *kind_of(coy_cap c) {
 }
 
 static void show_registers(void) {
-    for (coy_cap c = 1; c <= CONTROL; c++) {
-        if (c != ORDERS) { /* whatever is asked of an entry is a message */
+    for (coy_cap c = 1; c <= SYSCTL; c++) {
+        if (c != ENTRY_ORDERS) { /* whatever is asked of an entry is a message */
             printf("register %u: %s\n", c, kind_of(c));
         }
     }
@@ -52,7 +49,7 @@ static void show_registers(void) {
 
 /* Sends an order, and tells whether somebody got it. */
 static void order(coy_word number, const char *text) {
-    struct coy_answer answer = coy_send(ORDERS, number, text, strlen(text));
+    struct coy_answer answer = coy_send(ENTRY_ORDERS, number, text, strlen(text));
     if ((answer.status & 0xff) == COY_WAS_SENT) {
         printf("order %u: sent\n", number);
     } else {
@@ -63,12 +60,12 @@ static void order(coy_word number, const char *text) {
 int main(int count, char **words) {
     show_memory(count, words);
     show_registers();
-    coy_process_resume(PORTER);
+    coy_process_resume(PROCESS_PORTER);
     order(1, "write");
     order(2, "again"); /* nobody gets it: the endpoint's number went up with the first */
     struct coy_answer fault = coy_receive(0, 0, FAULTED);
     printf("fault %u at %08x, payload %u\n", fault.words[0], fault.words[1], fault.payload);
-    coy_gpt_setslot(AREA, fault.words[1] / 4096 % 16, SPARE);
+    coy_gpt_setslot(AREA_PORTER, fault.words[1] / 4096 % 16, PAGE_SPARE);
     coy_process_resume(FAULTED);
     while (BOARD[0] == 0) {
         coy_yield();
@@ -76,6 +73,6 @@ int main(int count, char **words) {
     printf("on the board: %u\n", BOARD[0]);
     fault = coy_receive(0, 0, FAULTED);
     printf("fault %u at %08x, payload %u\n", fault.words[0], fault.words[1], fault.payload);
-    coy_sysctl_halt(CONTROL);
+    coy_sysctl_halt(SYSCTL);
     return 0;
 }

@@ -2,8 +2,8 @@
    and includes this file. With MISTAKEN the two stores of the entry are made in the other order. */
 #ifndef LOCK_H
 #define LOCK_H
-
 #include "coyotos.h"
+#include "plan.h"
 
 enum { OTHER = 1 - ME, TIMES = 3 };
 
@@ -14,7 +14,7 @@ struct shared {
     volatile coy_word count;    /* what the lock guards */
 };
 
-#define SHARED ((struct shared *)0x00001000)
+#define SHARED ((struct shared *)AT_SHARED)
 
 static inline void enter(void) {
 #ifdef MISTAKEN

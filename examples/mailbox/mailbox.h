@@ -4,13 +4,14 @@
 #define MAILBOX_H
 
 #include "coyotos.h"
+#include "plan.h"
 
 struct box {
     volatile coy_word full, word;
 };
 
-#define REQUESTS ((struct box *)0x00030000)
-#define REPLIES ((struct box *)0x00031000)
+#define REQUESTS ((struct box *)AT_REQUESTS)
+#define REPLIES ((struct box *)AT_REPLIES)
 
 static inline void box_put(struct box *box, coy_word word) {
     while (box->full) {

@@ -1,8 +1,8 @@
 /* Hears the faults of another process, puts a page of its own where one is missing, and lets the process go on. */
 #include "coyotos.h"
+#include "plan.h"
 
-enum { AREA = 1, LOG = 2, FIRST_PAGE = 4, PAGES = 3, FAULTED = 8 };
-enum { FROM_AREA = 1 };
+enum { PAGES = PAGE_THIRD - PAGE_FIRST + 1, FAULTED = 8 }; /* the pages are in registers one after the other */
 
 static char mapped[] = "mapped 00000000";
 static char refused[] = "refused 00000000";
@@ -20,16 +20,16 @@ coy_word main(void) {
     for (;;) {
         struct coy_answer fault = coy_receive(0, 0, FAULTED);
         coy_word code = fault.words[0], address = fault.words[1];
-        if (fault.payload == FROM_AREA && code == COY_INVALID_DATA_REFERENCE && used < PAGES) {
-            coy_gpt_setslot(AREA, address / 4096 % 16, FIRST_PAGE + used);
+        if (fault.payload == PAYLOAD_FAULTS_AREA_WRITER && code == COY_INVALID_DATA_REFERENCE && used < PAGES) {
+            coy_gpt_setslot(AREA_WRITER, address / 4096 % 16, PAGE_FIRST + used);
             used++;
             put_digits(mapped + 7, address);
-            coy_kernlog_log(LOG, mapped, 15);
+            coy_kernlog_log(KERNLOG, mapped, 15);
             coy_process_resume(FAULTED);
         } else {
             /* anything else isn't this pager's business: the process stays as it is */
             put_digits(refused + 8, address);
-            coy_kernlog_log(LOG, refused, 16);
+            coy_kernlog_log(KERNLOG, refused, 16);
         }
     }
 }

@@ -1,7 +1,7 @@
 /* Writes to three pages that it doesn't have yet, reads them back, and then does what it may not do. */
 #include "coyotos.h"
-
-#define AREA ((volatile coy_word *)0x00030000)
+#include "plan.h"
+#define AREA ((volatile coy_word *)AT_AREA)
 enum { PAGES = 3, WORDS = 1024 };
 
 coy_word main(void) {

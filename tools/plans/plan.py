@@ -33,7 +33,8 @@ class Domain:
 
 class Plan:
     """A plan as it is read. Its lines are gone through at once, and what rests on other lines waits for its turn:
-    places that are said, places that are chosen, and then all that names something."""
+    places that are said, places that are chosen, and then all that names something. Without a directory the programs'
+    files aren't looked at, nor is what rests on them."""
 
     TURNS = ("said places", "chosen places", "names")
 
@@ -43,6 +44,7 @@ class Plan:
         self.things, self.lines, self.domains, self.allowed = {}, {}, {}, []
         self.question = []
         self.pages, self.named_pages, self.schedule, self.mapped = [], [], [], []
+        self.placed, self.payloads = [], []
         self.page_count, self.said, self.passed = 0, {}, {}
         self.waiting = {turn: [] for turn in self.TURNS}
 
@@ -83,9 +85,12 @@ class Plan:
         need(not (alone and found.group), f"{name} has {found.count} pages: say which, from {name}.0 on")
         return found
 
-    def entry(self, words):
+    def entry(self, words, *sender):
+        """An entry, and who sends by it."""
         need(len(words) == 2, "an entry is an endpoint and a payload")
-        return f"entry:{self.thing(words[0], 'endpoint').number}:{number(words[1], 'a payload', TOP - 1, 16):08x}"
+        found, payload = self.thing(words[0], "endpoint"), number(words[1], "a payload", TOP - 1, 16)
+        self.payloads.append((found.name, sender, payload))
+        return f"entry:{found.number}:{payload:08x}"
 
     def wait(self, turn, function):
         self.waiting[turn].append((self.at, function))
@@ -124,8 +129,9 @@ class Plan:
         self.add(made)
         self.pass_limit("processes", made.number + 1)
         other = next(one for one in self.all("program") if one.file == made.file)
-        need(other.libc == made.libc, f"{made.file} is to be linked both with the C library and without it: line "
-             f"{self.lines[other.name]} says the other")
+        made.agree(other, self.lines[other.name])
+        if self.directory is None:
+            return
         made.load(self)
         self.wait("said places", made.place_said)
         self.wait("chosen places", made.place_chosen)
@@ -200,8 +206,9 @@ class Plan:
             made.space.claim(address, AREA, "---", "area", ("page ", "cappage "))
             made.space.area(address).empty = True
             self.mapped.append((made, address // AREA))
+            self.placed.append((made, "area", address))
             if words[2:]:
-                made.space.area(address).handler = self.entry(words[3:])
+                made.space.area(address).handler = self.entry(words[3:], "area", words[0])
         self.wait("said places", place)
         self.wait("names", lambda: self.keep_handler(words, address))
 
@@ -218,6 +225,7 @@ class Plan:
             made, found = self.program(words[0]), self.memory(words[2])
             rights = "---" if found.kind == "cappage" else "r--" if "r" in limits else "rw-"
             made.space.claim(address, found.count * PAGE, rights, f"{found.kind} {words[2]}", ("area",))
+            self.placed.append((made, words[2], address))
             for i, capability in enumerate(found.capabilities()):
                 made.space.put(address // PAGE + i, capability, "x", limits)
                 self.mapped.append((made, (address + i * PAGE) // AREA))
@@ -230,7 +238,7 @@ class Plan:
         self.once(f"handler {words[0]}")
 
         def name():
-            self.program(words[0]).handler = self.entry(words[1:])
+            self.program(words[0]).handler = self.entry(words[1:], "handler", words[0])
         self.wait("names", name)
 
     def hold_line(self, words):
@@ -242,17 +250,17 @@ class Plan:
             made = self.program(words[0])
             _, other = made.held.get(register, (None, ""))
             need(not other, f"{made.name} holds {other} in register {register}")
-            made.held[register] = self.capability(words[2], words[3:]), " ".join(words[2:])
+            made.held[register] = self.capability(words[2], words[3:], made.name), " ".join(words[2:])
         self.wait("names", name)
 
-    def capability(self, kind, words):
+    def capability(self, kind, words, holder):
         """What the words of a `hold` line name, as a capability word."""
         if kind in ("range", "discrim", "kernlog", "sysctl"):
             need(not words, f"unknown behind {kind}: {' '.join(words)}")
             return kind
         need(words, f"{kind} of what?")
         if kind == "entry":
-            return self.entry(words)
+            return self.entry(words, holder)
         if kind in ("page", "cappage"):
             found = self.memory(words[0], (kind,), alone=True)
             return f"{found.capabilities()[0]}@12/0{restricted(letters(words[1:]))}"
@@ -272,6 +280,8 @@ class Plan:
     def area_capability(self, words):
         need(len(words) >= 2, "area PROGRAM ADDRESS [LETTERS]")
         space, place = self.program(words[0]).space, page_address(words[1]) // AREA
+        if self.directory is None:
+            return f"gpt@16/0{restricted(letters(words[2:]))}"
         need(place in space.areas, f"{words[0]} has no area at {words[1]}")
         return f"gpt:{space.areas[place].gpt}@16/0{restricted(letters(words[2:]))}"
 
@@ -319,6 +329,8 @@ class Plan:
 
     def ask(self, words):
         def name():
+            if self.directory is None:
+                return
             self.question.append((" ".join(words), question_line(self, words)))
         self.wait("names", name)
 
@@ -401,15 +413,12 @@ class Plan:
             need(count <= LIMITS[what], f"the system needs {count:,} {what}, a machine has {LIMITS[what]:,}")
 
     def files(self, data):
-        """The ELF files of a plan, each once, with `libc` behind those that are linked with it: its other lines are
-        passed over."""
+        """The ELF files of a plan, each once, with how it is made behind it: its other lines are passed over."""
         found = {}
         for words in self.lines_of(data):
             if words[0] == "program":
                 made = Program(0, words[1:])
-                libc, line = found.setdefault(made.file, (made.libc, self.at))
-                need(libc == made.libc, f"{made.file} is to be linked both with the C library and without it: line "
-                     f"{line} says the other")
+                made.agree(*found.setdefault(made.file, (made, self.at)))
         self.at = 0
         need(found, "the plan has no program")
-        return [file + (" libc" if libc else "") for file, (libc, _) in found.items()]
+        return [" ".join([file, *made.manner()]) for file, (made, _) in found.items()]

@@ -8,7 +8,8 @@ from plans.words import AREA, PAGE, TOP, is_file_name, need, number, page_addres
 DATA = AREA  # where data stand that a plan adds to a program without any
 MOST_PAGES = TOP // PAGE
 MACHINE_PAGES = 4096
-FORM = ("program NAME FILE [libc] priority P [data PAGES] [stack PAGES [at ADDRESS] | stack none] "
+MANNERS = {"libc": "linked both with the C library and without it", "debug": "compiled both with `debug` and without it"}
+FORM = ("program NAME FILE [libc] [debug] priority P [data PAGES] [stack PAGES [at ADDRESS] | stack none] "
         "[heap PAGES [at ADDRESS]] [stop] [args WORD ..]")
 
 
@@ -22,7 +23,7 @@ class Program:
         self.number, self.name, self.file = number_of_process, words[0], words[1]
         need(is_file_name(self.file),
              f"a program's file is named by printable letters of ASCII, and lies below the directory: {self.file}")
-        self.libc, self.priority, self.data, self.state, self.args = False, None, None, "run", None
+        self.priority, self.data, self.state, self.args = None, None, "run", None
         self.sizes, self.places, self.first = {"stack": 1, "heap": 0}, {}, {}
         self.pages, self.held, self.handler, self.said = [], {}, "null", set()
         self.space = Space(self.name)
@@ -35,8 +36,7 @@ class Program:
         """Takes an option; the words behind it."""
         need(word not in self.said, f"{word} is said twice")
         self.said.add(word)
-        if word == "libc":
-            self.libc = True
+        if word in MANNERS:
             return rest
         if word == "stop":
             self.state = "stop"
@@ -67,6 +67,18 @@ class Program:
         need(len(rest) > 2, "an address is missing behind at")
         self.places[word] = page_address(rest[2])
         return rest[3:]
+
+    # -- how its file is made
+
+    def manner(self):
+        """The words for that."""
+        return [word for word in MANNERS if word in self.said]
+
+    def agree(self, other, line):
+        """Refuses a file that another line has made in another way."""
+        for word, sentence in MANNERS.items():
+            need((word in self.said) == (word in other.said),
+                 f"{self.file} is to be {sentence}: line {line} says the other")
 
     # -- pages
 
@@ -128,7 +140,7 @@ class Program:
         """Writes the words for `main` at the end of the stack, and says what the registers are."""
         end = self.end_of("stack")
         self.registers = {2: end}
-        if self.libc or self.args is not None:
+        if "libc" in self.said or self.args is not None:
             texts = [word.encode() + b"\0" for word in (self.name, *(self.args or []))]
             array = 4 * (len(texts) + 1)
             taken = array + sum(map(len, texts)) + 15 & ~15
