@@ -13,14 +13,13 @@ coy_word main(void) {
     for (;;) {
         count++;
         /* the answer and the next wait in one invocation: nobody finds the server busy in between */
-        came = coy_invoke((struct coy_call){.target = ANSWER,
-                                            .phases = COY_SEND | COY_RECEIVE,
-                                            .words = {count},
-                                            .string = text,
-                                            .length = GREETING + came.length,
-                                            .accepted = 1,
-                                            .accepted_caps = ANSWER,
-                                            .buffer = text + GREETING,
-                                            .bound = NAME});
+        came = coy_reply_and_wait(came, (struct coy_call){.target = ANSWER,
+                                                          .words = {count},
+                                                          .string = text,
+                                                          .length = GREETING + came.length,
+                                                          .accepted = 1,
+                                                          .accepted_caps = ANSWER,
+                                                          .buffer = text + GREETING,
+                                                          .bound = NAME});
     }
 }

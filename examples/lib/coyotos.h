@@ -171,6 +171,37 @@ static inline struct coy_answer coy_receive(void *buffer, coy_word bound, coy_ca
         .bound = bound});
 }
 
+/* The loop of a server: answers the message that came last, and waits for the next one, in one invocation where that can
+   be. The call says what goes to whom and what is accepted; its phases are said here.
+
+   No client can hold the server up. It waits for nobody: an answer to who isn't listening is dropped, as one to who isn't
+   there. Where no capability came with the message, nobody is answered: what the register still holds came with another
+   one. And where the kernel replied in place of a message, as it does of whatever is no entry, the server waits in an
+   invocation of its own: after the reply of a kernel there is no receive phase. */
+static inline __attribute__((always_inline)) struct coy_answer coy_reply_and_wait(struct coy_answer last,
+                                                                                  struct coy_call call) {
+    coy_word closed = call.phases & COY_CLOSED;
+    if (coy_came(last) != 0) {
+        call.phases = COY_SEND | COY_RECEIVE | COY_NO_WAIT | closed;
+        struct coy_answer came = coy_invoke(call);
+        if ((came.status & 0xff) == COY_CAME) {
+            return came;
+        }
+    }
+    call.phases = COY_RECEIVE | closed;
+    return coy_invoke(call);
+}
+
+/* ---- what must not be */
+
+/* Ends the program with the fault BadOpcode, at a word that is no instruction: `never faulted P BadOpcode` in a plan asks
+   whether P can come to that. No compiler leaves it out or makes another fault of it, as it may of a store to address 0. */
+static inline __attribute__((noreturn, always_inline)) void coy_fail(void) {
+    for (;;) {
+        __asm__ volatile(".word 0" : : : "memory");
+    }
+}
+
 /* ---- the other system calls */
 
 static inline void coy_loadcap(const void *address, coy_cap into) {

@@ -1,15 +1,16 @@
 /* Calls each function of coyotos.h on things of its own, and compares what is replied with what docs/machine.md says.
-   `main` returns how many comparisons held; the number of one that didn't is logged. */
+   It halts the machine where all comparisons held. The number of one that didn't is logged, and the program fails. */
 #include "coyotos.h"
+#include "plan.h"
 
 enum {
-    LOG = 1, CONTROL = 2, RANGE = 3, DISCRIM = 4, PAGE = 5, OTHER_PAGE = 6, CAPPAGE = 7, GPT = 8, ENDPOINT = 9,
-    PROCESS = 10, SCHEDULE = 11, OPAQUE = 12, RESULT = 20, SECOND = 21, SELF = 13
+    PAGE = PAGE_ONE, OTHER_PAGE = PAGE_TWO, CAPPAGE = CAPPAGE_CAPABILITIES, GPT = AREA_CALLER, OPAQUE = AREA_CALLER_2,
+    ENDPOINT = ENDPOINT_TRIED, PROCESS = PROCESS_OTHER, SELF = PROCESS_CALLER, RESULT = 20, SECOND = 21
 };
-#define PAGE_WORDS ((volatile coy_word *)0x00030000)
-#define OTHER_WORDS ((volatile coy_word *)0x00031000)
-#define SLOTS ((char *)0x00032000)
-#define AREA_WORDS ((volatile coy_word *)0x00040000)
+#define PAGE_WORDS ((volatile coy_word *)AT_ONE)
+#define OTHER_WORDS ((volatile coy_word *)AT_TWO)
+#define SLOTS ((char *)AT_CAPABILITIES)
+#define AREA_WORDS ((volatile coy_word *)AT_AREA)
 
 static coy_word held, tried;
 
@@ -19,7 +20,7 @@ static void expect(int truth) {
         held++;
     } else {
         char text[2] = {(char)('0' + tried / 10 % 10), (char)('0' + tried % 10)};
-        coy_kernlog_log(LOG, text, 2);
+        coy_kernlog_log(KERNLOG, text, 2);
     }
 }
 
@@ -59,7 +60,7 @@ static void pages(void) {
     expect(coy_cappage_clear(CAPPAGE) == COY_OK);
     coy_loadcap(SLOTS + 3 * 16, SECOND);
     expect(kind_of(SECOND) == COY_NULL);
-    coy_copycap(LOG, SECOND);
+    coy_copycap(KERNLOG, SECOND);
     expect(kind_of(SECOND) == COY_KERNLOG);                                                                /* 20 */
 }
 
@@ -81,7 +82,7 @@ static void gpts(void) {
 
 static void endpoints(void) {
     coy_word id = 99, matches = 99, payload = 99;
-    expect(coy_endpoint_getid(ENDPOINT, &id, &matches, &payload) == COY_OK && id == 0xe && matches == 0 && payload == 0);
+    expect(coy_endpoint_getid(ENDPOINT, &id, &matches, &payload) == COY_OK && id == ID_TRIED && matches == 0 && payload == 0);
     expect(coy_endpoint_setid(ENDPOINT, 0xee) == COY_OK && coy_endpoint_setmatch(ENDPOINT, 1) == COY_OK);
     expect(coy_endpoint_setpayload(ENDPOINT, 5) == COY_OK);
     expect(coy_endpoint_getid(ENDPOINT, &id, &matches, &payload) == COY_OK && id == 0xee && matches == 1 && payload == 5);
@@ -120,12 +121,12 @@ static void others(void) {
     expect(coy_discrim_classify(DISCRIM, DISCRIM, &a, &b) == COY_OK && a == COY_DISCRIM && b == 1);
     expect(coy_range_getcap(RANGE, COY_ENDPOINT, 0, RESULT) == COY_OK && kind_of(RESULT) == COY_ENDPOINT);
     expect(coy_range_getcap(RANGE, COY_ENDPOINT, 1, RESULT) == COY_REQUEST_ERROR);                         /* 60 */
-    expect(coy_range_destroy(RANGE, LOG) == COY_REQUEST_ERROR);
+    expect(coy_range_destroy(RANGE, KERNLOG) == COY_REQUEST_ERROR);
     expect(coy_range_destroy(RANGE, ENDPOINT) == COY_OK && kind_of(ENDPOINT) == COY_NULL);
     expect(coy_kind(ENDPOINT, &a) == COY_INVALID_CAP);
     expect(coy_ask(DISCRIM, 9, 0, 0, 0).words[0] == COY_UNKNOWN_REQUEST);
-    expect(coy_kernlog_log(LOG, "", 0) == COY_REQUEST_ERROR);                                              /* 65 */
-    expect(coy_kernlog_log(LOG, "done", 4) == COY_OK);
+    expect(coy_kernlog_log(KERNLOG, "", 0) == COY_REQUEST_ERROR);                                              /* 65 */
+    expect(coy_kernlog_log(KERNLOG, "done", 4) == COY_OK);
 }
 
 coy_word main(void) {
@@ -135,8 +136,9 @@ coy_word main(void) {
     endpoints();
     processes();
     others();
-    if (held == tried) {
-        coy_sysctl_halt(CONTROL);
+    if (held != tried) {
+        coy_fail();
     }
+    coy_sysctl_halt(SYSCTL);
     return held;
 }
