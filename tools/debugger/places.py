@@ -9,6 +9,7 @@ import bisect
 import collections
 import os
 import pathlib
+import select
 import shutil
 import socket
 import struct
@@ -170,9 +171,16 @@ class Run:
         self.children.append(subprocess.Popen(
             [self.program, word], stdin=subprocess.DEVNULL, stdout=subprocess.DEVNULL,
             env={**os.environ, **UNPROVED, "LD_PRELOAD": self.library, "COYOTOS_PLACES": f"{self.room.name}/line"}))
+        self.wait_for(self.children[-1])
         first = Process(self, 0)
         first.feed(self.listing)
         return first
+
+    def wait_for(self, child):
+        """Waits until a program connects; not for one that has ended."""
+        while not select.select([self.listener], [], [], 0.1)[0]:
+            if child.poll() is not None:
+                raise Trouble(f"the program {self.program} doesn't answer")
 
     def close(self):
         for process in [*self.kept, *self.near.values(), *self.quick]:

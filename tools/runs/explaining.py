@@ -3,13 +3,17 @@ import itertools
 import re
 
 from runs import crossings, frames
+from runs.asking import trace_of
+from runs.belonging import Belonging
 from runs.calls import FOLLOWED, Calls
 from runs.counting import Counts
 from runs.ends import ends
+from runs.harts import UNKNOWN as UNKNOWN_CALL
 from runs.harts import Harts
 from runs.output import Output
 from runs.programs import Programs
 from runs.records import message, text_of, told
+from runs.refused import MOST_SECONDS, TOLD, Refused, Trouble, grouped, in_a_line
 from runs.schedule import Schedule
 from runs.state import State
 from runs.steps import steps_of
@@ -17,12 +21,14 @@ from runs.steps import steps_of
 MARKS = ("msg", "fault", "log", "destroy", "halt")
 KINDS = (*MARKS, "fetch", "load", "store", "capload", "capstore", "insn")
 MARKED = {kind.encode() for kind in MARKS}
-MOST_TOLD = 20  # calls that are told
+MOST_TOLD, MOST_AROUND = 20, 3  # calls that are told, of a fault and of a request
 LOG_PIECE = 512  # digits of a full piece of the log, behind which its line may go on
 MOST_KNOWN = 1000  # records of which the words are kept, as the same often come again
 BUSY = re.compile(rb"\n(?:insn \d+ \w{8} e(?:call|break)\n|fault |msg |log |destroy |halt |cap)")
 LEAST_QUIET = 2000  # bytes of records that are taken together
 UNKNOWN = "?"
+INVOKE = (0, UNKNOWN_CALL)  # what x17 has for an invocation
+MOST_AGAIN = 100_000  # events of a run that is traced for what nobody asked for
 
 
 class Wrong(Exception):
@@ -31,7 +37,7 @@ class Wrong(Exception):
 
 class Options:
     symbols = process = only = program = None
-    profile = coverage = False
+    profile = coverage = refused = False
 
 
 class Explainer:
@@ -46,10 +52,10 @@ class Explainer:
             names = ", ".join(name for _, _, name in self.programs.names["process"])
             raise Wrong(f"no program is called {options.process}" + (f": there are {names}" if names else ""))
         self.counts = Counts(self.programs) if options.profile or options.coverage else None
-        kinds = options.only.split(",") if options.only else () if self.counts else MARKS
+        kinds = options.only.split(",") if options.only else () if self.counts or options.refused else MARKS
         self.wanted = {kind.encode() for kind in kinds}
         self.calls, self.open, self.known, self.fronts = Calls(self.programs), {}, {}, {}
-        self.number, self.harts = 0, None
+        self.number, self.harts, self.refused = 0, None, Refused(self.programs)
         self.width = max((len(self.programs.process(first)) for first, _, _ in self.programs.names["process"]), default=9)
 
     # -- what is read
@@ -66,17 +72,24 @@ class Explainer:
         kinds = {line.split(b" ", 1)[0].decode("ascii", "replace") for line in first.splitlines()}
         if not kinds <= set(KINDS):
             raise Wrong(f"that is not what `run` or `trace` wrote: {sorted(kinds - set(KINDS))[0][:40]}")
-        self.is_trace = "fetch" in kinds
+        self.is_trace, self.belonging = "fetch" in kinds, Belonging(self.listing)
+        self.need_belonging(self.belonging.of_records(first))
         if self.counts and not self.is_trace:
             raise Wrong("instructions are in a trace alone, as `coyotos trace` writes it")
         if self.wanted and first:
             self.say(("    event    record  hart  " if self.is_trace else "   record  ") + "program")
         records = self.counted(itertools.chain([first], pieces))
-        if self.is_trace and self.wanted:
+        if self.is_trace and not self.counts:
+            self.harts = Harts(self.listing, Schedule(self.listing), self.options.program)
             self.by_steps(records)
         else:
             self.by_lines(records)
         return self.end()
+
+    @staticmethod
+    def need_belonging(why_not):
+        if why_not:
+            raise Wrong(f"that is no run of this listing: {why_not}")
 
     def counted(self, pieces):
         """The pieces, of which the instructions are counted where that was asked for."""
@@ -104,7 +117,7 @@ class Explainer:
 
     def by_steps(self, pieces):
         """Tells the records of a trace with their events and harts, for which the steps are looked at."""
-        self.harts, left = Harts(self.listing, Schedule(self.listing), self.options.program), b""
+        left = b""
         for data in pieces:
             data = left + data
             cut = data.rfind(b"\nfetch ") + 1
@@ -139,12 +152,22 @@ class Explainer:
         for process, pc, insn, rest, first, behind, page in steps_of(lines, self.number):
             hart = step(process, pc, first)
             if insn is None or rest or insn[:1] in b"jlsbe" or b" x17 " in insn:
+                if insn == b"ecall":
+                    self.note_call(process, pc, rest, first)
                 end(process, pc, insn, rest)
                 if insn and insn[:3] == b"jal":
                     follow(process, int(pc, 16), insn)
             if rest or are_all:
                 self.step(hart, process, pc, insn, rest, first, behind, page if are_all else None)
         self.number += len(lines)
+
+    def note_call(self, process, pc, rest, first):
+        """Puts down a call that may be a request that is refused."""
+        harts = self.harts
+        if not harts.lost and (self.who is None or process in self.who) \
+                and harts.calls.get(process, harts.other_calls) in INVOKE \
+                and not any(line.startswith(TOLD) for line in rest):
+            self.refused.add(harts.event, first + 2, process, int(pc, 16), self.calls.of(process)[:MOST_AROUND])
 
     def step(self, hart, process, pc, insn, rest, first, behind, page):
         """Tells the records of a step; with its fetch and its instruction, if there is a page to tell of."""
@@ -238,8 +261,54 @@ class Explainer:
         elif not self.output.is_whole:
             self.say("The output ends before the end of the last state.")
         else:
+            self.need_belonging(self.belonging.of_state(self.output.rest))
+            self.tell_refused()
             self.tell_state(State(self.output.rest))
         self.flush()
+
+    def tell_refused(self):
+        """The requests that were refused: each where that was asked for, else in a line."""
+        is_asked = self.options.refused
+        if self.counts and not is_asked:
+            return
+        try:
+            if not self.is_trace:
+                self.trace_again()
+            found = self.found_refused() if self.refused.calls else []
+        except Trouble as trouble:
+            if is_asked:
+                raise Wrong(str(trouble))
+            return
+        if is_asked:
+            self.say_all(self.listed(found))
+        elif found:
+            self.say(in_a_line(self.refused, found))
+
+    def found_refused(self):
+        if not self.options.program:
+            raise Trouble("a program is needed that says what was refused: --program names one")
+        return self.refused.found(self.options.program, self.listing, None if self.options.refused else MOST_SECONDS)
+
+    def trace_again(self):
+        """Looks for calls in a trace, where `run` wrote what is told."""
+        schedule = Schedule(self.listing)
+        if not self.options.program or not self.options.refused and schedule.count > MOST_AGAIN:
+            return
+        other = Explainer(self.listing, Options(), lambda _lines: None)
+        other.wanted, other.who, other.refused = set(), self.who, self.refused
+        other.harts = Harts(self.listing, schedule, self.options.program)
+        with trace_of(self.options.program, self.listing) as run:
+            other.by_steps(Output(run.stdout).pieces())
+
+    def listed(self, found):
+        """Requests that were refused, each once, with its first event."""
+        if not found:
+            yield "no request was refused"
+            return
+        yield "    event    record  program"
+        for process, sentence, calls in grouped(found):
+            times = f"; {len(calls):,} times, the last at event {calls[-1].event}" if len(calls) > 1 else ""
+            yield f"{calls[0].event:>9}{calls[0].record:>10}  {self.front(process)}{sentence}{times}"
 
     def tell_state(self, state):
         if self.harts and self.harts.lost:

@@ -17,9 +17,8 @@ with the schedule cut behind the event in question; and without a program, the h
 """
 import itertools
 import re
-import subprocess
-import tempfile
 
+from runs.asking import trace_of
 from runs.steps import ACCESSES, BRANCHES, JUMPS, STORES
 
 MOST_ASKED = 100  # runs of the program
@@ -40,12 +39,8 @@ class Asked:
         if not self.program or self.runs == MOST_ASKED:
             return None
         self.runs += 1
-        with tempfile.TemporaryFile() as cut:
-            cut.write(self.schedule.cut(events).encode())
-            cut.seek(0)
-            with subprocess.Popen([self.program, "trace"], stdin=cut, stdout=subprocess.PIPE) as run:
-                count = sum(1 for _ in itertools.takewhile(lambda line: line != b"state\n", run.stdout))
-                run.stdout.read()
+        with trace_of(self.program, self.schedule.cut(events)) as run:
+            count = sum(1 for _ in itertools.takewhile(lambda line: line != b"state\n", run.stdout))
         return count if run.returncode == 0 else None
 
 

@@ -27,6 +27,11 @@ class Schedule:
             return "tick", int(words[1]), 1
         raise ValueError(f"{' '.join(words)} is no line of a schedule")
 
+    @property
+    def count(self):
+        """How many events there are."""
+        return sum(times * (self.harts if word == "round" else 1) for word, _, times in self.lines)
+
     def events(self):
         """Each event: whether it is a step, and its hart."""
         for word, hart, times in self.lines:
