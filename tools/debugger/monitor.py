@@ -15,6 +15,7 @@ monitor queues          harts, ready queues, and who sleeps on whom
 monitor messages        the last ten messages, with faults that were heard
 monitor why             who waits for whom, and why the last fault came
 monitor walk ADDRESS    how the selected process gets to an address
+monitor found           what the answer of `explore` says whose run this is
 monitor process [NAME]  breakpoints count for this process alone; with `all` for each"""
 
 
@@ -32,6 +33,7 @@ class Monitor:
     """Answers of one session."""
 
     def __init__(self, session):
+        self.found = None  # the answer of `explore` whose run this is
         self.session, self.run, self.names = session, session.run, session.names
 
     def answer(self, words):
@@ -79,6 +81,15 @@ class Monitor:
             return
         self.session.only = number
         yield f"breakpoints count for {'each process' if number is None else f'{self.names.process(number)} alone'}"
+
+    def do_found(self):
+        if self.found is None:
+            yield "this run is of a schedule of its own: --found names an answer of `explore`"
+            return
+        yield self.found.sentence()
+        yield f"its choices begin with event {self.found.events()[0]}"
+        if self.found.loop:
+            yield f"the loop begins with event {self.found.loop_begins()}"
 
     # -- what is held
 

@@ -17,6 +17,7 @@ from runs.refused import MOST_SECONDS, TOLD, Refused, Trouble, grouped, in_a_lin
 from runs.schedule import Schedule
 from runs.state import State
 from runs.steps import steps_of
+from runs.values import lines_of_table, table_of
 
 MARKS = ("msg", "fault", "log", "destroy", "halt")
 KINDS = (*MARKS, "fetch", "load", "store", "capload", "capstore", "insn")
@@ -36,7 +37,7 @@ class Wrong(Exception):
 
 
 class Options:
-    symbols = process = only = program = None
+    symbols = process = only = program = found = None
     profile = coverage = refused = False
 
 
@@ -55,6 +56,7 @@ class Explainer:
         kinds = options.only.split(",") if options.only else () if self.counts or options.refused else MARKS
         self.wanted = {kind.encode() for kind in kinds}
         self.calls, self.open, self.known, self.fronts = Calls(self.programs), {}, {}, {}
+        self.loop = None  # the event with which one begins, until that was told
         self.number, self.harts, self.refused = 0, None, Refused(self.programs)
         self.width = max((len(self.programs.process(first)) for first, _, _ in self.programs.names["process"]), default=9)
 
@@ -97,6 +99,20 @@ class Explainer:
             if self.counts:
                 self.counts.add(data)
             yield data
+
+    # -- an answer
+
+    def tell_found(self, found):
+        """What an answer of `explore` says, and how its line came to be so."""
+        self.say(found.sentence())
+        if found.loop:
+            self.loop = found.loop_begins()
+            self.say(f"The loop begins with event {self.loop}: the state before it is the last state, too.")
+        names, rows = table_of(self.options.program, found)
+        if rows:
+            self.say("")
+            self.say_all(lines_of_table(names, rows))
+        self.say("")
 
     # -- records
 
@@ -174,6 +190,9 @@ class Explainer:
         event, hart = self.harts.event, 0 if len(self.harts.on) == 1 else hart
         event = UNKNOWN if event is None else event
         hart = UNKNOWN if hart is None else hart
+        if self.loop is not None and event != UNKNOWN and event >= self.loop:
+            self.say(f"{self.loop:>9}            -- the loop begins here")
+            self.loop = None
         fronts = [f"{event:>9}{number:>10}{hart:>6}  " for number in range(first + 1, behind + 1)]
         if page:
             self.record(b"fetch %d %s %s" % (process, pc, page), fronts[0])

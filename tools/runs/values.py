@@ -1,0 +1,117 @@
+"""What the atoms of a question's line are along the run that an answer tells."""
+import re
+from collections import namedtuple
+
+from exploring.policy import Policy
+from exploring.state import State
+from runs.moments import states
+
+COMPARISONS = ("same", "below", "most", "less")
+CONNECTED = {"and", "or"}
+MOST_STATES, MOST_ROWS = 2000, 40  # states that are asked for, and rows that are told as text: the last ones
+
+# An atom: whether it is negated, its words, and what it is called.
+Atom = namedtuple("Atom", "negated words name")
+
+
+def atoms_of(line):
+    """The words of the atoms of a line, one after the other."""
+    found = [[]]
+    for word in line.split()[1:]:
+        if word in CONNECTED or word == "must":
+            found.append([])
+        else:
+            found[-1].append(word)
+    return [words for words in found if words]
+
+
+def named_atoms(line, plan):
+    """The atoms of a line, each named as the plan has it, where that has as many."""
+    atoms, names = atoms_of(line), atoms_of(plan)
+    names = names if len(names) == len(atoms) else atoms
+    found = []
+    for words, name in zip(atoms, names):
+        negated = words[0] == "not"
+        atom = Atom(negated, words[negated:], " ".join(name[name[0] == "not":]))
+        if all(atom.words != other.words for other in found):
+            found.append(atom)
+    return found
+
+
+class Values:
+    """The columns of a table: for each atom what is read of a state, else whether it holds."""
+
+    def __init__(self, found):
+        self.policy, self.columns = Policy(), []
+        for words in found.policy:
+            self.policy.take(words)
+        for atom in named_atoms(found.line, found.plan):
+            self.columns += self.columns_of(atom)
+
+    def columns_of(self, atom):
+        """What an atom is called, and how its value is had of a state as the program wrote it, and of that as it is read
+        for questions."""
+        word, fields = atom.words[0], atom.words[1:]
+        if word == "word" and len(fields) == 3:
+            page, offset = int(fields[0]), int(fields[1], 16)
+            return [(without_value(atom), lambda state, _: hexadecimal(state.page(page)[offset:offset + 4]))]
+        if word == "reg" and len(fields) == 3:
+            process, register = int(fields[0]), int(fields[1])
+            return [(without_value(atom), lambda state, _: f"{state.register_values(process)[register]:x}")]
+        if word in COMPARISONS:
+            return self.of_terms(atom)
+        return [(atom.name, lambda _, state: told(state.atom(word, fields, self.policy)))]
+
+    @staticmethod
+    def of_terms(atom):
+        """Those of a comparison: each of its terms that is no number, and whether it holds."""
+        from exploring.terms import compares, terms_of, value
+        terms = terms_of(atom.words[1:])
+        found = [(words_of(term), lambda _, state, term=term: f"{value(term, state):x}") for term in terms
+                 if term.word != "number"]
+        return [*found, (atom.name, lambda _, state: told(compares(atom.words[0], terms, state)))]
+
+    def of(self, state):
+        read = State(state.data)
+        return [value(state, read) for _, value in self.columns]
+
+
+def told(holds):
+    return "yes" if holds else "no"
+
+
+def hexadecimal(data):
+    return f"{int.from_bytes(data, 'little'):x}"
+
+
+def without_value(atom):
+    """The name of an atom without the value that is asked for, which is its last word."""
+    return re.sub(r" *([=!]=)? *\S+$", "", atom.name)
+
+
+def words_of(term):
+    return " ".join([term.word, *term.fields, *map(words_of, term.terms)])
+
+
+def table_of(program, found):
+    """The names of the columns, and a row where a value is another than before: the number of the event that comes next,
+    and the values. Nothing where the input doesn't have the line."""
+    if not found.line:
+        return [], []
+    values, rows = Values(found), []
+    events = found.events()[-MOST_STATES - 1:]
+    for event, state in zip(events, states(program, found.listing, events)):
+        row = values.of(state)
+        if not rows or rows[-1][1:] != row:
+            rows.append([event, *row])
+    return [name for name, _ in values.columns], rows
+
+
+def lines_of_table(names, rows):
+    """The table as text, the last rows of one that is long."""
+    widths = [max(len(name), *(len(row[i]) for row in rows)) for i, name in enumerate(names, 1)]
+    yield "    event  " + "  ".join(name.ljust(width) for name, width in zip(names, widths)).rstrip()
+    if len(rows) > MOST_ROWS:
+        yield f"{'..':>9}  {len(rows) - MOST_ROWS:,} changes come before these"
+    for event, *values in rows[-MOST_ROWS:]:
+        yield f"{event:>9}  " + "  ".join(value.ljust(width) for value, width in zip(values, widths)).rstrip()
