@@ -7,9 +7,12 @@ import subprocess
 
 from run_page.remarks import names_of
 from run_page.symbols import read_symbols
+from runs.records import count
 
 READERS = ("riscv64-unknown-elf-addr2line", "llvm-addr2line", "llvm-addr2line-14")
 DEMANGLERS = ("riscv64-unknown-elf-c++filt", "c++filt", "llvm-cxxfilt")
+MEMORY = re.compile(r"([0-9a-f]{8}) to ([0-9a-f]{8}) \S+ (.*)")
+PAGE, NEAR_STACK = 4096, 65_536  # bytes; so far below a stack an address is meant to be one of it
 KINDS = {"page": "page", "cappage": "capability page", "gpt": "GPT", "endpoint": "endpoint", "process": "process"}
 
 
@@ -59,12 +62,22 @@ class Programs:
         return found or ({int(word)} if word.isascii() and word.isdigit() else set())
 
     def there(self, process, address):
-        """What the plan put at an address."""
+        """What the plan put at an address, or that it is a little below the program's stack."""
+        below = ""
         for line in self.names["memory"].get(process, ()):
-            found = re.match(r"([0-9a-f]{8}) to ([0-9a-f]{8}) \S+ (.*)", line)
-            if found and int(found[1], 16) <= address <= int(found[2], 16):
-                return found[3]
-        return ""
+            found = MEMORY.match(line)
+            first, last, what = (int(found[1], 16), int(found[2], 16), found[3]) if found else (0, -1, "")
+            if first <= address <= last:
+                return what
+            if what == "stack" and 0 < first - address <= NEAR_STACK:
+                below = self.below_stack(process, first, last, address)
+        return below
+
+    def below_stack(self, process, first, last, address):
+        """How far an address is below a stack, and how large a stack would have it."""
+        pages = -((address - last - 1) // PAGE)
+        return f"{count(first - address, 'byte')} below the stack of {self.process(process)}, {last + 1 - first:,} bytes; " \
+            f"`stack {pages}` in the plan gives it {count(pages, 'page')}"
 
     # -- functions and lines
 
