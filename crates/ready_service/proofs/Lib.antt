@@ -1,0 +1,5 @@
+mod Positions
+mod Idle
+mod Rows
+mod Parts
+mod Served

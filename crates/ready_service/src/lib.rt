@@ -1,0 +1,19 @@
+//! Laws: whoever is ready is served in order. A ready process performs an event after as many dispatches from its queue as
+//! it has a place in it.
+//!
+//! There is no code here. Each function has a law as its contract: of every state, and of every list of events. Nothing is
+//! said of time, or of how often a hart comes to dispatch.
+#![tactic(auto)]
+
+ghost use Rattle.ready_service.specs.Laws.{ServedInOrder, HighestIsNext};
+
+/// Among the first `n` of its ready queue, a process that nobody changes is served with the `n`-th dispatch at the latest,
+/// whoever becomes ready, waits, is stopped or is destroyed.
+pub fn served_in_order()
+    ensures { ServedInOrder }
+{}
+
+/// A hart that has no process takes one from the highest ready queue in which one stands.
+pub fn highest_is_next()
+    ensures { HighestIsNext }
+{}
