@@ -110,8 +110,17 @@ function registersOf(process) {
   }));
 }
 
+// What a process that waits for a message accepts: `waiting W C R R R R AT BOUND`.
+function accepted([what, , count, ...words]) {
+  if (what !== 'waiting') return '';
+  const caps = words.slice(0, count).map(register => `c${register}`).join(', '), [at, bound] = words.slice(4);
+  return `accepts ${Number(count) ? `a capability into ${caps}` : 'no capability'}, and `
+    + (Number(bound) ? `a string of at most ${grouped(Number(bound))} bytes at ${at}` : 'no string');
+}
+
 // The content of a process's card.
-function fill(card, process, [, space, schedule, handler]) {
+function fill(card, process, [, space, schedule, handler, ...state]) {
+  if (accepted(state)) card.append(made('p', accepted(state)));
   card.append(made('h3', 'Space'), list(item('', space, 0, spaceRange)), made('h3', 'Schedule and fault handler'),
     list(item('schedule', schedule, 0, offsetRange), item('handler', handler, 0, offsetRange)));
   if (run.state.held[process] || run.names.given[process]) {
@@ -126,9 +135,9 @@ function fill(card, process, [, space, schedule, handler]) {
 
 function processCard(process, words, isOpen) {
   const card = made('details', '', 'card'), symbol = symbolAt(process, parseInt(words[0], 16));
-  const hart = Object.entries(run.state.harts).find(([, on]) => on === String(process));
-  const title = `${called('process', process)}: pc ${words[0]}${symbol && ` ${symbol}`}, `
-    + words.slice(4).join(' ') + (hart ? `, on hart ${hart[0]}` : '');
+  const stands = run.standing[process] || words.slice(4).join(' ');
+  const title = `${called('process', process)}: ${stands}`
+    + (stands.includes('; at ') ? '' : `; pc ${words[0]}${symbol && ` ${symbol}`}`);
   card.append(made('summary', title));
   card.addEventListener('toggle', () => card.children.length === 1 && fill(card, process, words));
   card.open = isOpen;

@@ -18,6 +18,13 @@ const LEFT = (() => {
   return Math.ceil(Math.min(most, Math.max(LEAST_LEFT, ...allLabels.map(label => pen.measureText(label).width + 16))));
 })();
 
+// The colors of the page, which are those of its style sheet.
+const color = name => getComputedStyle(document.documentElement).getPropertyValue(`--${name}`);
+let paint = {};
+function takeColors() {
+  for (const name of ['ground', 'ink', 'line', 'chosen', 'loop', 'on-mark', ...KINDS]) paint[name] = color(name);
+}
+
 // A label as it fits into its column, with a sign where it is cut.
 function fitted(label) {
   const room = LEFT - 12;
@@ -44,9 +51,9 @@ function short(number) {
 }
 
 function drawLabels() {
-  pen.fillStyle = '#fff';
+  pen.fillStyle = paint.ground;
   pen.fillRect(0, 0, LEFT - 6, canvas.clientHeight);
-  pen.fillStyle = '#222';
+  pen.fillStyle = paint.ink;
   pen.font = LABEL_FONT;
   pen.textAlign = 'left';
   for (let hart = 0; hart < run.lanes; hart++) pen.fillText(fitted(hartLabel(hart)), 4, hartTop(hart) + 19);
@@ -59,7 +66,7 @@ function drawLabels() {
 function drawLines() {
   for (const [lane, process] of laneOwners.entries()) {
     if (!isSeen(laneTop(lane))) continue;
-    pen.fillStyle = process === NOBODY ? '#bbb' : colorOf(process);
+    pen.fillStyle = process === NOBODY ? paint.line : colorOf(process);
     pen.fillRect(Math.max(LEFT, xOf(0)), laneTop(lane) + MIDDLE - 1, Math.min(wide(), run.count * view.scale), 3);
   }
 }
@@ -81,7 +88,7 @@ function drawHatching(x, y, width) {
   pen.beginPath();
   pen.rect(x, y, width, 24);
   pen.clip();
-  pen.strokeStyle = '#fff';
+  pen.strokeStyle = paint.ground;
   pen.lineWidth = 2;
   pen.beginPath();
   for (let at = x - x % 9 - 27; at < x + width; at += 9) {
@@ -122,7 +129,7 @@ function drawArrow(i, kind, to) {
   const x = clusterX(i), from = laneTop(clusters.lane[i]) + MIDDLE, end = laneTop(to) + MIDDLE;
   if (from === end || !isSeen(laneTop(to)) && !isSeen(laneTop(clusters.lane[i]))) return;
   const back = end > from ? -9 : 9;
-  pen.strokeStyle = pen.fillStyle = COLORS[kind];
+  pen.strokeStyle = pen.fillStyle = paint[KINDS[kind]];
   pen.lineWidth = 1.5;
   pen.beginPath();
   pen.moveTo(x, from);
@@ -139,12 +146,12 @@ function drawArrow(i, kind, to) {
 function drawCluster(i) {
   const x = clusterX(i), y = laneTop(clusters.lane[i]) + MIDDLE, kinds = clusters.kinds[i];
   if (!isSeen(y)) return;
-  pen.fillStyle = COLORS[31 - Math.clz32(kinds & -kinds)];
+  pen.fillStyle = paint[KINDS[31 - Math.clz32(kinds & -kinds)]];
   pen.beginPath();
   if (clusters.size[i] > 1) {
     pen.roundRect(x - BOX / 2, y - 7, BOX, 15, 4);
     pen.fill();
-    pen.fillStyle = '#fff';
+    pen.fillStyle = paint['on-mark'];
     pen.font = '10px sans-serif';
     pen.textAlign = 'center';
     pen.fillText(short(clusters.size[i]), x, y + 4, BOX - 2);
@@ -156,8 +163,19 @@ function drawCluster(i) {
 
 function drawChosen() {
   if (view.chosen < 0) return;
-  pen.fillStyle = '#c90';
+  pen.fillStyle = paint.chosen;
   pen.fillRect(xOf(view.chosen) - 0.5, 0, 1.5, canvas.clientHeight);
+}
+
+// Where the loop of an answer begins: all behind it can come again and again.
+function drawLoop() {
+  if (run.loop === null || !run.stepCount) return;
+  const x = xOf(recordFrom(run.loop));
+  pen.fillStyle = paint.loop;
+  pen.fillRect(x - 1, 0, 2, canvas.clientHeight);
+  pen.textAlign = 'left';
+  pen.font = LABEL_FONT;
+  pen.fillText('the loop begins', x + 4, 12);
 }
 
 function draw() {
@@ -177,6 +195,7 @@ function draw() {
     drawArrow(arrows.cluster[i], arrows.kind[i], arrows.to[i]);
   }
   for (let i = from; isNear(i); i++) drawCluster(i);
+  drawLoop();
   drawChosen();
   drawLabels();
   tellSeen();
@@ -185,7 +204,9 @@ function draw() {
 // Which part of the run one sees.
 function tellSeen() {
   const first = Math.floor(view.from), last = Math.min(run.count, Math.ceil(atOf(LEFT + wide())));
-  document.getElementById('seen').textContent = `records ${grouped(first + 1)} to ${grouped(last)}`;
+  const from = eventAt(first), to = eventAt(last - 1);
+  document.getElementById('seen').textContent = (from < 0 || to < 0 ? '' : `events ${grouped(from)} to ${grouped(to)}, `)
+    + `records ${grouped(first + 1)} to ${grouped(last)}`;
   const room = run.count - wide() / view.scale;
   document.getElementById('place').value = room > 0 ? 10000 * view.from / room : 0;
 }

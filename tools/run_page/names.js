@@ -46,6 +46,22 @@ function logged(digits) {
   return told;
 }
 
+// The line of a source at an address, with its text, if it is known.
+function sourceAt(process, address) {
+  const place = (run.sources.places[process] || {})[address];
+  return place ? `${place}  ${run.sources.texts[place] || ''}`.trimEnd() : '';
+}
+
+// That an address is a little below the stack of a program, in words.
+function belowStack(process, address) {
+  for (const line of run.names.memory[process] || []) {
+    const found = line.match(/^([0-9a-f]{8}) to ([0-9a-f]{8}) \S+ stack$/);
+    const away = found ? parseInt(found[1], 16) - address : 0;
+    if (away > 0 && away <= 65536) return `${grouped(away)} ${away === 1 ? 'byte' : 'bytes'} below its stack`;
+  }
+  return '';
+}
+
 // What a record doesn't say itself: names, functions, and the text of the log.
 function remarkOf(line) {
   const words = line.split(' '), process = Number(words[1]);
@@ -58,8 +74,10 @@ function remarkOf(line) {
     case 'destroy': return nameOf(words[1], Number(words[2]));
     case 'halt': return processNamed(process);
   }
-  const address = words[0] === 'fault' ? words[3] : words[2];
-  const parts = [processNamed(process), symbolAt(process, parseInt(address, 16))];
+  const address = words[0] === 'fault' ? words[3] : words[2], place = parseInt(address, 16);
+  const parts = [processNamed(process), symbolAt(process, place)];
+  if (words[0] === 'fault') parts.push(belowStack(process, place));
+  if (words[0] === 'insn') parts.push(sourceAt(process, place));
   if (words[0] === 'fault' && words[4] === 'to') parts.push(`to ${processNamed(Number(words[5]))}`);
   if (words[3] === 'page' || words[3] === 'cappage') parts.push(nameOf(words[3], Number(words[4])));
   return parts.filter(part => part).join(', ');

@@ -1,8 +1,10 @@
 // The parts of the page put together.
 const RECORDS = ['record', 'records'];
 const tip = document.getElementById('tip');
+const eventOf = at => eventAt(at) < 0 ? '' : `event ${eventAt(at)}, `;
+const numbered = at => (run.stepCount ? String(eventAt(at) < 0 ? '?' : eventAt(at)).padStart(8) : '') + String(at + 1).padStart(9);
 const lines = new Rows(document.getElementById('lines'), run.count,
-  at => [`${String(at + 1).padStart(8)}  ${lineAt(at)}`, remarkOf(lineAt(at))], at => choose(at));
+  at => [`${numbered(at)}  ${lineAt(at)}`, remarkOf(lineAt(at))], at => choose(at));
 const log = new Rows(document.getElementById('log'), logLines.count,
   at => [`${processNamed(logLines.process[at])}: ${logText(at)}`, ''], at => choose(logLines.at[at]));
 
@@ -10,7 +12,11 @@ const log = new Rows(document.getElementById('log'), logLines.count,
 function choose(at) {
   view.chosen = at;
   lines.mark(at);
-  log.mark(firstFrom(logLines.at, at + 1) - 1);
+  const line = firstFrom(logLines.at, at + 1) - 1;
+  log.mark(line);
+  document.getElementById('wholeRecord').textContent =
+    `${eventOf(at)}record ${at + 1}: ${lineAt(at)}\n${remarkOf(lineAt(at))}`;
+  document.getElementById('wholeLog').textContent = line < 0 ? '' : `${processNamed(logLines.process[line])}: ${logText(line)}`;
   const isOut = at < view.from || at > atOf(LEFT + wide());
   look(isOut ? at - wide() / view.scale / 2 : view.from, view.scale);
 }
@@ -34,7 +40,7 @@ function foundRun(hart, at) {
   if (i === first.length || first[i] > at) return null;
   return {at: nearest(at, process[i], first[i], behind[i]),
     told: `${hartLabel(hart)}: ${processNamed(process[i])}, ${count(behind[i] - first[i], RECORDS)} `
-      + `from ${grouped(first[i] + 1)} on`};
+      + `from ${eventOf(first[i])}record ${grouped(first[i] + 1)} on`};
 }
 
 // The whole label of a lane, where a part of it is cut off.
@@ -59,7 +65,7 @@ function found(x, y) {
   }
   if (best < 0) return null;
   const first = marks.at[clusters.first[best]], last = marks.at[clusters.last[best]];
-  if (clusters.size[best] === 1) return {at: first, told: `${first + 1}  ${lineAt(first)}\n${remarkOf(lineAt(first))}`};
+  if (clusters.size[best] === 1) return {at: first, told: `${eventOf(first)}record ${first + 1}: ${lineAt(first)}\n${remarkOf(lineAt(first))}`};
   return {at: nearestMark(best, at), told: `${kindsOf(best)}: records ${first + 1} to ${last + 1}`};
 }
 
@@ -89,19 +95,84 @@ function wheel(event) {
   else scaleAt(event.offsetX, event.deltaY < 0 ? 1.25 : 0.8);
 }
 
-// Goes to the next record that has this text, or to the record of this number.
-function seek(sought) {
-  if (/^\d+$/.test(sought) && sought >= 1 && sought <= run.count) {
-    tellSought('');
-    return choose(sought - 1);
-  }
-  const from = view.chosen < 0 ? 0 : starts[view.chosen + 1];
-  let place = text.indexOf(sought, from);
-  if (place < 0) place = text.indexOf(sought);
+// Goes to what is looked for: the first record of an event, a record by its number, or the next or previous one that has
+// this text.
+function seek(sought, isBack = false) {
+  const number = sought.match(/^(record )?(\d+)$/);
+  if (number && seekNumber(Number(number[2]), Boolean(number[1]))) return tellSought('');
+  const place = isBack ? placeBefore(sought) : placeBehind(sought);
   if (sought && place >= 0) choose(recordAt(place));
-  const isNumber = /^\d+$/.test(sought);
-  tellSought(!sought || place >= 0 ? '' : isNumber ? `there is no record ${sought}, and no record has it`
-    : 'no record has this text');
+  tellSought(!sought || place >= 0 ? '' : number ? `there is no ${number[1] || !run.stepCount ? 'record' : 'event'} ${number[2]}, `
+    + 'and no record has it' : 'no record has this text');
+}
+
+// Whether there is such an event, or such a record where those are meant or no events are known; it is chosen.
+function seekNumber(number, isRecord) {
+  const at = isRecord || !run.stepCount ? number - 1 : recordFrom(number);
+  if (at < 0 || at >= run.count || !isRecord && run.stepCount && eventAt(at) < number) return false;
+  choose(at);
+  return true;
+}
+
+function placeBehind(sought) {
+  const place = text.indexOf(sought, view.chosen < 0 ? 0 : starts[view.chosen + 1]);
+  return place < 0 ? text.indexOf(sought) : place;
+}
+
+function placeBefore(sought) {
+  const place = view.chosen > 0 ? text.lastIndexOf(sought, starts[view.chosen] - 1) : -1;
+  return place < 0 ? text.lastIndexOf(sought) : place;
+}
+
+// Goes to the mark behind or before what is chosen.
+function chooseMark(step) {
+  const i = step > 0 ? firstFrom(marks.at, view.chosen + 1) : firstFrom(marks.at, view.chosen) - 1;
+  if (i >= 0 && i < marks.count) choose(marks.at[i]);
+}
+
+// What keys do in the lanes.
+const KEYS = {
+  ArrowLeft: () => look(view.from - wide() / view.scale / 10, view.scale),
+  ArrowRight: () => look(view.from + wide() / view.scale / 10, view.scale),
+  PageUp: () => look(view.from - wide() / view.scale, view.scale),
+  PageDown: () => look(view.from + wide() / view.scale, view.scale),
+  Home: () => look(0, view.scale), End: () => look(run.count, view.scale), '+': () => scaleAtChosen(2),
+  '-': () => scaleAtChosen(0.5), 0: () => look(0, 0), n: () => chooseMark(1), p: () => chooseMark(-1)};
+
+function press(event) {
+  if (!(event.key in KEYS) || event.ctrlKey || event.metaKey) return;
+  event.preventDefault();
+  KEYS[event.key]();
+}
+
+// Dark or light, as the system has it until somebody says otherwise.
+function setTheme(name) {
+  document.documentElement.dataset.theme = name;
+  document.getElementById('theme').textContent = name === 'dark' ? 'light' : 'dark';
+  takeColors();
+  document.querySelectorAll('#key i').forEach((dot, i) => dot.style.background = paint[dot.dataset.kind]);
+  window.requestAnimationFrame(draw);
+}
+
+function listenForTheme() {
+  const wish = window.matchMedia('(prefers-color-scheme: dark)');
+  setTheme(wish.matches ? 'dark' : 'light');
+  wish.addEventListener('change', () => setTheme(wish.matches ? 'dark' : 'light'));
+  document.getElementById('theme').onclick = () =>
+    setTheme(document.documentElement.dataset.theme === 'dark' ? 'light' : 'dark');
+}
+
+// What the atoms of an answer's line are, and when that changed; a click goes there.
+function showValues() {
+  if (!run.values.length) return;
+  const table = document.getElementById('values').appendChild(made('table')), head = table.appendChild(made('tr'));
+  head.append(...['before event', ...run.columns].map(name => made('th', name)));
+  for (const [event, ...values] of run.values) {
+    const row = table.appendChild(made('tr'));
+    row.dataset.event = event;
+    row.append(...[String(event), ...values].map(value => made('td', value)));
+    row.onclick = () => run.stepCount && choose(recordFrom(event));
+  }
 }
 
 const tellSought = told => document.getElementById('vain').textContent = told;
@@ -132,27 +203,40 @@ function listen() {
   document.getElementById('farther').onclick = () => scaleAtChosen(0.5);
   document.getElementById('place').oninput = event =>
     look(event.target.value / 10000 * (run.count - wide() / view.scale), view.scale);
-  document.getElementById('sought').onkeydown = event => event.key === 'Enter' && seek(event.target.value.trim());
+  const sought = document.getElementById('sought');
+  sought.onkeydown = event => event.key === 'Enter' && seek(event.target.value.trim(), event.shiftKey);
+  document.getElementById('next').onclick = () => seek(sought.value.trim());
+  document.getElementById('previous').onclick = () => seek(sought.value.trim(), true);
+  box.onkeydown = press;
+  document.onkeydown = event => {
+    if (event.key !== '/' || event.target === sought) return;
+    event.preventDefault();
+    sought.focus();
+  };
 }
 
 function begin() {
   document.getElementById('title').textContent =
     `A run: ${count(run.count, RECORDS)}, ${grouped(marks.count)} of them marked`;
-  document.getElementById('key').append(...KINDS.map((kind, i) => {
+  const seen = KINDS.filter((kind, i) => i < END || marks.kind.includes(i));
+  document.getElementById('key').append(...seen.map(kind => {
     const part = made('span'), dot = part.appendChild(made('i'));
-    dot.style.background = COLORS[i];
-    part.append(` ${WORDS[i][0]}`);
+    dot.dataset.kind = kind;
+    part.append(` ${WORDS[KINDS.indexOf(kind)][0]}`);
     return part;
   }), made('span', !run.lanes ? 'no lanes of harts: they need what trace writes'
     : run.unknown === null ? '' : 'on which hart it ran is not known where the lane says so', 'remark'));
   document.getElementById('answer').textContent = run.answer;
+  document.getElementById('numbers').textContent = run.stepCount ? '(in front: event, record)' : '';
   if (run.refusal) document.getElementById('refusal').textContent = `The run ended where a line was refused: ${run.refusal}`;
   const cards = Object.entries(run.state.processes);
   document.getElementById('processes').append(
     ...cards.map(([number, words], i) => processCard(Number(number), words, i < 12)));
   const table = document.getElementById('endpoints').appendChild(made('table'));
   table.append(...Object.entries(run.state.endpoints).map(endpointRow));
+  showValues();
   listen();
+  listenForTheme();
   fit();
   look(0, 0);
   if (marks.count) choose(marks.at[0]);

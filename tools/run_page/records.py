@@ -27,18 +27,45 @@ def harts_of(state):
     return [None if each[2] == "idle" else int(each[2]) for each in words]
 
 
+class Steps:
+    """The steps of a trace, as the page takes them: where each begins, and which event it was. Both are written as how much
+    more they are than the last, 0 for an event that isn't known, seven bits to a byte, the least first."""
+
+    def __init__(self):
+        self.data, self.count, self.ran, self.first, self.event = bytearray(), 0, set(), 0, -1
+
+    def add(self, process, pc, first, event):
+        self.put(first - self.first)
+        self.put(0 if event is None else event - self.event)
+        self.first, self.event = first, self.event if event is None else event
+        self.count += 1
+        self.ran.add((process, pc))
+
+    def put(self, number):
+        while number > 127:
+            self.data.append(number & 127 | 128)
+            number >>= 7
+        self.data.append(number)
+
+    def addresses(self, process):
+        """Where instructions of a process ran."""
+        return sorted(int(pc, 16) for other, pc in self.ran if other == process)
+
+
 def stretches_of(listing, records, state, program):
-    """The number of lanes, which of them has what ran on a hart that isn't known (or none), and what ran on each:
-    lane, process, first record, record behind the last.
+    """The number of lanes, which of them has what ran on a hart that isn't known (or none), what ran on each: lane, process,
+    first record, record behind the last; and the steps.
 
     There are none without fetches: what `run` writes doesn't tell the steps.
     """
+    steps = Steps()
     if not any(line.startswith("fetch ") for line in records):
-        return 0, None, []
+        return 0, None, [], steps
     schedule = Schedule(listing)
     harts, found, last, before = Harts(listing, schedule, program), [], {}, {}
     for process, pc, insn, rest, first, behind, _ in steps_of(line.encode() for line in records):
         lane = harts.step(process, pc, first)
+        steps.add(process, pc, first, harts.event)
         harts.end(process, pc, insn, rest)
         lane = schedule.harts if lane is None else lane
         if lane in last and last[lane][1] == process and before.get(process) == lane:
@@ -50,7 +77,8 @@ def stretches_of(listing, records, state, program):
     if not harts.lost and state and not harts.agrees(harts_of(state), "halted" in state):
         found = [[schedule.harts, *each[1:]] for each in found]
     are_known = all(each[0] < schedule.harts for each in found)
-    return (schedule.harts, None, found) if are_known else (schedule.harts + 1, schedule.harts, found)
+    lanes = (schedule.harts, None) if are_known else (schedule.harts + 1, schedule.harts)
+    return *lanes, found, steps
 
 
 def processes_of(records):

@@ -9,8 +9,10 @@ from run_page.remarks import names_of
 from run_page.symbols import read_symbols
 from runs.records import count
 
-READERS = ("riscv64-unknown-elf-addr2line", "llvm-addr2line", "llvm-addr2line-14")
+# The first of these that is there: that of binutils 2.40 names the file of some inlined functions wrong.
+READERS = ("llvm-addr2line", "llvm-addr2line-14", "riscv64-unknown-elf-addr2line")
 DEMANGLERS = ("riscv64-unknown-elf-c++filt", "c++filt", "llvm-cxxfilt")
+HEADER = "coyotos.h:"
 MEMORY = re.compile(r"([0-9a-f]{8}) to ([0-9a-f]{8}) \S+ (.*)")
 PAGE, NEAR_STACK = 4096, 65_536  # bytes; so far below a stack an address is meant to be one of it
 KINDS = {"page": "page", "cappage": "capability page", "gpt": "GPT", "endpoint": "endpoint", "process": "process"}
@@ -110,6 +112,12 @@ class Programs:
                 place = re.sub(r" \(discriminator \d+\)$", "", next(lines, ""))
                 if not place.startswith("??") and not place.endswith((":?", ":0")):
                     found.append((line, place))
+
+    def own_line(self, process, address):
+        """The file and line of the program's own source at an address, and not one of the header, if that is known."""
+        self.look_up(process, [address])
+        places = [place for _, place in self.known[process, address]]
+        return next((place for place in places if not short(place).startswith(HEADER)), "")
 
     def place(self, process, address):
         """An address with its function and line, as far as they are known."""

@@ -6,13 +6,13 @@ import collections
 import time
 
 from runs.moments import Trouble, states
+from runs.programs import short
 
 REPLIED, DONE = 2, 0  # x10 after the kernel's reply, and its code in x11
 HEAD, CODE, CALL, TARGET = 10, 11, 17, 31
 TOLD = (b"msg", b"log", b"halt", b"fault", b"destroy", b"capload", b"capstore")
 MOST_SECONDS = 3  # for what nobody asked for
 MOST_KINDS = 3  # that are told in a line
-HEADER = "coyotos.h"
 CODES = {1: "nobody is there", 2: "there is no such request", 3: "the capability doesn't allow it", 4: "an argument is wrong",
          5: "the object's count is at its end", 6: "the receiver is busy"}
 OF_MEMORY = {1: "reduce", 2: "getguard", 3: "setguard", 4: "getrestr"}
@@ -75,13 +75,8 @@ class Refused:
 
     def place(self, call):
         """The line of a program that calls, if that is known: not one of the header."""
-        for at in (call.pc, *call.around):
-            self.programs.look_up(call.process, [at])
-            for _, place in self.programs.known[call.process, at]:
-                name = place.rsplit("/", 1)[-1]
-                if not name.startswith(f"{HEADER}:"):
-                    return name
-        return self.programs.place(call.process, call.pc)
+        lines = (self.programs.own_line(call.process, at) for at in (call.pc, *call.around))
+        return short(next(filter(None, lines), "")) or self.programs.place(call.process, call.pc)
 
 
 def grouped(found):
