@@ -2,7 +2,7 @@
 import re
 
 from plans.program import MACHINE_PAGES, MOST_PAGES, Program
-from plans.question import ASKING, question_line
+from plans.question import ASKING, Asked, question_line
 from plans.words import (AREA, PAGE, TOP, Wrong, is_domain_name, is_name, letters, need, number, page_address,
                          pages_for, restricted)
 
@@ -44,7 +44,7 @@ class Plan:
         self.things, self.lines, self.domains, self.allowed = {}, {}, {}, []
         self.question = []
         self.pages, self.named_pages, self.schedule, self.mapped = [], [], [], []
-        self.placed, self.payloads = [], []
+        self.placed, self.payloads, self.writable = [], [], set()
         self.page_count, self.said, self.passed = 0, {}, {}
         self.waiting = {turn: [] for turn in self.TURNS}
 
@@ -226,6 +226,8 @@ class Plan:
             rights = "---" if found.kind == "cappage" else "r--" if "r" in limits else "rw-"
             made.space.claim(address, found.count * PAGE, rights, f"{found.kind} {words[2]}", ("area",))
             self.placed.append((made, words[2], address))
+            if rights == "rw-":
+                self.writable.add(words[2].split(".")[0])
             for i, capability in enumerate(found.capabilities()):
                 made.space.put(address // PAGE + i, capability, "x", limits)
                 self.mapped.append((made, (address + i * PAGE) // AREA))
@@ -331,7 +333,7 @@ class Plan:
         def name():
             if self.directory is None:
                 return
-            self.question.append((" ".join(words), question_line(self, words)))
+            self.question.append(Asked(self.at, " ".join(words), question_line(self, words)))
         self.wait("names", name)
 
     # -- the machine and its schedule

@@ -11,17 +11,33 @@ FAULTS = ("InvalidDataReference", "InvalidCapReference", "DataAccessTypeError", 
           "MalformedSpace", "NoSchedule", "MalformedSyscall", "BadAlign", "BadOpcode", "Breakpoint")
 
 
-def question_lines(plan, name):
-    """The question of a plan, each line behind the plan's own words; with the policy where it asks for crossings."""
-    need(any(told.startswith(("never ", "ever ", "count ")) for _, told in plan.question),
+class Asked:
+    """A line of the question: where it stands in the plan, its words there, and the line for `explore`."""
+
+    def __init__(self, at, said, told):
+        self.at, self.said, self.told = at, said, told
+
+    def kind(self):
+        return self.told.split()[0]
+
+
+def numbered_lines(plan, name):
+    """The lines of a plan's question, each behind the plan's own words, and what they are of the plan; with the policy
+    where it asks for crossings."""
+    need(any(one.kind() in ("never", "ever", "count") for one in plan.question),
          "the plan has no line `never`, `ever` or `count`")
-    yield remark(f"The question of {name}, made by tools/listing-of.")
-    if any("crossing" in told.split() for _, told in plan.question):
-        yield from named_lines(plan)
-    for said, told in plan.question:
-        if said != told:
-            yield remark(said)
-        yield told
+    yield remark(f"The question of {name}, made by tools/listing-of."), None
+    if any("crossing" in one.told.split() for one in plan.question):
+        yield from ((line, None) for line in named_lines(plan))
+    for one in plan.question:
+        if one.said != one.told:
+            yield remark(one.said), None
+        yield one.told, one
+
+
+def question_lines(plan, name):
+    """The question of a plan."""
+    return (line for line, _ in numbered_lines(plan, name))
 
 
 def question_line(plan, words):
@@ -51,15 +67,20 @@ def choice(plan, words):
 
 # -- atoms
 
-def atoms(plan, words):
-    """The atoms behind the first word, which stand between words `and`."""
+def groups_of(words):
+    """The words of each atom: atoms stand between words `and`."""
     groups = [[]]
-    for word in words[1:]:
+    for word in words:
         if word == "and":
             groups.append([])
         else:
             groups[-1].append(word)
-    for group in groups:
+    return groups
+
+
+def atoms(plan, words):
+    """The atoms behind the first word."""
+    for group in groups_of(words[1:]):
         negated = group[:1] == ["not"]
         group = group[negated:]
         need(group, f"{words[0]} [not] ATOM [and [not] ATOM ..]")
@@ -86,13 +107,18 @@ def faulted(plan, words):
 def pc(plan, words):
     need(len(words) in (3, 4), "pc PROGRAM in FUNCTION, or pc PROGRAM FIRST [LAST]")
     made = plan.program(words[1])
+    first, last = place_of_pc(plan, words)
+    return f"pc {made.number} {first:08x}" + (f" {last:08x}" if last > first else "")
+
+
+def place_of_pc(plan, words):
+    """The first and the last address of an atom of a pc."""
     if words[2] == "in":
         need(len(words) == 4, "pc PROGRAM in FUNCTION")
-        first, last = function(plan.directory / made.file, words[3])
-    else:
-        first, last = (number(word, "an address", TOP - 1, 16) for word in (words[2], words[-1]))
-        need(first <= last, f"the last address is below the first: {words[-1]}")
-    return f"pc {made.number} {first:08x}" + (f" {last:08x}" if last > first else "")
+        return function(plan.directory / plan.program(words[1]).file, words[3])
+    first, last = (number(word, "an address", TOP - 1, 16) for word in (words[2], words[-1]))
+    need(first <= last, f"the last address is below the first: {words[-1]}")
+    return first, last
 
 
 def function(path, name):
