@@ -33,6 +33,7 @@ def numbered_lines(plan, name):
         if one.said != one.told:
             yield remark(one.said), None
         yield one.told, one
+    yield "end", None
 
 
 def question_lines(plan, name):
