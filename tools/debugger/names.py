@@ -1,4 +1,5 @@
 """What objects and addresses are called: by the remarks of a listing, and by the ELF files of its programs."""
+import os
 import pathlib
 import shutil
 import subprocess
@@ -15,6 +16,12 @@ class Names:
     def __init__(self, listing, folder=None):
         self.found, self.folder = names_of(listing), pathlib.Path(folder) if folder else None
         self.symbols = read_symbols(self.folder, self.found["file"]) if folder else {}
+
+    def file(self, process):
+        """The ELF file of a process, as gdb finds it: from the folder in which both were started; None where there is none."""
+        name = self.found["file"].get(process)
+        path = self.folder / name if self.folder and name else None
+        return os.path.relpath(path) if path and path.is_file() else None
 
     def name(self, kind, number):
         return next((text for first, last, text in self.found[kind] if first <= number <= last), None)

@@ -14,6 +14,7 @@ class Line:
 
     def __init__(self, come, go):
         self.come, self.go, self.data, self.acknowledges = come, go, b"", True
+        self.has_inferiors = False  # whether gdb takes each process for an inferior
         self.while_idle = lambda: False  # something to do until a packet comes; whether there was something
 
     def is_there(self):

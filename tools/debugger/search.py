@@ -21,18 +21,21 @@ def line_at(text, feed):
 
 
 class Arrivals:
-    """A process is about to perform an instruction at one of these addresses; for the process `leaving`, behind its next
-    instruction."""
+    """A process is about to perform an instruction at one of these places, each a process and an address, or an address
+    alone where any process is meant; for the process `leaving`, behind its next instruction."""
 
-    def __init__(self, addresses, is_meant, leaving=None):
-        self.needles, self.is_meant = [b" %08x page " % address for address in addresses], is_meant
+    def __init__(self, places, is_meant, leaving=None):
+        self.places, self.is_meant = places, is_meant
+        self.needles = [b" %08x page " % address for address in {address for _, address in places}]
         self.leaving, self.left = leaving, -1
 
     def process_at(self, text, place):
         """The process of the record that a needle was found in, if it is a fetch of one that is meant."""
         feed = text.rfind(b"\n", 0, place)
-        words = line_at(text, feed).split()
-        return int(words[1]) if words[0] == "fetch" and feed != self.left and self.is_meant(int(words[1])) else None
+        word, process, address, *_ = line_at(text, feed).split()
+        process, address = int(process) if process.isdigit() else None, int(text[place + 1:place + 9], 16)
+        is_one = {(process, address), (None, address)} & self.places
+        return process if word == "fetch" and feed != self.left and is_one and self.is_meant(process) else None
 
     def first(self, stretch):
         self.left = -1 if self.leaving is None else stretch.text.find(b"\nfetch %d " % self.leaving)

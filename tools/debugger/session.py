@@ -15,6 +15,8 @@ WATCHES = {"2": "write", "3": "read", "4": "access"}
 WORDS = {"write": "watch", "read": "rwatch", "access": "awatch"}
 FEATURES = ("PacketSize=4000;QStartNoAckMode+;qXfer:features:read+;qXfer:threads:read+;ReverseStep+;ReverseContinue+;"
             "vContSupported+;swbreak+;hwbreak+;QPassSignals+")
+ALL_GO_ON = "say `set schedule-multiple on`: all programs go on together, and without that gdb takes the others to stand still"
+OF_INFERIORS = ";multiprocess+;qXfer:exec-file:read+"
 REGISTERS = ("zero ra sp gp tp t0 t1 t2 fp s1 a0 a1 a2 a3 a4 a5 a6 a7 s2 s3 s4 s5 s6 s7 s8 s9 s10 s11 t3 t4 t5 t6 pc"
              .split())
 POINTERS = {"ra": "code_ptr", "sp": "data_ptr", "gp": "data_ptr", "tp": "data_ptr", "fp": "data_ptr", "pc": "code_ptr"}
@@ -36,14 +38,20 @@ def part(text, words):
 
 
 def thread_of(word):
-    """The number in a thread's name; 0 where any is meant."""
-    number = int(word.split(".")[-1].lstrip("p"), 16) if word not in ("-1", "") else 0
-    return number
+    """The number in a thread's name; 0 where any is meant. With inferiors, `p2.2`, it is that of the inferior, which has one
+    thread."""
+    number = word[1:].split(".")[0] if word.startswith("p") else word
+    return 0 if number in ("-1", "") else int(number, 16)
 
 
-def greet(line):
+def is_of_all(word):
+    """Whether a thread's name means all, or all of an inferior."""
+    return word in ("", "-1") or word.startswith("p") and word.endswith(".-1")
+
+
+def greet(line, with_inferiors):
     """Answers what needs no run, since gdb waits but two seconds for the first answers; the first packet that does, or
-    None where gdb is gone."""
+    None where gdb is gone. Each process is an inferior of gdb where that is wanted and gdb can do it."""
     try:
         while True:
             packet = line.packet()
@@ -51,8 +59,11 @@ def greet(line):
             if word == "QStartNoAckMode":
                 line.answer("OK")
                 line.acknowledges = False
-            elif word in ("qSupported", "vMustReplyEmpty"):
-                line.answer(FEATURES if word == "qSupported" else "")
+            elif word == "qSupported":
+                line.has_inferiors = with_inferiors and b"multiprocess+" in packet
+                line.answer(FEATURES + (OF_INFERIORS if line.has_inferiors else ""))
+            elif word == "vMustReplyEmpty":
+                line.answer("")
             else:
                 return packet
     except Closed:
@@ -64,17 +75,22 @@ class Session:
 
     def __init__(self, line, run, names, process_count, at=0, only=None):
         self.line, self.run, self.names, self.process_count = line, run, names, process_count
+        self.has_inferiors, self.has_warned = line.has_inferiors, False  # each process is one of gdb's, with its own file
         self.at, self.only, self.goal = at, only, None
         self.selected = only if only is not None else 0  # whose registers and memory are asked for
         self.going = self.selected  # who steps
-        self.breakpoints, self.watches, self.passed = set(), {}, set()
+        self.breakpoints, self.watches, self.passed = set(), {}, set()  # a breakpoint is a process, or None, and an address
         self.set_before, self.bound = set(), {}  # breakpoints and watches when gdb last went on
         self.watched = None  # the process that was just told of watched bytes
         self.late = None  # what another process came to while one went on alone, until all go on
         self.leaving = None  # a process that gdb took past a breakpoint, and the event of that instruction
         self.monitor, self.ended = Monitor(self), False
         line.while_idle = run.look_ahead
-        self.why = f"T05thread:{self.selected + 1:x};"
+        self.why = f"T05thread:{self.thread(self.selected)};"
+
+    def thread(self, process):
+        """The name of a process as a thread of gdb."""
+        return f"p{process + 1:x}.{process + 1:x}" if self.has_inferiors else f"{process + 1:x}"
 
     @property
     def state(self):
@@ -128,6 +144,9 @@ class Session:
         if words[:2] == ["threads", "read"]:
             self.forget_late()
             return part(self.threads(), words[3])
+        if words[:2] == ["exec-file", "read"]:
+            path = self.names.file(int(words[2], 16) - 1)
+            return part(path, words[3]) if path else "E01"
         return ""
 
     def threads(self):
@@ -136,7 +155,7 @@ class Session:
         for number in self.processes():
             hart = self.state.hart_of(number)
             core = "" if hart is None else f' core="{hart}"'
-            made.append(f'<thread id="{number + 1:x}"{core} name={quoteattr(self.names.process(number))}>'
+            made.append(f'<thread id="{self.thread(number)}"{core} name={quoteattr(self.names.process(number))}>'
                         f'{escape(standing(self.state, self.names, number))}</thread>')
         return "".join([*made, "</threads>"])
 
@@ -146,7 +165,7 @@ class Session:
 
     def take_qfThreadInfo(self, _rest):
         self.forget_late()
-        return "m" + ",".join(f"{number + 1:x}" for number in self.processes())
+        return "m" + ",".join(map(self.thread, self.processes()))
 
     def take_qsThreadInfo(self, _rest):
         return "l"
@@ -156,7 +175,7 @@ class Session:
         return f"{self.names.process(number)}: {standing(self.state, self.names, number)}".encode().hex()
 
     def take_qC(self, _rest):
-        return f"QC{self.selected + 1:x}"
+        return f"QC{self.thread(self.selected)}"
 
     def take_qAttached(self, _rest):
         return "1"
@@ -189,12 +208,11 @@ class Session:
         self.ended = True
 
     def take_detach(self, _rest):
-        self.ended = True
+        self.ended = not self.has_inferiors  # one alone goes; gdb hangs up behind the last
         return "OK"
 
     def take_vKill(self, _rest):
-        self.ended = True
-        return "OK"
+        return self.take_detach(_rest)
 
     # -- registers and memory
 
@@ -216,7 +234,7 @@ class Session:
     def take_stop(self, rest):
         kind, address, count = self.place_of(rest)
         if kind in ("0", "1"):
-            self.breakpoints.add(address)
+            self.breakpoints.add((self.owner(), address))
         elif kind in WATCHES:
             self.watched, key = None, (kind, address, count)
             self.watches[key] = self.bound.setdefault(key, Watch(self.selected, address, count, WATCHES[kind]))
@@ -227,12 +245,16 @@ class Session:
     def take_go(self, rest):
         kind, address, count = self.place_of(rest)
         if kind in ("0", "1"):
-            self.breakpoints.discard(address)
+            self.breakpoints.discard((self.owner(), address))
         elif kind in WATCHES:
             self.watches.pop((kind, address, count), None)
         else:
             return ""
         return "OK"
+
+    def owner(self):
+        """Whose breakpoint gdb speaks of: with inferiors that of the selected one."""
+        return self.selected if self.has_inferiors else None
 
     @staticmethod
     def place_of(rest):
@@ -245,6 +267,9 @@ class Session:
         if rest == "?":
             return "vCont;c;C;s;S;r"
         action, _, thread = rest[1:].split(";")[0].partition(":")
+        if thread.endswith(".-1") and not self.has_warned:
+            self.has_warned = True
+            self.say([ALL_GO_ON])
         process, want = thread_of(thread) - 1 if thread_of(thread) else self.going, None
         if action[0] in "sS":
             want = Steps(process)
@@ -252,7 +277,7 @@ class Session:
             first, behind = (int(word, 16) for word in action[1:].split(","))
             stands = self.state.process(process).pc
             want = Leaves(process, first, behind) if first <= stands < behind else Steps(process)
-        if thread_of(thread) and ";" not in rest[1:]:
+        if not is_of_all(thread) and ";" not in rest[1:]:
             return self.go_alone(process, want)
         return self.go_on(False) if want is None else self.step(want)
 
@@ -370,7 +395,7 @@ class Session:
         self.selected = self.going = process
         hart = self.state.hart_of(process)
         core = "" if hart is None else f"core:{hart:x};"
-        self.why = f"T{signal:02x}thread:{process + 1:x};{core}{more}"
+        self.why = f"T{signal:02x}thread:{self.thread(process)};{core}{more}"
         return self.why
 
     def fault_in_words(self, at, line):
