@@ -5,26 +5,23 @@ import re
 from runs import crossings, frames
 from runs.asking import trace_of
 from runs.belonging import Belonging
-from runs.calls import FOLLOWED, Calls
+from runs.calls import FOLLOWED
 from runs.counting import Counts
 from runs.ends import ends
 from runs.harts import UNKNOWN as UNKNOWN_CALL
 from runs.harts import Harts
 from runs.output import Output
-from runs.programs import Programs
-from runs.records import message, text_of, told
 from runs.refused import MOST_SECONDS, TOLD, Refused, Trouble, grouped, in_a_line
 from runs.schedule import Schedule
 from runs.state import State
 from runs.steps import steps_of
+from runs.telling import Teller
 from runs.values import lines_of_table, table_of
 
 MARKS = ("msg", "fault", "log", "destroy", "halt")
 KINDS = (*MARKS, "fetch", "load", "store", "capload", "capstore", "insn")
 MARKED = {kind.encode() for kind in MARKS}
-MOST_TOLD, MOST_AROUND = 20, 3  # calls that are told, of a fault and of a request
-LOG_PIECE = 512  # digits of a full piece of the log, behind which its line may go on
-MOST_KNOWN = 1000  # records of which the words are kept, as the same often come again
+MOST_AROUND = 3  # calls around a request that are kept
 BUSY = re.compile(rb"\n(?:insn \d+ \w{8} e(?:call|break)\n|fault |msg |log |destroy |halt |cap)")
 LEAST_QUIET = 2000  # bytes of records that are taken together
 UNKNOWN = "?"
@@ -41,13 +38,15 @@ class Options:
     profile = coverage = refused = False
 
 
-class Explainer:
+class Explainer(Teller):
+    """Tells all of an output, with what comes of it."""
+
     def __init__(self, listing, options, out):
         words = next((line.split() for line in listing.splitlines() if line.split() and line.split()[0][0] != "#"), [])
         if words[:1] != ["coyotos"]:
             raise Wrong("the first file is no listing")
-        self.listing, self.options, self.out, self.lines, self.has_told = listing, options, out, [], False
-        self.programs = Programs(listing, options.symbols)
+        super().__init__(listing, options.symbols, out)
+        self.listing, self.options = listing, options
         self.who = self.programs.numbers_of(options.process) if options.process else None
         if self.who == set():
             names = ", ".join(name for _, _, name in self.programs.names["process"])
@@ -55,10 +54,8 @@ class Explainer:
         self.counts = Counts(self.programs) if options.profile or options.coverage else None
         kinds = options.only.split(",") if options.only else () if self.counts or options.refused else MARKS
         self.wanted = {kind.encode() for kind in kinds}
-        self.calls, self.open, self.known, self.fronts = Calls(self.programs), {}, {}, {}
         self.loop = None  # the event with which one begins, until that was told
         self.number, self.harts, self.refused = 0, None, Refused(self.programs)
-        self.width = max((len(self.programs.process(first)) for first, _, _ in self.programs.names["process"]), default=9)
 
     # -- what is read
 
@@ -201,70 +198,6 @@ class Explainer:
         for line, front in zip(rest, fronts[len(fronts) - len(rest):]):
             self.record(line, front, process, pc, insn)
 
-    def record(self, line, number, process=None, pc=None, insn=None):
-        """Tells a record, if it is wanted, behind its number, with what is known of its step."""
-        words = line.split(b" ") if self.who else line.split(b" ", 2)
-        kind = words[0]
-        if kind not in self.wanted:
-            return
-        owner = process if kind == b"destroy" else int(words[1])
-        if self.who and not self.is_asked_for(kind, words, owner):
-            return
-        front = self.front(owner)
-        if kind == b"log":
-            text, is_full = text_of(words[2]), len(words[2]) == LOG_PIECE
-            if is_full or owner in self.open or "\n" in text[:-1]:
-                self.log(number + front, owner, text, is_full)
-                return
-            behind = 'log "{}"\n'.format(text.rstrip("\n"))
-        elif kind == b"msg":
-            behind = f"{message(line, self.programs)}\n"
-        else:
-            behind = f'{told(line, self.programs, b"" if pc and insn is None else insn)}\n'
-        self.has_told = True
-        self.lines.append(f"{number}{front}{behind}")
-        if kind == b"fault" and pc is not None:
-            self.say(f"{'':>21}at {self.programs.place(owner, int(pc, 16))}")
-            self.tell_calls(owner, self.calls.of(owner), 21)
-        elif self.harts is None and kind in (b"msg", b"log"):
-            self.keep(line, front + behind)
-
-    def front(self, owner):
-        """The program of a record, as it stands in front of it."""
-        if owner not in self.fronts:
-            self.fronts[owner] = (self.programs.process(owner) if owner is not None else "").ljust(self.width + 2)
-        return self.fronts[owner]
-
-    def keep(self, line, told_line):
-        """Keeps how a record was told that is told the same wherever it stands, for the first of them."""
-        if len(self.known) < MOST_KNOWN:
-            self.known[line] = told_line
-
-    def is_asked_for(self, kind, words, owner):
-        heard = kind == b"msg" and int(words[2]) in self.who or kind == b"fault" and words[4] == b"to" \
-            and int(words[5]) in self.who
-        return owner in self.who or heard
-
-    def tell_calls(self, process, places, indent=11):
-        """The places of calls, the innermost first."""
-        self.programs.look_up(process, places[:MOST_TOLD])
-        for place in places[:MOST_TOLD]:
-            self.say(f"{'':>{indent}}called from {self.programs.place(process, place)}")
-        if len(places) > MOST_TOLD:
-            self.say(f"{'':>{indent}}and {len(places) - MOST_TOLD:,} calls further out")
-
-    def log(self, front, process, piece, is_full):
-        """A piece of the log as lines; a full piece without an end of a line waits for the next one."""
-        begun, text = self.open.pop(process, (front, ""))
-        *whole, last = (text + piece).split("\n")
-        for line in whole:
-            self.say(f'{begun}log "{line}"')
-            begun = front
-        if last and is_full:
-            self.open[process] = begun, last
-        elif last:
-            self.say(f'{begun}log "{last}"')
-
     # -- the end
 
     def end(self):
@@ -345,16 +278,3 @@ class Explainer:
             if " stands at a fault" in f" {line}" and not self.is_trace and process in self.programs.files:
                 rules = frames.Rules(self.programs.files[process])
                 self.tell_calls(process, [back - 4 for back in frames.calls(state, process, rules)])
-
-    def say(self, line):
-        self.has_told = True
-        self.lines.append(f"{line}\n")
-
-    def say_all(self, lines):
-        for line in lines:
-            self.say(line)
-
-    def flush(self):
-        if self.lines:
-            self.out(self.lines)
-            self.lines = []
