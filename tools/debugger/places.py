@@ -169,7 +169,7 @@ class Run:
     def begun(self, word):
         """Starts the program, and gives it the listing: a process at the first event."""
         self.children.append(subprocess.Popen(
-            [self.program, word], stdin=subprocess.DEVNULL, stdout=subprocess.DEVNULL,
+            [self.program, word], stdin=subprocess.DEVNULL, stdout=subprocess.DEVNULL, start_new_session=True,
             env={**os.environ, **UNPROVED, "LD_PRELOAD": self.library, "COYOTOS_PLACES": f"{self.room.name}/line"}))
         self.wait_for(self.children[-1])
         first = Process(self, 0)
