@@ -4,6 +4,7 @@ from collections import namedtuple
 
 from exploring.policy import Policy
 from exploring.state import State
+from run_page.remarks import names_of
 from runs.moments import states
 
 COMPARISONS = ("same", "below", "most", "less")
@@ -42,11 +43,12 @@ class Values:
     """The columns of a table: for each atom what is read of a state, else whether it holds."""
 
     def __init__(self, found):
-        self.policy, self.columns = Policy(), []
+        self.policy, self.columns, self.names = Policy(), [], names_of(found.listing)
         for words in found.policy:
             self.policy.take(words)
         for atom in named_atoms(found.line, found.plan):
-            self.columns += self.columns_of(atom)
+            have = {name for name, _ in self.columns}
+            self.columns += [column for column in self.columns_of(atom) if column[0] not in have]
 
     def columns_of(self, atom):
         """What an atom is called, and how its value is had of a state as the program wrote it, and of that as it is read
@@ -62,14 +64,22 @@ class Values:
             return self.of_terms(atom)
         return [(atom.name, lambda _, state: told(state.atom(word, fields, self.policy)))]
 
-    @staticmethod
-    def of_terms(atom):
+    def of_terms(self, atom):
         """Those of a comparison: each of its terms that is no number, and whether it holds."""
         from exploring.terms import compares, terms_of, value
         terms = terms_of(atom.words[1:])
-        found = [(words_of(term), lambda _, state, term=term: f"{value(term, state):x}") for term in terms
-                 if term.word != "number"]
+        found = [(self.words_of(term), lambda _, state, term=term: f"{value(term, state):x}")
+                 for outer in terms for term in within(outer) if term.word != "number"]
         return [*found, (atom.name, lambda _, state: told(compares(atom.words[0], terms, state)))]
+
+    def words_of(self, term):
+        """A term, with the names of processes and pages."""
+        kind = {"reg": "process", "pc": "process", "word": "page", "half": "page", "byte": "page"}.get(term.word)
+        fields = list(term.fields)
+        if kind:
+            number = int(fields[0])
+            fields[0] = next((name for first, last, name in self.names[kind] if first == last == number), fields[0])
+        return " ".join([term.word, *fields, *map(self.words_of, term.terms)])
 
     def of(self, state):
         read = State(state.data)
@@ -89,8 +99,11 @@ def without_value(atom):
     return re.sub(r" *([=!]=)? *\S+$", "", atom.name)
 
 
-def words_of(term):
-    return " ".join([term.word, *term.fields, *map(words_of, term.terms)])
+def within(term):
+    """A term and all that it is made of."""
+    yield term
+    for inner in term.terms:
+        yield from within(inner)
 
 
 def table_of(program, found):
