@@ -1,3 +1,4 @@
 mod Cycle
 mod KeptSteps
 mod Ran
+mod Spared

@@ -27,7 +27,7 @@ use Rattle.untraced_steps.specs.Untraced.{CameUntraced, RanUntraced}
 at-next : (all : List Event) (done : ℕ) (e : Event) (rest : List Event) → done < length all → drop done all ≡ e ∷ rest → get_or all done e ∷ drop (done + 1) all ≡ e ∷ rest
 at-next all done e rest within is = sym (drop_more all done e within) ∙ is
 
-take-next : (all : List Event) (done : ℕ) (e : Event) (rest : List Event) → done < length all → drop done all ≡ e ∷ rest → take (done + 1) all ≡ take done all ++ e ∷ []
+pub take-next : (all : List Event) (done : ℕ) (e : Event) (rest : List Event) → done < length all → drop done all ≡ e ∷ rest → take (done + 1) all ≡ take done all ++ e ∷ []
 take-next all done e rest within is =
     let next = at-next all done e rest within is in
     let here : get_or all done e ≡ e = cc in
@@ -76,7 +76,7 @@ records-behind s events e =
     run_records-append s events (e ∷ [])
     ∙ ap (λ more. run_records s events ++ more) (run_records-cons t e [] ∙ (ap (λ more. o.records ++ more) (run_records-nil o.state) ∙ append-nil o.records))
 
-touches-behind : (s : State) (events : List Event) (e : Event) → run_touches s (events ++ e ∷ []) ≡ run_touches s events ++ (event_of (run_state s events) e).touches
+pub touches-behind : (s : State) (events : List Event) (e : Event) → run_touches s (events ++ e ∷ []) ≡ run_touches s events ++ (event_of (run_state s events) e).touches
 touches-behind s events e =
     let t = run_state s events in
     let o = event_of t e in

@@ -1,3 +1,4 @@
 pub mod HartSteps
 pub mod KeptSteps
+pub mod Spared
 pub mod Untraced

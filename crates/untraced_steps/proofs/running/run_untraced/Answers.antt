@@ -7,6 +7,7 @@ use Rattle.kernel_core.specs.Run.{run_records}
 use Rattle.untraced_steps.specs.HartSteps.{OfHarts, steps_left}
 use Rattle.untraced_steps.specs.Untraced.{RanUntraced}
 use Rattle.untraced_steps.proofs.Ran.{drop-next, harts-behind, left-behind, ran-ahead, ran-next, ran-none}
+use Rattle.untraced_steps.proofs.Spared.{spares-none, spares-next}
 use Rattle.untraced_steps.proofs.running.run_untraced.Goals as goal
 
 pub steps-init : goal.steps-init
@@ -14,6 +15,7 @@ steps-init g c =
     let t = g.T.Translator in
     record {
       ran = ran-none t.kept t.cost t.after t.without c.args.machine.now c.args.fetches.now;
+      others = spares-none t.after t.spared t.kept t.cache c.args.machine.now;
       none = c.clear.ensures;
       rest = refl;
       size = omega arith;
@@ -48,7 +50,7 @@ returns-then-not-plain-clause-ran g c =
     let e = c.run_ahead-done.ensures in
     let most = e.most in
     let at = ran-ahead t.kept t.cost t.after t.without all c.steps.done more c.steps.next _ _ _ _ _ _ c.steps.fetches i.ran i.rest (e.ran c.steps.fetches) e.behind in
-    ran-next t.kept t.cost t.after t.without all (c.steps.done + more) (Step c.steps.next) _ _ _ _ _ _ _ _ (omega (arith, size, most)) at.rest at.ran c.step_untraced.ensures
+    ran-next t.kept t.cost t.after t.without all (c.steps.done + more) (Step c.steps.next) _ _ _ _ _ _ _ _ (omega (arith, size, most)) at.rest at.ran c.step_untraced.ensures.came
 
 pub returns-then-not-plain-clause-behind : goal.returns-then-not-plain-clause-behind
 returns-then-not-plain-clause-behind g c =
@@ -83,7 +85,7 @@ returns-in-None-clause-ran g c =
     let e = c.run_ahead-done.ensures in
     let most = e.most in
     let at = ran-ahead t.kept t.cost t.after t.without all c.steps.done more c.steps.next _ _ _ _ _ _ c.steps.fetches i.ran i.rest (e.ran c.steps.fetches) e.behind in
-    ran-next t.kept t.cost t.after t.without all (c.steps.done + more) (Step c.steps.next) _ _ _ _ _ _ _ _ (omega (arith, size, most)) at.rest at.ran c.step_untraced.ensures
+    ran-next t.kept t.cost t.after t.without all (c.steps.done + more) (Step c.steps.next) _ _ _ _ _ _ _ _ (omega (arith, size, most)) at.rest at.ran c.step_untraced.ensures.came
 
 pub returns-in-None-clause-behind : goal.returns-in-None-clause-behind
 returns-in-None-clause-behind g c =
@@ -125,14 +127,39 @@ steps-preserved g c =
     let now : c.steps.next < c.args.machine.now.objects.harts = omega (arith, here, same) in
     let ahead_there = subst (OfHarts c.args.machine.now.objects.harts) (sym e.behind) (harts-behind c.args.machine.now.objects.harts ahead (Step c.steps.next ∷ steps_left c.steps.left) (now, i.there)) in
     let there = subst (OfHarts c.args.machine.now.objects.harts) split ahead_there.1 in
-    let next = ran-next t.kept t.cost t.after t.without all (c.steps.done + ahead) (Step c.steps.next) _ _ _ _ _ _ _ _ within at.rest at.ran c.step_untraced.ensures in
+    let next = ran-next t.kept t.cost t.after t.without all (c.steps.done + ahead) (Step c.steps.next) _ _ _ _ _ _ _ _ within at.rest at.ran c.step_untraced.ensures.came in
     let hart = there.0 in
     let harts = next.harts in
     record {
       ran = subst (λ (told : List Record). RanUntraced t.kept t.cost t.after t.without (take (c.steps.done + ahead + 1) all) c.args.machine.now c.args.fetches.now c.step_untraced.new.machine told c.step_untraced.new.fetches) none next;
+      others = spares-next t.after t.spared t.kept t.cache all c.steps.done ahead (Step c.steps.next) _ _ _ _ _ within at.rest i.others e.caches at.ran.state c.step_untraced.ensures.others;
       none = none;
       rest = drop-next all (c.steps.done + ahead) (Step c.steps.next) _ within at.rest ∙ split;
       size = omega (arith, size, more, shorter);
       hart = omega (arith, hart, harts);
       there = there.1;
     }
+
+pub returns-then-not-plain-clause-others : goal.returns-then-not-plain-clause-others
+returns-then-not-plain-clause-others g c =
+    let t = g.T.Translator in
+    let i = c.steps.invariant in
+    let size = i.size in
+    let all = Step c.args.hart ∷ steps_left c.args.left.now in
+    let more = c.run_ahead-done.result in
+    let e = c.run_ahead-done.ensures in
+    let most = e.most in
+    let at = ran-ahead t.kept t.cost t.after t.without all c.steps.done more c.steps.next _ _ _ _ _ _ c.steps.fetches i.ran i.rest (e.ran c.steps.fetches) e.behind in
+    spares-next t.after t.spared t.kept t.cache all c.steps.done more (Step c.steps.next) _ _ _ _ _ (omega (arith, size, most)) at.rest i.others e.caches at.ran.state c.step_untraced.ensures.others
+
+pub returns-in-None-clause-others : goal.returns-in-None-clause-others
+returns-in-None-clause-others g c =
+    let t = g.T.Translator in
+    let i = c.steps.invariant in
+    let size = i.size in
+    let all = Step c.args.hart ∷ steps_left c.args.left.now in
+    let more = c.run_ahead-done.result in
+    let e = c.run_ahead-done.ensures in
+    let most = e.most in
+    let at = ran-ahead t.kept t.cost t.after t.without all c.steps.done more c.steps.next _ _ _ _ _ _ c.steps.fetches i.ran i.rest (e.ran c.steps.fetches) e.behind in
+    spares-next t.after t.spared t.kept t.cache all c.steps.done more (Step c.steps.next) _ _ _ _ _ (omega (arith, size, most)) at.rest i.others e.caches at.ran.state c.step_untraced.ensures.others

@@ -8,8 +8,8 @@ use Rattle.machine_state.proofs.Noted.{noted-untraced}
 use Rattle.kernel_core.specs.Event.{event_of}
 use Rattle.untraced_steps.proofs.running.step_untraced.Goals as goal
 
-pub returns : goal.returns
-returns g c =
+pub returns-clause-came : goal.returns-clause-came
+returns-clause-came g c =
     let e = c.event_for.ensures in
     let records = (event_of (state_of c.args.machine.now) (Step c.args.hart)).records in
     record {
