@@ -4,9 +4,9 @@
 #include <string.h>
 
 #include "libc.h"
+#include "plan.h"
 
-enum { SCRIPTS = 2, ANSWERS = 3, ANSWER_ENTRY = 8 };
-enum { ANSWERS_ID = 0xa, ANSWER_PAYLOAD = 1, KEEPER_PAYLOAD = 2 };
+enum { ANSWER_ENTRY = 8, ANSWER_PAYLOAD = 1 };
 enum { ROOM = 2000 };
 
 struct script {
@@ -47,7 +47,7 @@ static char answer[ROOM];
 
 /* Sends a script with its number, and waits at the endpoint of answers alone. */
 static struct coy_answer ask(coy_word number, const struct script *script) {
-    return coy_invoke((struct coy_call){.target = SCRIPTS,
+    return coy_invoke((struct coy_call){.target = ENTRY_SCRIPTS,
                                         .phases = COY_SEND | COY_RECEIVE | COY_CLOSED,
                                         .words = {number, script->steps},
                                         .string = script->text,
@@ -56,15 +56,15 @@ static struct coy_answer ask(coy_word number, const struct script *script) {
                                         .sent_caps = ANSWER_ENTRY,
                                         .buffer = answer,
                                         .bound = ROOM,
-                                        .from = ANSWERS_ID});
+                                        .from = ID_ANSWERS});
 }
 
 int main(void) {
     const coy_word count = sizeof scripts / sizeof *scripts;
-    coy_endpoint_makeentry(ANSWERS, ANSWER_PAYLOAD, ANSWER_ENTRY);
+    coy_endpoint_makeentry(ENDPOINT_ANSWERS, ANSWER_PAYLOAD, ANSWER_ENTRY);
     for (coy_word number = 1; number <= count; number++) {
         struct coy_answer came = ask(number, &scripts[number - 1]);
-        if (came.payload == KEEPER_PAYLOAD) {
+        if (came.payload == PAYLOAD_ANSWERS_KEEPER) {
             printf("%u: the interpreter fell\n", number);
         } else if (came.words[0] != number) {
             printf("%u: a message that is no answer\n", number);

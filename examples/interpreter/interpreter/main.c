@@ -27,25 +27,6 @@ static size_t run(unsigned long steps) {
     return write_value(value, text, sizeof text, true);
 }
 
-/* Answers without waiting, so a client that doesn't listen can't hold it up, and waits for the next script. */
-static struct coy_answer answer_and_wait(coy_word number, size_t length) {
-    struct coy_call call = {.target = ANSWER,
-                            .phases = COY_SEND | COY_RECEIVE | COY_NO_WAIT,
-                            .words = {number},
-                            .string = text,
-                            .length = length,
-                            .accepted = 1,
-                            .accepted_caps = ANSWER,
-                            .buffer = script,
-                            .bound = SCRIPT};
-    struct coy_answer came = coy_invoke(call);
-    while ((came.status & 0xff) != COY_CAME) {
-        call.phases = COY_RECEIVE;
-        came = coy_invoke(call);
-    }
-    return came;
-}
-
 int main(void) {
     jmp_buf here;
     handler = &here;
@@ -62,6 +43,13 @@ int main(void) {
         script[came.length] = 0;
         size_t length = run(came.words[1]);
         collect();
-        came = answer_and_wait(came.words[0], length);
+        came = coy_reply_and_wait(came, (struct coy_call){.target = ANSWER,
+                                                          .words = {came.words[0]},
+                                                          .string = text,
+                                                          .length = length,
+                                                          .accepted = 1,
+                                                          .accepted_caps = ANSWER,
+                                                          .buffer = script,
+                                                          .bound = SCRIPT});
     }
 }
