@@ -2,7 +2,8 @@
 import re
 
 from plans.program import MACHINE_PAGES, MOST_PAGES, Program
-from plans.question import ASKING, Asked, question_line
+from plans.names import Files
+from plans.question import ASKING, asked
 from plans.words import (AREA, PAGE, TOP, Wrong, is_domain_name, is_name, letters, need, number, page_address,
                          pages_for, restricted)
 
@@ -17,10 +18,11 @@ class Endpoint:
 
 
 class Memory:
-    """Pages by themselves, or a capability page. Behind a group's name stands which of it, as in `table.3`."""
+    """Pages by themselves, or a capability page. Behind a group's name stands which of it, as in `table.3`. Pages may hold
+    something of a type."""
 
-    def __init__(self, name, kind, first, count, group):
-        self.name, self.kind, self.first, self.count, self.group = name, kind, first, count, group
+    def __init__(self, name, kind, first, count, group, held=""):
+        self.name, self.kind, self.first, self.count, self.group, self.type = name, kind, first, count, group, held
 
     def capabilities(self):
         return [f"{self.kind}:{self.first + i}" for i in range(self.count)]
@@ -42,7 +44,7 @@ class Plan:
         self.folder, self.directory = folder, directory
         self.at, self.harts, self.gpts, self.cappages = 0, None, 0, 0
         self.things, self.lines, self.domains, self.allowed = {}, {}, {}, []
-        self.question = []
+        self.question, self.program_files = [], Files(self)
         self.pages, self.named_pages, self.schedule, self.mapped = [], [], [], []
         self.placed, self.payloads, self.writable = [], [], set()
         self.page_count, self.said, self.passed = 0, {}, {}
@@ -161,18 +163,31 @@ class Plan:
                  "the program couldn't tell at which of them a message came")
         self.wait("names", recipient)
 
+    def held_type(self, words):
+        """The words in front of `holds`, and the type behind it."""
+        if "holds" not in words[1:]:
+            return words, ""
+        at = words.index("holds", 1)
+        held = words[at + 1:]
+        need(len(held) == 1 or len(held) == 2 and held[0] in ("struct", "union"),
+             "behind holds stands a type of the programs: struct NAME, union NAME, or the name of a typedef")
+        return words[:at], " ".join(held)
+
     def page_line(self, words):
-        need(words and words[1:2] in ([], ["from"]) and len(words) != 2, "page NAME [from FILE [OFFSET]]")
+        words, held = self.held_type(words)
+        need(words and words[1:2] in ([], ["from"]) and len(words) != 2, "page NAME [from FILE [OFFSET]] [holds TYPE]")
         contents = self.contents(words[2:], 1)
-        self.add(Memory(words[0], "page", self.new_pages(1, contents, words[0]), 1, False))
+        self.add(Memory(words[0], "page", self.new_pages(1, contents, words[0]), 1, False, held))
 
     def pages_line(self, words):
-        need(len(words) >= 2 and words[2:3] in ([], ["from"]) and len(words) != 3, "pages NAME N [from FILE [OFFSET]]")
+        words, held = self.held_type(words)
+        need(len(words) >= 2 and words[2:3] in ([], ["from"]) and len(words) != 3, "pages NAME N [from FILE [OFFSET]] "
+             "[holds TYPE]")
         count = number(words[1], "the number of pages", MOST_PAGES)
         need(count > 0, "there is at least one page")
         need(count <= MACHINE_PAGES, f"pages {words[0]} {count}: a machine has {MACHINE_PAGES:,} pages in all")
         contents = self.contents(words[3:], count)
-        self.add(Memory(words[0], "page", self.new_pages(count, contents, words[0]), count, True))
+        self.add(Memory(words[0], "page", self.new_pages(count, contents, words[0]), count, True, held))
 
     def contents(self, words, count):
         """What pages have from a file, which stands beside the plan."""
@@ -333,7 +348,7 @@ class Plan:
         def name():
             if self.directory is None:
                 return
-            self.question.append(Asked(self.at, " ".join(words), question_line(self, words)))
+            self.question.append(asked(self, words))
         self.wait("names", name)
 
     # -- the machine and its schedule

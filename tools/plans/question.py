@@ -1,6 +1,8 @@
 """What a plan asks of all runs of its system, as lines for `explore`: names are replaced by numbers."""
 import struct
 
+from plans import names
+from plans.expression import Line, Term, line_of
 from plans.listing import remark
 from plans.policy import named_lines
 from plans.words import AREA, PAGE, TOP, Wrong, need, number, page_address
@@ -12,10 +14,11 @@ FAULTS = ("InvalidDataReference", "InvalidCapReference", "DataAccessTypeError", 
 
 
 class Asked:
-    """A line of the question: where it stands in the plan, its words there, and the line for `explore`."""
+    """A line of the question: where it stands in the plan, its words there, the line for `explore`, and its atoms in groups
+    where it has some."""
 
-    def __init__(self, at, said, told):
-        self.at, self.said, self.told = at, said, told
+    def __init__(self, at, said, told, groups=()):
+        self.at, self.said, self.told, self.groups = at, said, told, groups
 
     def kind(self):
         return self.told.split()[0]
@@ -41,16 +44,18 @@ def question_lines(plan, name):
     return (line for line, _ in numbered_lines(plan, name))
 
 
-def question_line(plan, words):
-    """A line of the question, with numbers."""
+def asked(plan, words):
+    """A line of the question."""
+    said = " ".join(words)
     if words[0] == "may":
-        return choice(plan, words[1:])
+        return Asked(plan.at, said, choice(plan, words[1:]))
     if words[0] in ("depth", "states"):
         need(len(words) == 2, f"{words[0]} N")
         most = number(words[1], f"the number behind {words[0]}", TOP - 1)
         need(most > 0 or words[0] == "depth", "at least one state is kept")
-        return f"{words[0]} {most}"
-    return f"{words[0]} {' and '.join(atoms(plan, words))}"
+        return Asked(plan.at, said, f"{words[0]} {most}")
+    groups = Line(words, Names(plan)).groups()
+    return Asked(plan.at, said, line_of(words[0], groups), groups)
 
 
 def choice(plan, words):
@@ -68,25 +73,33 @@ def choice(plan, words):
 
 # -- atoms
 
-def groups_of(words):
-    """The words of each atom: atoms stand between words `and`."""
-    groups = [[]]
-    for word in words:
-        if word == "and":
-            groups.append([])
-        else:
-            groups[-1].append(word)
-    return groups
+class Names:
+    """What the words of a line mean in a plan."""
 
+    def __init__(self, plan):
+        self.plan = plan
 
-def atoms(plan, words):
-    """The atoms behind the first word."""
-    for group in groups_of(words[1:]):
-        negated = group[:1] == ["not"]
-        group = group[negated:]
-        need(group, f"{words[0]} [not] ATOM [and [not] ATOM ..]")
-        need(group[0] in ATOMS, f"no atom is called {group[0]}: there are {', '.join(ATOMS)}")
-        yield "not " * negated + ATOMS[group[0]](plan, group)
+    def is_atom(self, word):
+        return word in ATOMS
+
+    def is_verb(self, word):
+        return word in VERBS
+
+    def atom(self, words):
+        """An atom with its word in front."""
+        need(words[0] in ATOMS, f"no atom is called {words[0]}: there are {', '.join(ATOMS)}, and comparisons")
+        return ATOMS[words[0]](self.plan, words)
+
+    def verb(self, words):
+        """An atom with its word behind the name of a program."""
+        return ATOMS[words[1]](self.plan, [words[1], words[0], *words[2:]])
+
+    def term(self, word, rest):
+        """A term, and how many of the words behind its first one belong to it."""
+        if word == "age":
+            found, behind = thing(self.plan, rest)
+            return Term(f"age {found}"), len(rest) - len(behind)
+        return names.term(self.plan.program_files, word), 0
 
 
 def alone(_plan, words):
@@ -152,9 +165,21 @@ def word(plan, words):
 
 def holds(plan, words):
     one, rest = thing(plan, words[1:])
+    if len(rest) == 1 and rest[0] in KINDS:
+        return f"holds {one} {rest[0]}"
     other, rest = thing(plan, rest)
-    need(not rest, "holds THING THING")
-    return f"holds {one} {other}"
+    need(rest in ([], ["writable"]), f"holds THING THING [writable], or holds THING and one of {', '.join(KINDS)}")
+    return " ".join(["holds", one, other, *rest])
+
+
+def waits(plan, words):
+    need(len(words) == 3, "waits PROGRAM ENDPOINT")
+    return f"waits {plan.program(words[1]).number} {plan.thing(words[2], 'endpoint').number}"
+
+
+def asks(plan, words):
+    need(len(words) == 3, "asks PROGRAM PROGRAM")
+    return f"asks {plan.program(words[1]).number} {plan.program(words[2]).number}"
 
 
 def thing(plan, words):
@@ -177,5 +202,8 @@ def thing(plan, words):
     return f"gpt {areas[place].gpt}", rest[1:]
 
 
+KINDS = ("range", "sysctl", "kernlog", "schedule")  # of which no object is named
+VERBS = ("waits", "accepts", "asks")
 ATOMS = {"stuck": alone, "halted": alone, "running": of_process, "receiving": of_process, "faulted": faulted,
-         "sleeps": of_process, "pc": pc, "reg": reg, "word": word, "holds": holds, "crossing": alone}
+         "sleeps": of_process, "pc": pc, "reg": reg, "word": word, "holds": holds, "crossing": alone,
+         "waits": waits, "accepts": of_process, "asks": asks}

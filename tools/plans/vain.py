@@ -1,5 +1,5 @@
 """Lines `never` of a plan that speak of what no program can come to, so that they say nothing."""
-from plans.question import groups_of, place_of_pc
+from plans.question import place_of_pc
 from plans.reach import EBREAK, JALR, LOAD, STORE, Code, field, is_instruction
 
 INVOKE, LOADCAP, STORECAP = 0, 1, 2
@@ -9,12 +9,11 @@ def warnings(plan):
     """The lines of a plan's question that say nothing, each with the atom that can't hold, and why it can't."""
     codes = {}
     for one in plan.question:
-        if one.kind() != "never":
-            continue
-        for words in groups_of(one.said.split()[1:]):
-            why = cause(plan, words, codes) if words and words[0] in CAUSES else None
+        for negated, atom in (pair for group in one.groups for pair in group if one.kind() == "never"):
+            why = None if negated or atom.words[0] not in CAUSES or not atom.told.startswith(atom.words[0]) else \
+                cause(plan, atom.words, codes)
             if why:
-                yield one, " ".join(words), why
+                yield one, " ".join(atom.words), why
 
 
 def cause(plan, words, codes):
