@@ -1,13 +1,13 @@
 """What objects and addresses are called: by the remarks of a listing, and by the ELF files of its programs."""
 import os
 import pathlib
-import shutil
 import subprocess
 
 from run_page.remarks import names_of
 from run_page.symbols import read_symbols
+from runs.programs import READERS, first_there
 
-LINES = "riscv64-unknown-elf-addr2line"
+LINES = first_there(READERS)
 
 
 class Names:
@@ -51,7 +51,7 @@ class Names:
         return f"{told} ({line})" if line else told
 
     def line(self, process, address):
-        if not shutil.which(LINES):
+        if not LINES:
             return None
         told = subprocess.run([LINES, "-s", "-e", str(self.folder / self.found["file"][process]), f"{address:x}"],
                               capture_output=True, text=True).stdout.split(" ")[0].strip()
