@@ -224,9 +224,11 @@ class Explainer(Teller):
         if self.counts and not is_asked:
             return
         try:
+            if not self.options.program:
+                raise Trouble("a program is needed that says what was refused: --program names one")
             if not self.is_trace:
                 self.trace_again()
-            found = self.found_refused() if self.refused.calls else []
+            found = self.refused.found(self.options.program, self.listing, None if is_asked else MOST_SECONDS)
         except Trouble as trouble:
             if is_asked:
                 raise Wrong(str(trouble))
@@ -236,21 +238,18 @@ class Explainer(Teller):
         elif found:
             self.say(in_a_line(self.refused, found))
 
-    def found_refused(self):
-        if not self.options.program:
-            raise Trouble("a program is needed that says what was refused: --program names one")
-        return self.refused.found(self.options.program, self.listing, None if self.options.refused else MOST_SECONDS)
-
     def trace_again(self):
         """Looks for calls in a trace, where `run` wrote what is told."""
         schedule = Schedule(self.listing)
-        if not self.options.program or not self.options.refused and schedule.count > MOST_AGAIN:
+        if not self.options.refused and schedule.count > MOST_AGAIN:
             return
         other = Explainer(self.listing, Options(), lambda _lines: None)
         other.wanted, other.who, other.refused = set(), self.who, self.refused
         other.harts = Harts(self.listing, schedule, self.options.program)
-        with trace_of(self.options.program, self.listing) as run:
+        with trace_of(self.options.program, self.listing, None if self.options.refused else MOST_SECONDS) as run:
             other.by_steps(Output(run.stdout).pieces())
+        if run.returncode:
+            raise Trouble(f"{self.options.program} trace ended with status {run.returncode}")
 
     def listed(self, found):
         """Requests that were refused, each once, with its first event."""

@@ -41,6 +41,8 @@ class Refused:
 
     def found(self, program, listing, seconds=None):
         """Those that were refused, each with a sentence; within so many seconds, if that is said."""
+        if not self.calls:
+            return []
         begun, refused = time.monotonic(), []
         for call, state in zip(self.calls, states(program, listing, [call.event + 1 for call in self.calls])):
             registers = state.register_values(call.process)
@@ -49,7 +51,7 @@ class Refused:
             self.looked_at += 1
             if seconds is not None and time.monotonic() - begun > seconds:
                 break
-        before = states(program, listing, [call.event for call, _ in refused])
+        before = states(program, listing, [call.event for call, _ in refused]) if refused else ()
         return [(call, self.sentence(call, code, state)) for (call, code), state in zip(refused, before)]
 
     # -- words

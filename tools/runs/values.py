@@ -56,10 +56,10 @@ class Values:
         word, fields = atom.words[0], atom.words[1:]
         if word == "word" and len(fields) == 3:
             page, offset = int(fields[0]), int(fields[1], 16)
-            return [(without_value(atom), lambda state, _: hexadecimal(state.page(page)[offset:offset + 4]))]
+            return [(self.label(atom, "page"), lambda state, _: hexadecimal(state.page(page)[offset:offset + 4]))]
         if word == "reg" and len(fields) == 3:
             process, register = int(fields[0]), int(fields[1])
-            return [(without_value(atom), lambda state, _: f"{state.register_values(process)[register]:x}")]
+            return [(self.label(atom, "process"), lambda state, _: f"{state.register_values(process)[register]:x}")]
         if word in COMPARISONS:
             return self.of_terms(atom)
         return [(atom.name, lambda _, state: told(state.atom(word, fields, self.policy)))]
@@ -72,13 +72,20 @@ class Values:
                  for outer in terms for term in within(outer) if term.word != "number"]
         return [*found, (atom.name, lambda _, state: told(compares(atom.words[0], terms, state)))]
 
+    def label(self, atom, kind):
+        """What the value of an atom is called: as the plan has it, or with the name of its page or process."""
+        words = without_value(atom).split()
+        return " ".join([words[0], self.named(kind, words[1]), *words[2:]] if atom.name.split() == atom.words else words)
+
+    def named(self, kind, number):
+        return next((name for first, last, name in self.names[kind] if first == last == int(number)), number)
+
     def words_of(self, term):
         """A term, with the names of processes and pages."""
         kind = {"reg": "process", "pc": "process", "word": "page", "half": "page", "byte": "page"}.get(term.word)
         fields = list(term.fields)
         if kind:
-            number = int(fields[0])
-            fields[0] = next((name for first, last, name in self.names[kind] if first == last == number), fields[0])
+            fields[0] = self.named(kind, fields[0])
         return " ".join([term.word, *fields, *map(self.words_of, term.terms)])
 
     def of(self, state):
