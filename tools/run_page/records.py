@@ -33,6 +33,7 @@ class Steps:
 
     def __init__(self):
         self.data, self.count, self.ran, self.first, self.event = bytearray(), 0, set(), 0, -1
+        self.is_too_long = False  # whether one is behind the last event of the schedule
 
     def add(self, process, pc, first, event):
         self.put(first - self.first)
@@ -76,6 +77,7 @@ def stretches_of(listing, records, state, program):
         before[process] = lane
     if not harts.lost and state and not harts.agrees(harts_of(state), "halted" in state):
         found = [[schedule.harts, *each[1:]] for each in found]
+    steps.is_too_long = harts.is_too_long
     are_known = all(each[0] < schedule.harts for each in found)
     lanes = (schedule.harts, None) if are_known else (schedule.harts + 1, schedule.harts)
     return *lanes, found, steps

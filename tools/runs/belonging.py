@@ -7,6 +7,7 @@ ROW, PAGE = 16, 4096
 SIZES = ("harts", "page", "cappage", "gpt", "process", "endpoint")
 FETCH = re.compile(rb"fetch (\d+) (\w{8}) page (\d+)\ninsn \1 \2 ([^\n]*)")
 OWNERS = re.compile(rb"^(?!destroy)\w+ (\d+)(?: (?=\d+ endpoint)(\d+))?", re.M)
+TOO_LONG = "it has a step behind the last event of the schedule"
 FAR_REACHING = ("range", "window", "local")
 
 

@@ -4,7 +4,7 @@ import re
 
 from runs import crossings, frames
 from runs.asking import trace_of
-from runs.belonging import Belonging
+from runs.belonging import TOO_LONG, Belonging
 from runs.calls import FOLLOWED
 from runs.counting import Counts
 from runs.ends import ends
@@ -170,6 +170,8 @@ class Explainer(Teller):
                 end(process, pc, insn, rest)
                 if insn and insn[:3] == b"jal":
                     follow(process, int(pc, 16), insn)
+            if self.harts.is_too_long:
+                self.need_belonging(TOO_LONG)
             if rest or are_all:
                 self.step(hart, process, pc, insn, rest, first, behind, page if are_all else None)
         self.number += len(lines)

@@ -71,7 +71,7 @@ class Harts:
     def __init__(self, listing, schedule, program=None):
         self.events, self.asked, self.powers = schedule.cursor(), Asked(program, schedule), Powers(listing)
         self.on = [None] * schedule.harts
-        self.lost = False  # no longer known
+        self.lost = self.is_too_long = False  # no longer known; and a step behind the last event
         self.place = {}  # the hart of each process that has one
         self.ended = {}  # of a process whose last step may have taken it off its hart: its pc and its call, or no call
         # x17 of processes, and of all of which nothing else is known
@@ -111,7 +111,7 @@ class Harts:
                 self.leave(process)
             self.on[hart], self.place[process] = process, hart
             return hart
-        self.lost = True
+        self.lost = self.is_too_long = True
         return None
 
     def may_have_left(self, process, pc):
