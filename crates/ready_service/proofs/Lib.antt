@@ -1,5 +1,4 @@
 mod Positions
-mod Idle
 mod Rows
 mod Parts
 mod Served

@@ -1,316 +1,381 @@
--- The parts of an event that another process performs: a ready process stays ready where it was, or is named among what
--- changes.
-use Rattle.std.proofs.Common.{◌≡◌, ◌≢◌, ℕ, ◌⊎◌, inl, inr, Bool, true, false, List, ◌++◌, take, Option, Some, length, refl, ap, ◌∙◌}
+-- What another process does in an event: nobody comes before a ready process in its queue, or it is stopped.
+use Rattle.std.proofs.Common.{◌≡◌, ◌≢◌, ℕ, ◌==◌, ◌%◌, ◌&&◌, nat_le, ◌⊎◌, inl, inr, Bool, true, false, if◌then◌else◌, Option, Some, None, Result, Ok, Err, List, length, refl, sym, ap, ◌∙◌, subst}
 use Rattle.std.proofs.lemmas.Bool.{cond_both}
-use Rattle.std.proofs.lemmas.List.{length-map}
+use Rattle.std.proofs.lemmas.List.{length-map, get_or-set_other}
+use Rattle.cap_format.specs.declared.code.Code.{Code}
+use Rattle.cap_format.specs.declared.code.Code.TheVariants.{WouldBlock}
 use Rattle.cap_format.specs.declared.fault.FaultCode.{FaultCode}
-use Rattle.cap_format.specs.declared.kind.CapKind.TheVariants.{Process}
+use Rattle.cap_format.specs.declared.fault.FaultCode.TheVariants.{BadAlign, BadOpcode, Breakpoint, MalformedSyscall}
+use Rattle.cap_format.specs.declared.kind.CapKind.{CapKind}
+use Rattle.cap_format.specs.declared.kind.CapKind.TheVariants.{KernLog, SysCtl, Process}
+use Rattle.cap_format.specs.declared.request.Reply.{Reply}
+use Rattle.cap_format.specs.Kind.{is_memory}
 use Rattle.cap_format.specs.Capability.{Capability, to_object}
 use Rattle.process_objects.specs.Accept.{AcceptValue}
-use Rattle.process_objects.specs.Process.{ProcessValue, with_state}
-use Rattle.process_objects.specs.declared.state.State.TheVariants.{Receiving, Faulted}
-use Rattle.object_store.specs.Object.{IsAmong}
-use Rattle.object_store.specs.Store.{process_at, endpoint_at}
-use Rattle.object_store.proofs.Stays.{among_front, among_back}
+use Rattle.process_objects.specs.Process.{ProcessValue, capreg_of, empty_process}
+use Rattle.process_objects.specs.declared.state.State.TheVariants.{Faulted}
+use Rattle.object_store.specs.Store.{process_at}
 use Rattle.schedules.specs.Queues.{QueuesValue, left, asleep, hart_without}
 use Rattle.schedules.specs.Ready.{runs_of, readied, woken}
 use Rattle.operations.specs.System.{Meant, system, schedule_by, count_in}
 use Rattle.operations.specs.Memory.{memory_operation}
 use Rattle.operations.specs.Row.{reply_of}
 use Rattle.operations.specs.Control.{control_operation}
+use Rattle.rv32_decode.specs.declared.insn.Insn.{Insn}
+use Rattle.rv32_decode.specs.Table.{insn_at}
+use Rattle.rv32_user.specs.declared.effect.Effect.{Effect}
+use Rattle.rv32_user.specs.declared.effect.Effect.TheVariants.{Next, Load as LoadOf, Store as StoreOf, Syscall, Break, Misaligned}
+use Rattle.rv32_user.specs.Step.{effect_of, registers_after}
+use Rattle.walk_meaning.specs.declared.kind.Kind.TheVariants.{Fetch, Load, Store as Put, CapLoad, CapStore}
+use Rattle.walk_meaning.specs.declared.place.Place.{Place}
+use Rattle.walk_meaning.specs.declared.place.WalkFault.{WalkFault}
+use Rattle.walk_engine.specs.declared.hit.Hit.{Hit}
+use Rattle.invocation.specs.declared.callee.Callee.{Callee}
+use Rattle.invocation.specs.declared.callee.Callee.TheVariants.{Kernel, Open, Busy, Dead}
+use Rattle.invocation.specs.declared.malformed.MalformedSyscall.{MalformedSyscall as Malformed}
 use Rattle.invocation.specs.declared.message.Message.{Message}
-use Rattle.invocation.specs.Invocation.{InvocationValue}
+use Rattle.invocation.specs.Invocation.{InvocationValue, parsed}
+use Rattle.invocation.specs.Target.{callee}
 use Rattle.invocation.specs.Answerer.{Answer}
-use Rattle.invocation.specs.Answerer.Answer.{Dead, Open, Busy}
-use Rattle.invocation.specs.Delivery.{received, delivered as delivered_to}
+use Rattle.invocation.specs.Answerer.Answer.{Dead as NobodyAnswers, Open as Answers, Busy as IsBusy}
+use Rattle.invocation.specs.Delivery.{delivered as delivered_to}
 use Rattle.string_move.specs.declared.piece.Piece.{Piece}
-use Rattle.string_move.specs.Move.{size_of_pieces, gathered, copied}
+use Rattle.string_move.specs.Move.{size_of_pieces}
 use Rattle.fault_path.specs.message_path.Messages.{told_system, waiting, receiving, listening}
 use Rattle.fault_path.specs.Fault.{answered as fault_answered, fault_message, faulted, handler_of, heard_by}
-use Rattle.machine_state.specs.State.{State, process, schedule_slot}
-use Rattle.machine_state.specs.Setters.{set_system, set_process, advance, ticked}
-use Rattle.machine_state.specs.Outcome.{Outcome}
+use Rattle.machine_state.specs.State.{State, process, pc_of, register_of, schedule_slot}
+use Rattle.machine_state.specs.Setters.{set_system, set_process, set_registers, set_capreg, advance, halted, ticked}
+use Rattle.machine_state.specs.DataAccess.{data_access, number_at, written}
+use Rattle.machine_state.specs.CapAccess.{cap_access, cap_found, cap_stored}
 use Rattle.machine_state.specs.Faulting.{fault_state}
 use Rattle.machine_state.specs.Messaging.{told_state, waiting_state, listening_state}
 use Rattle.machine_state.specs.Operation.{request_of, changed_by}
-use Rattle.machine_state.specs.Reply.{set_reply}
-use Rattle.messages.specs.Fault.{fault}
-use Rattle.messages.specs.Message.{sent_side, received_side, bytes_moved, message_of, sent_off, message_told, delivered}
+use Rattle.machine_state.specs.Outcome.{Outcome}
+use Rattle.messages.specs.declared.string_fault.StringFault.{StringFault}
+use Rattle.messages.specs.Fault.{fault, malformed}
+use Rattle.messages.specs.Message.{sent_side, received_side, bytes_moved, message_of, sent_off, message_told, delivered, sent_by_fault, send_open}
 use Rattle.messages.specs.Waiting.{wait_on, listening_from, listen}
-use Rattle.kernel_core.specs.KernelOperation.{memory_op, destroyed_by, is_end_of, control_op}
-use Rattle.kernel_core.specs.Induction.{Notions, wants_nothing, alone, Origins, Parts, Cases}
-use Rattle.kernel_core.specs.Event.{instruction}
-use Rattle.kernel_core.proofs.Induction.{instruction-alone}
+use Rattle.kernel_core.specs.declared.system_calls.SystemCall.{SystemCall}
+use Rattle.kernel_core.specs.declared.system_calls.SystemCall.TheVariants.{Invoke, LoadCap, StoreCap, CopyCap, Yield}
+use Rattle.kernel_core.specs.LoadStore.{loaded_from, load, stored_to, store}
+use Rattle.kernel_core.specs.CapTransfer.{cap_loaded_from, load_cap, cap_stored_to, store_cap}
+use Rattle.kernel_core.specs.KernelOperation.{answered_call, memory_op, destroyed_by, is_end_of, control_op, asked_number, sysctl_op, is_no_log, logged, logged_side, log_string, kernlog_op, asked_for, kernel_op}
+use Rattle.kernel_core.specs.SystemCall.{call_with, copied, copy_cap, Sending, busy_call, sent_to, send, received_after, invoked, invoke, called, system_call}
+use Rattle.kernel_core.specs.Instruction.{performed, perform}
+use Rattle.kernel_core.specs.Event.{decoded_to, fetched_from, instruction}
 use Rattle.ready_service.proofs.Positions.{KeepsPlace, keeps-alike, keeps-then, keeps-left, keeps-readied, keeps-woken, harts-readied_queues, harts-readied_all, SameHarts}
-use Rattle.ready_service.proofs.Idle.{IdleIn, idle-other, idle-readied, idle-told, idle-woken, idle-scattered, open-other}
-use Rattle.ready_service.proofs.Rows.{memory-leaves, control-spares, left_alone, spared}
+use Rattle.ready_service.proofs.Rows.{OthersLeave, IsStopped, memory-leaves, control-spares, harts-applied, keeps-applied}
 
 module _ (p priority : ℕ) where
-  -- the process receives nowhere in this state
-  abbrev pub IdleAt : State → Type 0
-  IdleAt s = IdleIn p s.store.contents.processes
-
-  -- it receives nowhere in a state either, there are as many harts, and nobody comes before it
+  -- nobody comes before it in a state behind another, and there are as many harts
   pub record Waits (s t : State) : Type 0 where
-    pub idle : IdleAt t
     pub harts : SameHarts s.queues t.queues
     pub place : KeepsPlace p priority s.queues t.queues
 
-  -- the same of an outcome, but that the process may be named among what changes, and then have any place
-  pub record Spared (s : State) (o : Outcome) : Type 0 where
-    pub idle : IdleAt o.state
-    pub harts : SameHarts s.queues o.state.queues
-    pub place : IsAmong Process p o.changed ⊎ KeepsPlace p priority s.queues o.state.queues
-
-  -- whoever performs an event, or is told by one, is another process
-  abbrev pub of_others : Notions
-  of_others = record wants_nothing { holds = IdleAt; by = λ q. q ≢ p }
-
-  -- ---- putting together
+  -- so it is, or it was stopped
+  pub record Spared (s t : State) : Type 0 where
+    pub harts : SameHarts s.queues t.queues
+    pub place : KeepsPlace p priority s.queues t.queues ⊎ IsStopped p t.store.contents.processes
 
   waits-then : (s t u : State) → Waits s t → Waits t u → Waits s u
   waits-then s t u one more = record {
-    idle = more.idle;
     harts = more.harts ∙ one.harts;
     place = keeps-then p priority s.queues t.queues u.queues one.place more.place;
   }
 
-  -- of states with the queues of the first
-  waits-alike : (s t : State) → t.queues ≡ s.queues → IdleAt t → Waits s t
-  waits-alike s t same idle = record {
-    idle = idle;
+  -- states with the same queues
+  waits-alike : (s t : State) → t.queues ≡ s.queues → Waits s t
+  waits-alike s t same = record {
     harts = ap (λ (q : QueuesValue). length q.harts) same;
     place = keeps-alike p priority s.queues t.queues (ap (λ (q : QueuesValue). q.ready) same);
   }
 
-  spared-by : (s : State) (o : Outcome) → Waits s o.state → Spared s o
-  spared-by s o waits = record { idle = waits.idle; harts = waits.harts; place = inr waits.place }
+  spared : (s t : State) → Waits s t → Spared s t
+  spared s t waits = record { harts = waits.harts; place = inl waits.place }
 
-  both : (s : State) (o u : Outcome) → Spared s o → Spared o.state u → IsAmong Process p (o.changed ++ u.changed) ⊎ KeepsPlace p priority s.queues u.state.queues
-  both s o u one more = by one.place more.place
-    where
-      by : IsAmong Process p o.changed ⊎ KeepsPlace p priority s.queues o.state.queues → IsAmong Process p u.changed ⊎ KeepsPlace p priority o.state.queues u.state.queues
-          → IsAmong Process p (o.changed ++ u.changed) ⊎ KeepsPlace p priority s.queues u.state.queues
-      by (inl named) second = inl (among_front Process p o.changed u.changed named)
-      by (inr first) (inl named) = inl (among_back Process p o.changed u.changed named)
-      by (inr first) (inr second) = inr (keeps-then p priority s.queues o.state.queues u.state.queues first second)
-
-  parts : Parts (Unit {0}) of_others (alone of_others Spared)
-  parts = record {
-    left = λ s o is. is.idle;
-    idle = λ s k. spared-by (s tt) _ (waits-alike (s tt) (s tt) refl k);
-    told = λ s r o is. record { idle = is.idle; harts = is.harts; place = is.place };
-    named = λ s name o is. record { idle = is.idle; harts = is.harts; place = elim is.place [ inl named ↦ inl (inr named) | inr keeps ↦ inr keeps ] };
-    walked = λ s q at kind o k own word is made. record { idle = made.idle; harts = made.harts; place = made.place };
-    cap_walked = λ s q at kind o k own made. record { idle = made.idle; harts = made.harts; place = made.place };
-    behind = λ s o u first second. record { idle = second.idle; harts = second.harts ∙ first.harts; place = both (s tt) (o tt) (u tt) first second };
+  spared-then : (s t u : State) → Waits s t → Spared t u → Spared s u
+  spared-then s t u one more = record {
+    harts = more.harts ∙ one.harts;
+    place = elim more.place [
+      | inl keeps ↦ inl (keeps-then p priority s.queues t.queues u.queues one.place keeps)
+      | inr stopped ↦ inr stopped
+    ];
   }
-
-  -- ---- single changes
-
-  -- another process is written
-  written-waits : (s : State) (q : ℕ) → IdleAt s → q ≢ p → (value : ProcessValue) → Waits s (set_process s q value)
-  written-waits s q idle other value = waits-alike s _ refl (idle-other p s.store.contents.processes q value other idle)
-
-  -- another process leaves its place, and is made ready
-  ready-waits : (s : State) (q : ℕ) → IdleAt s → q ≢ p → Waits s (ticked s (Some q))
-  ready-waits s q idle other =
-      let c = schedule_slot s q in
-      let r = runs_of s.store (left s.queues q) in
-      record {
-        idle = idle-readied p c q r idle;
-        harts = ap length (harts-readied_queues c.kind c.object q (left s.queues q)) ∙ length-map s.queues.harts (hart_without q);
-        place = keeps-then p priority s.queues (left s.queues q) (readied c q r).queues (keeps-left p priority s.queues q other) (keeps-readied p priority c q r);
-      }
 
   -- ---- messages
 
-  -- a process is told, and is made ready
-  told-waits : (s : State) (e q : ℕ) (message : Message) → IdleAt s → Waits s (told_state s e q message)
+  -- any process is told, and is made ready
+  told-waits : (s : State) (e r : ℕ) (message : Message) → Waits s (told_state s e r message)
   unfolding told_state told_system delivered_to
-  told-waits s e q message idle =
-      let t = delivered_to s.store e q message in
-      let c = schedule_by Meant t q in
+  told-waits s e r message =
+      let t = delivered_to s.store e r message in
+      let c = schedule_by Meant t r in
       record {
-        idle = idle-told p c q (received (process_at s.store q) (endpoint_at s.store e).id message) s.store.contents.processes s.queues idle;
-        harts = ap length (harts-readied_queues c.kind c.object q s.queues);
-        place = keeps-readied p priority c q (runs_of t s.queues);
+        harts = ap length (harts-readied_queues c.kind c.object r s.queues);
+        place = keeps-readied p priority c r (runs_of t s.queues);
       }
 
-  -- ---- faults, and those who wait and listen
+  module _ (q : ℕ) (other : q ≢ p) where
+    -- it leaves its place, and waits for one that is busy
+    waiting-waits : (s : State) (r : ℕ) → Waits s (waiting_state s q r)
+    unfolding waiting_state waiting
+    waiting-waits s r = record {
+      harts = length-map s.queues.harts (hart_without q);
+      place = keeps-then p priority s.queues (left s.queues q) (asleep (left s.queues q) q r) (keeps-left p priority s.queues q other) (keeps-alike p priority (left s.queues q) (asleep (left s.queues q) q r) refl);
+    }
 
-  -- another process waits for one that is busy
-  waiting-waits : (s : State) (q r : ℕ) → IdleAt s → q ≢ p → Waits s (waiting_state s q r)
-  unfolding waiting_state waiting
-  waiting-waits s q r idle other = record {
-    idle = idle;
-    harts = length-map s.queues.harts (hart_without q);
-    place = keeps-then p priority s.queues (left s.queues q) (asleep (left s.queues q) q r) (keeps-left p priority s.queues q other) (keeps-alike p priority (left s.queues q) (asleep (left s.queues q) q r) refl);
-  }
+    -- it is made ready again
+    pub tick-waits : (s : State) → Waits s (ticked s (Some q))
+    tick-waits s =
+        let c = schedule_slot s q in
+        let r = runs_of s.store (left s.queues q) in
+        record {
+          harts = ap length (harts-readied_queues c.kind c.object q (left s.queues q)) ∙ length-map s.queues.harts (hart_without q);
+          place = keeps-then p priority s.queues (left s.queues q) (readied c q r).queues (keeps-left p priority s.queues q other) (keeps-readied p priority c q r);
+        }
 
-  -- another process faults, and whoever hears it is made ready
-  fault-waits : (s : State) (q : ℕ) (code : FaultCode) (address payload : ℕ) (answer : Answer) → IdleAt s → q ≢ p → Waits s (set_system s (fault_answered Meant (system s.store s.queues) q code address payload answer))
-  unfolding fault_answered faulted waiting told_system delivered_to
-  fault-waits s q code address payload Dead idle other = record {
-    idle = idle-other p s.store.contents.processes q (with_state (process_at s.store q) (Faulted code address)) other idle;
-    harts = length-map s.queues.harts (hart_without q);
-    place = keeps-left p priority s.queues q other;
-  }
-  fault-waits s q code address payload (Busy r) idle other = record {
-    idle = idle;
-    harts = length-map s.queues.harts (hart_without q);
-    place = keeps-then p priority s.queues (left s.queues q) (asleep (left s.queues q) q r) (keeps-left p priority s.queues q other) (keeps-alike p priority (left s.queues q) (asleep (left s.queues q) q r) refl);
-  }
-  fault-waits s q code address payload (Open e r) idle other =
-      let f = faulted (system s.store s.queues) q code address in
-      let c = to_object Process q (count_in Meant s.store.items Process q) in
-      let message = fault_message c (process_at s.store q) code address payload in
-      let t = delivered_to f.store e r message in
-      let told = runs_of t f.queues in
-      let schedule = schedule_by Meant t r in
-      record {
-        idle = idle-told p schedule r (received (process_at f.store r) (endpoint_at f.store e).id message) f.store.contents.processes f.queues (idle-other p s.store.contents.processes q (with_state (process_at s.store q) (Faulted code address)) other idle);
-        harts = ap length (harts-readied_queues schedule.kind schedule.object r f.queues) ∙ length-map s.queues.harts (hart_without q);
-        place = keeps-then p priority s.queues f.queues (readied schedule r told).queues (keeps-left p priority s.queues q other) (keeps-readied p priority schedule r told);
-      }
+    -- it faults, and whoever hears it is made ready
+    answered-waits : (s : State) (code : FaultCode) (address payload : ℕ) (answer : Answer) → Waits s (set_system s (fault_answered Meant (system s.store s.queues) q code address payload answer))
+    unfolding fault_answered faulted waiting told_system
+    answered-waits s code address payload NobodyAnswers = record { harts = length-map s.queues.harts (hart_without q); place = keeps-left p priority s.queues q other }
+    answered-waits s code address payload (IsBusy r) = record {
+      harts = length-map s.queues.harts (hart_without q);
+      place = keeps-then p priority s.queues (left s.queues q) (asleep (left s.queues q) q r) (keeps-left p priority s.queues q other) (keeps-alike p priority (left s.queues q) (asleep (left s.queues q) q r) refl);
+    }
+    answered-waits s code address payload (Answers e r) =
+        let f = faulted (system s.store s.queues) q code address in
+        let told = fault_message (to_object Process q (count_in Meant s.store.items Process q)) (process_at s.store q) code address payload in
+        let t = delivered_to f.store e r told in
+        let c = schedule_by Meant t r in
+        let runs = runs_of t f.queues in
+        record {
+          harts = ap length (harts-readied_queues c.kind c.object r f.queues) ∙ length-map s.queues.harts (hart_without q);
+          place = keeps-then p priority s.queues f.queues (readied c r runs).queues (keeps-left p priority s.queues q other) (keeps-readied p priority c r runs);
+        }
 
-  -- another process listens, and those who slept on it are made ready
-  listening-waits : (s : State) (q : ℕ) (accept : AcceptValue) → IdleAt s → q ≢ p → Waits s (listening_state s q accept)
-  unfolding listening_state listening
-  listening-waits s q accept idle other =
-      let v = receiving (system s.store s.queues) q accept in
-      let c = schedule_by Meant v.store in
-      let r = runs_of v.store v.queues in
-      record {
-        idle = idle-woken p c q r (idle-other p s.store.contents.processes q (with_state (process_at s.store q) (Receiving accept)) other idle);
-        harts = ap length (harts-readied_all c _ _) ∙ length-map s.queues.harts (hart_without q);
-        place = keeps-then p priority s.queues v.queues (woken c q r).queues (keeps-left p priority s.queues q other) (keeps-woken p priority c q r);
-      }
+    fault-waits : (s : State) (code : FaultCode) (address : ℕ) (handler : Option Capability) → Waits s (fault s q code address handler).state
+    unfolding fault fault_state
+    fault-waits s code address handler = answered-waits s code address (handler_of s.store q handler).payload (heard_by s.store q handler)
 
-  -- bytes go from pages to pages
-  moved-waits : (s : State) (from to : List Piece) → IdleAt s → Waits s (bytes_moved s from to).state
-  unfolding copied
-  moved-waits s from to idle = waits-alike s (bytes_moved s from to).state refl (idle-scattered p s.store to (take (size_of_pieces to) (gathered s.store from)) idle)
+    -- it listens, and those who slept on it are made ready
+    listening-waits : (s : State) (accept : AcceptValue) → Waits s (listening_state s q accept)
+    unfolding listening_state listening
+    listening-waits s accept =
+        let v = receiving (system s.store s.queues) q accept in
+        let c = schedule_by Meant v.store in
+        let r = runs_of v.store v.queues in
+        record {
+          harts = ap length (harts-readied_all c _ _) ∙ length-map s.queues.harts (hart_without q);
+          place = keeps-then p priority s.queues v.queues (woken c q r).queues (keeps-left p priority s.queues q other) (keeps-woken p priority c q r);
+        }
 
-  -- the sender goes on behind its message
-  sent_off-waits : (s : State) (q : ℕ) (receives : Bool) → IdleAt s → q ≢ p → Waits s (sent_off s q receives)
-  sent_off-waits s q true idle other = written-waits s q idle other _
-  sent_off-waits s q false idle other =
-      let t = advance s q in
-      let on = written-waits s q idle other _ in
-      waits-then s t (sent_off s q false) on (written-waits t q on.idle other _)
+    listen-waits : (s : State) (inv : InvocationValue) → Waits s (listen s q inv).state
+    unfolding listen
+    listen-waits s inv =
+        let t = listening_from s q inv in
+        let begins : Waits s t = cond_both inv.send _ _ (Waits s) (λ e. waits-alike s s refl) (λ e. waits-alike s (advance s q) refl) in
+        waits-then s t (listening_state t q inv.accept) begins (listening-waits t inv.accept)
 
-  message-waits : (s : State) (q e r : ℕ) (inv : InvocationValue) (length : ℕ) → IdleAt s → q ≢ p → Waits s (message_told s q e r inv length).state
-  message-waits s q e r inv length idle other =
-      let message = message_of s q inv length in
-      let told = told-waits s e r message idle in
-      let t = told_state s e r message in
-      waits-then s t (sent_off t q inv.receive) told (sent_off-waits t q inv.receive told.idle other)
+    -- the sender goes on behind its message
+    sent_off-waits : (s : State) (receives : Bool) → Waits s (sent_off s q receives)
+    sent_off-waits s true = waits-alike s (sent_off s q true) refl
+    sent_off-waits s false = waits-alike s (sent_off s q false) refl
 
-  -- a message with its string
-  delivered-waits : (s : State) (q e r : ℕ) (inv : InvocationValue) (from to : List Piece) → IdleAt s → q ≢ p → Waits s (delivered s q e r inv from to).state
-  delivered-waits s q e r inv from to idle other =
-      let moved = moved-waits s from to idle in
-      let t = (bytes_moved s from to).state in
-      waits-then s t (delivered s q e r inv from to).state moved (message-waits t q e r inv (size_of_pieces to) moved.idle other)
+    -- a message with its string
+    delivered-waits : (s : State) (e r : ℕ) (inv : InvocationValue) (from to : List Piece) → Waits s (delivered s q e r inv from to).state
+    delivered-waits s e r inv from to =
+        let moved = (bytes_moved s from to).state in
+        let message = message_of moved q inv (size_of_pieces to) in
+        let t = told_state moved e r message in
+        waits-then s moved (delivered s q e r inv from to).state (waits-alike s moved refl)
+        (waits-then moved t (sent_off t q inv.receive) (told-waits moved e r message) (sent_off-waits t inv.receive))
 
-  -- ---- receive phases, and operations of the kernel
+    sent-waits : (s : State) (e r : ℕ) (inv : InvocationValue) (from : List Piece) (f : Option StringFault) → Waits s (sent_by_fault s q e r inv from f).state
+    sent-waits s e r inv from None = delivered-waits s e r inv from (received_side s r inv.length).pieces
+    sent-waits s e r inv from (Some f) = fault-waits s f.why.code f.address f.why.handler
 
-  listen-waits : (s : State) (q : ℕ) (inv : InvocationValue) → IdleAt s → q ≢ p → Waits s (listen s q inv).state
-  unfolding listen
-  listen-waits s q inv idle other =
-      let t = listening_from s q inv in
-      let begins : Waits s t = cond_both inv.send _ _ (Waits s) (λ e. waits-alike s s refl idle) (λ e. written-waits s q idle other _) in
-      waits-then s t (listening_state t q inv.accept) begins (listening-waits t q inv.accept begins.idle other)
+    open-waits : (s : State) (e r : ℕ) (inv : InvocationValue) → Waits s (send_open s q e r inv).state
+    unfolding send_open
+    open-waits s e r inv = let from = sent_side s q inv in sent-waits s e r inv from.pieces from.fault
 
-  memory-spared : (s : State) (q : ℕ) (inv : InvocationValue) (cap : Capability) → IdleAt s → q ≢ p → Spared s (memory_op s q inv cap)
-  memory-spared s q inv cap idle other =
-      let request = request_of (process s q) inv in
-      let settled = memory_operation s.store cap request in
-      let t = changed_by s settled.answer.changes in
-      let is = left_alone p priority (system s.store s.queues) settled.answer.changes idle (memory-leaves p priority (system s.store s.queues) idle cap request) in
-      let changed : Waits s t = record { idle = is.0; harts = is.1; place = is.2 } in
-      spared-by s (memory_op s q inv cap) (waits-then s t (set_reply t q inv.accept (reply_of settled)) changed (written-waits t q is.0 other _))
+    -- ---- loads, stores and capabilities
 
-  control-spared : (s : State) (q : ℕ) (inv : InvocationValue) (cap : Capability) → IdleAt s → q ≢ p → Spared s (control_op s q inv cap)
-  control-spared s q inv cap idle other =
-      let request = request_of (process s q) inv in
-      let settled = control_operation Meant s.store cap request in
-      let t = changed_by s settled.answer.changes in
-      let is = spared p priority (system s.store s.queues) settled.answer.changes idle (control-spares p priority (system s.store s.queues) idle cap request) in
-      let ends : Waits t (control_op s q inv cap).state =
-      cond_both (is_end_of q (destroyed_by settled.answer.changes)) _ _ (Waits t) (λ e. waits-alike t t refl is.0) (λ e. written-waits t q is.0 other _) in
-      record {
-        idle = ends.idle;
-        harts = ends.harts ∙ is.1;
-        place = elim is.2 [
-          | inl named ↦ inl named
-          | inr keeps ↦ inr (keeps-then p priority s.queues t.queues (control_op s q inv cap).state.queues keeps ends.place)
-        ];
-      }
+    loaded-waits : (s : State) (at size : ℕ) (signed : Bool) (rd : ℕ) (answer : Result Hit WalkFault) → Waits s (loaded_from s q at size signed rd answer).state
+    loaded-waits s at size signed rd (Ok hit) = waits-alike s _ refl
+    loaded-waits s at size signed rd (Err f) = fault-waits s f.code at f.handler
 
-  fault-spared : (s : State) (q : ℕ) (code : FaultCode) (address : ℕ) (handler : Option Capability) → IdleAt s → q ≢ p → Spared s (fault s q code address handler)
-  unfolding fault fault_state
-  fault-spared s q code address handler idle other =
-      spared-by s (fault s q code address handler) (fault-waits s q code address (handler_of s.store q handler).payload (heard_by s.store q handler) idle other)
+    load-waits : (s : State) (at size : ℕ) (signed : Bool) (rd : ℕ) → Waits s (load s q at size signed rd).state
+    unfolding load
+    load-waits s at size signed rd = cond_both (at % size == 0) _ _ (λ (o : Outcome). Waits s o.state) (λ e. loaded-waits s at size signed rd (data_access s q at Load)) (λ e. fault-waits s BadAlign at None)
 
-  wait-spared : (s : State) (q r : ℕ) → IdleAt s → q ≢ p → Spared s (wait_on s q r)
-  unfolding wait_on
-  wait-spared s q r idle other = spared-by s (wait_on s q r) (waiting-waits s q r idle other)
+    stored-waits : (s : State) (at size value : ℕ) (answer : Result Hit WalkFault) → Waits s (stored_to s q at size value answer).state
+    stored-waits s at size value (Ok hit) = waits-alike s _ refl
+    stored-waits s at size value (Err f) = fault-waits s f.code at f.handler
 
-  cases : Cases (Unit {0}) of_others (alone of_others Spared)
-  cases = record {
-    pc_is = λ s q pc k own word. spared-by (s tt) _ (written-waits (s tt) q k own _);
-    regs_are = λ s q registers k own are. spared-by (s tt) _ (written-waits (s tt) q k own _);
-    capreg_is = λ s q j c k own may. spared-by (s tt) _ (written-waits (s tt) q k own _);
-    replied = λ s q accept reply k own is. spared-by (s tt) _ (written-waits (s tt) q k own _);
-    page_is = λ s q at hit size value k own e. spared-by (s tt) _ (waits-alike (s tt) _ refl k);
-    cappage_is = λ s q at place c k own may e. spared-by (s tt) _ (waits-alike (s tt) _ refl k);
-    ready_again = λ s q k own. spared-by (s tt) _ (ready-waits (s tt) q k own);
-    halts = λ s k. spared-by (s tt) _ (waits-alike (s tt) _ refl k);
-    faults = λ s q code address handler k own word is. fault-spared (s tt) q code address handler k own;
-    waits = λ s q r k own busy. wait-spared (s tt) q r k own;
-    listens = λ s q inv k own asks. spared-by (s tt) _ (listen-waits (s tt) q inv k own);
-    sends = λ s q inv k own asks. spared-by (s tt) _ (waits-alike (s tt) (s tt) refl k);
-    receives = λ s q inv k own asks. spared-by (s tt) _ (waits-alike (s tt) (s tt) refl k);
-    delivers = λ s q e r inv k own over to asks. spared-by (s tt) _ (delivered-waits (s tt) q e r inv (sent_side (s tt) q inv).pieces (received_side (s tt) r inv.length).pieces k own);
-    memory = λ s q inv cap k own asks may is. memory-spared (s tt) q inv cap k own;
-    control = λ s q inv cap k own asks may. control-spared (s tt) q inv cap k own;
-  }
+    store-waits : (s : State) (at size value : ℕ) → Waits s (store s q at size value).state
+    unfolding store
+    store-waits s at size value = cond_both (at % size == 0) _ _ (λ (o : Outcome). Waits s o.state) (λ e. stored-waits s at size value (data_access s q at Put)) (λ e. fault-waits s BadAlign at None)
 
-  origins : Origins of_others
-  origins = record {
-    register = λ s q i h own. tt;
-    capreg = λ s q i h own. tt;
-    pc = λ s q h own. tt;
-    next = λ pc. tt;
-    effect = λ s q word insn h own e. tt;
-    computed = λ s q word insn h own e. tt;
-    target = λ pc does. tt;
-    load = λ at size signed rd does. tt;
-    store = λ at size value does. tt;
-    misaligned = λ target does. tt;
-    loads = λ s q at size signed rd hit h own does e. tt;
-    found = λ s q at place h own e. tt;
-    unhandled = λ s q. tt;
-    handled = λ s q at kind f h own e. tt;
-    cap_handled = λ s q at kind f h own e. tt;
-    asked = λ s q inv h own e. tt;
-    kernel = λ s c cap h may e. tt;
-    busy = λ s c q h may e. tt;
-    open_by = λ s c e q h may is. open-other s.store p c e q h is;
-    open_over = λ s c e q h may is. tt;
-    sent_at = λ s q inv f h own asks e. tt;
-    sent_handled = λ s q inv f h own asks e. tt;
-    refusal = λ code. tt;
-    grant = tt;
-    kind = λ cap number may. tt;
-  }
+    malformed-waits : (s : State) → Waits s (malformed s q).state
+    malformed-waits s = fault-waits s MalformedSyscall (pc_of s q) None
 
-  -- of every instruction of another process
-  pub instruction-spared : (s : State) (q : ℕ) → IdleAt s → q ≢ p → Spared s (instruction s q)
-  instruction-spared = instruction-alone of_others Spared origins parts cases
+    cap_loaded-waits : (s : State) (at to : ℕ) (answer : Result Place WalkFault) → Waits s (cap_loaded_from s q at to answer).state
+    cap_loaded-waits s at to (Ok place) = waits-alike s _ refl
+    cap_loaded-waits s at to (Err f) = fault-waits s f.code at f.handler
 
-  -- of every tick of a hart with another process
-  pub tick-waits : (s : State) (q : ℕ) → IdleAt s → q ≢ p → Waits s (ticked s (Some q))
-  tick-waits = ready-waits
+    load_cap-waits : (s : State) (at to : ℕ) → Waits s (load_cap s q at to).state
+    unfolding load_cap
+    load_cap-waits s at to =
+        cond_both (nat_le to 31) _ _ (λ (o : Outcome). Waits s o.state)
+        (λ e. cond_both (at % 16 == 0) _ _ (λ (o : Outcome). Waits s o.state) (λ e. cap_loaded-waits s at to (cap_access s q at CapLoad)) (λ e. fault-waits s BadAlign at None))
+        (λ e. malformed-waits s)
+
+    cap_stored-waits : (s : State) (at from : ℕ) (answer : Result Place WalkFault) → Waits s (cap_stored_to s q at from answer).state
+    cap_stored-waits s at from (Ok place) = waits-alike s _ refl
+    cap_stored-waits s at from (Err f) = fault-waits s f.code at f.handler
+
+    store_cap-waits : (s : State) (at from : ℕ) → Waits s (store_cap s q at from).state
+    unfolding store_cap
+    store_cap-waits s at from =
+        cond_both (nat_le from 31) _ _ (λ (o : Outcome). Waits s o.state)
+        (λ e. cond_both (at % 16 == 0) _ _ (λ (o : Outcome). Waits s o.state) (λ e. cap_stored-waits s at from (cap_access s q at CapStore)) (λ e. fault-waits s BadAlign at None))
+        (λ e. malformed-waits s)
+
+    copy_cap-waits : (s : State) (from to : ℕ) → Waits s (copy_cap s q from to).state
+    unfolding copy_cap
+    copy_cap-waits s from to = cond_both (nat_le from 31 && nat_le to 31) _ _ (λ (o : Outcome). Waits s o.state) (λ e. waits-alike s _ refl) (λ e. malformed-waits s)
+
+    -- ---- operations of the kernel
+
+    logged-waits : (s : State) (inv : InvocationValue) (pieces : List Piece) (f : Option StringFault) → Waits s (logged s q inv pieces f).state
+    logged-waits s inv pieces None = waits-alike s _ refl
+    logged-waits s inv pieces (Some f) = fault-waits s f.why.code f.address f.why.handler
+
+    log_string-waits : (s : State) (inv : InvocationValue) → Waits s (log_string s q inv).state
+    unfolding log_string
+    log_string-waits s inv = let string = logged_side s q inv in logged-waits s inv string.pieces string.fault
+
+    kernlog-waits : (s : State) (inv : InvocationValue) (cap : Capability) → Waits s (kernlog_op s q inv cap).state
+    unfolding kernlog_op
+    kernlog-waits s inv cap =
+        cond_both (asked_number inv == 8) _ _ (λ (o : Outcome). Waits s o.state)
+        (λ e. cond_both (is_no_log inv.length) _ _ (λ (o : Outcome). Waits s o.state) (λ e. waits-alike s _ refl) (λ e. log_string-waits s inv))
+        (λ e. waits-alike s _ refl)
+
+    sysctl-waits : (s : State) (inv : InvocationValue) (cap : Capability) → Waits s (sysctl_op s q inv cap).state
+    unfolding sysctl_op
+    sysctl-waits s inv cap = cond_both (asked_number inv == 8) _ _ (λ (o : Outcome). Waits s o.state) (λ e. waits-alike s _ refl) (λ e. waits-alike s _ refl)
+
+    memory-waits : (s : State) (inv : InvocationValue) (cap : Capability) → Waits s (memory_op s q inv cap).state
+    memory-waits s inv cap =
+        let w = system s.store s.queues in
+        let request = request_of (process s q) inv in
+        let changes = (memory_operation s.store cap request).answer.changes in
+        record {
+          harts = harts-applied p priority w changes;
+          place = keeps-applied p priority w changes (memory-leaves p priority w cap request);
+        }
+
+    -- a reply to it leaves another stopped
+    still-stopped : (s : State) (value : ProcessValue) → IsStopped p s.store.contents.processes → IsStopped p (set_process s q value).store.contents.processes
+    still-stopped s value is = ap (λ (v : ProcessValue). v.state) (get_or-set_other s.store.contents.processes q p value empty_process (λ same. other (sym same))) ∙ is
+
+    control-spared : (s : State) (inv : InvocationValue) (cap : Capability) → Spared s (control_op s q inv cap).state
+    control-spared s inv cap =
+        let w = system s.store s.queues in
+        let request = request_of (process s q) inv in
+        let settled = control_operation Meant s.store cap request in
+        let changes = settled.answer.changes in
+        let t = changed_by s changes in
+        let first : Spared s t = record {
+          harts = harts-applied p priority w changes;
+          place = elim (control-spares p priority w cap request) [
+            | inl leave ↦ inl (keeps-applied p priority w changes leave)
+            | inr stopped ↦ inr stopped
+          ];
+        } in
+        cond_both (is_end_of q (destroyed_by changes)) _ _ (Spared s) (λ e. first) (λ e. record {
+          harts = first.harts;
+          place = elim first.place [
+            | inl keeps ↦ inl keeps
+            | inr stopped ↦ inr (still-stopped t _ stopped)
+          ];
+        })
+
+    others-spared : (s : State) (inv : InvocationValue) (memory : Bool) (c : Capability) → Spared s (if memory then memory_op s q inv c else control_op s q inv c).state
+    others-spared s inv true c = spared s _ (memory-waits s inv c)
+    others-spared s inv false c = control-spared s inv c
+
+    asked-spared : (s : State) (inv : InvocationValue) (kind : CapKind) (c : Capability) → Spared s (asked_for s q inv kind c).state
+    asked-spared s inv KernLog c = spared s _ (kernlog-waits s inv c)
+    asked-spared s inv SysCtl c = spared s _ (sysctl-waits s inv c)
+    asked-spared s inv kind c = spared-then s (advance s q) _ (waits-alike s (advance s q) refl) (others-spared (advance s q) inv (is_memory kind) c)
+
+    kernel-spared : (s : State) (inv : InvocationValue) (cap : Capability) → Spared s (kernel_op s q inv cap).state
+    unfolding kernel_op
+    kernel-spared s inv cap = asked-spared s inv cap.kind cap
+
+    -- ---- invocations
+
+    busy-waits : (s : State) (inv : InvocationValue) (r : ℕ) → Waits s (busy_call s q inv r).state
+    unfolding wait_on
+    busy-waits s inv r = cond_both inv.nonblocking _ _ (λ (o : Outcome). Waits s o.state) (λ e. waits-alike s _ refl) (λ e. waiting-waits s r)
+
+    -- a send phase, and the receive phase that follows where a message is delivered
+    received-waits : (s : State) (inv : InvocationValue) (o : Outcome) (delivers : Bool) → Waits s o.state → Waits s (received_after q inv (record { outcome = o; delivers = delivers })).state
+    received-waits s inv o delivers waits =
+        cond_both (delivers && inv.receive) _ _ (λ (u : Outcome). Waits s u.state)
+        (λ e. waits-then s o.state (listen o.state q inv).state waits (listen-waits o.state inv))
+        (λ e. waits)
+
+    sent-spared : (s : State) (inv : InvocationValue) (callee : Callee) → Spared s (received_after q inv (sent_to s q inv callee)).state
+    sent-spared s inv (Kernel cap) = kernel-spared s inv cap
+    sent-spared s inv Dead = spared s _ (waits-alike s _ refl)
+    sent-spared s inv (Busy r) = spared s _ (busy-waits s inv r)
+    sent-spared s inv (Open e r) = spared s _ (received-waits s inv (send_open s q e r inv) _ (open-waits s e r inv))
+
+    invoke-spared : (s : State) → Spared s (invoke s q).state
+    unfolding invoke send
+    invoke-spared s = by (parsed (process s q).regs)
+      where
+        by : (answer : Result InvocationValue Malformed) → Spared s (invoked s q answer).state
+        by (Err malformed_is) = spared s _ (malformed-waits s)
+        by (Ok inv) =
+            cond_both inv.send _ _ (λ (o : Outcome). Spared s o.state) (λ e. sent-spared s inv (callee s.store (capreg_of (process s q) inv.capreg)))
+            (λ e. spared s _ (listen-waits s inv))
+
+    -- ---- instructions
+
+    called-spared : (s : State) (call : Option SystemCall) (x10 x11 : ℕ) → Spared s (called s q call x10 x11).state
+    called-spared s None x10 x11 = spared s _ (malformed-waits s)
+    called-spared s (Some Invoke) x10 x11 = invoke-spared s
+    called-spared s (Some LoadCap) x10 x11 = spared s _ (load_cap-waits s x10 x11)
+    called-spared s (Some StoreCap) x10 x11 = spared s _ (store_cap-waits s x10 x11)
+    called-spared s (Some CopyCap) x10 x11 = spared s _ (copy_cap-waits s x10 x11)
+    called-spared s (Some Yield) x10 x11 = spared s _ (waits-then s (advance s q) _ (waits-alike s (advance s q) refl) (tick-waits (advance s q)))
+
+    system_call-spared : (s : State) → Spared s (system_call s q).state
+    unfolding system_call
+    system_call-spared s = called-spared s (call_with (register_of s q 17)) (register_of s q 10) (register_of s q 11)
+
+    performed-spared : (s : State) (insn : Insn) (effect : Effect) → Spared s (performed s q insn effect).state
+    performed-spared s insn (Next pc) = spared s _ (waits-alike s _ refl)
+    performed-spared s insn (LoadOf at size signed rd) = spared s _ (load-waits s at size signed rd)
+    performed-spared s insn (StoreOf at size value) = spared s _ (store-waits s at size value)
+    performed-spared s insn Syscall = system_call-spared s
+    performed-spared s insn Break = spared s _ (fault-waits s Breakpoint (pc_of s q) None)
+    performed-spared s insn (Misaligned target) = spared s _ (fault-waits s BadAlign target None)
+
+    decoded-spared : (s : State) (insn : Option Insn) → Spared s (decoded_to s q insn).state
+    unfolding perform
+    decoded-spared s None = spared s _ (fault-waits s BadOpcode (pc_of s q) None)
+    decoded-spared s (Some insn) = performed-spared s insn (effect_of (process s q).regs (pc_of s q) insn)
+
+    fetched-spared : (s : State) (answer : Result Hit WalkFault) → Spared s (fetched_from s q answer).state
+    fetched-spared s (Ok hit) = decoded-spared s (insn_at (number_at s hit 4))
+    fetched-spared s (Err f) = spared s _ (fault-waits s f.code (pc_of s q) f.handler)
+
+    -- of every instruction of another process
+    pub instruction-spared : (s : State) → Spared s (instruction s q).state
+    unfolding instruction
+    instruction-spared s = fetched-spared s (data_access s q (pc_of s q) Fetch)

@@ -1,20 +1,19 @@
 -- The laws of service, as statements.
 use Rattle.std.specs.Prelude.{◌≡◌, ℕ, ◌<◌, ◌≤◌, false, List, [], length, Some, None}
 use Rattle.std.specs.List.{All}
-use Rattle.process_objects.specs.declared.state.State.TheVariants.{Running}
 use Rattle.schedules.specs.Queues.{priorities, ready_queue, hart_of}
 use Rattle.machine_state.specs.declared.event.Event.{Event}
 use Rattle.machine_state.specs.declared.event.Event.TheVariants.{Step}
 use Rattle.machine_state.specs.Machine.{hart_in}
-use Rattle.machine_state.specs.State.{State, process}
-use Rattle.ready_service.specs.Service.{IsAmongFirst, source_of, dispatches, Performs, IsLeftAlone}
+use Rattle.machine_state.specs.State.{State}
+use Rattle.ready_service.specs.Service.{IsAmongFirst, source_of, dispatches, Performs, RunsOn}
 
--- A process that runs and is among the first `n` of a ready queue performs an event in every run with `n` dispatches from
--- that queue, if no event changes it before.
+-- A process that is among the first `n` of a ready queue performs an event in every run with `n` dispatches from that queue, as
+-- long as it runs.
 abbrev pub ServedInOrder : Type 0
 ServedInOrder = (s : State) (p priority n : ℕ) (es : List Event)
-    → (process s p).state ≡ Running → IsAmongFirst p n (ready_queue s.queues priority)
-    → All (λ (e : Event). hart_in e < length s.queues.harts) es → IsLeftAlone p s es
+    → IsAmongFirst p n (ready_queue s.queues priority)
+    → All (λ (e : Event). hart_in e < length s.queues.harts) es → RunsOn p s es
     → n ≤ dispatches priority s es → Performs p s es
 
 -- Of a machine that is not halted, each step of a hart without a process is a dispatch from this ready queue, as long as a

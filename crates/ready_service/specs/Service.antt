@@ -1,11 +1,10 @@
 -- Service: in which order processes are taken from a ready queue along a run. (This project's.)
 use Rattle.std.specs.Prelude.{◌≡◌, ℕ, zero, suc, ◌+◌, ◌==◌, ◌⊎◌, if◌then◌else◌, List, [], ◌∷◌, Option, Some, None}
-use Rattle.cap_format.specs.declared.kind.CapKind.TheVariants.{Process}
-use Rattle.object_store.specs.Object.{IsAmong}
+use Rattle.process_objects.specs.declared.state.State.TheVariants.{Running}
 use Rattle.schedules.specs.Queues.{QueuesValue, priorities, highest_below, hart_of}
 use Rattle.machine_state.specs.declared.event.Event.{Event}
 use Rattle.machine_state.specs.declared.event.Event.TheVariants.{Step, Tick}
-use Rattle.machine_state.specs.State.{State}
+use Rattle.machine_state.specs.State.{State, process}
 use Rattle.kernel_core.specs.Event.{event_of, performer}
 
 -- the process is one of the first so many in a list
@@ -44,7 +43,7 @@ abbrev pub Performs : ℕ → State → List Event → Type 0
 Performs p s [] = ⊥
 Performs p s (e ∷ es) = (performer s e ≡ Some p) ⊎ Performs p (event_of s e).state es
 
--- until process `p` performs an event, no event changes it: nobody stops, destroys or writes it
-abbrev pub IsLeftAlone : ℕ → State → List Event → Type 0
-IsLeftAlone p s [] = Unit {0}
-IsLeftAlone p s (e ∷ es) = (performer s e ≡ Some p) ⊎ ((IsAmong Process p (event_of s e).changed → ⊥) × IsLeftAlone p (event_of s e).state es)
+-- until process `p` performs an event, it runs after each one: nobody stops it, and nobody destroys it
+abbrev pub RunsOn : ℕ → State → List Event → Type 0
+RunsOn p s [] = Unit {0}
+RunsOn p s (e ∷ es) = (performer s e ≡ Some p) ⊎ (((process (event_of s e).state p).state ≡ Running) × RunsOn p (event_of s e).state es)

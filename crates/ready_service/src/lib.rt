@@ -7,8 +7,8 @@
 
 ghost use Rattle.ready_service.specs.Laws.{ServedInOrder, HighestIsNext};
 
-/// Among the first `n` of its ready queue, a process that nobody changes is served with the `n`-th dispatch at the latest,
-/// whoever becomes ready, waits, is stopped or is destroyed.
+/// Among the first `n` of its ready queue, a process is served with the `n`-th dispatch from it at the latest, whatever others
+/// do, unless it is stopped or destroyed before.
 pub fn served_in_order()
     ensures { ServedInOrder }
 {}
