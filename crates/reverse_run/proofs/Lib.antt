@@ -1,2 +1,3 @@
 mod Keeping
 pub mod Unwinding
+mod Called

@@ -1,4 +1,5 @@
 pub mod Remembered
 pub mod Moments
 pub mod History
+pub mod Calls
 pub mod Reads

@@ -4,10 +4,16 @@
 //! events. Nothing here knows of texts, or of how an event finds what it changes.
 #![tactic(auto)]
 
+mod call;
+mod calls;
+mod laws;
 mod memento;
 mod pasts;
 mod remembering;
 mod reversible;
 
+pub use call::Call;
+pub use calls::{Listener, make_calls};
+pub use laws::undoes_all;
 pub use remembering::remember;
 pub use reversible::Reversible;

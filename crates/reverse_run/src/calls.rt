@@ -1,0 +1,91 @@
+//! Lists of calls, one after the other.
+ghost use Rattle.std.specs.Prelude.{◌≡◌, ◌≤◌, ◌+◌, ◌++◌, ◌∷◌, []};
+ghost use Rattle.std.specs.List.{All};
+ghost use Rattle.reverse_run.specs.History.{history_of};
+ghost use Rattle.reverse_run.specs.Calls.{after_call, answer_of, history_after, answers, IsOfHart};
+ghost use Rattle.reverse_run.specs.Reads.{WalksAtMost, most_for, most_in};
+
+use crate::call::Call;
+use crate::reversible::Reversible;
+use machine_state::Records;
+use std::sync::ledger::Ledger;
+use steps::Steps;
+use walk_engine::Translator;
+
+/// Is told what each call answers.
+pub trait Listener {
+    ghost use Rattle.std.specs.Prelude.{List, [], ◌∷◌, ◌≡◌, ◌++◌};
+    ghost use Rattle.reverse_run.specs.Calls.{CallAnswer};
+    ghost use Rattle.reverse_run.specs.Calls.CallAnswer.{Performed, Undone};
+
+    /// All that it was told.
+    ghost told: { Self → List CallAnswer };
+
+    /// The records of an event.
+    fn tell(&mut self, records: &Records)
+        ensures { told self.new ≡ told self.old ++ Performed records.now ∷ [] };
+
+    /// Whether an event was undone.
+    fn tell_undo(&mut self, undone: bool)
+        ensures { told self.new ≡ told self.old ++ Undone undone ∷ [] };
+}
+
+/// Makes the calls in their order, and tells what each answers. The history is then that of these calls.
+///
+/// Over a translator that never fetches more for an access than a fresh walk reads, they read at most as many slots as the
+/// walks of their events do, and so many for each event and for each undo. Whatever is kept after an undo, it is so.
+pub fn make_calls<T: Translator, W: Listener, L: Ledger>(
+    reversible: &mut Reversible<T>,
+    calls: &[Call],
+    listener: &mut W,
+    fetches: &mut Steps<L>,
+)
+    requires harts { All (IsOfHart reversible.old.machine.objects.harts) calls.now }
+    ensures history { let depth = reversible.old.depth in
+        history_of reversible.new ≡ history_after depth (history_of reversible.old) calls.now }
+    ensures answers { let depth = reversible.old.depth in
+        let told = answers depth (history_of reversible.old) calls.now in
+        W.told listener.new ≡ W.told listener.old ++ told }
+    ensures depth { reversible.new.depth ≡ reversible.old.depth }
+    ensures harts { reversible.new.machine.objects.harts ≡ reversible.old.machine.objects.harts }
+    ensures least { fetches.old ≤ fetches.new }
+    ensures most { let depth = reversible.old.depth in
+        WalksAtMost T.cost →
+        fetches.new ≤ fetches.old + most_in depth (history_of reversible.old) calls.now }
+{
+    let mut records = Records::new();
+    'each: for i in 0..calls.len() {
+        make_call(reversible, calls[i], &mut records, listener, fetches);
+    }
+}
+
+/// Makes one call, and tells what it answers.
+fn make_call<T: Translator, W: Listener, L: Ledger>(
+    reversible: &mut Reversible<T>,
+    call: Call,
+    records: &mut Records,
+    listener: &mut W,
+    fetches: &mut Steps<L>,
+)
+    requires { IsOfHart reversible.old.machine.objects.harts call }
+    ensures history { history_of reversible.new ≡
+        after_call reversible.old.depth (history_of reversible.old) call }
+    ensures answer { W.told listener.new ≡
+        W.told listener.old ++ answer_of (history_of reversible.old) call ∷ [] }
+    ensures depth { reversible.new.depth ≡ reversible.old.depth }
+    ensures harts { reversible.new.machine.objects.harts ≡ reversible.old.machine.objects.harts }
+    ensures least { fetches.old ≤ fetches.new }
+    ensures most { WalksAtMost T.cost →
+        fetches.new ≤ fetches.old + most_for (history_of reversible.old) call }
+{
+    match call {
+        Call::Perform(e) => {
+            reversible.event_into(e, records, fetches);
+            listener.tell(records);
+        }
+        Call::Undo => {
+            let undone = reversible.undo(fetches);
+            listener.tell_undo(undone);
+        }
+    }
+}
