@@ -95,5 +95,6 @@ def choices_of(answer, name):
         raise NoRun(f"{name} tells no run: it {f'says {lines[0][:200]}' if lines else 'is empty'}")
     loop = int(told[4] or 0)
     if len(lines) - 1 != int(told[3]) + loop or not all(map(CHOICE.fullmatch, lines[1:])):
-        raise NoRun(f"{name} is cut, or no answer of `explore`: {told[0]} has {int(told[3]) + loop} lines of a schedule behind it")
+        raise NoRun(f"{name} is cut, or no answer of `explore`: {told[0]} has {int(told[3]) + loop} lines of a schedule behind "
+                    "it")
     return told[1], int(told[2]), lines[1:], loop

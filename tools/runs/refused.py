@@ -92,7 +92,8 @@ def grouped(found):
 def in_a_line(refused, found):
     """How many requests were refused, with those that came first."""
     groups, count = grouped(found), len(found)
-    told = [f"{refused.programs.process(process)} {sentence}" + (f" ({len(calls)} times)" if len(calls) > 1 < len(groups) else "")
+    told = [f"{refused.programs.process(process)} {sentence}"
+            + (f" ({len(calls)} times)" if len(calls) > 1 < len(groups) else "")
             for process, sentence, calls in groups[:MOST_KINDS]]
     more = f"; and {len(groups) - MOST_KINDS} more, which --refused lists" if len(groups) > MOST_KINDS else ""
     few = "" if refused.looked_at == len(refused.calls) else f" of the first {refused.looked_at:,} that were looked at"
