@@ -11,8 +11,8 @@ COMPARISONS = ("same", "below", "most", "less")
 CONNECTED = {"and", "or"}
 MOST_STATES, MOST_ROWS = 2000, 40  # states that are asked for, and rows that are told as text: the last ones
 
-# An atom: whether it is negated, its words, and what it is called.
-Atom = namedtuple("Atom", "negated words name")
+# An atom without its `not`: its words, what it is called, and whether that says the opposite, as `a != b` does of `same`.
+Atom = namedtuple("Atom", "words name is_opposite")
 
 
 def atoms_of(line):
@@ -32,8 +32,8 @@ def named_atoms(line, plan):
     names = names if len(names) == len(atoms) else atoms
     found = []
     for words, name in zip(atoms, names):
-        negated = words[0] == "not"
-        atom = Atom(negated, words[negated:], " ".join(name[name[0] == "not":]))
+        negated, is_called_so = words[0] == "not", name[0] == "not"
+        atom = Atom(words[negated:], " ".join(name[is_called_so:]), negated != is_called_so)
         if all(atom.words != other.words for other in found):
             found.append(atom)
     return found
@@ -62,7 +62,7 @@ class Values:
             return [(self.label(atom, "process"), lambda state, _: f"{state.register_values(process)[register]:x}")]
         if word in COMPARISONS:
             return self.of_terms(atom)
-        return [(atom.name, lambda _, state: told(state.atom(word, fields, self.policy)))]
+        return [(atom.name, lambda _, state: told(state.atom(word, fields, self.policy) != atom.is_opposite))]
 
     def of_terms(self, atom):
         """Those of a comparison: each of its terms that is no number, and whether it holds."""
@@ -70,7 +70,7 @@ class Values:
         terms = terms_of(atom.words[1:])
         found = [(self.words_of(term), lambda _, state, term=term: f"{value(term, state):x}")
                  for outer in terms for term in within(outer) if term.word != "number"]
-        return [*found, (atom.name, lambda _, state: told(compares(atom.words[0], terms, state)))]
+        return [*found, (atom.name, lambda _, state: told(compares(atom.words[0], terms, state) != atom.is_opposite))]
 
     def label(self, atom, kind):
         """What the value of an atom is called: as the plan has it, or with the name of its page or process."""
