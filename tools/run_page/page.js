@@ -98,18 +98,18 @@ function wheel(event) {
 // Goes to what is looked for: the first record of an event, a record by its number, or the next or previous one that has
 // this text.
 function seek(sought, isBack = false) {
-  const number = sought.match(/^(record )?(\d+)$/);
-  if (number && seekNumber(Number(number[2]), Boolean(number[1]))) return tellSought('');
+  const number = sought.match(/^(record |event )?(\d+)$/), isRecord = number && number[1] === 'record ' || !run.stepCount;
+  if (number && seekNumber(Number(number[2]), isRecord)) return tellSought('');
   const place = isBack ? placeBefore(sought) : placeBehind(sought);
   if (sought && place >= 0) choose(recordAt(place));
-  tellSought(!sought || place >= 0 ? '' : number ? `there is no ${number[1] || !run.stepCount ? 'record' : 'event'} ${number[2]}, `
-    + 'and no record has it' : 'no record has this text');
+  tellSought(!sought || place >= 0 ? '' : number ? `there is no ${isRecord ? 'record' : 'event'} ${number[2]}, and no record has it`
+    : 'no record has this text');
 }
 
-// Whether there is such an event, or such a record where those are meant or no events are known; it is chosen.
+// Whether there is such a record, or such an event; it is chosen.
 function seekNumber(number, isRecord) {
-  const at = isRecord || !run.stepCount ? number - 1 : recordFrom(number);
-  if (at < 0 || at >= run.count || !isRecord && run.stepCount && eventAt(at) < number) return false;
+  const at = isRecord ? number - 1 : recordFrom(number);
+  if (at < 0 || at >= run.count || !isRecord && eventAt(at) < number) return false;
   choose(at);
   return true;
 }

@@ -83,17 +83,19 @@ class Machine:
         self.follow(self.processes.get(process, (0, "null"))[1], True, False)
 
     def follow(self, word, is_held, is_limited):
-        """A capability that is held itself, or one of a space, with whether stores through it are refused."""
-        kind, _, rest = word.partition(":")
-        letters = letters_of(word)
-        is_limited = is_limited or "r" in letters and not (is_held and kind == "gpt") or is_held and "w" in letters
-        if kind == "page" and not is_limited:
-            self.changed.add(int(rest.split("@")[0]))
-        if kind != "gpt" or (word, is_held, is_limited) in self.seen:
-            return
-        self.seen.add((word, is_held, is_limited))
-        for inner in self.slots.get(int(rest.split("@")[0]), []):
-            self.follow(inner, is_held, is_limited)
+        """A capability that is held itself, or one of a space, with whether stores through it are refused; and all that it
+        leads to."""
+        left = [(word, is_limited)]
+        while left:
+            word, is_limited = left.pop()
+            kind, _, rest = word.partition(":")
+            letters = letters_of(word)
+            is_limited = is_limited or "r" in letters and not (is_held and kind == "gpt") or is_held and "w" in letters
+            if kind == "page" and not is_limited:
+                self.changed.add(int(rest.split("@")[0]))
+            if kind == "gpt" and (word, is_held, is_limited) not in self.seen:
+                self.seen.add((word, is_held, is_limited))
+                left += [(inner, is_limited) for inner in self.slots.get(int(rest.split("@")[0]), [])]
 
 
 def letters_of(word):
