@@ -1,4 +1,5 @@
 mod Positions
 mod Rows
 mod Parts
+mod Instructions
 mod Served

@@ -15,7 +15,8 @@ use Rattle.kernel_core.specs.Event.{stepped, tick_of, performer_by, performer, e
 use Rattle.ready_service.specs.Service.{IsAmongFirst, source_for, source_by, source_of, one_from, dispatches, Performs, RunsOn}
 use Rattle.ready_service.specs.Laws.{ServedInOrder, HighestIsNext}
 use Rattle.ready_service.proofs.Positions.{dispatch-moves, dispatch-harts, highest}
-use Rattle.ready_service.proofs.Parts.{Waits, instruction-spared, tick-waits}
+use Rattle.ready_service.proofs.Parts.{Waits, tick-waits}
+use Rattle.ready_service.proofs.Instructions.{instruction-spared}
 use Rattle.ready_service.proofs.Rows.{IsStopped}
 
 -- whether these are the same process
