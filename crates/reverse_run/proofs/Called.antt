@@ -12,7 +12,7 @@ use Rattle.machine_state.specs.Outcome.Touch.{DataAccess, CapAccess, GptCall, Ch
 use Rattle.reverse_run.specs.declared.call.Call.{Call}
 use Rattle.reverse_run.specs.declared.call.Call.TheVariants.{Perform, Undo}
 use Rattle.reverse_run.specs.History.{History, remembered, after_event, after_undo}
-use Rattle.reverse_run.specs.Calls.{answer_of, after_call, history_after, answers, UndoesAll}
+use Rattle.reverse_run.specs.Calls.{after_call, history_after, UndoesAll}
 use Rattle.reverse_run.specs.Reads.{WalksAtMost, walked_at, walked, most_for, most_in}
 
 -- ---- the next call
@@ -22,12 +22,7 @@ pub history_next : (depth : ℕ) (h : History) (calls : List Call) (i : ℕ) (d 
 unfolding history_after
 history_next depth h calls i d within = ap (history_after depth h) (drop_more calls i d within)
 
--- and so are the answers
-pub answers_next : (depth : ℕ) (h : History) (calls : List Call) (i : ℕ) (d : Call) → i < length calls → answers depth h (drop i calls) ≡ answer_of h (get_or calls i d) ∷ answers depth (after_call depth h (get_or calls i d)) (drop (i + 1) calls)
-unfolding answers
-answers_next depth h calls i d within = ap (answers depth h) (drop_more calls i d within)
-
--- and the slots
+-- and so are the slots
 pub most_next : (depth : ℕ) (h : History) (calls : List Call) (i : ℕ) (d : Call) → i < length calls → most_in depth h (drop i calls) ≡ most_for h (get_or calls i d) + most_in depth (after_call depth h (get_or calls i d)) (drop (i + 1) calls)
 unfolding most_in
 most_next depth h calls i d within = ap (most_in depth h) (drop_more calls i d within)
@@ -36,11 +31,6 @@ most_next depth h calls i d within = ap (most_in depth h) (drop_more calls i d w
 pub history_end : (depth : ℕ) (h : History) (calls : List Call) (i : ℕ) → length calls ≤ i → history_after depth h (drop i calls) ≡ h
 unfolding history_after
 history_end depth h calls i past = ap (history_after depth h) (drop_all i calls past)
-
--- no answer
-pub answers_end : (depth : ℕ) (h : History) (calls : List Call) (i : ℕ) → length calls ≤ i → answers depth h (drop i calls) ≡ []
-unfolding answers
-answers_end depth h calls i past = ap (answers depth h) (drop_all i calls past)
 
 -- ---- slots
 

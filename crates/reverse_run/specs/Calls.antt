@@ -1,37 +1,20 @@
--- Lists of calls: what becomes of a history, and what is answered. (This project's.)
-use Rattle.std.specs.Prelude.{◌≡◌, ℕ, ◌-◌, ◌<◌, ◌≤◌, Bool, List, [], ◌∷◌, ◌++◌, map, take, length, replicate}
+-- Lists of calls: what becomes of a history. (This project's.)
+use Rattle.std.specs.Prelude.{◌≡◌, ℕ, ◌-◌, ◌<◌, ◌≤◌, List, [], ◌∷◌, ◌++◌, map, take, length, replicate}
 use Rattle.machine_state.specs.declared.event.Event.{Event}
-use Rattle.machine_state.specs.declared.record.Record.{Record}
 use Rattle.machine_state.specs.Machine.{hart_in}
-use Rattle.kernel_core.specs.Event.{event_of}
 use Rattle.reverse_run.specs.declared.call.Call.{Call}
 use Rattle.reverse_run.specs.declared.call.Call.TheVariants.{Perform, Undo}
-use Rattle.reverse_run.specs.History.{History, remembered, after_event, after_undo, can_undo}
-
--- what a call answers: the records of an event, or whether an event was undone
-pub data CallAnswer : Type 0 where
-  Performed : List Record → CallAnswer
-  Undone : Bool → CallAnswer
+use Rattle.reverse_run.specs.History.{History, remembered, after_event, after_undo}
 
 -- the history after a call, of which so many events are remembered
 abbrev pub after_call : ℕ → History → Call → History
 after_call depth h (Perform e) = after_event depth h e
 after_call depth h Undo = after_undo h
 
--- what a call answers to a machine with this history
-abbrev pub answer_of : History → Call → CallAnswer
-answer_of h (Perform e) = Performed (event_of h.present e).records
-answer_of h Undo = Undone (can_undo h.before)
-
 -- the history after calls, one after the other
 unfoldable pub history_after : ℕ → History → List Call → History
 history_after depth h [] = h
 history_after depth h (call ∷ calls) = history_after depth (after_call depth h call) calls
-
--- what they answer, in their order
-unfoldable pub answers : ℕ → History → List Call → List CallAnswer
-answers depth h [] = []
-answers depth h (call ∷ calls) = answer_of h call ∷ answers depth (after_call depth h call) calls
 
 -- the event of a call, if it is one, is of one of so many harts
 abbrev pub IsOfHart : ℕ → Call → Type 0

@@ -1,8 +1,8 @@
 //! Lists of calls, one after the other.
-ghost use Rattle.std.specs.Prelude.{◌≡◌, ◌≤◌, ◌+◌, ◌++◌, ◌∷◌, []};
+ghost use Rattle.std.specs.Prelude.{◌≡◌, ◌≤◌, ◌+◌};
 ghost use Rattle.std.specs.List.{All};
 ghost use Rattle.reverse_run.specs.History.{history_of};
-ghost use Rattle.reverse_run.specs.Calls.{after_call, answer_of, history_after, answers, IsOfHart};
+ghost use Rattle.reverse_run.specs.Calls.{after_call, history_after, IsOfHart};
 ghost use Rattle.reverse_run.specs.Reads.{WalksAtMost, most_for, most_in};
 
 use crate::call::Call;
@@ -12,40 +12,19 @@ use std::sync::ledger::Ledger;
 use steps::Steps;
 use walk_engine::Translator;
 
-/// Is told what each call answers.
-pub trait Listener {
-    ghost use Rattle.std.specs.Prelude.{List, [], ◌∷◌, ◌≡◌, ◌++◌};
-    ghost use Rattle.reverse_run.specs.Calls.{CallAnswer};
-    ghost use Rattle.reverse_run.specs.Calls.CallAnswer.{Performed, Undone};
-
-    /// All that it was told.
-    ghost told: { Self → List CallAnswer };
-
-    /// The records of an event.
-    fn tell(&mut self, records: &Records)
-        ensures { told self.new ≡ told self.old ++ Performed records.now ∷ [] };
-
-    /// Whether an event was undone.
-    fn tell_undo(&mut self, undone: bool)
-        ensures { told self.new ≡ told self.old ++ Undone undone ∷ [] };
-}
-
-/// Makes the calls in their order, and tells what each answers. The history is then that of these calls.
+/// Makes the calls in their order. The history is then that of these calls; what a call answers is what its own contract says
+/// of the history before it.
 ///
 /// Over a translator that never fetches more for an access than a fresh walk reads, they read at most as many slots as the
 /// walks of their events do, and so many for each event and for each undo. Whatever is kept after an undo, it is so.
-pub fn make_calls<T: Translator, W: Listener, L: Ledger>(
+pub fn make_calls<T: Translator, L: Ledger>(
     reversible: &mut Reversible<T>,
     calls: &[Call],
-    listener: &mut W,
     fetches: &mut Steps<L>,
 )
     requires harts { All (IsOfHart reversible.old.machine.objects.harts) calls.now }
     ensures history { let depth = reversible.old.depth in
         history_of reversible.new ≡ history_after depth (history_of reversible.old) calls.now }
-    ensures answers { let depth = reversible.old.depth in
-        let told = answers depth (history_of reversible.old) calls.now in
-        W.told listener.new ≡ W.told listener.old ++ told }
     ensures depth { reversible.new.depth ≡ reversible.old.depth }
     ensures harts { reversible.new.machine.objects.harts ≡ reversible.old.machine.objects.harts }
     ensures least { fetches.old ≤ fetches.new }
@@ -55,23 +34,20 @@ pub fn make_calls<T: Translator, W: Listener, L: Ledger>(
 {
     let mut records = Records::new();
     'each: for i in 0..calls.len() {
-        make_call(reversible, calls[i], &mut records, listener, fetches);
+        make_call(reversible, calls[i], &mut records, fetches);
     }
 }
 
-/// Makes one call, and tells what it answers.
-fn make_call<T: Translator, W: Listener, L: Ledger>(
+/// Makes one call.
+fn make_call<T: Translator, L: Ledger>(
     reversible: &mut Reversible<T>,
     call: Call,
     records: &mut Records,
-    listener: &mut W,
     fetches: &mut Steps<L>,
 )
     requires { IsOfHart reversible.old.machine.objects.harts call }
     ensures history { history_of reversible.new ≡
         after_call reversible.old.depth (history_of reversible.old) call }
-    ensures answer { W.told listener.new ≡
-        W.told listener.old ++ answer_of (history_of reversible.old) call ∷ [] }
     ensures depth { reversible.new.depth ≡ reversible.old.depth }
     ensures harts { reversible.new.machine.objects.harts ≡ reversible.old.machine.objects.harts }
     ensures least { fetches.old ≤ fetches.new }
@@ -81,11 +57,9 @@ fn make_call<T: Translator, W: Listener, L: Ledger>(
     match call {
         Call::Perform(e) => {
             reversible.event_into(e, records, fetches);
-            listener.tell(records);
         }
         Call::Undo => {
-            let undone = reversible.undo(fetches);
-            listener.tell_undo(undone);
+            reversible.undo(fetches);
         }
     }
 }

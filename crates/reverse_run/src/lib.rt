@@ -13,7 +13,7 @@ mod remembering;
 mod reversible;
 
 pub use call::Call;
-pub use calls::{Listener, make_calls};
+pub use calls::make_calls;
 pub use laws::undoes_all;
 pub use remembering::remember;
 pub use reversible::Reversible;

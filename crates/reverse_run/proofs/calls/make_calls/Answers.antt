@@ -1,11 +1,11 @@
-use Rattle.std.proofs.Common.{◌≡◌, ℕ, ◌+◌, ◌++◌, ◌∷◌, [], List, drop, get_or, sym, ap, ◌∙◌, append_assoc, append-nil, arith}
+use Rattle.std.proofs.Common.{◌≡◌, ℕ, ◌+◌, drop, get_or, sym, ap, ◌∙◌, arith}
 use Rattle.machine_state.specs.declared.event.Event.TheVariants.{Step}
 use Rattle.reverse_run.specs.declared.call.Call.{Call}
 use Rattle.reverse_run.specs.declared.call.Call.TheVariants.{Perform}
 use Rattle.reverse_run.specs.History.{History, history_of}
-use Rattle.reverse_run.specs.Calls.{CallAnswer, answer_of, after_call, history_after, answers}
+use Rattle.reverse_run.specs.Calls.{after_call, history_after}
 use Rattle.reverse_run.specs.Reads.{most_in}
-use Rattle.reverse_run.proofs.Called.{history_next, history_end, answers_next, answers_end, most_next}
+use Rattle.reverse_run.proofs.Called.{history_next, history_end, most_next}
 use Rattle.reverse_run.proofs.calls.make_calls.Goals as goal
 
 pub each-preserved : goal.each-preserved
@@ -17,16 +17,9 @@ each-preserved g c =
     let none : Call = Perform (Step 0) in
     let next : Call = get_or calls l.i none in
     let done = c.make_call.ensures in
-    let told = g.W.Listener.told in
     let after : history_of c.make_call.new.reversible ≡ after_call depth h next = done.history ∙ ap (λ (n : ℕ). after_call n h next) l.invariant.depth in
-    let rest : List CallAnswer = answers depth (after_call depth h next) (drop (l.i + 1) calls) in
     record {
       history = ap (λ (x : History). history_after depth x (drop (l.i + 1) calls)) after ∙ (sym (history_next depth h calls l.i none c.each-test.true) ∙ l.invariant.history);
-      told =
-          ap (λ (x : History). told c.make_call.new.listener ++ answers depth x (drop (l.i + 1) calls)) after
-          ∙ (ap (λ (x : List CallAnswer). x ++ rest) done.answer
-          ∙ (append_assoc (told l.listener) (answer_of h next ∷ []) rest
-          ∙ (ap (λ (x : List CallAnswer). told l.listener ++ x) (sym (answers_next depth h calls l.i none c.each-test.true)) ∙ l.invariant.told)));
       depth = done.depth ∙ l.invariant.depth;
       harts = done.harts ∙ l.invariant.harts;
       least = let before = l.invariant.least in let more = done.least in omega (arith, before, more);
@@ -42,12 +35,6 @@ pub returns-clause-history : goal.returns-clause-history
 returns-clause-history g c =
     let l = c.each in
     sym (history_end c.args.reversible.now.depth (history_of l.reversible) c.args.calls.now l.i c.each-test.false) ∙ l.invariant.history
-
-pub returns-clause-answers : goal.returns-clause-answers
-returns-clause-answers g c =
-    let l = c.each in
-    let told = g.W.Listener.told in
-    sym (append-nil (told l.listener)) ∙ (ap (λ (x : List CallAnswer). told l.listener ++ x) (sym (answers_end c.args.reversible.now.depth (history_of l.reversible) c.args.calls.now l.i c.each-test.false)) ∙ l.invariant.told)
 
 pub returns-clause-most : goal.returns-clause-most
 returns-clause-most g c = λ walks. let most = c.each.invariant.most walks in omega (arith, most)

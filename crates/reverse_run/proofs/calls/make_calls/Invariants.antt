@@ -1,6 +1,6 @@
-use Rattle.std.proofs.Common.{◌≡◌, ◌≤◌, ◌+◌, ◌++◌, drop}
+use Rattle.std.proofs.Common.{◌≡◌, ◌≤◌, ◌+◌, drop}
 use Rattle.reverse_run.specs.History.{history_of}
-use Rattle.reverse_run.specs.Calls.{history_after, answers}
+use Rattle.reverse_run.specs.Calls.{history_after}
 use Rattle.reverse_run.specs.Reads.{WalksAtMost, most_in}
 use Rattle.reverse_run.proofs.calls.make_calls.Given as goal
 
@@ -8,7 +8,6 @@ use Rattle.reverse_run.proofs.calls.make_calls.Given as goal
 abbrev pub invariant-each : goal.invariant-each
 invariant-each g l = record {
   history : history_after l.fn.reversible.depth (history_of l.reversible) (drop l.i l.calls) ≡ history_after l.fn.reversible.depth (history_of l.fn.reversible) l.calls;
-  told : g.W.Listener.told l.listener ++ answers l.fn.reversible.depth (history_of l.reversible) (drop l.i l.calls) ≡ g.W.Listener.told l.fn.listener ++ answers l.fn.reversible.depth (history_of l.fn.reversible) l.calls;
   depth : l.reversible.depth ≡ l.fn.reversible.depth;
   harts : l.reversible.machine.objects.harts ≡ l.fn.reversible.machine.objects.harts;
   least : l.fn.fetches ≤ l.fetches;
