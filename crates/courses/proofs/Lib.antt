@@ -6,5 +6,6 @@ pub mod Bytes
 pub mod Unlisted
 pub mod Taken
 pub mod Rests
+pub mod Lacking
 pub mod Running
 pub mod Flushed
