@@ -22,7 +22,7 @@ use Rattle.courses.specs.Ending.{AwaitsMore}
 use Rattle.courses.specs.Exit.{is_finished}
 use Rattle.courses.specs.Migrated.{last_of, migrated}
 use Rattle.courses.specs.declared.exit.Exit.{Exit}
-use Rattle.courses.specs.declared.exit.Exit.TheVariants.{Done, WriteFault}
+use Rattle.courses.specs.declared.exit.Exit.TheVariants.{Done, OutOfMemory, WriteFault}
 use Rattle.courses.proofs.Concluding.{Came, CameCut, CameUnread, CameWhole, Did, came-cut, came-unread, came-whole, takes-concluded}
 use Rattle.migrate_command.specs.Migrate.{Accords, PutsLines, WritesLines, lines_exit}
 
@@ -33,6 +33,14 @@ lines-done (Ok (stops.Refused line fault)) done = cc
 lines-done (Ok stops.TooLong) done = cc
 lines-done (Ok stops.ReadFault) done = cc
 lines-done (Err fault) done = cc
+
+-- and memory is never wanting for lines
+pub lines-memory : {E : Type 0} (answer : Result (Stop ScheduleFault) E) → lines_exit answer ≢ OutOfMemory
+lines-memory (Ok stops.End) same = cc
+lines-memory (Ok (stops.Refused line fault)) same = cc
+lines-memory (Ok stops.TooLong) same = cc
+lines-memory (Ok stops.ReadFault) same = cc
+lines-memory (Err fault) same = cc
 
 module _ {S K : Type 0} (held : S → Option (List ℕ)) (source_faults : S → ℕ) (taken : K → Option (List ℕ)) (sink_faults : K → ℕ)
     (reader : Reader) (old : S) (start : K) (f : ℕ) (listing : ListingValue) where

@@ -1,5 +1,5 @@
 //! A listing and its schedule, from the first line to the last.
-ghost use Rattle.std.specs.Prelude.{ℕ, ◌≡◌, false, IfSome};
+ghost use Rattle.std.specs.Prelude.{ℕ, ◌≡◌, ◌≢◌, false, IfSome};
 ghost use Rattle.coy_io.specs.Lines.{parts_of};
 ghost use Rattle.coy_io.specs.Reader.{TellsEnd, ahead};
 ghost use Rattle.schedule_replay.specs.Scheduled.{OnParts};
@@ -50,6 +50,7 @@ fn write_all<S: Source, K: Sink>(
         (migrate_course listing.now lines.old.number) }
     ensures again { result ≡ Exit.Done → OnParts (ahead lines.old (S.held input.old)) (λ parts.
         ReadsAgain listing.now lines.old.number parts) }
+    ensures memory { result ≢ Exit.OutOfMemory }
 {
     match write_listing(listing, output) {
         Ok(()) => {}

@@ -1,11 +1,13 @@
-use Rattle.std.proofs.Common.{◌∙◌, ap, refl, sym, subst}
+use Rattle.std.proofs.Common.{◌≢◌, ◌∙◌, ap, refl, sym, subst}
 use Rattle.coy_io.specs.Causes.{HasCause}
 use Rattle.courses.specs.Course.{cached}
-use Rattle.courses.specs.declared.exit.Exit.TheVariants.{Done}
+use Rattle.courses.specs.declared.exit.Exit.{Exit}
+use Rattle.courses.specs.declared.exit.Exit.TheVariants.{Done, OutOfMemory}
 use Rattle.courses.proofs.Concluding.{concludes-own, takes-concluded}
+use Rattle.courses.proofs.Lacking.{concludes-memory}
 use Rattle.migrate_command.specs.Migrate.{lines_exit}
 use Rattle.migrate_command.proofs.Again.{puts-again}
-use Rattle.migrate_command.proofs.Concluding.{came-all, lines-done, takes-unlisted}
+use Rattle.migrate_command.proofs.Concluding.{came-all, lines-done, lines-memory, takes-unlisted}
 use Rattle.migrate_command.proofs.Putting.{puts-harts}
 use Rattle.migrate_command.proofs.input.write_all.Goals as goal
 
@@ -33,3 +35,8 @@ returns-clause-again g c = λ done.
     (concludes-own g.K.Sink.taken g.K.Sink.faults _ _ _ (lines_exit c.put_lines.result) concluded Done (λ bad. cc) done) in
     puts-again c.args.lines.now _ _ _ _ _ _ c.args.listing.now c.migrated_is_read.ensures.listing c.migrated_is_read.ensures.events c.tell_listing.ensures.kept c.tell_listing.ensures.typed end
     (puts-harts _ _ _ _ _ _ _ _ _ harts c.put_lines.ensures.puts)
+
+pub returns-clause-memory : goal.returns-clause-memory
+returns-clause-memory g c =
+    concludes-memory g.K.Sink.taken g.K.Sink.faults _ _ _ c.lines_exit-exit.result
+    (subst (λ (e : Exit). e ≢ OutOfMemory) (sym c.lines_exit-exit.ensures) (lines-memory c.put_lines.result)) c.conclude.ensures
