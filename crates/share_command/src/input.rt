@@ -1,5 +1,5 @@
 //! A listing and its schedule, from the first line to the last.
-ghost use Rattle.std.specs.Prelude.{◌≡◌, false, IfSome};
+ghost use Rattle.std.specs.Prelude.{◌≡◌, ◌≢◌, false, IfSome};
 ghost use Rattle.coy_io.specs.Lines.{parts_of};
 ghost use Rattle.coy_io.specs.Reader.{TellsEnd};
 ghost use Rattle.shared_leaves.specs.Cache.{kept_of};
@@ -66,9 +66,10 @@ fn answer_lines<S: Source, K: Sink, L: Ledger>(
     requires reader { lines.old.failed ≡ false }
     requires told { TellsEnd lines.old (S.held input.old) }
     requires nothing { kept_of machine.old.translator ≡ nothing }
-    ensures { TakesLines S.held S.faults K.taken K.faults lines.old lines.new
+    ensures course { TakesLines S.held S.faults K.taken K.faults lines.old lines.new
         input.old input.new output.old output.new fetches.old fetches.new result shared_fetched
         (λ parts. sharing (state_of machine.old) (scheduled machine.old.objects.harts lines.old.number parts)) }
+    ensures memory { result ≢ Exit.OutOfMemory }
 {
     let replayed = replay(machine, lines, input, Mode::Records, output, fetches);
     match counts_or_exit(replayed) {
