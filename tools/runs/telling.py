@@ -20,6 +20,9 @@ class Teller:
 
     def record(self, line, number, process=None, pc=None, insn=None):
         """Tells a record, if it is wanted, behind its number, with what is known of its step."""
+        if line in self.known and not self.open:
+            self.lines.append(number + self.known[line])
+            return
         words = line.split(b" ") if self.who else line.split(b" ", 2)
         kind = words[0]
         if kind not in self.wanted:
@@ -43,7 +46,7 @@ class Teller:
         if kind == b"fault" and pc is not None:
             self.say(f"{'':>{OF_STEPS}}at {self.programs.place(owner, int(pc, 16))}")
             self.tell_calls(owner, self.calls.of(owner), OF_STEPS)
-        elif pc is None and kind in (b"msg", b"log"):
+        elif kind in (b"msg", b"log"):
             self.keep(line, front + behind)
 
     def front(self, owner):
