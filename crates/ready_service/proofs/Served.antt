@@ -2,9 +2,10 @@
 use Rattle.std.proofs.Common.{◌≡◌, ◌≢◌, ℕ, zero, suc, ◌+◌, ◌-◌, ◌<◌, ◌≤◌, ◌⊎◌, inl, inr, Bool, true, false, if◌then◌else◌, List, [], ◌∷◌, length, Option, Some, None, refl, sym, ap, ◌∙◌, subst, arith}
 use Rattle.std.specs.List.{All}
 use Rattle.std.proofs.lemmas.Bool.{cases_eq}
+use Rattle.std.proofs.lemmas.List.{get_or-set_same}
 use Rattle.std.proofs.lemmas.List.Elements.{All-tail}
 use Rattle.process_objects.specs.declared.state.State.TheVariants.{Running}
-use Rattle.schedules.specs.Queues.{priorities, ready_queue, hart_of}
+use Rattle.schedules.specs.Queues.{priorities, ready_queue, first_of, hart_of, highest_below}
 use Rattle.machine_state.specs.declared.event.Event.{Event}
 use Rattle.machine_state.specs.declared.event.Event.TheVariants.{Step, Tick}
 use Rattle.machine_state.specs.Machine.{hart_in}
@@ -13,7 +14,7 @@ use Rattle.machine_state.specs.State.{State, process}
 use Rattle.machine_state.specs.Outcome.{done}
 use Rattle.kernel_core.specs.Event.{stepped, tick_of, performer_by, performer, event_by, event_of}
 use Rattle.ready_service.specs.Service.{IsAmongFirst, source_for, source_by, source_of, one_from, dispatches, Performs, RunsOn}
-use Rattle.ready_service.specs.Laws.{ServedInOrder, HighestIsNext}
+use Rattle.ready_service.specs.Laws.{ServedInOrder, HighestIsNext, FirstPerforms}
 use Rattle.ready_service.proofs.Positions.{dispatch-moves, dispatch-harts, highest}
 use Rattle.ready_service.proofs.Parts.{Waits, tick-waits}
 use Rattle.ready_service.proofs.Instructions.{instruction-spared}
@@ -120,3 +121,9 @@ served s p priority n es here there runs enough = run-served p priority s n es h
 pub next : HighestIsNext
 next s p priority n hart runs free below here none =
     rw (runs, free) (highest s.queues.ready p n priority priorities below here none)
+
+-- and who is
+pub first_performs : FirstPerforms
+first_performs s p priority hart runs there free source first =
+    let highest : highest_below s.queues.ready priorities ≡ Some priority = rw (runs, free) at source in
+    rw (runs, free, highest) (get_or-set_same s.queues.harts hart (first_of (ready_queue s.queues priority)) None there ∙ first)

@@ -1,11 +1,12 @@
 -- The laws of service, as statements.
 use Rattle.std.specs.Prelude.{◌≡◌, ℕ, ◌<◌, ◌≤◌, false, List, [], length, Some, None}
 use Rattle.std.specs.List.{All}
-use Rattle.schedules.specs.Queues.{priorities, ready_queue, hart_of}
+use Rattle.schedules.specs.Queues.{priorities, ready_queue, first_of, hart_of}
 use Rattle.machine_state.specs.declared.event.Event.{Event}
 use Rattle.machine_state.specs.declared.event.Event.TheVariants.{Step}
 use Rattle.machine_state.specs.Machine.{hart_in}
 use Rattle.machine_state.specs.State.{State}
+use Rattle.kernel_core.specs.Event.{performer}
 use Rattle.ready_service.specs.Service.{IsAmongFirst, source_of, dispatches, Performs, RunsOn}
 
 -- A process that is among the first `n` of a ready queue performs an event in every run with `n` dispatches from that queue, as
@@ -24,3 +25,10 @@ HighestIsNext = (s : State) (p priority n hart : ℕ)
     → priority < priorities → IsAmongFirst p n (ready_queue s.queues priority)
     → ((higher : ℕ) → priority < higher → ready_queue s.queues higher ≡ [])
     → source_of s (Step hart) ≡ Some priority
+
+-- A dispatch is of the first in the ready queue, and who is dispatched performs the event.
+abbrev pub FirstPerforms : Type 0
+FirstPerforms = (s : State) (p priority hart : ℕ)
+    → s.halted ≡ false → hart < length s.queues.harts → hart_of s.queues hart ≡ None
+    → source_of s (Step hart) ≡ Some priority → first_of (ready_queue s.queues priority) ≡ Some p
+    → performer s (Step hart) ≡ Some p

@@ -5,7 +5,7 @@
 //! said of time, or of how often a hart comes to dispatch.
 #![tactic(auto)]
 
-ghost use Rattle.ready_service.specs.Laws.{ServedInOrder, HighestIsNext};
+ghost use Rattle.ready_service.specs.Laws.{ServedInOrder, HighestIsNext, FirstPerforms};
 
 /// Among the first `n` of its ready queue, a process is served with the `n`-th dispatch from it at the latest, whatever others
 /// do, unless it is stopped or destroyed before.
@@ -13,7 +13,8 @@ pub fn served_in_order()
     ensures { ServedInOrder }
 {}
 
-/// A hart that has no process takes one from the highest ready queue in which one stands.
+/// A hart that has no process takes one from the highest ready queue in which one stands: the first, who performs the event.
 pub fn highest_is_next()
-    ensures { HighestIsNext }
+    ensures highest { HighestIsNext }
+    ensures first { FirstPerforms }
 {}
