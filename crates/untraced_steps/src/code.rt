@@ -31,9 +31,11 @@ struct Code {
 pub(crate) fn run_kept<T: PageTranslator>(machine: &mut Machine<T>, hart: u8, limit: u32) -> u32
     requires hart { hart < machine.old.objects.harts }
     ensures most { result ≤ limit }
-    ensures ran { (fetches : ℕ) → RanUntraced T.kept T.cost T.after T.without (replicate result (Step hart))
+    ensures ran { (fetches : ℕ) →
+        RanUntraced T.kept T.cost T.after T.without (replicate result (Step hart))
         machine.old fetches machine.new [] fetches }
-    ensures caches { (k : ℕ) → k ≢ hart → T.cache machine.new.translator k ≡ T.cache machine.old.translator k }
+    ensures caches { (k : ℕ) → k ≢ hart →
+        T.cache machine.new.translator k ≡ T.cache machine.old.translator k }
 {
     if machine.halted() {
         return 0;
@@ -52,10 +54,13 @@ fn find_code<T: PageTranslator>(machine: &mut Machine<T>, hart: u8, p: u16) -> O
     requires there { p < size_of machine.old.objects.items Process }
     requires hart { hart < machine.old.objects.harts }
     ensures code { let s = state_of machine.old in
-        IfSome result (λ code. IsCode T.cost T.after (T.kept machine.old.translator) s.store.items (space_of s p) code.page code.frame) }
+        let kept = T.kept machine.old.translator in
+        IfSome result (λ code.
+        IsCode T.cost T.after kept s.store.items (space_of s p) code.page code.frame) }
     ensures state { state_of machine.new ≡ state_of machine.old }
     ensures kept { T.kept machine.new.translator ≡ T.kept machine.old.translator }
-    ensures caches { (k : ℕ) → k ≢ hart → T.cache machine.new.translator k ≡ T.cache machine.old.translator k }
+    ensures caches { (k : ℕ) → k ≢ hart →
+        T.cache machine.new.translator k ≡ T.cache machine.old.translator k }
 {
     page_law();
     machine.objects().in_ranges();
@@ -81,11 +86,14 @@ fn run_page<T: PageTranslator>(
     requires here { hart_of machine.old.queues hart ≡ Some p }
     requires running { machine.old.halted ≡ false }
     requires code { let s = state_of machine.old in
-        IsCode T.cost T.after (T.kept machine.old.translator) s.store.items (space_of s p) code.page code.frame }
+        let kept = T.kept machine.old.translator in
+        IsCode T.cost T.after kept s.store.items (space_of s p) code.page code.frame }
     ensures most { result ≤ limit }
-    ensures ran { (fetches : ℕ) → RanUntraced T.kept T.cost T.after T.without (replicate result (Step hart))
+    ensures ran { (fetches : ℕ) →
+        RanUntraced T.kept T.cost T.after T.without (replicate result (Step hart))
         machine.old fetches machine.new [] fetches }
-    ensures caches { (k : ℕ) → k ≢ hart → T.cache machine.new.translator k ≡ T.cache machine.old.translator k }
+    ensures caches { (k : ℕ) → k ≢ hart →
+        T.cache machine.new.translator k ≡ T.cache machine.old.translator k }
 {
     let mut done = 0;
     'steps: while done < limit {
@@ -106,9 +114,12 @@ fn step_kept<T: PageTranslator>(machine: &mut Machine<T>, hart: u8, p: u16, code
     requires here { hart_of machine.old.queues hart ≡ Some p }
     requires running { machine.old.halted ≡ false }
     requires code { let s = state_of machine.old in
-        IsCode T.cost T.after (T.kept machine.old.translator) s.store.items (space_of s p) code.page code.frame }
-    ensures came { CameIf T.kept T.cost T.after T.without result p (event_of (state_of machine.old) (Step hart)) machine.old machine.new }
-    ensures caches { (k : ℕ) → k ≢ hart → T.cache machine.new.translator k ≡ T.cache machine.old.translator k }
+        let kept = T.kept machine.old.translator in
+        IsCode T.cost T.after kept s.store.items (space_of s p) code.page code.frame }
+    ensures came { CameIf T.kept T.cost T.after T.without result p
+        (event_of (state_of machine.old) (Step hart)) machine.old machine.new }
+    ensures caches { (k : ℕ) → k ≢ hart →
+        T.cache machine.new.translator k ≡ T.cache machine.old.translator k }
 {
     let pc = machine.pc(p);
     if pc / 4096 != code.page {

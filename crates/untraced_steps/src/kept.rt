@@ -28,8 +28,10 @@ pub(crate) fn perform_kept<T: PageTranslator>(
     requires there { p < size_of machine.old.objects.items Process }
     requires hart { hart < machine.old.objects.harts }
     requires insn { InRange insn }
-    ensures came { CameIf T.kept T.cost T.after T.without result p (perform (state_of machine.old) p insn) machine.old machine.new }
-    ensures caches { (k : ℕ) → k ≢ hart → T.cache machine.new.translator k ≡ T.cache machine.old.translator k }
+    ensures came { CameIf T.kept T.cost T.after T.without result p
+        (perform (state_of machine.old) p insn) machine.old machine.new }
+    ensures caches { (k : ℕ) → k ≢ hart →
+        T.cache machine.new.translator k ≡ T.cache machine.old.translator k }
 {
     let pc = machine.pc(p);
     let outcome = evaluate(machine.registers(p), pc, insn);
@@ -66,8 +68,10 @@ fn load_kept<T: PageTranslator>(
     requires hart { hart < machine.old.objects.harts }
     requires size { IsSize size }
     requires register { rd < 32 }
-    ensures came { CameIf T.kept T.cost T.after T.without result p (load (state_of machine.old) p at size signed rd) machine.old machine.new }
-    ensures caches { (k : ℕ) → k ≢ hart → T.cache machine.new.translator k ≡ T.cache machine.old.translator k }
+    ensures came { CameIf T.kept T.cost T.after T.without result p
+        (load (state_of machine.old) p at size signed rd) machine.old machine.new }
+    ensures caches { (k : ℕ) → k ≢ hart →
+        T.cache machine.new.translator k ≡ T.cache machine.old.translator k }
 {
     if !is_aligned(at, size) {
         return false;
@@ -96,8 +100,10 @@ fn store_kept<T: PageTranslator>(
     requires hart { hart < machine.old.objects.harts }
     requires size { IsSize size }
     requires fits { value < 2 ^ (8 * size) }
-    ensures came { CameIf T.kept T.cost T.after T.without result p (store (state_of machine.old) p at size value) machine.old machine.new }
-    ensures caches { (k : ℕ) → k ≢ hart → T.cache machine.new.translator k ≡ T.cache machine.old.translator k }
+    ensures came { CameIf T.kept T.cost T.after T.without result p
+        (store (state_of machine.old) p at size value) machine.old machine.new }
+    ensures caches { (k : ℕ) → k ≢ hart →
+        T.cache machine.new.translator k ≡ T.cache machine.old.translator k }
 {
     if !is_aligned(at, size) {
         return false;

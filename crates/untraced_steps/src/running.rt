@@ -65,10 +65,13 @@ pub fn run_untraced<T: PageTranslator, L: Ledger>(
 fn run_ahead<T: PageTranslator>(machine: &mut Machine<T>, hart: u8, left: &mut HartSteps) -> u32
     requires hart { hart < machine.old.objects.harts }
     ensures most { result ≤ length (steps_left left.old) }
-    ensures ran { (fetches : ℕ) → RanUntraced T.kept T.cost T.after T.without (take result (Step hart ∷ steps_left left.old))
+    ensures ran { let all = Step hart ∷ steps_left left.old in
+        (fetches : ℕ) → RanUntraced T.kept T.cost T.after T.without (take result all)
         machine.old fetches machine.new [] fetches }
-    ensures behind { Step hart ∷ steps_left left.new ≡ drop result (Step hart ∷ steps_left left.old) }
-    ensures caches { (k : ℕ) → k ≢ hart → T.cache machine.new.translator k ≡ T.cache machine.old.translator k }
+    ensures behind { let all = Step hart ∷ steps_left left.old in
+        Step hart ∷ steps_left left.new ≡ drop result all }
+    ensures caches { (k : ℕ) → k ≢ hart →
+        T.cache machine.new.translator k ≡ T.cache machine.old.translator k }
 {
     let times = left.alone(hart);
     if times == 0 {
@@ -88,12 +91,14 @@ fn step_untraced<T: PageTranslator, L: Ledger>(
 )
     requires hart { hart < machine.old.objects.harts }
     requires none { observer.old.records ≡ [] }
-    ensures came { CameUntraced T.kept T.cost T.after T.without (event_of (state_of machine.old) (Step hart))
+    ensures came { let outcome = event_of (state_of machine.old) (Step hart) in
+        CameUntraced T.kept T.cost T.after T.without outcome
         machine.old fetches.old machine.new observer.new.records fetches.new }
     ensures others { let outcome = event_of (state_of machine.old) (Step hart) in
         let kept = T.kept machine.old.translator in
         (k : ℕ) → k ≢ hart → ChangesNone outcome.touches →
-        T.cache machine.new.translator k ≡ spared_by T.after T.spared kept outcome.touches (T.cache machine.old.translator k) }
+        T.cache machine.new.translator k
+        ≡ spared_by T.after T.spared kept outcome.touches (T.cache machine.old.translator k) }
 {
     event_for(machine, Event::Step(hart), observer, fetches);
 }
