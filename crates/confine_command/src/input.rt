@@ -1,5 +1,5 @@
 //! A listing and the lines of a cut, from the first line to the last.
-ghost use Rattle.std.specs.Prelude.{◌≡◌, false, IfSome};
+ghost use Rattle.std.specs.Prelude.{◌≡◌, ◌≢◌, false, IfSome};
 ghost use Rattle.coy_io.specs.Lines.{parts_of};
 ghost use Rattle.coy_io.specs.Reader.{TellsEnd};
 ghost use Rattle.kernel_core.specs.State.{state_of};
@@ -66,9 +66,10 @@ fn check_lines<T: Translator, S: Source, K: Sink, L: Ledger>(
     requires reader { lines.old.failed ≡ false }
     requires told { TellsEnd lines.old (S.held input.old) }
     requires awake { NobodySleeps machine.now.queues }
-    ensures { TakesLines S.held S.faults K.taken K.faults lines.old lines.new
+    ensures course { TakesLines S.held S.faults K.taken K.faults lines.old lines.new
         input.old input.new output.old output.new fetches.old fetches.new result cached
         (λ parts. checked (state_of machine.now) (stated cut.old lines.old.number parts)) }
+    ensures memory { result ≢ Exit.OutOfMemory }
 {
     let stop = read_sides(lines, input, cut);
     match cut_exit(stop) {

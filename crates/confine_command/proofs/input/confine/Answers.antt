@@ -18,7 +18,7 @@ returns-clause-course g c =
     takes-listing g.S.Source.held g.S.Source.faults g.K.Sink.taken g.K.Sink.faults c.new-lines.result c.read_head.new.lines _ c.in-Ok.listing _ _ _ _ _ _ _ _ _ cached confine_course
     c.new-lines.ensures c.in-Ok.ensures.listed c.in-Ok.ensures.given c.in-Ok.ensures.silent c.in-Ok.ensures.quiet
     (takes-same g.S.Source.held g.S.Source.faults g.K.Sink.taken g.K.Sink.faults _ _ _ _ _ _ _ _ _ cached _ _
-    (of-listing c.in-Ok.listing _ _ _ c.in-Ok-boot.ensures.state start) c.check_lines.ensures)
+    (of-listing c.in-Ok.listing _ _ _ c.in-Ok-boot.ensures.state start) c.check_lines.ensures.course)
 
 -- nobody sleeps in the machine that was booted
 pub check_lines-requires-clause-awake : goal.check_lines-requires-clause-awake
