@@ -1,5 +1,5 @@
 //! The command `pack`.
-ghost use Rattle.std.specs.Prelude.{ℕ, ◌≡◌, false, IfSome};
+ghost use Rattle.std.specs.Prelude.{ℕ, ◌≡◌, ◌≢◌, false, IfSome};
 ghost use Rattle.coy_io.specs.Lines.{parts_of};
 ghost use Rattle.coy_io.specs.Reader.{TellsEnd};
 ghost use Rattle.image_binary.specs.Image.{image_of};
@@ -46,9 +46,10 @@ fn pack_all<S: Source, K: Sink>(
 ) -> Exit
     requires reader { lines.old.failed ≡ false }
     requires told { TellsEnd lines.old (S.held input.old) }
-    ensures { (fetches : ℕ) → TakesLines S.held S.faults K.taken K.faults lines.old lines.new
+    ensures course { (fetches : ℕ) → TakesLines S.held S.faults K.taken K.faults lines.old lines.new
         input.old input.new output.old output.new fetches fetches result cached
         (pack_course listing.now lines.old.number) }
+    ensures memory { result ≢ Exit.OutOfMemory }
 {
     let stop = pass_lines(lines, input);
     match schedule_exit(stop) {

@@ -11,7 +11,7 @@ returns-in-Err-clause-course g c = c.in-Err.ensures.ended.takes pack_course cach
 pub returns-clause-course : goal.returns-clause-course
 returns-clause-course g c = λ fetches.
     takes-listing g.S.Source.held g.S.Source.faults g.K.Sink.taken g.K.Sink.faults c.new-lines.result c.read_head.new.lines _ c.in-Ok.listing _ _ _ _ _ _ fetches fetches _ cached pack_course
-    c.new-lines.ensures c.in-Ok.ensures.listed c.in-Ok.ensures.given c.in-Ok.ensures.silent c.in-Ok.ensures.quiet (c.pack_all.ensures fetches)
+    c.new-lines.ensures c.in-Ok.ensures.listed c.in-Ok.ensures.given c.in-Ok.ensures.silent c.in-Ok.ensures.quiet (c.pack_all.ensures.course fetches)
 
 pub returns-clause-packed : goal.returns-clause-packed
 returns-clause-packed g c = λ done.
