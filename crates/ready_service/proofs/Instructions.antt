@@ -34,7 +34,7 @@ use Rattle.machine_state.specs.Operation.{request_of, changed_by}
 use Rattle.machine_state.specs.Outcome.{Outcome}
 use Rattle.messages.specs.declared.string_fault.StringFault.{StringFault}
 use Rattle.messages.specs.Fault.{malformed}
-use Rattle.messages.specs.Message.{delivered, send_open}
+use Rattle.messages.specs.Message.{send_open}
 use Rattle.messages.specs.Waiting.{wait_on, listen}
 use Rattle.kernel_core.specs.declared.system_calls.SystemCall.{SystemCall}
 use Rattle.kernel_core.specs.declared.system_calls.SystemCall.TheVariants.{Invoke, LoadCap, StoreCap, CopyCap, Yield}

@@ -19,7 +19,7 @@ use Rattle.string_move.specs.declared.piece.Piece.{Piece}
 use Rattle.string_move.specs.Move.{size_of_pieces}
 use Rattle.fault_path.specs.message_path.Messages.{told_system, waiting, receiving, listening}
 use Rattle.fault_path.specs.Fault.{answered as fault_answered, fault_message, faulted, handler_of, heard_by}
-use Rattle.machine_state.specs.State.{State, process, schedule_slot}
+use Rattle.machine_state.specs.State.{State, schedule_slot}
 use Rattle.machine_state.specs.Setters.{set_system, advance, ticked}
 use Rattle.machine_state.specs.Faulting.{fault_state}
 use Rattle.machine_state.specs.Messaging.{told_state, waiting_state, listening_state}
