@@ -10,14 +10,16 @@ use Rattle.indexmap.specs.IndexSet.{insert_key}
 use Rattle.breadth_first.specs.System.{System, IsEquality}
 use Rattle.breadth_first.specs.Paths.{after, AreChoices}
 use Rattle.breadth_first.specs.Order.{trying, opened, reached}
-use Rattle.breadth_first.specs.Answer.{before, seen, IsFound, IsAsFar, IsSeen, IsClosed, IsOpen, EndsByDepth, EndsByStates}
+use Rattle.breadth_first.specs.Answer.{before, seen, IsFound, IsAsFar, IsSeen, IsClosed, IsOpen, LeavesOut, EndsByDepth, EndsByStates}
 use Rattle.breadth_first.specs.Front.{Front}
 use Rattle.breadth_first.specs.Origins.{AreOrigins, IsPathTo}
-use Rattle.breadth_first.specs.Progress.{AreSafe, EndsBadly, IsFull, AreWithin}
+use Rattle.breadth_first.specs.Progress.{AreSafe, EndsBadly, IsFull, GoesOn, AreWithin, LeavesOutAt, MeetsLimit, Ends}
+use Rattle.breadth_first.specs.declared.levels.End.TheVariants.{TooFar}
+use Rattle.breadth_first.specs.declared.search.Stop.TheVariants.{Bad, NoRoom}
 use Rattle.breadth_first.specs.declared.origins.Origin.{Origin}
 use Rattle.breadth_first.specs.declared.answer.Limits.{Limits}
 use Rattle.breadth_first.specs.declared.answer.Size.{Size}
-use Rattle.breadth_first.proofs.Fronts.{front-refl, front-push, front-trans, front-length, front-get, front-back, front-full, front-take, front-any, slice_get-last, slice_get-some}
+use Rattle.breadth_first.proofs.Fronts.{front-refl, front-push, front-trans, front-length, front-get, front-back, front-full, front-take, front-any, front-compare, slice_get-last, slice_get-some}
 use Rattle.breadth_first.proofs.Order.{has, has-at, has-from, Contains-has, cases, insert-there, insert-new, trying-suc, trying-front, trying-upto, opened-suc, opened-done, opened-upto, opened-start, reached-suc, reached-opened, reached-step, reached-upto, reached-from_start, closed-from_start}
 use Rattle.breadth_first.proofs.Tracing.{path-exists, shorter, sooner, agree}
 use Rattle.breadth_first.proofs.Steps.{reached-before}
@@ -147,7 +149,7 @@ module _ {S : Type 0} (g : System S) (law : IsEquality g.same) where
 
     -- a search that came to all states
     pub closed : (origins : List Origin) → AreOrigins g states origins → AreWithin g size.depth states → length (reached g (suc size.depth)) ≤ length states
-        → size.tried ≡ size.states * g.choices → IfSome limits.depth (λ n. size.depth < n) → IfSome limits.states (λ n. size.states ≤ n) → IsClosed g limits size
+        → size.tried ≡ size.states * g.choices → IfSome limits.depth (λ n. size.depth ≤ n) → IfSome limits.states (λ n. size.states ≤ n) → IsClosed g limits size
     closed origins all is full tried far room = record {
       far = far;
       room = room;
@@ -174,8 +176,8 @@ module _ {S : Type 0} (g : System S) (law : IsEquality g.same) where
 
     -- a search that a limit ended
     open_search : (origins : List Origin) → AreOrigins g states origins → AreSafe g states → Front (reached g size.depth) states → IfSome limits.depth (λ n. size.depth ≤ n) → IfSome limits.states (λ n. size.states ≤ n)
-        → EndsByDepth g limits size ⊎ EndsByStates g limits size → IsOpen g limits size
-    open_search origins all safe begins far room limit = record {
+        → LeavesOut g size → EndsByDepth g limits size ⊎ EndsByStates g limits size → IsOpen g limits size
+    open_search origins all safe begins far room left limit = record {
       far = far;
       room = room;
       states = seen-many;
@@ -183,52 +185,37 @@ module _ {S : Type 0} (g : System S) (law : IsEquality g.same) where
       each = seen-each (suc size.depth) (front-length front) origins all safe;
       within = λ path choices l. contains-there (after g g.start path) (there path choices l);
       holds = λ path choices l. holds-there safe (after g g.start path) (there path choices l);
+      left = left;
       limit = limit;
     }
       where
         there : (path : List ℕ) → AreChoices g path → length path ≤ size.depth → has g law states (after g g.start path)
         there path choices l = front-any (g.same (after g g.start path)) begins (reached-from_start g law path size.depth choices l)
 
-  -- by the limit of choices
-  pub open-depth : (limits : Limits) (size : Size) (states : List S) → size.states ≡ length states → (origins : List Origin) → AreOrigins g states origins → AreWithin g size.depth states → limits.depth ≡ Some size.depth
-      → size.tried ≡ before g size.depth * g.choices → IfSome limits.states (λ n. size.states ≤ n) → IsOpen g limits size × (seen g size ≡ states)
-  open-depth limits size states many origins all is met tried room =
-      let front : Front states (reached g (suc size.depth)) = subst (λ l. Front l (reached g (suc size.depth))) (sym is.are) (reached-step g law size.depth) in
-      let begins : Front (reached g size.depth) states = subst (Front (reached g size.depth)) (sym is.are) (front-refl (reached g size.depth)) in (
-        open_search limits size states front many origins all is.safe begins (subst (λ o. IfSome o (λ n. size.depth ≤ n)) (sym met) (omega arith)) room
-            (inl (record { limit = met; states = many ∙ ap length is.are; last = omega (arith, is.last, many); farthest = as-far states origins all size.depth is; tried = tried })),
-        seen-is limits size states front many,
-      )
+  -- the states within as many choices as lead to a state whose choices are tried stand first
+  tried-begins : (d at choice : ℕ) (parent : S) (states : List S) → before g d ≤ at → states ≡ trying g (opened g at) parent choice → Front (reached g d) states
+  tried-begins d at choice parent states from kept =
+      subst (λ l. Front l states) (sym (reached-before g law d))
+      (subst (Front (opened g (before g d))) (sym kept) (front-trans (opened-upto g law (before g d) at from) (trying-front g law (opened g at) parent choice)))
 
-  -- by the limit of states
-  pub open-states : (limits : Limits) (size : Size) (states : List S) → size.states ≡ length states → (origins : List Origin) → AreOrigins g states origins → (at choice : ℕ) → before g size.depth ≤ at → at < length (reached g size.depth)
-      → IsFull g limits.states at choice states → size.tried ≡ at * g.choices + choice + 1 → IfSome limits.depth (λ n. size.depth < n) → IfSome limits.states (λ n. size.states ≤ n) → IsOpen g limits size × (seen g size ≡ states)
-  open-states limits size states many origins all at choice from to full tried far room =
-      let front : Front states (reached g (suc size.depth)) =
-      subst (λ l. Front l (reached g (suc size.depth))) (sym full.kept) (subst (Front (trying g (opened g at) full.parent choice)) (sym (reached-suc g law size.depth))
-      (front-trans (subst (Front (trying g (opened g at) full.parent choice)) (sym (opened-suc g law at full.parent full.state)) (trying-upto g law (opened g at) full.parent choice g.choices (omega (arith, full.within))))
-      (opened-upto g law (suc at) (length (reached g size.depth)) to))) in
-      let begins : Front (reached g size.depth) states =
-      subst (λ l. Front l states) (sym (reached-before g law size.depth)) (subst (Front (opened g (before g size.depth))) (sym full.kept) (front-trans (opened-upto g law (before g size.depth) at from) (trying-front g law (opened g at) full.parent choice))) in
-      let is = seen-is limits size states front many in (
-        open_search limits size states front many origins all full.safe begins (weaker limits.depth far) room
-            (inr (record {
-              limit = full.met ∙ ap Some (sym many);
-              far = far;
-              at = at;
-              parent = full.parent;
-              choice = choice;
-              state = agree g law (reached-opened g law size.depth).0 at (reached g size.depth) (opened g at) (reached-front size.depth (reached g size.depth) (front-refl (reached g size.depth))) (front-refl (opened g at)) at full.parent to full.state;
-              came = came;
-              last = from;
-              within = full.within;
-              kept = is ∙ full.kept;
-              new = subst (λ l. list_any (g.same (g.next full.parent choice)) l ≡ false) (sym is) full.new;
-              tried = tried;
-            })),
-        is,
-      )
+  -- where a choice leads to a state that isn't kept
+  pub open-left : (limits : Limits) (size : Size) (states : List S) → size.states ≡ length states → (origins : List Origin) → AreOrigins g states origins → (at choice : ℕ) → LeavesOutAt g size.depth at choice states → MeetsLimit g limits size.depth states
+      → size.tried ≡ at * g.choices + choice + 1 → IfSome limits.states (λ n. size.states ≤ n) → IsOpen g limits size × (seen g size ≡ states)
+  open-left limits size states many origins all at choice out met tried room =
+      (open_search limits size states front many origins all full.safe (tried-begins size.depth at choice full.parent states out.from full.kept) (far met) room left (limit met), is)
     where
+      full : IsFull g (Some (length states)) at choice states
+      full = out.full
+
+      front : Front states (reached g (suc size.depth))
+      front =
+          subst (λ l. Front l (reached g (suc size.depth))) (sym full.kept) (subst (Front (trying g (opened g at) full.parent choice)) (sym (reached-suc g law size.depth))
+          (front-trans (subst (Front (trying g (opened g at) full.parent choice)) (sym (opened-suc g law at full.parent full.state)) (trying-upto g law (opened g at) full.parent choice g.choices (omega (arith, full.within))))
+          (opened-upto g law (suc at) (length (reached g size.depth)) out.to)))
+
+      is : seen g size ≡ states
+      is = seen-is limits size states front many
+
       turn : slice_get states at ≡ Some full.parent
       turn = subst (λ l. slice_get l at ≡ Some full.parent) (sym full.kept) (front-get (trying-front g law (opened g at) full.parent choice) at full.parent full.state)
 
@@ -238,14 +225,73 @@ module _ {S : Type 0} (g : System S) (law : IsEquality g.same) where
           record {
             path = path.0;
             choices = path.1.choices;
-            few = path.1.least size.depth to;
+            few = path.1.least size.depth out.to;
             leads = same_Some (after g g.start path.0) full.parent (sym path.1.leads ∙ turn);
             holds = All-at (λ t. g.violated t ≡ None) states full.safe at full.parent turn;
           }
 
+      left : LeavesOut g size
+      left = record {
+        at = at;
+        parent = full.parent;
+        choice = choice;
+        state = agree g law (reached-opened g law size.depth).0 at (reached g size.depth) (opened g at) (reached-front size.depth (reached g size.depth) (front-refl (reached g size.depth))) (front-refl (opened g at)) at full.parent out.to full.state;
+        came = came;
+        last = out.from;
+        within = full.within;
+        kept = is ∙ full.kept;
+        new = subst (λ l. list_any (g.same (g.next full.parent choice)) l ≡ false) (sym is) full.new;
+        tried = tried;
+      }
+
       weaker : (limit : Option ℕ) → IfSome limit (λ n. size.depth < n) → IfSome limit (λ n. size.depth ≤ n)
       weaker None l = tt
       weaker (Some n) l = omega arith
+
+      far : MeetsLimit g limits size.depth states → IfSome limits.depth (λ n. size.depth ≤ n)
+      far (inl (same, within)) = subst (λ o. IfSome o (λ n. size.depth ≤ n)) (sym same) (omega arith)
+      far (inr (same, below)) = weaker limits.depth below
+
+      limit : MeetsLimit g limits size.depth states → EndsByDepth g limits size ⊎ EndsByStates g limits size
+      limit (inl (same, within)) = inl (record {
+        limit = same;
+        states = many ∙ ap length within.are;
+        last = omega (arith, within.last, many);
+        farthest = as-far states origins all size.depth within;
+      })
+      limit (inr (same, below)) = inr (record { limit = same ∙ ap Some (sym many); far = below })
+
+  -- where no new state was kept, the states are those that were there
+  pub stayed : (limit : Option ℕ) (d at choice : ℕ) (states news : List S) → AreWithin g d states → length news ≡ length states → GoesOn g limit d news (Some (NoRoom at choice)) → AreWithin g d news
+  stayed limit d at choice states news is same (from, to, full) = record {
+    are = front-full (tried-begins d at choice full.parent news from full.kept) (omega (arith, same, ap length is.are));
+    safe = full.safe;
+    last = omega (arith, is.last, same);
+  }
+
+  -- and so the search ends
+  pub left-at : (limits : Limits) (n d at choice : ℕ) (states news : List S) → AreWithin g d states → n ≡ length states → limits.depth ≡ Some d → GoesOn g (Some n) d news (Some (NoRoom at choice)) → Ends g limits news (TooFar d at choice)
+  left-at limits n d at choice states news is many met stop =
+      let same : n ≡ length news = same_Some n (length news) stop.2.met in
+      let few : length news ≡ length states = sym same ∙ many in
+      (stayed (Some n) d at choice states news is few stop, met, record { from = stop.0; to = stop.1; full = subst (λ m. IsFull g (Some m) at choice news) same stop.2 })
+
+  -- and so none was found that violates a property
+  pub none-bad : (limit : Option ℕ) (d property : ℕ) (states news : List S) → AreWithin g d states → length news ≤ length states → GoesOn g limit d news (Some (Bad property)) → ⊥
+  none-bad limit d property states news is few (front, bad) = apart (g.violated bad.last) bad.violates none
+    where
+      among : Front news (reached g d)
+      among = front-compare front (reached-step g law d) (omega (arith, few, ap length is.are))
+
+      there : slice_get news (length bad.others) ≡ Some bad.last
+      there = ap (λ l. slice_get l (length bad.others)) bad.are ∙ slice_get-last bad.others bad.last
+
+      none : g.violated bad.last ≡ None
+      none = All-at (λ t. g.violated t ≡ None) states is.safe (length bad.others) bad.last (front-get (subst (Front news) (sym is.are) among) (length bad.others) bad.last there)
+
+      apart : (o : Option ℕ) → o ≡ Some property → o ≡ None → ⊥
+      apart None e n = cc
+      apart (Some p) e n = cc
 
   -- a state that violates a property, behind a path to the last state
   pub found : (limits : Limits) (d property : ℕ) (states : List S) → Front states (reached g (suc d)) → (bad : EndsBadly g property states) → (path : List ℕ) → IsPathTo g states (length bad.others) path → IfSome limits.depth (λ n. d < n)

@@ -7,7 +7,7 @@ use Rattle.std.proofs.lemmas.Option.{slice_get_within, slice_get-get_or, same_So
 use Rattle.breadth_first.specs.System.{System, IsEquality}
 use Rattle.breadth_first.specs.Paths.{after, AreChoices, CanCome, IsEarlier}
 use Rattle.breadth_first.specs.Order.{trying, opened, reached}
-use Rattle.breadth_first.specs.Answer.{before, seen, IsFound, IsSeen, IsClosed, EndsByDepth, EndsByStates, IsOpen, IsFirst, IsCount, AreCounts, CanAlwaysCome, IsLost, IsEver, IsAnswer}
+use Rattle.breadth_first.specs.Answer.{before, seen, IsFound, IsSeen, IsClosed, LeavesOut, EndsByDepth, EndsByStates, IsOpen, IsFirst, IsCount, AreCounts, CanAlwaysCome, IsLost, IsEver, IsAnswer}
 use Rattle.breadth_first.specs.Told.{LostValue, told, lost_told}
 use Rattle.breadth_first.specs.Told.Told.{TellsFound, TellsClosed, TellsOpen}
 use Rattle.breadth_first.specs.Front.{Front}
@@ -186,7 +186,7 @@ module _ {S : Type 0} (g : System S) (law : IsEquality g.same) (limits : Limits)
   -- ---- no room
 
   -- a state for which there is no room is one more than there is room for
-  no-room : (size : Size) → EndsByStates g limits size → length (seen g size) ≡ size.states → length (reached g (suc size.depth)) ≤ size.states → ⊥
+  no-room : (size : Size) → LeavesOut g size → length (seen g size) ≡ size.states → length (reached g (suc size.depth)) ≤ size.states → ⊥
   no-room size e many few =
       let all : reached g (suc size.depth) ≡ seen g size = front-full (seen-front size) (omega (arith, many, few)) in
       let there = reached-next g law size.depth e.parent e.choice (has-from g law (reached g size.depth) e.at e.parent e.state) e.within in
@@ -197,35 +197,27 @@ module _ {S : Type 0} (g : System S) (law : IsEquality g.same) (limits : Limits)
     where
       by : EndsByDepth g limits y ⊎ EndsByStates g limits y → ⊥
       by (inl e) =
-          let far : x.depth < y.depth = subst (λ l. IfSome l (λ n. x.depth < n)) e.limit c.far in
-          no-farther x y.depth c far e.farthest.path e.farthest.choices e.farthest.long e.farthest.new
+          let far : x.depth ≤ y.depth = subst (λ l. IfSome l (λ n. x.depth ≤ n)) e.limit c.far in
+          no-room y o.left o.states (omega (arith, no-more x c (suc y.depth), c.within, e.states, front-length (reached-upto g law x.depth y.depth far)))
       by (inr e) =
           let room : x.states ≤ y.states = subst (λ l. IfSome l (λ n. x.states ≤ n)) e.limit c.room in
-          no-room y e o.states (omega (arith, room, no-more x c (suc y.depth)))
+          no-room y o.left o.states (omega (arith, room, no-more x c (suc y.depth)))
 
   -- the limit of choices ends no search that the other one ends
   depth-states : (x y : Size) → IsOpen g limits x → EndsByDepth g limits x → IsOpen g limits y → EndsByStates g limits y → ⊥
   depth-states x y a d b s =
       let far : y.depth < x.depth = subst (λ l. IfSome l (λ n. y.depth < n)) d.limit s.far in
       let room : x.states ≤ y.states = subst (λ l. IfSome l (λ n. x.states ≤ n)) s.limit a.room in
-      no-room y s b.states (omega (arith, room, d.states, front-length (reached-upto g law (suc y.depth) x.depth far)))
-
-  depth-depth : (x y : Size) → EndsByDepth g limits x → EndsByDepth g limits y → x ≡ y
-  depth-depth x y a b =
-      let depth : x.depth ≡ y.depth = same_Some x.depth y.depth (sym a.limit ∙ b.limit) in
-      same-size x y (a.states ∙ ap (λ d. length (reached g d)) depth ∙ sym b.states) (a.tried ∙ ap (λ d. before g d * g.choices) depth ∙ sym b.tried) depth
+      no-room y b.left b.states (omega (arith, room, d.states, front-length (reached-upto g law (suc y.depth) x.depth far)))
 
   -- a state stands in one level
   one-level : (d e at : ℕ) → at < length (reached g d) → before g e ≤ at → d < e → ⊥
   one-level d zero at inside from l = omega (arith, l)
   one-level d (suc e) at inside from l = omega (arith, from, inside, front-length (reached-upto g law d e (omega (arith, l))))
 
-  module _ (x y : Size) (a : IsOpen g limits x) (b : IsOpen g limits y) (s : EndsByStates g limits x) (t : EndsByStates g limits y) where
+  module _ (x y : Size) (a : IsOpen g limits x) (b : IsOpen g limits y) (s : LeavesOut g x) (t : LeavesOut g y) (same : x.states ≡ y.states) where
     turn : slice_get (opened g s.at) s.at ≡ Some s.parent
     turn = opened-turn g law (reached-opened g law x.depth).0 s.at s.parent (subst (λ l. slice_get l s.at ≡ Some s.parent) (reached-opened g law x.depth).1 s.state)
-
-    same-states : x.states ≡ y.states
-    same-states = same_Some x.states y.states (sym s.limit ∙ t.limit)
 
     -- both saw the same states
     same-seen : seen g x ≡ seen g y
@@ -234,7 +226,7 @@ module _ {S : Type 0} (g : System S) (law : IsEquality g.same) (limits : Limits)
         let m = (reached-opened g law (suc y.depth)).0 in
         let one = front-trans (seen-opened x) (opened-upto g law n (n + m) (omega arith)) in
         let other = front-trans (seen-opened y) (opened-upto g law m (n + m) (omega arith)) in
-        sym (front-full (front-compare one other (omega (arith, a.states, b.states, same-states))) (omega (arith, a.states, b.states, same-states)))
+        sym (front-full (front-compare one other (omega (arith, a.states, b.states, same))) (omega (arith, a.states, b.states, same)))
 
     -- what has no room in the one has none in the other
     unseen : has g law (seen g y) (g.next s.parent s.choice) → ⊥
@@ -255,23 +247,23 @@ module _ {S : Type 0} (g : System S) (law : IsEquality g.same) (limits : Limits)
     not-deeper : s.at ≡ t.at → x.depth < y.depth → ⊥
     not-deeper e l = one-level x.depth y.depth s.at (slice_get_within (reached g x.depth) s.at s.parent s.state) (omega (arith, e, t.last)) l
 
-  states-states : (x y : Size) → IsOpen g limits x → IsOpen g limits y → EndsByStates g limits x → EndsByStates g limits y → x ≡ y
-  states-states x y a b s t = same-size x y (same-states x y a b s t) (s.tried ∙ count ∙ sym t.tried) depth
+  left-left : (x y : Size) → IsOpen g limits x → IsOpen g limits y → LeavesOut g x → LeavesOut g y → x.states ≡ y.states → x ≡ y
+  left-left x y a b s t same = same-size x y same (s.tried ∙ count ∙ sym t.tried) depth
     where
       equal : (m n : ℕ) → (m < n → ⊥) → (n < m → ⊥) → m ≡ n
       equal m n below above = omega (arith, below, above)
 
       at : s.at ≡ t.at
-      at = equal s.at t.at (not-before x y a b s t) (not-before y x b a t s)
+      at = equal s.at t.at (not-before x y a b s t same) (not-before y x b a t s (sym same))
 
       parent : s.parent ≡ t.parent
-      parent = same_Some s.parent t.parent (sym (turn x y a b s t) ∙ ap (λ n. slice_get (opened g n) n) at ∙ turn y x b a t s)
+      parent = same_Some s.parent t.parent (sym (turn x y a b s t same) ∙ ap (λ n. slice_get (opened g n) n) at ∙ turn y x b a t s (sym same))
 
       choice : s.choice ≡ t.choice
-      choice = equal s.choice t.choice (not-below x y a b s t at parent) (not-below y x b a t s (sym at) (sym parent))
+      choice = equal s.choice t.choice (not-below x y a b s t same at parent) (not-below y x b a t s (sym same) (sym at) (sym parent))
 
       depth : x.depth ≡ y.depth
-      depth = equal x.depth y.depth (not-deeper x y a b s t at) (not-deeper y x b a t s (sym at))
+      depth = equal x.depth y.depth (not-deeper x y a b s t same at) (not-deeper y x b a t s (sym same) (sym at))
 
       count : s.at * g.choices + s.choice + 1 ≡ t.at * g.choices + t.choice + 1
       count = ap (λ n. n * g.choices + s.choice + 1) at ∙ ap (λ n. t.at * g.choices + n + 1) choice
@@ -279,11 +271,16 @@ module _ {S : Type 0} (g : System S) (law : IsEquality g.same) (limits : Limits)
   open-size : (x y : Size) → IsOpen g limits x → IsOpen g limits y → x ≡ y
   open-size x y a b = by a.limit b.limit
     where
+      deep : EndsByDepth g limits x → EndsByDepth g limits y → x.states ≡ y.states
+      deep d e =
+          let depth : x.depth ≡ y.depth = same_Some x.depth y.depth (sym d.limit ∙ e.limit) in
+          d.states ∙ ap (λ d. length (reached g d)) depth ∙ sym e.states
+
       by : EndsByDepth g limits x ⊎ EndsByStates g limits x → EndsByDepth g limits y ⊎ EndsByStates g limits y → x ≡ y
-      by (inl d) (inl e) = depth-depth x y d e
+      by (inl d) (inl e) = left-left x y a b a.left b.left (deep d e)
       by (inl d) (inr e) = absurd (depth-states x y a d b e)
       by (inr d) (inl e) = absurd (depth-states y x b e a d)
-      by (inr d) (inr e) = states-states x y a b d e
+      by (inr d) (inr e) = left-left x y a b a.left b.left (same_Some x.states y.states (sym d.limit ∙ e.limit))
 
   -- ---- counts
 

@@ -200,7 +200,7 @@ module _ {S : Type 0} (g : System S) (law : IsEquality g.same) where
     last = omega (arith, front-length (reached-step g law d), ap length are, ap length is.are, more);
   }
 
-  pub all-reached : (limits : Limits) (d : ℕ) (states news : List S) → AreWithin g d states → GoesOn g limits.states d news None → length news ≡ length states → IfSome limits.depth (λ n. d < n) → Ends g limits news (AllReached d)
+  pub all-reached : (limits : Limits) (d : ℕ) (states news : List S) → AreWithin g d states → GoesOn g limits.states d news None → length news ≡ length states → IfSome limits.depth (λ n. d ≤ n) → Ends g limits news (AllReached d)
   all-reached limits d states news is (are, safe) same below =
       let still : reached g (suc d) ≡ reached g d = front-full (reached-step g law d) (omega (arith, ap length are, ap length is.are, same)) in
       (record { are = are ∙ still; safe = safe; last = omega (arith, is.last, same) }, omega (arith, ap length are), below)
@@ -217,6 +217,10 @@ below-limit (Some m) n l not =
     omega arith
 
 -- what a system is known by
+-- a limit that was met
+pub limit-within : (limit : Option ℕ) (n : ℕ) → limit ≡ Some n → IfSome limit (λ m. n ≤ m)
+limit-within limit n e = subst (λ o. IfSome o (λ m. n ≤ m)) (sym e) (omega arith)
+
 pub searched-same : {K S : Type 0} {g h : System S} {held : K → Type 0} {means : K → S} {limit : Option ℕ} {keys : List K} {origins : List Origin} → h ≡ g → Searched g held means limit keys origins → Searched h held means limit keys origins
 searched-same {held = held} {means} {limit} {keys} {origins} e s = subst (λ t. Searched t held means limit keys origins) (sym e) s
 

@@ -37,7 +37,7 @@ module _ {S : Type 0} (g : System S) (law : IsEquality g.same) where
 
   -- where all states were reached
   pub closed-seen : (limits : Limits) (size : Size) (states : List S) → size.states ≡ length states → (origins : List Origin) → AreOrigins g states origins → AreWithin g size.depth states → length (reached g (suc size.depth)) ≤ length states
-      → size.tried ≡ size.states * g.choices → IfSome limits.depth (λ n. size.depth < n) → IfSome limits.states (λ n. size.states ≤ n) → IsClosed g limits size × (seen g size ≡ states)
+      → size.tried ≡ size.states * g.choices → IfSome limits.depth (λ n. size.depth ≤ n) → IfSome limits.states (λ n. size.states ≤ n) → IsClosed g limits size × (seen g size ≡ states)
   closed-seen limits size states many origins all is full tried far room =
       let front : Front states (reached g (suc size.depth)) = subst (λ l. Front l (reached g (suc size.depth))) (sym is.are) (reached-step g law size.depth) in
       (closed g law limits size states front many origins all is full tried far room, seen-is g law limits size states front many)

@@ -52,7 +52,7 @@ module _ {S : Type 0} (g : System S) where
   -- whatever the choices, the state after them was seen; those seen are distinct, and as many as are told; each choice
   -- of each was tried; and fewer choices than `depth` don't lead to all of them, nor to some that is as far
   pub record IsClosed (limits : Limits) (size : Size) : Type 0 where
-    pub far : IfSome limits.depth (λ n. size.depth < n)
+    pub far : IfSome limits.depth (λ n. size.depth ≤ n)
     pub room : IfSome limits.states (λ n. size.states ≤ n)
     pub states : length (seen size) ≡ size.states
     pub distinct : IsDistinct g.same (seen size)
@@ -70,19 +70,9 @@ module _ {S : Type 0} (g : System S) where
   before zero = 0
   before (suc d) = length (reached g d)
 
-  -- the limit of choices was met: the choices of those states alone were tried that fewer lead to, and there are others
-  pub record EndsByDepth (limits : Limits) (size : Size) : Type 0 where
-    pub limit : limits.depth ≡ Some size.depth
-    pub states : size.states ≡ length (reached g size.depth)
-    pub last : before size.depth < size.states
-    pub farthest : IsAsFar size.depth
-    pub tried : size.tried ≡ before size.depth * g.choices
-
-  -- the limit of states was met: `choice` of the state with the index `at`, which no fewer than `depth` choices lead to,
-  -- leads to a state that wasn't seen, and all choices before it to states that were
-  pub record EndsByStates (limits : Limits) (size : Size) : Type 0 where
-    pub limit : limits.states ≡ Some size.states
-    pub far : IfSome limits.depth (λ n. size.depth < n)
+  -- `choice` of the state with the index `at`, which no fewer than `depth` choices lead to, leads to a state that wasn't kept,
+  -- and all choices before it to states that were
+  pub record LeavesOut (size : Size) : Type 0 where
     pub at : ℕ
     pub parent : S
     pub choice : ℕ
@@ -94,7 +84,20 @@ module _ {S : Type 0} (g : System S) where
     pub new : list_any (g.same (g.next parent choice)) (seen size) ≡ false
     pub tried : size.tried ≡ at * g.choices + choice + 1
 
-  -- a limit ended the search: all states within `depth` choices were seen, and none of those seen violates a property
+  -- the limit of choices was met: those that were seen are the states that as many lead to, and to some of them no fewer do
+  pub record EndsByDepth (limits : Limits) (size : Size) : Type 0 where
+    pub limit : limits.depth ≡ Some size.depth
+    pub states : size.states ≡ length (reached g size.depth)
+    pub last : before size.depth < size.states
+    pub farthest : IsAsFar size.depth
+
+  -- the limit of states was met
+  pub record EndsByStates (limits : Limits) (size : Size) : Type 0 where
+    pub limit : limits.states ≡ Some size.states
+    pub far : IfSome limits.depth (λ n. size.depth < n)
+
+  -- a limit ended the search: all states within `depth` choices were seen, none of those seen violates a property, and a choice
+  -- of one of them leads to a state that wasn't kept
   pub record IsOpen (limits : Limits) (size : Size) : Type 0 where
     pub far : IfSome limits.depth (λ n. size.depth ≤ n)
     pub room : IfSome limits.states (λ n. size.states ≤ n)
@@ -103,6 +106,7 @@ module _ {S : Type 0} (g : System S) where
     pub each : All (IsSeen (suc size.depth)) (seen size)
     pub within : (path : List ℕ) → AreChoices g path → length path ≤ size.depth → Contains (seen size) (after g g.start path)
     pub holds : (path : List ℕ) → AreChoices g path → length path ≤ size.depth → g.violated (after g g.start path) ≡ None
+    pub left : LeavesOut size
     pub limit : EndsByDepth limits size ⊎ EndsByStates limits size
 
   -- some path of `d` choices leads to one of the states, which passes the test, and none with fewer leads to any that does

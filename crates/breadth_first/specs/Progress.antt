@@ -1,5 +1,5 @@
 -- How a search goes on: what it keeps, what becomes of a state that is found, and how it ends.
-use Rattle.std.specs.Prelude.{◌≡◌, ℕ, suc, ◌+◌, ◌*◌, ◌^◌, ◌<◌, ◌≤◌, if◌then◌else◌, Bool, true, false, not, List, [], ◌∷◌, ◌++◌, length, map, All, Contains, Option, None, Some, IfSome, MatchOption, slice_get, slice_index_or}
+use Rattle.std.specs.Prelude.{◌≡◌, ℕ, suc, ◌+◌, ◌*◌, ◌^◌, ◌<◌, ◌≤◌, ◌⊎◌, if◌then◌else◌, Bool, true, false, not, List, [], ◌∷◌, ◌++◌, length, map, All, Contains, Option, None, Some, IfSome, MatchOption, slice_get, slice_index_or}
 use Rattle.std.specs.List.{list_any}
 use Rattle.indexmap.specs.IndexSet.{insert_key}
 use Rattle.reaches_back.specs.Edges.{CanReach}
@@ -98,10 +98,22 @@ module _ {S : Type 0} (g : System S) where
     pub safe : AreSafe states
     pub last : before g d < length states
 
+  -- `choice` of a state that no fewer than `d` choices lead to leads to a state that isn't kept
+  pub record LeavesOutAt (d at choice : ℕ) (states : List S) : Type 0 where
+    pub from : before g d ≤ at
+    pub to : at < length (reached g d)
+    pub full : IsFull (Some (length states)) at choice states
+
+  -- which limit was met by states that no fewer than `d` choices lead to
+  abbrev pub MeetsLimit : Limits → ℕ → List S → Type 0
+  MeetsLimit limits d states =
+      ((limits.depth ≡ Some d) × AreWithin d states)
+      ⊎ ((limits.states ≡ Some (length states)) × IfSome limits.depth (λ n. d < n))
+
   -- how the search ended
   abbrev pub Ends : Limits → List S → End → Type 0
-  Ends limits states (AllReached d) = AreWithin d states × (length (reached g (suc d)) ≤ length states) × IfSome limits.depth (λ n. d < n)
-  Ends limits states (TooFar d tried) = AreWithin d states × (limits.depth ≡ Some d) × (tried ≡ before g d)
+  Ends limits states (AllReached d) = AreWithin d states × (length (reached g (suc d)) ≤ length states) × IfSome limits.depth (λ n. d ≤ n)
+  Ends limits states (TooFar d at choice) = AreWithin d states × (limits.depth ≡ Some d) × LeavesOutAt d at choice states
   Ends limits states (Stopped d stop) = GoesOn limits.states d states (Some stop) × IfSome limits.depth (λ n. d < n)
 
 -- what came of keeping the start: it is kept, or it violates a property

@@ -14,7 +14,7 @@ pub struct Limits {
 pub struct Size {
     /// How many states were seen, and kept.
     pub states: usize,
-    /// How many choices were tried, the one for whose new state there was no room with them.
+    /// How many choices were tried, the one whose new state wasn't kept with them.
     pub tried: u64,
     /// Of a closed search the least number of choices within which each state is reached; of an open one how many
     /// choices lead to the states whose choices weren't all tried.
@@ -55,7 +55,7 @@ pub enum Explored {
         counts: Vec<Count>,
         lost: Option<Lost>,
     },
-    /// A limit ended the search, and none of the states that were seen violates a property.
+    /// A limit ended the search: a choice leads to a state that wasn't kept. None of those that were seen violates a property.
     Open {
         size: Size,
         counts: Vec<Count>,

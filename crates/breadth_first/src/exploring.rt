@@ -1,11 +1,11 @@
 //! The search, from its start to its answer.
 
 ghost use Rattle.std.specs.Prelude.{◌≡◌, ◌<◌, ◌*◌, ◌++◌, List, ℕ, map, length, IfOk, OnOk, IfSome, All, Some};
-ghost use Rattle.breadth_first.specs.Answer.{IsAnswer, IsOpen, IsClosed, seen};
+ghost use Rattle.breadth_first.specs.Answer.{IsAnswer, IsClosed, seen};
 ghost use Rattle.breadth_first.specs.Kept.{Keeps};
 ghost use Rattle.breadth_first.specs.Marks.{judged};
 ghost use Rattle.breadth_first.specs.declared.levels.End.TheVariants.{AllReached};
-ghost use Rattle.breadth_first.specs.Progress.{Searched, IsOpened, GoesOn, Ends, AreEdges, EdgesAreKept};
+ghost use Rattle.breadth_first.specs.Progress.{Searched, IsOpened, GoesOn, LeavesOutAt, MeetsLimit, Ends, AreEdges, EdgesAreKept};
 
 use crate::answering::tried_of;
 use crate::edges::Edges;
@@ -17,27 +17,35 @@ use indexmap::IndexSet;
 use std::alloc::{AllocError, Global};
 
 impl<S: Space> Search<S> {
-    /// The answer where a limit ended the search.
+    /// The answer where a limit ended the search: a choice of a state that `depth` choices lead to, with the index `at`, leads
+    /// to a state that isn't kept.
     fn told_open(
         &self,
         alloc: Global,
         space: &mut S,
         limits: Limits,
         counts: &[usize],
-        size: Size,
+        depth: usize,
+        at: usize,
+        choice: u32,
     ) -> Result<Explored, AllocError>
         requires searched { Searched (S.system space.old) (S.held space.old) (S.means space.old)
             limits.states self.now.seen.keys self.now.origins.items }
-        requires opened { IsOpened (S.system space.old) (map (S.means space.old) self.now.seen.keys) }
+        requires left { LeavesOutAt (S.system space.old) depth at choice (map (S.means space.old) self.now.seen.keys) }
+        requires limit { MeetsLimit (S.system space.old) limits depth (map (S.means space.old) self.now.seen.keys) }
         requires counts { All (λ t. t < (S.system space.old).tests) counts.now }
-        requires ended { IsOpen (S.system space.old) limits size }
-        requires seen { seen (S.system space.old) size ≡ map (S.means space.old) self.now.seen.keys }
         ensures keeps { OnOk result
             (Keeps (S.system space.old) (S.held space.old) (S.means space.old)
             (S.system space.new) (S.held space.new) (S.means space.new)) }
         ensures answer { IfOk result (λ answer. (evers : List ℕ)
             → IsAnswer (S.system space.old) limits evers counts.now answer) }
     {
+        let tried = tried_of(at, space.choices()) + u64::from(choice) + 1;
+        let size = Size {
+            states: self.seen.len(),
+            tried,
+            depth,
+        };
         let lists = self.judged(alloc, space, counts)?;
         let counts = self.counts(alloc, space, limits.states, counts, &lists)?;
         Ok(Explored::Open { size, counts })
@@ -93,20 +101,13 @@ impl<S: Space> Search<S> {
         ensures answer { IfOk result (λ answer. (evers : List ℕ)
             → IsAnswer (S.system space.old) limits evers counts.now answer) }
     {
-        let states = self.seen.len();
         match stop {
             Stop::Bad(property) => {
-                let path = self.path(alloc, space, limits.states, states - 1)?;
+                let path = self.path(alloc, space, limits.states, self.seen.len() - 1)?;
                 Ok(Explored::Found { property, path })
             }
             Stop::NoRoom { at, choice } => {
-                let tried = tried_of(at, space.choices()) + u64::from(choice) + 1;
-                let size = Size {
-                    states,
-                    tried,
-                    depth,
-                };
-                self.told_open(alloc, space, limits, counts, size)
+                self.told_open(alloc, space, limits, counts, depth, at, choice)
             }
         }
     }
@@ -136,19 +137,13 @@ impl<S: Space> Search<S> {
             (S.system space.new) (S.held space.new) (S.means space.new)) }
         ensures answer { IfOk result (IsAnswer (S.system space.old) limits evers.now counts.now) }
     {
-        let states = self.seen.len();
         match end {
             End::Stopped(depth, stop) => self.told_stop(alloc, space, limits, counts, depth, stop),
-            End::TooFar { depth, tried } => {
-                let tried = tried_of(tried, space.choices());
-                let size = Size {
-                    states,
-                    tried,
-                    depth,
-                };
-                self.told_open(alloc, space, limits, counts, size)
+            End::TooFar { depth, at, choice } => {
+                self.told_open(alloc, space, limits, counts, depth, at, choice)
             }
             End::AllReached(depth) => {
+                let states = self.seen.len();
                 let tried = tried_of(states, space.choices());
                 let size = Size {
                     states,

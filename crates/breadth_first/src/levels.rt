@@ -1,12 +1,12 @@
 //! The levels of a search: the states that as many choices lead to.
 
-ghost use Rattle.std.specs.Prelude.{◌≡◌, ◌<◌, ◌*◌, ◌∷◌, [], ℕ, map, length, take, All, IfOk, OnOk};
+ghost use Rattle.std.specs.Prelude.{◌≡◌, ◌<◌, ◌*◌, ◌∷◌, [], ℕ, map, length, take, All, IfOk, OnOk, Some};
 ghost use Rattle.breadth_first.specs.declared.levels.End.TheVariants.{AllReached};
 ghost use Rattle.breadth_first.specs.Answer.{before};
 ghost use Rattle.breadth_first.specs.Kept.{Keeps};
 ghost use Rattle.breadth_first.specs.Marks.{judged};
 ghost use Rattle.breadth_first.specs.Order.{reached};
-ghost use Rattle.breadth_first.specs.Progress.{Searched, AreSafe, GoesOn, Ends, KeepsEdges};
+ghost use Rattle.breadth_first.specs.Progress.{Searched, AreSafe, AreWithin, GoesOn, Ends, KeepsEdges};
 
 use crate::marks::Marks;
 use crate::search::{Search, Stop, is_met};
@@ -17,8 +17,13 @@ use std::alloc::AllocError;
 pub(crate) enum End {
     /// No choice of a state within so many choices leads to a new one.
     AllReached(usize),
-    /// The limit of choices was met by the states that so many lead to; the choices of so many others were tried.
-    TooFar { depth: usize, tried: usize },
+    /// The limit of choices was met by the states that so many lead to, and a choice of one of them leads to a state that
+    /// isn't kept.
+    TooFar {
+        depth: usize,
+        at: usize,
+        choice: u32,
+    },
     /// It stopped while it tried the choices of the states that so many lead to.
     Stopped(usize, Stop),
 }
@@ -74,6 +79,52 @@ impl<S: Space> Search<S> {
         Ok(None)
     }
 
+    /// Tries the choices of the states that as many lead to as the limit allows, and keeps no new state.
+    fn last_level<W: Watcher>(
+        &mut self,
+        space: &mut S,
+        limits: Limits,
+        from: usize,
+        depth: usize,
+        tests: &[usize],
+        lists: &mut Vec<Marks>,
+        watcher: &mut W,
+    ) -> Result<End, AllocError>
+        requires searched { Searched (S.system space.old) (S.held space.old) (S.means space.old)
+            limits.states self.old.seen.keys self.old.origins.items }
+        requires met { limits.depth ≡ Some depth }
+        requires from { from ≡ before (S.system space.old) depth }
+        requires within { AreWithin (S.system space.old) depth (map (S.means space.old) self.old.seen.keys) }
+        requires edges { KeepsEdges (S.system space.old) (map (S.means space.old) self.old.seen.keys)
+            (from * (S.system space.old).choices) self.old.edges.keeps self.old.edges.ends.items }
+        requires tests { All (λ t. t < (S.system space.old).tests) tests.now }
+        requires marks { lists.old.items
+            ≡ judged (S.system space.old) tests.now (take from (map (S.means space.old) self.old.seen.keys)) }
+        ensures keeps { OnOk result
+            (Keeps (S.system space.old) (S.held space.old) (S.means space.old)
+            (S.system space.new) (S.held space.new) (S.means space.new)) }
+        ensures searched { OnOk result
+            (Searched (S.system space.old) (S.held space.new) (S.means space.new)
+            limits.states self.new.seen.keys self.new.origins.items) }
+        ensures ends { IfOk result (Ends (S.system space.old) limits
+            (map (S.means space.new) self.new.seen.keys)) }
+        ensures keeping { OnOk result (self.new.edges.keeps ≡ self.old.edges.keeps) }
+        ensures edges { IfOk result (λ end. (d : ℕ) → end ≡ AllReached d → KeepsEdges (S.system space.old)
+            (map (S.means space.new) self.new.seen.keys)
+            (length self.new.seen.keys * (S.system space.old).choices)
+            self.new.edges.keeps self.new.edges.ends.items) }
+        ensures marks { IfOk result (λ end. (d : ℕ) → end ≡ AllReached d → lists.new.items
+            ≡ judged (S.system space.old) tests.now (map (S.means space.new) self.new.seen.keys)) }
+    {
+        let to = self.seen.len();
+        let stop = self.level(space, Some(to), from, depth, tests, lists, watcher)?;
+        match stop {
+            None => Ok(End::AllReached(depth)),
+            Some(Stop::NoRoom { at, choice }) => Ok(End::TooFar { depth, at, choice }),
+            Some(Stop::Bad(_)) => unreachable!(),
+        }
+    }
+
     /// Goes on from the start, level by level.
     pub(crate) fn walk<W: Watcher>(
         &mut self,
@@ -110,7 +161,7 @@ impl<S: Space> Search<S> {
         let mut from = 0;
         'levels: loop {
             if is_met(limits.depth, depth) {
-                return Ok(End::TooFar { depth, tried: from });
+                return self.last_level(space, limits, from, depth, tests, lists, watcher);
             }
             let to = self.seen.len();
             if let Some(stop) = self.level(

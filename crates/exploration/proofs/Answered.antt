@@ -9,7 +9,7 @@ use Rattle.std.proofs.lemmas.Map.Made.{AllPairs-from_IsDistinct}
 use Rattle.std.proofs.lemmas.Option.{get_or_from_slice_get, slice_get-get_or, slice_get_within}
 use Rattle.machine_state.specs.State.{State}
 use Rattle.separation_policy.specs.Policy.{PolicyValue}
-use Rattle.breadth_first.specs.Answer.{AreCounts, CanAlwaysCome, EndsByDepth, EndsByStates, IsAnswer, IsAsFar, IsClosed, IsFirst as IsFirstIn, IsFound, IsLost, IsOpen, IsSeen, seen}
+use Rattle.breadth_first.specs.Answer.{AreCounts, CanAlwaysCome, EndsByDepth, EndsByStates, LeavesOut as LeavesOutIn, IsAnswer, IsAsFar, IsClosed, IsFirst as IsFirstIn, IsFound, IsLost, IsOpen, IsSeen, seen}
 use Rattle.breadth_first.specs.Paths.{after, CanCome as CanComeIn}
 use Rattle.breadth_first.specs.System.{System, IsEquality}
 use Rattle.breadth_first.proofs.One.{one_answer}
@@ -20,7 +20,7 @@ use Rattle.breadth_first.specs.declared.answer.Limits.{Limits}
 use Rattle.breadth_first.specs.declared.answer.Size.{Size}
 use Rattle.questions.specs.Question.{QuestionValue, first_failing, holds, is_count, is_ever}
 use Rattle.questions.specs.Asking.{asking}
-use Rattle.exploration.specs.Explored.{AllCanCome, AllSeen, AreCounted, AreDistinct, CanCome, FailsAt, IsExact, IsFirst, IsLimited, IsReached, IsSafe, LostAt, NoneFails, Says, SomeAt, SomeSeen, come_to, limits_of, system_of}
+use Rattle.exploration.specs.Explored.{AllCanCome, AllSeen, AreCounted, AreDistinct, CanCome, FailsAt, IsExact, IsFirst, IsLimited, IsReached, IsSafe, LeavesOut, LostAt, NoneFails, Says, SomeAt, SomeSeen, come_to, limits_of, system_of}
 use Rattle.exploration.specs.Laws.{ExactLaw, OneAnswerLaw, SaysLaw}
 use Rattle.questions.proofs.Numbers.{asking-earlier, asking-has, asking-is}
 use Rattle.exploration.proofs.Runs.{after-is, after-on}
@@ -136,32 +136,39 @@ module _ (question : QuestionValue) (policy : PolicyValue) (same : State → Sta
     counted = counted (seen g size) all count;
   }
 
-  -- the state for which there was no room is reached, and wasn't seen
-  left : (size : Size) → EndsByStates g limits size → (t : State) × IsReached question policy s (suc size.depth) t × (Contains (seen g size) t → ⊥)
-  left size e = (g.next e.parent e.choice, reaches, unseen)
+  -- the state that wasn't kept is reached by one choice more, and wasn't seen
+  left : (size : Size) → IsOpen g limits size → LeavesOut question policy s (seen g size) size.depth
+  left size o = record {
+    path = e.came.path ++ e.choice ∷ [];
+    choices = All-push (λ i. i < g.choices) e.came.path e.choice e.came.choices e.within;
+    long = long (cases_lt size.depth (length (e.came.path ++ e.choice ∷ [])));
+    out = λ c. unseen (subst (Contains (seen g size)) leads c);
+  }
     where
-      came : List ℕ
-      came = e.came.path
+      e : LeavesOutIn g size
+      e = o.left
 
-      leads : come_to question policy s (e.came.path ++ e.choice ∷ []) ≡ g.next e.parent e.choice
+      leads : come_to question policy s (o.left.came.path ++ o.left.choice ∷ []) ≡ g.next o.left.parent o.left.choice
       leads = sym (after-on question policy same s s e.came.path (e.choice ∷ [])) ∙ ap (λ t. g.next t e.choice) e.came.leads
 
-      reaches : IsReached question policy s (suc size.depth) (g.next e.parent e.choice)
-      reaches = record {
-        path = e.came.path ++ e.choice ∷ [];
-        choices = All-push (λ i. i < g.choices) e.came.path e.choice e.came.choices e.within;
-        few = omega (arith, e.came.few, length-append e.came.path (e.choice ∷ []));
-        leads = leads;
-      }
-
-      unseen : Contains (seen g size) (g.next e.parent e.choice) → ⊥
+      unseen : Contains (seen g size) (g.next o.left.parent o.left.choice) → ⊥
       unseen c =
           let t = g.next e.parent e.choice in
           true≢false (sym (list_any_at (same t) (seen g size) c.0 t c.1 (ap (same t) c.2 ∙ (decides t t).1 refl)) ∙ e.new)
 
-  limited : (size : Size) → EndsByDepth g limits size ⊎ EndsByStates g limits size → IsLimited question policy s (seen g size) size
+      most : length (o.left.came.path ++ o.left.choice ∷ []) ≤ suc size.depth
+      most = omega (arith, e.came.few, length-append e.came.path (e.choice ∷ []))
+
+      long : (size.depth < length (o.left.came.path ++ o.left.choice ∷ [])) ⊎ (length (o.left.came.path ++ o.left.choice ∷ []) ≤ size.depth) → length (o.left.came.path ++ o.left.choice ∷ []) ≡ suc size.depth
+      long (inl l) = omega (arith, l, most)
+      long (inr l) =
+          let path = e.came.path ++ e.choice ∷ [] in
+          let are = All-push (λ i. i < g.choices) e.came.path e.choice e.came.choices e.within in
+          absurd (unseen (subst (Contains (seen g size)) leads (has (seen g size) path (o.within path are l))))
+
+  limited : (size : Size) → EndsByDepth g limits size ⊎ EndsByStates g limits size → IsLimited question policy s size
   limited size (inl e) = inl (e.limit, as-far size.depth e.farthest)
-  limited size (inr e) = let l = left size e in inr (e.limit, l.0, l.1, l.2)
+  limited size (inr e) = inr e.limit
 
   some-seen : (size : Size) (all : List Count) → IsOpen g limits size → AreCounts g (seen g size) counts all → SomeSeen question policy s size all
   some-seen size all o count = record {
@@ -172,6 +179,7 @@ module _ (question : QuestionValue) (policy : PolicyValue) (same : State → Sta
     all = λ path are short. has (seen g size) path (o.within path are short);
     safe = All-weaker (IsSeen g (suc size.depth)) (IsSafe question policy) (λ t is. safe-none question policy t is.holds) (seen g size) o.each;
     limited = limited size o.limit;
+    left = left size o;
     counted = counted (seen g size) all count;
   }
 

@@ -1,18 +1,24 @@
--- The choices that an answer tells.
-use Rattle.std.proofs.Common.{ℕ, ◌<◌, Bool, Some, None, List, length}
-use Rattle.std.proofs.lemmas.List.Elements.{All-nil}
+-- The choices that an answer tells, and those with their steps counted.
+use Rattle.std.proofs.Common.{◌<◌, ◌≤◌, ℕ, zero, suc, Bool, true, false, Some, None, List, [], ◌∷◌, length, get_or, if◌then◌else◌, Result, Ok, Err, IfOk, arith}
+use Rattle.std.specs.List.{All}
+use Rattle.std.proofs.lemmas.List.Elements.{All-nil, All-cons, All-get_or, All-head, All-tail}
 use Rattle.machine_state.specs.State.{State}
 use Rattle.separation_policy.specs.Policy.{PolicyValue}
 use Rattle.breadth_first.specs.Answer.{IsAnswer}
 use Rattle.breadth_first.specs.declared.answer.Explored.{Explored}
 use Rattle.breadth_first.specs.declared.answer.Explored.TheVariants.{Found, Closed, Open}
 use Rattle.breadth_first.specs.declared.answer.Limits.{Limits}
-use Rattle.questions.specs.Choice.{AreChoices}
-use Rattle.questions.specs.Question.{QuestionValue, choices_of, is_count, is_ever}
+use Rattle.quiet_runs.specs.Finding.{is_quiet, quiet_within}
+use Rattle.quiet_runs.specs.Runs.{Watch, after_step}
+use Rattle.questions.specs.declared.choice.Choice.{Choice}
+use Rattle.questions.specs.declared.choice.Choice.TheVariants.{Steps, Run, Tick}
+use Rattle.questions.specs.Choice.{AreChoices, IsChoiceOf, after_choice, choice_at, counted_choice, counted_path}
+use Rattle.questions.specs.Question.{QuestionValue, choices_of, is_count, is_ever, watch_for}
 use Rattle.questions.specs.Asking.{asking}
 use Rattle.exploration.specs.Explored.{limits_of, system_of}
-use Rattle.exploration.specs.Laws.{IsAnswerTo}
+use Rattle.exploration.specs.Laws.{IsAnswerTo, ShownLaw}
 use Rattle.exploration.specs.Shown.{told_path}
+use Rattle.exploration.proofs.Runs.{counted-leads}
 
 -- what an answer tells are choices of the question
 pub told-choices : (question : QuestionValue) (policy : PolicyValue) (same : State → State → Bool) (s : State) (limits : Limits) (evers counts : List ℕ) (answer : Explored)
@@ -25,3 +31,38 @@ told-choices question policy same s limits evers counts (Open size all) is = All
 pub answer-choices : (question : QuestionValue) (policy : PolicyValue) (s : State) (answer : Explored) → IsAnswerTo question policy s answer → AreChoices (choices_of question) (told_path answer)
 answer-choices question policy s answer is =
     told-choices question policy is.same s (limits_of question) (asking is_ever question.properties) (asking is_count question.properties) answer is.searched
+
+-- ---- with their steps counted
+
+pub shown_law : ShownLaw
+shown_law question policy s answer = counted-leads (watch_for question.properties) (choices_of question) s (told_path answer)
+
+-- no more quiet steps follow than are counted
+few-quiet : (most : ℕ) (watch : Watch) (s : State) (hart : ℕ) → quiet_within most watch s hart ≤ most
+unfolding quiet_within
+few-quiet zero watch s hart = omega arith
+few-quiet (suc most) watch s hart = by (is_quiet watch s hart) (few-quiet most watch (after_step s hart) hart)
+  where
+    by : (b : Bool) → quiet_within most watch (after_step s hart) hart ≤ most → (if b then suc (quiet_within most watch (after_step s hart) hart) else 0) ≤ suc most
+    by true few = omega (arith, few)
+    by false few = omega arith
+
+-- so a choice whose steps are counted is one of the machine's
+counted-range : (harts : ℕ) (watch : Watch) (s : State) (choice : Choice) → IsChoiceOf harts choice → IsChoiceOf harts (counted_choice watch s choice)
+counted-range harts watch s (Steps hart times) is = is
+counted-range harts watch s (Run hart) is = (is, omega arith, omega (arith, few-quiet 4096 watch (after_step s hart) hart))
+counted-range harts watch s (Tick hart) is = is
+
+pub path-range : (harts : ℕ) (watch : Watch) (choices : List Choice) (s : State) (path : List ℕ) → All (IsChoiceOf harts) choices → AreChoices choices path → All (IsChoiceOf harts) (counted_path watch choices s path)
+unfolding counted_path
+path-range harts watch choices s [] all are = All-nil (IsChoiceOf harts)
+path-range harts watch choices s (i ∷ path) all are =
+    let first = All-head (λ n. n < length choices) i path are in
+    All-cons (IsChoiceOf harts) (counted_choice watch s (choice_at choices i)) (counted_path watch choices (after_choice watch s (choice_at choices i)) path)
+    (counted-range harts watch s (choice_at choices i) (All-get_or (IsChoiceOf harts) choices i (Tick 0) first all))
+    (path-range harts watch choices (after_choice watch s (choice_at choices i)) path all (All-tail (λ n. n < length choices) i path are))
+
+-- what follows from what is said of the value in an `Ok`
+pub when-ok : {T E : Type 0} (r : Result T E) {P Q : T → Type 0} → IfOk r P → ((x : T) → P x → Q x) → IfOk r Q
+when-ok (Ok x) p f = f x p
+when-ok (Err e) p f = p

@@ -153,15 +153,19 @@ module _ (question : QuestionValue) (policy : PolicyValue) (s : State) where
     pub farthest : SomeAt size.depth
     pub counted : AreCounted states counts
 
-  -- which limit ended a search: there is a state of that depth, whose choices weren't tried; or no room for another state,
-  -- which is reached by one choice more at most
-  abbrev pub IsLimited : List State → Size → Type 0
-  IsLimited states size =
-      ((question.depth ≡ Some size.depth) × SomeAt size.depth)
-      ⊎ ((question.states ≡ Some size.states) × (t : State) × IsReached (suc size.depth) t × (Contains states t → ⊥))
+  -- one choice more than `depth` leads to a state that isn't among these
+  pub record LeavesOut (states : List State) (depth : ℕ) : Type 0 where
+    pub path : List ℕ
+    pub choices : AreOf path
+    pub long : length path ≡ suc depth
+    pub out : Contains states (come_to path) → ⊥
+
+  -- which limit ended a search: that of choices, where no fewer lead to some state, or that of states
+  abbrev pub IsLimited : Size → Type 0
+  IsLimited size = ((question.depth ≡ Some size.depth) × SomeAt size.depth) ⊎ (question.states ≡ Some size.states)
 
   -- these are states that are reached, each once, and all within `depth` choices are among them; no `never` fails in any of
-  -- them, the counts are theirs, and a limit ended the search
+  -- them, the counts are theirs, a limit ended the search, and some state that a choice more leads to isn't among them
   pub record SomeSeen (size : Size) (counts : List Count) : Type 0 where
     pub states : List State
     pub number : length states ≡ size.states
@@ -169,7 +173,8 @@ module _ (question : QuestionValue) (policy : PolicyValue) (s : State) where
     pub each : All (IsReached (suc size.depth)) states
     pub all : (path : List ℕ) → AreOf path → length path ≤ size.depth → Contains states (come_to path)
     pub safe : All (IsSafe question policy) states
-    pub limited : IsLimited states size
+    pub limited : IsLimited size
+    pub left : LeavesOut states size.depth
     pub counted : AreCounted states counts
 
   -- what an answer says of the states to which the question's choices lead

@@ -1,5 +1,5 @@
 -- The theorem of explorations: what the answer of a search says of the machine. (Own.)
-use Rattle.std.specs.Prelude.{◌≡◌, ◌<◌, Bool, List, []}
+use Rattle.std.specs.Prelude.{◌≡◌, ◌<◌, Bool, List, [], flat_map}
 use Rattle.std.specs.List.{All}
 use Rattle.machine_state.specs.declared.event.Event.{Event}
 use Rattle.machine_state.specs.Machine.{hart_in}
@@ -10,9 +10,11 @@ use Rattle.breadth_first.specs.System.{IsEquality}
 use Rattle.breadth_first.specs.Answer.{IsAnswer}
 use Rattle.breadth_first.specs.Told.{told}
 use Rattle.breadth_first.specs.declared.answer.Explored.{Explored}
+use Rattle.questions.specs.Choice.{counted_events}
 use Rattle.questions.specs.Question.{QuestionValue, is_count, is_ever}
 use Rattle.questions.specs.Asking.{asking}
-use Rattle.exploration.specs.Explored.{IsExact, IsSafe, NoneFails, Says, limits_of, system_of}
+use Rattle.exploration.specs.Explored.{IsExact, IsSafe, NoneFails, Says, come_to, limits_of, system_of}
+use Rattle.exploration.specs.Shown.{shown_of, told_path}
 
 -- an answer of a search for a question, from a state on, in which states are compared by some equality of states
 pub record IsAnswerTo (question : QuestionValue) (policy : PolicyValue) (s : State) (answer : Explored) : Type 0 where
@@ -39,3 +41,8 @@ OneAnswerLaw = (question : QuestionValue) (policy : PolicyValue) (s : State) (a 
 abbrev pub EveryEventLaw : Type 0
 EveryEventLaw = (question : QuestionValue) (policy : PolicyValue) (s : State) → question.choices ≡ [] → NoneFails question policy s
     → (es : List Event) → All (λ e. hart_in e < question.sizes.harts) es → IsSafe question policy (run_state s es)
+
+-- Shown: the events of the choices that an answer tells lead to the state that it tells.
+abbrev pub ShownLaw : Type 0
+ShownLaw = (question : QuestionValue) (policy : PolicyValue) (s : State) (answer : Explored)
+    → run_state s (flat_map counted_events (shown_of question s answer)) ≡ come_to question policy s (told_path answer)

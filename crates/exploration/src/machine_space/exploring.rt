@@ -1,7 +1,9 @@
 //! The search for a question, from a machine on.
 ghost use Rattle.std.specs.Prelude.{◌≡◌, IfOk, OnOk};
+ghost use Rattle.std.specs.List.{All};
 ghost use Rattle.object_store.specs.Store.{sizes_of};
 ghost use Rattle.machine_state.specs.State.{state_of};
+ghost use Rattle.questions.specs.Choice.{IsChoiceOf};
 ghost use Rattle.exploration.specs.Laws.{IsAnswerTo};
 ghost use Rattle.exploration.specs.Shown.{shown_of, told_path};
 
@@ -43,6 +45,7 @@ pub fn explore_machine<'a, W: Watcher, L: Ledger>(
         IsAnswerTo question.now policy.now (state_of machine) answered.explored) }
     ensures shown { IfOk result (λ answered.
         answered.shown.items ≡ shown_of question.now (state_of machine) answered.explored) }
+    ensures range { IfOk result (λ answered. All (IsChoiceOf question.now.sizes.harts) answered.shown.items) }
 {
     let mut space = space_of(alloc, machine, question, policy, fetches)?;
     answer_of(alloc, &mut space, question, watcher)
@@ -62,6 +65,7 @@ fn answer_of<'a, W: Watcher, L: Ledger>(
         IsAnswerTo space.old.question space.old.policy space.old.start answered.explored) }
     ensures shown { IfOk result (λ answered.
         answered.shown.items ≡ shown_of question.now space.old.start answered.explored) }
+    ensures range { IfOk result (λ answered. All (IsChoiceOf question.now.sizes.harts) answered.shown.items) }
 {
     let explored = search(alloc, space, question, watcher)?;
     let shown = space.counted_from_start(question, told_path(&explored))?;

@@ -1,7 +1,8 @@
 //! The states of a machine as a space.
 ghost use Rattle.std.specs.Prelude.{◌≡◌, IfOk};
+ghost use Rattle.std.specs.List.{All};
 ghost use Rattle.object_store.specs.Store.{sizes_of};
-ghost use Rattle.questions.specs.Choice.{AreChoices, counted_path};
+ghost use Rattle.questions.specs.Choice.{AreChoices, IsChoiceOf, counted_path};
 ghost use Rattle.questions.specs.Question.{choices_of, watch_for};
 
 use breadth_first::Space;
@@ -58,8 +59,9 @@ impl<'a, L: Ledger> MachineSpace<'a, L> {
     ) -> Result<Vec<Choice>, OutOfMemory>
         requires sizes { sizes_of self.old.start.store ≡ question.now.sizes }
         requires path { AreChoices (choices_of question.now) path.now }
-        ensures { IfOk result (λ counted. counted.items ≡ counted_path
+        ensures counted { IfOk result (λ counted. counted.items ≡ counted_path
             (watch_for question.now.properties) (choices_of question.now) self.old.start path.now) }
+        ensures range { IfOk result (λ counted. All (IsChoiceOf question.now.sizes.harts) counted.items) }
     {
         let choices = question.choices(self.alloc)?;
         let watched = watched_in(self.alloc, question.properties())?;

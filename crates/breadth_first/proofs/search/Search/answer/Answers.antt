@@ -1,9 +1,7 @@
-use Rattle.std.proofs.Common.{◌≡◌, ◌*◌, length, map, sym, ap, ◌∙◌, subst, arith}
+use Rattle.std.proofs.Common.{◌≡◌, ◌*◌, length, map, sym, ap, ◌∙◌, subst, arith, inl}
 use Rattle.std.proofs.lemmas.List.{length-map}
-use Rattle.breadth_first.specs.Answer.{before}
 use Rattle.breadth_first.specs.Progress.{Ends, AreEdges}
 use Rattle.breadth_first.proofs.Keys.{keeps-refl}
-use Rattle.breadth_first.proofs.Endings.{open-depth}
 use Rattle.breadth_first.proofs.Telling.{within-opened, closed-seen, room-of, ok-then, on-ok-any}
 use Rattle.breadth_first.proofs.search.Search.answer.Goals as goal
 
@@ -11,7 +9,6 @@ pub told_stop-requires-clause-stopped : goal.told_stop-requires-clause-stopped
 told_stop-requires-clause-stopped g c =
     let keys = c.args.self.now.seen.keys in
     let states = map (g.S.Space.means c.args.space.now) keys in
-    let many : c.len-states.result ≡ length states = c.len-states.ensures.len ∙ sym (length-map keys (g.S.Space.means c.args.space.now)) in
     let ends = subst (Ends (g.S.Space.system c.args.space.now) c.args.limits states) c.in-Stopped.is c.requires.ends in
     ends.0
 
@@ -19,52 +16,11 @@ pub told_stop-requires-clause-below : goal.told_stop-requires-clause-below
 told_stop-requires-clause-below g c =
     let keys = c.args.self.now.seen.keys in
     let states = map (g.S.Space.means c.args.space.now) keys in
-    let many : c.len-states.result ≡ length states = c.len-states.ensures.len ∙ sym (length-map keys (g.S.Space.means c.args.space.now)) in
     let ends = subst (Ends (g.S.Space.system c.args.space.now) c.args.limits states) c.in-Stopped.is c.requires.ends in
     ends.1
 
 pub tried_of-tried-requires : goal.tried_of-tried-requires
-tried_of-tried-requires g c =
-    let keys = c.args.self.now.seen.keys in
-    let states = map (g.S.Space.means c.args.space.now) keys in
-    let many : c.len-states.result ≡ length states = c.len-states.ensures.len ∙ sym (length-map keys (g.S.Space.means c.args.space.now)) in
-    let ends = subst (Ends (g.S.Space.system c.args.space.now) c.args.limits states) c.in-TooFar.is c.requires.ends in
-    omega (arith, ends.2, ends.0.last, many, c.len-states.ensures.len, c.requires.searched.few)
-
-pub tried_of-tried-requires-in-AllReached : goal.tried_of-tried-requires-in-AllReached
-tried_of-tried-requires-in-AllReached g c = omega (arith, c.len-states.ensures.len, c.requires.searched.few)
-
-pub told_open-requires-clause-opened : goal.told_open-requires-clause-opened
-told_open-requires-clause-opened g c =
-    let keys = c.args.self.now.seen.keys in
-    let states = map (g.S.Space.means c.args.space.now) keys in
-    let many : c.len-states.result ≡ length states = c.len-states.ensures.len ∙ sym (length-map keys (g.S.Space.means c.args.space.now)) in
-    let ends = subst (Ends (g.S.Space.system c.args.space.now) c.args.limits states) c.in-TooFar.is c.requires.ends in
-    within-opened (g.S.Space.system c.args.space.now) (g.met.S.Space.decides c.args.space.now) c.in-TooFar.depth states ends.0
-
-pub told_open-requires-clause-ended : goal.told_open-requires-clause-ended
-told_open-requires-clause-ended g c =
-    let keys = c.args.self.now.seen.keys in
-    let states = map (g.S.Space.means c.args.space.now) keys in
-    let many : c.len-states.result ≡ length states = c.len-states.ensures.len ∙ sym (length-map keys (g.S.Space.means c.args.space.now)) in
-    let ends = subst (Ends (g.S.Space.system c.args.space.now) c.args.limits states) c.in-TooFar.is c.requires.ends in
-    let tried : c.tried_of-tried.result ≡ before (g.S.Space.system c.args.space.now) c.in-TooFar.depth * (g.S.Space.system c.args.space.now).choices =
-    c.tried_of-tried.ensures.value ∙ ap (λ n. c.in-TooFar.tried * n) c.choices.ensures ∙ ap (λ n. n * (g.S.Space.system c.args.space.now).choices) ends.2 in
-    let told = open-depth (g.S.Space.system c.args.space.now) (g.met.S.Space.decides c.args.space.now) c.args.limits (record { states = c.len-states.result; tried = c.tried_of-tried.result; depth = c.in-TooFar.depth }) states many c.args.self.now.origins.items c.requires.searched.came ends.0 ends.1 tried
-    (room-of c.args.limits.states keys c.len-states.result c.len-states.ensures.len c.requires.searched.room) in
-    told.0
-
-pub told_open-requires-clause-seen : goal.told_open-requires-clause-seen
-told_open-requires-clause-seen g c =
-    let keys = c.args.self.now.seen.keys in
-    let states = map (g.S.Space.means c.args.space.now) keys in
-    let many : c.len-states.result ≡ length states = c.len-states.ensures.len ∙ sym (length-map keys (g.S.Space.means c.args.space.now)) in
-    let ends = subst (Ends (g.S.Space.system c.args.space.now) c.args.limits states) c.in-TooFar.is c.requires.ends in
-    let tried : c.tried_of-tried.result ≡ before (g.S.Space.system c.args.space.now) c.in-TooFar.depth * (g.S.Space.system c.args.space.now).choices =
-    c.tried_of-tried.ensures.value ∙ ap (λ n. c.in-TooFar.tried * n) c.choices.ensures ∙ ap (λ n. n * (g.S.Space.system c.args.space.now).choices) ends.2 in
-    let told = open-depth (g.S.Space.system c.args.space.now) (g.met.S.Space.decides c.args.space.now) c.args.limits (record { states = c.len-states.result; tried = c.tried_of-tried.result; depth = c.in-TooFar.depth }) states many c.args.self.now.origins.items c.requires.searched.came ends.0 ends.1 tried
-    (room-of c.args.limits.states keys c.len-states.result c.len-states.ensures.len c.requires.searched.room) in
-    told.1
+tried_of-tried-requires g c = omega (arith, c.len-states.ensures.len, c.requires.searched.few)
 
 pub told_closed-requires-clause-opened : goal.told_closed-requires-clause-opened
 told_closed-requires-clause-opened g c =
@@ -80,8 +36,8 @@ told_closed-requires-clause-ended g c =
     let states = map (g.S.Space.means c.args.space.now) keys in
     let many : c.len-states.result ≡ length states = c.len-states.ensures.len ∙ sym (length-map keys (g.S.Space.means c.args.space.now)) in
     let ends = subst (Ends (g.S.Space.system c.args.space.now) c.args.limits states) c.in-AllReached.is c.requires.ends in
-    let tried : c.tried_of-tried-in-AllReached.result ≡ c.len-states.result * (g.S.Space.system c.args.space.now).choices = c.tried_of-tried-in-AllReached.ensures.value ∙ ap (λ n. c.len-states.result * n) c.choices-in-AllReached.ensures in
-    let told = closed-seen (g.S.Space.system c.args.space.now) (g.met.S.Space.decides c.args.space.now) c.args.limits (record { states = c.len-states.result; tried = c.tried_of-tried-in-AllReached.result; depth = c.in-AllReached.depth }) states many c.args.self.now.origins.items c.requires.searched.came ends.0 ends.1 tried ends.2
+    let tried : c.tried_of-tried.result ≡ c.len-states.result * (g.S.Space.system c.args.space.now).choices = c.tried_of-tried.ensures.value ∙ ap (λ n. c.len-states.result * n) c.choices.ensures in
+    let told = closed-seen (g.S.Space.system c.args.space.now) (g.met.S.Space.decides c.args.space.now) c.args.limits (record { states = c.len-states.result; tried = c.tried_of-tried.result; depth = c.in-AllReached.depth }) states many c.args.self.now.origins.items c.requires.searched.came ends.0 ends.1 tried ends.2
     (room-of c.args.limits.states keys c.len-states.result c.len-states.ensures.len c.requires.searched.room) in
     told.0
 
@@ -91,8 +47,8 @@ told_closed-requires-clause-seen g c =
     let states = map (g.S.Space.means c.args.space.now) keys in
     let many : c.len-states.result ≡ length states = c.len-states.ensures.len ∙ sym (length-map keys (g.S.Space.means c.args.space.now)) in
     let ends = subst (Ends (g.S.Space.system c.args.space.now) c.args.limits states) c.in-AllReached.is c.requires.ends in
-    let tried : c.tried_of-tried-in-AllReached.result ≡ c.len-states.result * (g.S.Space.system c.args.space.now).choices = c.tried_of-tried-in-AllReached.ensures.value ∙ ap (λ n. c.len-states.result * n) c.choices-in-AllReached.ensures in
-    let told = closed-seen (g.S.Space.system c.args.space.now) (g.met.S.Space.decides c.args.space.now) c.args.limits (record { states = c.len-states.result; tried = c.tried_of-tried-in-AllReached.result; depth = c.in-AllReached.depth }) states many c.args.self.now.origins.items c.requires.searched.came ends.0 ends.1 tried ends.2
+    let tried : c.tried_of-tried.result ≡ c.len-states.result * (g.S.Space.system c.args.space.now).choices = c.tried_of-tried.ensures.value ∙ ap (λ n. c.len-states.result * n) c.choices.ensures in
+    let told = closed-seen (g.S.Space.system c.args.space.now) (g.met.S.Space.decides c.args.space.now) c.args.limits (record { states = c.len-states.result; tried = c.tried_of-tried.result; depth = c.in-AllReached.depth }) states many c.args.self.now.origins.items c.requires.searched.came ends.0 ends.1 tried ends.2
     (room-of c.args.limits.states keys c.len-states.result c.len-states.ensures.len c.requires.searched.room) in
     told.1
 
@@ -119,3 +75,15 @@ pub returns-in-AllReached-clause-keeps : goal.returns-in-AllReached-clause-keeps
 returns-in-AllReached-clause-keeps g c =
     let s = c.args.space.now in
     on-ok-any c.told_closed.result (keeps-refl (g.S.Space.system s) (g.S.Space.held s) (g.S.Space.means s))
+
+pub told_open-requires-clause-left : goal.told_open-requires-clause-left
+told_open-requires-clause-left g c =
+    let states = map (g.S.Space.means c.args.space.now) c.args.self.now.seen.keys in
+    let ends = subst (Ends (g.S.Space.system c.args.space.now) c.args.limits states) c.in-TooFar.is c.requires.ends in
+    ends.2
+
+pub told_open-requires-clause-limit : goal.told_open-requires-clause-limit
+told_open-requires-clause-limit g c =
+    let states = map (g.S.Space.means c.args.space.now) c.args.self.now.seen.keys in
+    let ends = subst (Ends (g.S.Space.system c.args.space.now) c.args.limits states) c.in-TooFar.is c.requires.ends in
+    inl (ends.1, ends.0)

@@ -1,17 +1,15 @@
-use Rattle.std.proofs.Common.{◌≡◌, ℕ, suc, ◌+◌, ◌*◌, ◌<◌, ◌≤◌, length, map, take, All, Option, IfSome, Some, None, refl, sym, ap, ◌∙◌, subst, arith, rules, true≢false}
+use Rattle.std.proofs.Common.{◌≡◌, ℕ, suc, ◌+◌, ◌*◌, ◌<◌, ◌≤◌, length, map, take, All, Option, IfSome, IfOk, Some, None, refl, sym, ap, ◌∙◌, subst, arith, true≢false}
 use Rattle.std.proofs.lemmas.List.{length-map, take_all}
 use Rattle.breadth_first.specs.Answer.{before}
 use Rattle.breadth_first.specs.Marks.{judged}
 use Rattle.breadth_first.specs.Order.{reached}
-use Rattle.breadth_first.specs.Progress.{GoesOn, AreWithin, KeepsEdges}
+use Rattle.breadth_first.specs.Progress.{GoesOn, AreWithin, Ends, KeepsEdges}
 use Rattle.breadth_first.specs.declared.search.Stop.{Stop}
-use Rattle.breadth_first.specs.declared.levels.End.TheVariants.{AllReached, TooFar, Stopped}
+use Rattle.breadth_first.specs.declared.levels.End.TheVariants.{AllReached, Stopped}
 use Rattle.breadth_first.proofs.Keys.{keeps-refl, keeps-trans}
 use Rattle.breadth_first.proofs.Steps.{edges-none, within-start, within-more, all-reached, below-limit, searched-same, safe-same, goes_on-same}
+use Rattle.breadth_first.proofs.Telling.{on-ok}
 use Rattle.breadth_first.proofs.search.Search.walk.Goals as goal
-
-far-all : {d e : ℕ} {tried : ℕ} → TooFar d tried ≡ AllReached e → ⊥
-far-all e = cc
 
 stopped-all : {d e : ℕ} {stop : Stop} → Stopped d stop ≡ AllReached e → ⊥
 stopped-all e = cc
@@ -52,17 +50,6 @@ level-requires-clause-reached g c = c.levels.invariant.within.are ∙ ap (λ t. 
 
 pub level-requires-clause-safe : goal.level-requires-clause-safe
 level-requires-clause-safe g c = safe-same (map (g.S.Space.means c.levels.space) c.levels.self.seen.keys) c.levels.invariant.keeps.system c.levels.invariant.within.safe
-
-pub returns-then-is_met-clause-keeps : goal.returns-then-is_met-clause-keeps
-returns-then-is_met-clause-keeps g c = c.levels.invariant.keeps
-
-pub returns-then-is_met-clause-searched : goal.returns-then-is_met-clause-searched
-returns-then-is_met-clause-searched g c = c.levels.invariant.searched
-
-pub returns-then-is_met-clause-ends : goal.returns-then-is_met-clause-ends
-returns-then-is_met-clause-ends g c =
-    let met : c.args.limits.depth ≡ Some c.levels.depth = search rules in
-    (c.levels.invariant.within, met, c.levels.invariant.from)
 
 pub returns-in-Some-clause-keeps : goal.returns-in-Some-clause-keeps
 returns-in-Some-clause-keeps g c = keeps-trans c.levels.invariant.keeps c.in_ok-stop.ensures.keeps
@@ -127,17 +114,11 @@ returns-then-len-to-clause-ends g c =
     let none = subst (GoesOn (g.S.Space.system c.args.space.now) c.args.limits.states c.levels.depth (map (g.S.Space.means c.level.new.space) c.level.new.self.seen.keys)) c.in_default.is went in
     let was : c.len-to.result ≡ length (map (g.S.Space.means c.levels.space) c.levels.self.seen.keys) = c.len-to.ensures.len ∙ sym (length-map c.levels.self.seen.keys (g.S.Space.means c.levels.space)) in
     let now : c.len.result ≡ length (map (g.S.Space.means c.level.new.space) c.level.new.self.seen.keys) = c.len.ensures.len ∙ sym (length-map c.level.new.self.seen.keys (g.S.Space.means c.level.new.space)) in
-    all-reached (g.S.Space.system c.args.space.now) (g.met.S.Space.decides c.args.space.now) c.args.limits c.levels.depth (map (g.S.Space.means c.levels.space) c.levels.self.seen.keys) (map (g.S.Space.means c.level.new.space) c.level.new.self.seen.keys) c.levels.invariant.within none (sym now ∙ c.if-len-to.true ∙ was) below
+    all-reached (g.S.Space.system c.args.space.now) (g.met.S.Space.decides c.args.space.now) c.args.limits c.levels.depth (map (g.S.Space.means c.levels.space) c.levels.self.seen.keys) (map (g.S.Space.means c.level.new.space) c.level.new.self.seen.keys) c.levels.invariant.within none (sym now ∙ c.if-len-to.true ∙ was) c.levels.invariant.below
 
 pub level-requires-clause-edges : goal.level-requires-clause-edges
 level-requires-clause-edges g c =
     subst (λ t. KeepsEdges t (map (g.S.Space.means c.levels.space) c.levels.self.seen.keys) (c.levels.from * t.choices) c.levels.self.edges.keeps c.levels.self.edges.ends.items) (sym c.levels.invariant.keeps.system) c.levels.invariant.edges
-
-pub returns-then-is_met-clause-keeping : goal.returns-then-is_met-clause-keeping
-returns-then-is_met-clause-keeping g c = c.levels.invariant.keeping
-
-pub returns-then-is_met-clause-edges : goal.returns-then-is_met-clause-edges
-returns-then-is_met-clause-edges g c d e = absurd (far-all e)
 
 pub returns-in-Some-clause-keeping : goal.returns-in-Some-clause-keeping
 returns-in-Some-clause-keeping g c = c.in_ok-stop.ensures.keeping ∙ c.levels.invariant.keeping
@@ -166,9 +147,6 @@ pub level-requires-clause-marks : goal.level-requires-clause-marks
 level-requires-clause-marks g c =
     c.levels.invariant.marks ∙ ap (λ t. judged t c.args.tests.now (take c.levels.from (map (g.S.Space.means c.levels.space) c.levels.self.seen.keys))) (sym c.levels.invariant.keeps.system)
 
-pub returns-then-is_met-clause-marks : goal.returns-then-is_met-clause-marks
-returns-then-is_met-clause-marks g c d e = absurd (far-all e)
-
 pub returns-in-Some-clause-marks : goal.returns-in-Some-clause-marks
 returns-in-Some-clause-marks g c d e = absurd (stopped-all e)
 
@@ -179,3 +157,50 @@ returns-then-len-to-clause-marks g c d _ =
     c.in_ok-stop.ensures.marks c.in_default.is
     ∙ ap (λ t. judged t c.args.tests.now (take (length c.levels.self.seen.keys) news)) c.levels.invariant.keeps.system
     ∙ ap (judged (g.S.Space.system c.args.space.now) c.args.tests.now) (take_all (length c.levels.self.seen.keys) news past)
+
+pub last_level-requires-clause-searched : goal.last_level-requires-clause-searched
+last_level-requires-clause-searched g c = searched-same c.levels.invariant.keeps.system c.levels.invariant.searched
+
+pub last_level-requires-clause-from : goal.last_level-requires-clause-from
+last_level-requires-clause-from g c = c.levels.invariant.from ∙ ap (λ t. before t c.levels.depth) (sym c.levels.invariant.keeps.system)
+
+pub last_level-requires-clause-within : goal.last_level-requires-clause-within
+last_level-requires-clause-within g c =
+    subst (λ t. AreWithin t c.levels.depth (map (g.S.Space.means c.levels.space) c.levels.self.seen.keys)) (sym c.levels.invariant.keeps.system) c.levels.invariant.within
+
+pub last_level-requires-clause-edges : goal.last_level-requires-clause-edges
+last_level-requires-clause-edges g c =
+    subst (λ t. KeepsEdges t (map (g.S.Space.means c.levels.space) c.levels.self.seen.keys) (c.levels.from * t.choices) c.levels.self.edges.keeps c.levels.self.edges.ends.items) (sym c.levels.invariant.keeps.system) c.levels.invariant.edges
+
+pub last_level-requires-clause-tests : goal.last_level-requires-clause-tests
+last_level-requires-clause-tests g c = subst (λ t. All (λ n. n < t.tests) c.args.tests.now) (sym c.levels.invariant.keeps.system) c.requires.tests
+
+pub last_level-requires-clause-marks : goal.last_level-requires-clause-marks
+last_level-requires-clause-marks g c =
+    c.levels.invariant.marks ∙ ap (λ t. judged t c.args.tests.now (take c.levels.from (map (g.S.Space.means c.levels.space) c.levels.self.seen.keys))) (sym c.levels.invariant.keeps.system)
+
+pub returns-then-is_met-clause-keeps : goal.returns-then-is_met-clause-keeps
+returns-then-is_met-clause-keeps g c = on-ok c.last_level.result c.last_level.ensures.keeps (λ k. keeps-trans c.levels.invariant.keeps k)
+
+pub returns-then-is_met-clause-searched : goal.returns-then-is_met-clause-searched
+returns-then-is_met-clause-searched g c = on-ok c.last_level.result c.last_level.ensures.searched (searched-same (sym c.levels.invariant.keeps.system))
+
+pub returns-then-is_met-clause-ends : goal.returns-then-is_met-clause-ends
+returns-then-is_met-clause-ends g c =
+    let states = map (g.S.Space.means c.last_level.new.space) c.last_level.new.self.seen.keys in
+    subst (λ t. IfOk c.last_level.result (Ends t c.args.limits states)) c.levels.invariant.keeps.system c.last_level.ensures.ends
+
+pub returns-then-is_met-clause-keeping : goal.returns-then-is_met-clause-keeping
+returns-then-is_met-clause-keeping g c = on-ok c.last_level.result c.last_level.ensures.keeping (λ e. e ∙ c.levels.invariant.keeping)
+
+pub returns-then-is_met-clause-edges : goal.returns-then-is_met-clause-edges
+returns-then-is_met-clause-edges g c =
+    let news = c.last_level.new.self in
+    subst (λ t. IfOk c.last_level.result (λ end. (d : ℕ) → end ≡ AllReached d → KeepsEdges t (map (g.S.Space.means c.last_level.new.space) news.seen.keys) (length news.seen.keys * t.choices) news.edges.keeps news.edges.ends.items))
+    c.levels.invariant.keeps.system c.last_level.ensures.edges
+
+pub returns-then-is_met-clause-marks : goal.returns-then-is_met-clause-marks
+returns-then-is_met-clause-marks g c =
+    let states = map (g.S.Space.means c.last_level.new.space) c.last_level.new.self.seen.keys in
+    subst (λ t. IfOk c.last_level.result (λ end. (d : ℕ) → end ≡ AllReached d → c.last_level.new.lists.items ≡ judged t c.args.tests.now states))
+    c.levels.invariant.keeps.system c.last_level.ensures.marks

@@ -1,0 +1,58 @@
+use Rattle.std.proofs.Common.{◌≡◌, ◌≤◌, ◌*◌, length, map, Some, sym, ap, ◌∙◌, subst, arith, rules}
+use Rattle.std.proofs.lemmas.List.{length-map}
+use Rattle.breadth_first.specs.Progress.{GoesOn, KeepsEdges}
+use Rattle.breadth_first.specs.declared.search.Stop.TheVariants.{Bad, NoRoom}
+use Rattle.breadth_first.proofs.Endings.{left-at, none-bad}
+use Rattle.breadth_first.proofs.Fronts.{front-length}
+use Rattle.breadth_first.proofs.Order.{reached-step}
+use Rattle.breadth_first.proofs.Steps.{all-reached, limit-within}
+use Rattle.breadth_first.proofs.search.Search.last_level.Goals as goal
+
+pub unreachable-requires : goal.unreachable-requires
+unreachable-requires g c =
+    let s = g.S.Space.system c.args.space.now in
+    let old = map (g.S.Space.means c.args.space.now) c.args.self.now.seen.keys in
+    let new = map (g.S.Space.means c.level.new.space) c.level.new.self.seen.keys in
+    let few : length new ≤ length old = omega (arith, c.in_ok-stop.ensures.searched.room, c.len-to.ensures.len, length-map c.args.self.now.seen.keys (g.S.Space.means c.args.space.now), length-map c.level.new.self.seen.keys (g.S.Space.means c.level.new.space)) in
+    let is : c.in_ok-stop.stop ≡ Some (Bad c.in-Some-Bad.field-0-0) = search rules in
+    none-bad s (g.met.S.Space.decides c.args.space.now) (Some c.len-to.result) c.args.depth c.in-Some-Bad.field-0-0 old new c.requires.within few
+    (subst (GoesOn s (Some c.len-to.result) c.args.depth new) is c.in_ok-stop.ensures.goes_on)
+
+pub returns-in-None-clause-ends : goal.returns-in-None-clause-ends
+returns-in-None-clause-ends g c =
+    let s = g.S.Space.system c.args.space.now in
+    let old = map (g.S.Space.means c.args.space.now) c.args.self.now.seen.keys in
+    let new = map (g.S.Space.means c.level.new.space) c.level.new.self.seen.keys in
+    let none = subst (GoesOn s (Some c.len-to.result) c.args.depth new) c.in-None.is c.in_ok-stop.ensures.goes_on in
+    let few : length new ≤ length old = omega (arith, c.in_ok-stop.ensures.searched.room, c.len-to.ensures.len, length-map c.args.self.now.seen.keys (g.S.Space.means c.args.space.now), length-map c.level.new.self.seen.keys (g.S.Space.means c.level.new.space)) in
+    let same : length new ≡ length old = omega (arith, few, front-length (reached-step s (g.met.S.Space.decides c.args.space.now) c.args.depth), ap length none.0, ap length c.requires.within.are) in
+    all-reached s (g.met.S.Space.decides c.args.space.now) c.args.limits c.args.depth old new c.requires.within none same (limit-within c.args.limits.depth c.args.depth c.requires.met)
+
+pub returns-in-None-clause-edges : goal.returns-in-None-clause-edges
+returns-in-None-clause-edges g c d e keeps =
+    let s = g.S.Space.system c.args.space.now in
+    let old = map (g.S.Space.means c.args.space.now) c.args.self.now.seen.keys in
+    let new = map (g.S.Space.means c.level.new.space) c.level.new.self.seen.keys in
+    let none = subst (GoesOn s (Some c.len-to.result) c.args.depth new) c.in-None.is c.in_ok-stop.ensures.goes_on in
+    let few : length new ≤ length old = omega (arith, c.in_ok-stop.ensures.searched.room, c.len-to.ensures.len, length-map c.args.self.now.seen.keys (g.S.Space.means c.args.space.now), length-map c.level.new.self.seen.keys (g.S.Space.means c.level.new.space)) in
+    let same : length c.args.self.now.seen.keys ≡ length c.level.new.self.seen.keys =
+    omega (
+      arith,
+      few,
+      front-length (reached-step s (g.met.S.Space.decides c.args.space.now) c.args.depth),
+      ap length none.0,
+      ap length c.requires.within.are,
+      length-map c.args.self.now.seen.keys (g.S.Space.means c.args.space.now),
+      length-map c.level.new.self.seen.keys (g.S.Space.means c.level.new.space),
+    ) in
+    subst (λ n. KeepsEdges s new (n * s.choices) c.level.new.self.edges.keeps c.level.new.self.edges.ends.items) same (c.in_ok-stop.ensures.edges c.in-None.is) keeps
+
+pub returns-in-Some-NoRoom-clause-ends : goal.returns-in-Some-NoRoom-clause-ends
+returns-in-Some-NoRoom-clause-ends g c =
+    let s = g.S.Space.system c.args.space.now in
+    let old = map (g.S.Space.means c.args.space.now) c.args.self.now.seen.keys in
+    let new = map (g.S.Space.means c.level.new.space) c.level.new.self.seen.keys in
+    let is : c.in_ok-stop.stop ≡ Some (NoRoom c.in-Some-NoRoom.at c.in-Some-NoRoom.choice) = search rules in
+    let stop = subst (GoesOn s (Some c.len-to.result) c.args.depth new) is c.in_ok-stop.ensures.goes_on in
+    let was : c.len-to.result ≡ length old = c.len-to.ensures.len ∙ sym (length-map c.args.self.now.seen.keys (g.S.Space.means c.args.space.now)) in
+    left-at s (g.met.S.Space.decides c.args.space.now) c.args.limits c.len-to.result c.args.depth c.in-Some-NoRoom.at c.in-Some-NoRoom.choice old new c.requires.within was c.requires.met stop
