@@ -36,7 +36,7 @@ class Search:
             line, text = self.places.after(process, choice)
             self.tried += 1
             if text not in self.numbers:
-                if len(self.depths) == self.question.states:
+                if len(self.depths) == self.question.states or self.depths[number] == self.question.depth:
                     return False
                 self.places.add(number, process, line)
                 if self.judge(text, self.depths[number] + 1):
@@ -57,7 +57,7 @@ class Search:
         if self.judge(self.places.first_text(), 0):
             return self.led("found", self.found, 0)
         while number < len(self.depths):
-            if self.depths[number] == self.question.depth or not self.open(number):
+            if not self.open(number):
                 break
             number += 1
             self.say(min(number, len(self.depths) - 1))

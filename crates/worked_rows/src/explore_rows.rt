@@ -272,9 +272,9 @@ never faulted 0
 count pc 0 4
 =>
 count 11 states=1 depth=1
-open states=2 tried=1 depth=1
+open states=2 tried=2 depth=1
 ==
-11 none: as far as there are states is not known to be all
+0 none: as far as there are states, they are all
 coyotos 1
 machine 1 1 0 1 1 0
 code 0 000 addi x1 x0 5
@@ -285,7 +285,7 @@ end
 may step 0
 depth 2
 =>
-open states=3 tried=2 depth=2
+holds states=3 tried=3 depth=2
 ==
 0 none: one choice farther it is
 coyotos 1
@@ -311,7 +311,7 @@ end
 depth 0
 ever halted
 =>
-open states=1 tried=0 depth=0
+open states=1 tried=1 depth=0
 ==
 11 none: no room for a third state
 coyotos 1
