@@ -60,6 +60,7 @@ question_fault_name questions.BadOrder = codes "BadOrder"
 question_fault_name questions.BadRegister = codes "BadRegister"
 question_fault_name questions.BadOffset = codes "BadOffset"
 question_fault_name questions.BadLimit = codes "BadLimit"
+question_fault_name questions.BadTerm = codes "BadTerm"
 question_fault_name (questions.OfPolicy fault) = policy_fault_name fault
 
 -- a fault of a listing

@@ -204,6 +204,7 @@ fn question_fault_name(fault: QuestionFault) -> &'static str
         QuestionFault::BadRegister => "BadRegister",
         QuestionFault::BadOffset => "BadOffset",
         QuestionFault::BadLimit => "BadLimit",
+        QuestionFault::BadTerm => "BadTerm",
         QuestionFault::OfPolicy(fault) => policy_fault_name(fault),
     }
 }

@@ -111,7 +111,7 @@ pub enum QuestionFault {
     BadByte,
     /// The first word is that of no line of a question.
     UnknownQuestion,
-    /// What may come is neither `step` nor `tick`.
+    /// What may come is neither `step` nor `run` nor `tick`.
     UnknownEvent,
     /// The first word of an atom is that of none.
     UnknownAtom,
@@ -133,10 +133,12 @@ pub enum QuestionFault {
     BadOrder,
     /// The number is that of no register.
     BadRegister,
-    /// The offset is behind the page's last, or no multiple of 4.
+    /// The offset is behind the page's last, or no multiple of how many bytes are read.
     BadOffset,
     /// No state would be kept.
     BadLimit,
+    /// There is no term where one has to stand, or it stands in 16 others.
+    BadTerm,
     /// What is wrong with a line of the policy.
     OfPolicy(PolicyFault),
 }
