@@ -1,31 +1,33 @@
 -- What a property says of two states that are the same for a question.
-use Rattle.std.proofs.Common.{◌≡◌, ◌∙◌, ℕ, ◌==◌, ◌&&◌, nat_le, Bool, true, not, if◌then◌else◌, List, [], ◌∷◌, length, get_or, flat_map, refl, sym, ap, ap₂, inl, inr}
+use Rattle.std.proofs.Common.{◌≡◌, ◌∙◌, ℕ, ◌==◌, ◌&&◌, ◌||◌, nat_le, Bool, true, not, if◌then◌else◌, List, [], ◌∷◌, length, get_or, flat_map, refl, sym, ap, ap₂, inl, inr}
 use Rattle.std.proofs.lemmas.Bool.{cases_lt}
 use Rattle.std.proofs.lemmas.List.{get_or_past}
 use Rattle.cap_format.specs.declared.kind.CapKind.{CapKind}
 use Rattle.cap_format.specs.Capability.{Capability}
+use Rattle.endpoint_objects.specs.declared.endpoint.Endpoint.{Endpoint}
+use Rattle.endpoint_objects.specs.Endpoint.{empty_endpoint}
+use Rattle.process_objects.specs.declared.state.State.{State as ProcessState}
 use Rattle.process_objects.specs.Process.{ProcessValue, reg_of}
-use Rattle.object_store.specs.Store.{page_at}
-use Rattle.schedules.specs.Queues.{QueuesValue, stands_in}
+use Rattle.object_store.specs.Store.{Items, count_of, page_at}
+use Rattle.schedules.specs.Queues.{QueuesValue, sleepers_of, stands_in}
 use Rattle.machine_state.specs.State.{State, process}
 use Rattle.independence.specs.Rewrite.{SameButData}
 use Rattle.object_store.specs.Places.{places_in}
 use Rattle.separation_policy.specs.Policy.{PolicyValue}
 use Rattle.quiet_runs.specs.Finding.{is_below, runs}
-use Rattle.quiet_runs.specs.Reaching.{names}
 use Rattle.questions.specs.declared.asks.Asks.TheVariants.{Never}
 use Rattle.questions.specs.declared.atom.Atom.{Atom}
 use Rattle.questions.specs.declared.atom.Condition.{Condition}
 use Rattle.questions.specs.declared.atom.Condition.TheVariants as conditions
-use Rattle.questions.specs.Atom.{all_hold, atom_holds, condition_holds, crosses, has_word, is_asleep, is_faulted, is_faulted_by, is_receiving, is_stuck}
-use Rattle.questions.specs.Question.{PropertyValue, pages_in, processes_in, property_of}
+use Rattle.questions.specs.declared.operand.Operand.{Operand}
+use Rattle.questions.specs.declared.operand.Operand.TheVariants as operands
+use Rattle.questions.specs.Term.{TermValue, compares, number_in, operand_pages, operand_processes, operand_value, operated, read_by, term_value}
+use Rattle.questions.specs.Term.TermValue.{Leaf, Node}
+use Rattle.questions.specs.Atom.{accepts_some, all_hold, atom_holds, condition_holds, crosses, has_word, is_asleep, is_faulted, is_faulted_by, is_held, is_receiving, is_stuck, waits_for}
+use Rattle.questions.specs.Question.{PropertyValue, any_holds, pages_in, processes_in, property_of, watched_by}
 use Rattle.interleavings.specs.Laws.{SeesOnlyLaw}
 use Rattle.interleavings.proofs.Watched.{stands-alone, stands-first, stands-of, stands-second}
 use Rattle.interleavings.proofs.Alike.{caps-same, crosses-same}
-
--- the processes and the pages at which all conditions of a list of atoms look
-abbrev looked_at : (Condition → List ℕ) → List Atom → List ℕ
-looked_at of atoms = flat_map (λ (atom : Atom). of atom.condition) atoms
 
 module _ (policy : PolicyValue) (s t : State) (same : SameButData s t) where
   -- all processes of a list are the same in both
@@ -35,6 +37,29 @@ module _ (policy : PolicyValue) (s t : State) (same : SameButData s t) where
   -- all pages of a list are
   abbrev SamePages : List ℕ → Type 0
   SamePages ns = (n : ℕ) → stands_in ns n ≡ true → page_at s.store n ≡ page_at t.store n
+
+  -- an operand is the same number in both: no payload and no count of destructions is among what may differ
+  operand-same : (operand : Operand) → SameProcesses (operand_processes operand) → SamePages (operand_pages operand)
+      → operand_value s operand ≡ operand_value t operand
+  operand-same (operands.Number value) processes pages = refl
+  operand-same (operands.Register p i) processes pages = ap (λ (q : ProcessValue). reg_of q i) (processes p (stands-alone p))
+  operand-same (operands.Pc p) processes pages = ap (λ (q : ProcessValue). q.pc) (processes p (stands-alone p))
+  operand-same (operands.Bytes width page offset) processes pages =
+      ap (λ (bytes : List ℕ). number_in bytes offset width) (pages page (stands-alone page))
+  operand-same (operands.Age kind n) processes pages = ap (λ (items : Items). count_of items kind n) same.items
+  operand-same (operands.Payload e) processes pages =
+      ap (λ (endpoints : List Endpoint). (get_or endpoints e empty_endpoint).payload) same.endpoints
+
+  -- so is a term
+  term-same : (term : TermValue) → SameProcesses (read_by operand_processes term) → SamePages (read_by operand_pages term)
+      → term_value s term ≡ term_value t term
+  term-same (Leaf operand) processes pages = operand-same operand processes pages
+  term-same (Node operator a b) processes pages =
+      ap₂ (operated operator)
+      (term-same a (λ p stands. processes p (stands-first (read_by operand_processes a) (read_by operand_processes b) p stands))
+      (λ n stands. pages n (stands-first (read_by operand_pages a) (read_by operand_pages b) n stands)))
+      (term-same b (λ p stands. processes p (stands-second (read_by operand_processes a) (read_by operand_processes b) p stands))
+      (λ n stands. pages n (stands-second (read_by operand_pages a) (read_by operand_pages b) n stands)))
 
   condition-same : (condition : Condition) → SameProcesses (processes_in condition) → SamePages (pages_in condition)
       → condition_holds (crosses policy s) condition s ≡ condition_holds (crosses policy t) condition t
@@ -49,8 +74,19 @@ module _ (policy : PolicyValue) (s t : State) (same : SameButData s t) where
       ap (λ (q : ProcessValue). nat_le first q.pc && nat_le q.pc last) (processes p (stands-alone p))
   condition-same (conditions.Register p i value) processes pages = ap (λ (q : ProcessValue). reg_of q i == value) (processes p (stands-alone p))
   condition-same (conditions.Word page offset value) processes pages = ap (λ (bytes : List ℕ). has_word bytes offset value) (pages page (stands-alone page))
-  condition-same (conditions.Holds kind n of named) processes pages =
-      ap (λ (held : CapKind → ℕ → ℕ → Capability). is_below (λ i. names (held kind n i) of named) (places_in kind)) (caps-same s t same)
+  condition-same (conditions.Waits p e) processes pages =
+      let q = same.processes p in
+      ap₂ (λ (endpoints : List Endpoint) (state : ProcessState). waits_for (get_or endpoints e empty_endpoint).id state) same.endpoints q.state
+  condition-same (conditions.Accepts p) processes pages = let q = same.processes p in ap accepts_some q.state
+  condition-same (conditions.SleepsOn p on) processes pages = ap (λ (q : QueuesValue). stands_in (sleepers_of q on) p) same.queues
+  condition-same (conditions.Holds kind n holding) processes pages =
+      ap (λ (held : CapKind → ℕ → ℕ → Capability). is_below (λ i. is_held holding (held kind n i)) (places_in kind)) (caps-same s t same)
+  condition-same (conditions.Compares comparison a b) processes pages =
+      ap₂ (compares comparison)
+      (term-same a (λ p stands. processes p (stands-first (read_by operand_processes a) (read_by operand_processes b) p stands))
+      (λ n stands. pages n (stands-first (read_by operand_pages a) (read_by operand_pages b) n stands)))
+      (term-same b (λ p stands. processes p (stands-second (read_by operand_processes a) (read_by operand_processes b) p stands))
+      (λ n stands. pages n (stands-second (read_by operand_pages a) (read_by operand_pages b) n stands)))
   condition-same conditions.Crossing processes pages = crosses-same s t same policy
 
   atom-same : (atom : Atom) → SameProcesses (processes_in atom.condition) → SamePages (pages_in atom.condition)
@@ -58,15 +94,26 @@ module _ (policy : PolicyValue) (s t : State) (same : SameButData s t) where
   atom-same atom processes pages = ap (λ (b : Bool). if atom.negated then not b else b) (condition-same atom.condition processes pages)
 
   -- all atoms of a list hold in both or not
-  all-same : (atoms : List Atom) → SameProcesses (looked_at processes_in atoms) → SamePages (looked_at pages_in atoms)
+  all-same : (atoms : List Atom) → SameProcesses (watched_by processes_in atoms) → SamePages (watched_by pages_in atoms)
       → all_hold (crosses policy s) s atoms ≡ all_hold (crosses policy t) t atoms
   all-same [] processes pages = refl
   all-same (atom ∷ atoms) processes pages =
       ap₂ (λ (a b : Bool). a && b)
-      (atom-same atom (λ p stands. processes p (stands-first (processes_in atom.condition) (looked_at processes_in atoms) p stands))
-      (λ n stands. pages n (stands-first (pages_in atom.condition) (looked_at pages_in atoms) n stands)))
-      (all-same atoms (λ p stands. processes p (stands-second (processes_in atom.condition) (looked_at processes_in atoms) p stands))
-      (λ n stands. pages n (stands-second (pages_in atom.condition) (looked_at pages_in atoms) n stands)))
+      (atom-same atom (λ p stands. processes p (stands-first (processes_in atom.condition) (watched_by processes_in atoms) p stands))
+      (λ n stands. pages n (stands-first (pages_in atom.condition) (watched_by pages_in atoms) n stands)))
+      (all-same atoms (λ p stands. processes p (stands-second (processes_in atom.condition) (watched_by processes_in atoms) p stands))
+      (λ n stands. pages n (stands-second (pages_in atom.condition) (watched_by pages_in atoms) n stands)))
+
+  -- all atoms of one of some groups do
+  any-same : (groups : List (List Atom)) → SameProcesses (flat_map (watched_by processes_in) groups) → SamePages (flat_map (watched_by pages_in) groups)
+      → any_holds (crosses policy s) s groups ≡ any_holds (crosses policy t) t groups
+  any-same [] processes pages = refl
+  any-same (group ∷ groups) processes pages =
+      ap₂ (λ (a b : Bool). a || b)
+      (all-same group (λ p stands. processes p (stands-first (watched_by processes_in group) (flat_map (watched_by processes_in) groups) p stands))
+      (λ n stands. pages n (stands-first (watched_by pages_in group) (flat_map (watched_by pages_in) groups) n stands)))
+      (any-same groups (λ p stands. processes p (stands-second (watched_by processes_in group) (flat_map (watched_by processes_in) groups) p stands))
+      (λ n stands. pages n (stands-second (watched_by pages_in group) (flat_map (watched_by pages_in) groups) n stands)))
 
 -- a property that isn't there
 abbrev no_property : PropertyValue
@@ -74,11 +121,11 @@ no_property = property_of 0 Never []
 
 pub sees_only_law : SeesOnlyLaw
 sees_only_law question policy n s t same = elim (cases_lt n (length question.properties)) [
-  | inl there ↦ all-same policy s t same.same (get_or question.properties n no_property).atoms
-      (λ p stands. same.processes p (stands-of (λ (property : PropertyValue). looked_at processes_in property.atoms) question.properties n no_property p there stands))
-      (λ m stands. same.pages m (stands-of (λ (property : PropertyValue). looked_at pages_in property.atoms) question.properties n no_property m there stands))
+  | inl there ↦ any-same policy s t same.same (get_or question.properties n no_property).groups
+      (λ p stands. same.processes p (stands-of (λ (property : PropertyValue). flat_map (watched_by processes_in) property.groups) question.properties n no_property p there stands))
+      (λ m stands. same.pages m (stands-of (λ (property : PropertyValue). flat_map (watched_by pages_in) property.groups) question.properties n no_property m there stands))
   | inr past ↦
       let none = get_or_past question.properties n no_property past in
-      ap (λ (property : PropertyValue). all_hold (crosses policy s) s property.atoms) none
-      ∙ sym (ap (λ (property : PropertyValue). all_hold (crosses policy t) t property.atoms) none)
+      ap (λ (property : PropertyValue). any_holds (crosses policy s) s property.groups) none
+      ∙ sym (ap (λ (property : PropertyValue). any_holds (crosses policy t) t property.groups) none)
 ]

@@ -1,135 +1,145 @@
--- The words of a line, parted at each `and`.
+-- The words of a line, parted at each separator.
 use Rattle.std.proofs.Common.{◌≡◌, ℕ, suc, ◌+◌, ◌<◌, ◌==◌, Bool, true, false, if◌then◌else◌, List, [], ◌∷◌, ◌++◌, length, take, drop, get_or, Result, Ok, Err, refl, sym, ◌∙◌, ap, ap₂, arith, append-nil, append_assoc}
+use Rattle.std.specs.Prelude.{bytes_eq}
 use Rattle.std.proofs.Math.Dec.{eqb-suc-suc, eqb-zero-suc}
 use Rattle.std.proofs.Math.Seq.{drop-length}
 use Rattle.std.proofs.lemmas.List.{drop_more}
-use Rattle.object_store.specs.declared.sizes.Sizes.{Sizes}
 use Rattle.listing_read.specs.Faults.{◌>>=◌}
-use Rattle.questions.specs.declared.atom.Atom.{Atom}
 use Rattle.listing_read.specs.declared.object_fault.QuestionFault.{QuestionFault}
 use Rattle.question_lines.specs.declared.fault.Untaken.{Untaken}
 use Rattle.question_lines.specs.declared.fault.Untaken.TheVariants.{Refused, OutOfMemory}
-use Rattle.question_lines.specs.AtomLine.{IsPushed, atom_from, atoms_from, before_and, each_atom, is_and, parted}
+use Rattle.question_lines.specs.Parts.{IsPushed, before, each_part, parted}
 use Rattle.question_lines.specs.QuestionLine.{IsUntaken}
 
--- ---- how many words stand before the first `and`
+module _ (separator : List ℕ) where
+  -- ---- how many words stand before the first separator
 
-before_and-cons : (word : List ℕ) (words : List (List ℕ)) → before_and (word ∷ words) ≡ (if is_and word then 0 else suc (before_and words))
-unfolding before_and
-before_and-cons word words = refl
+  before-cons : (word : List ℕ) (words : List (List ℕ)) → before separator (word ∷ words) ≡ (if bytes_eq word separator then 0 else suc (before separator words))
+  unfolding before
+  before-cons word words = refl
 
-pub before_and-nil : before_and [] ≡ 0
-unfolding before_and
-before_and-nil = refl
+  pub before-nil : before separator [] ≡ 0
+  unfolding before
+  before-nil = refl
 
-module _ (words : List (List ℕ)) (i : ℕ) (within : i < length words) where
-  -- this word is one
-  pub before_and-here : is_and (get_or words i []) ≡ true → before_and (drop i words) ≡ 0
-  before_and-here here =
-      ap before_and (drop_more words i [] within) ∙ before_and-cons (get_or words i []) (drop (i + 1) words)
-      ∙ ap (λ (b : Bool). if b then 0 else suc (before_and (drop (i + 1) words))) here
+  module _ (words : List (List ℕ)) (i : ℕ) (within : i < length words) where
+    at-drop : before separator (drop i words) ≡ (if bytes_eq (get_or words i []) separator then 0 else suc (before separator (drop (i + 1) words)))
+    at-drop = ap (before separator) (drop_more words i [] within) ∙ before-cons (get_or words i []) (drop (i + 1) words)
 
-  -- this word is none
-  pub before_and-further : is_and (get_or words i []) ≡ false → before_and (drop i words) ≡ suc (before_and (drop (i + 1) words))
-  before_and-further other =
-      ap before_and (drop_more words i [] within) ∙ before_and-cons (get_or words i []) (drop (i + 1) words)
-      ∙ ap (λ (b : Bool). if b then 0 else suc (before_and (drop (i + 1) words))) other
+    -- this word is one
+    pub before-here : bytes_eq (get_or words i []) separator ≡ true → before separator (drop i words) ≡ 0
+    before-here here = at-drop ∙ ap (λ (b : Bool). if b then 0 else suc (before separator (drop (i + 1) words))) here
 
--- behind all words there is none
-pub before_and-past : (words : List (List ℕ)) (i : ℕ) → i ≡ length words → before_and (drop i words) ≡ 0
-before_and-past words i end = ap (λ n. before_and (drop n words)) end ∙ ap before_and (drop-length words) ∙ before_and-nil
+    -- this word is none
+    pub before-further : bytes_eq (get_or words i []) separator ≡ false → before separator (drop i words) ≡ suc (before separator (drop (i + 1) words))
+    before-further other = at-drop ∙ ap (λ (b : Bool). if b then 0 else suc (before separator (drop (i + 1) words))) other
 
--- ---- the first part
+  -- behind all words there is none
+  pub before-past : (words : List (List ℕ)) (i : ℕ) → i ≡ length words → before separator (drop i words) ≡ 0
+  before-past words i end = ap (λ n. before separator (drop n words)) end ∙ ap (before separator) (drop-length words) ∙ before-nil
 
--- what is left behind the first `and`, where there is one
-abbrev behind_and : List (List ℕ) → ℕ → List (List (List ℕ))
-behind_and words k = if k == length words then [] else parted [] (drop (suc k) words)
+  -- ---- the first part
 
-parted-cons : (group : List (List ℕ)) (word : List ℕ) (words : List (List ℕ))
-    → parted group (word ∷ words) ≡ (if is_and word then group ∷ [] else []) ++ parted (if is_and word then [] else group ++ word ∷ []) words
-unfolding parted
-parted-cons group word words = refl
+  -- what is left behind the first separator, where there is one
+  abbrev behind_first : List (List ℕ) → ℕ → List (List (List ℕ))
+  behind_first words k = if k == length words then [] else parted separator [] (drop (suc k) words)
 
-parted-nil : (group : List (List ℕ)) → parted group [] ≡ group ∷ []
-unfolding parted
-parted-nil group = refl
+  parted-cons : (part : List (List ℕ)) (word : List ℕ) (words : List (List ℕ))
+      → parted separator part (word ∷ words)
+      ≡ (if bytes_eq word separator then part ∷ [] else []) ++ parted separator (if bytes_eq word separator then [] else part ++ word ∷ []) words
+  unfolding parted
+  parted-cons part word words = refl
 
-parted-first : (group words : List (List ℕ)) → parted group words ≡ (group ++ take (before_and words) words) ∷ behind_and words (before_and words)
-parted-first group [] =
-    parted-nil group
-    ∙ ap₂ (λ (g : List (List ℕ)) (rest : List (List (List ℕ))). g ∷ rest) (sym (append-nil group)) refl
-    ∙ ap (λ k. (group ++ take k []) ∷ behind_and [] k) (sym before_and-nil)
-parted-first group (word ∷ words) = parted-cons group word words ∙ by (parted-first (group ++ word ∷ []) words) (is_and word) refl
-  where
-    whole : ℕ → List (List (List ℕ))
-    whole k = (group ++ take k (word ∷ words)) ∷ behind_and (word ∷ words) k
+  parted-nil : (part : List (List ℕ)) → parted separator part [] ≡ part ∷ []
+  unfolding parted
+  parted-nil part = refl
 
-    at : (b : Bool) → is_and word ≡ b → before_and (word ∷ words) ≡ (if b then 0 else suc (before_and words))
-    at b is = before_and-cons word words ∙ ap (λ (b : Bool). if b then 0 else suc (before_and words)) is
-
-    by : parted (group ++ word ∷ []) words ≡ ((group ++ word ∷ []) ++ take (before_and words) words) ∷ behind_and words (before_and words)
-        → (b : Bool) → is_and word ≡ b → (if b then group ∷ [] else []) ++ parted (if b then [] else group ++ word ∷ []) words
-        ≡ (group ++ take (before_and (word ∷ words)) (word ∷ words)) ∷ behind_and (word ∷ words) (before_and (word ∷ words))
-    by further true is =
-        ap (λ g. g ∷ parted [] words) (sym (append-nil group))
-        ∙ ap (λ (b : Bool). (group ++ []) ∷ (if b then [] else parted [] words)) (sym (eqb-zero-suc (length words)))
-        ∙ ap whole (sym (at true is))
-    by further false is =
-        further
-        ∙ ap (λ g. g ∷ behind_and words (before_and words)) (append_assoc group (word ∷ []) (take (before_and words) words))
-        ∙ ap (λ (b : Bool). (group ++ (word ∷ take (before_and words) words)) ∷ (if b then [] else parted [] (drop (suc (before_and words)) words))) (sym (eqb-suc-suc (before_and words) (length words)))
-        ∙ ap whole (sym (at false is))
-
--- ---- atom by atom
-
--- atoms, and behind them those that are read, unless there is a fault
-abbrev pub behind : List Atom → Result (List Atom) QuestionFault → Result (List Atom) QuestionFault
-behind done (Ok atoms) = Ok (done ++ atoms)
-behind done (Err fault) = Err fault
-
--- an atom in front of those that are read
-abbrev in_front : Atom → Result (List Atom) QuestionFault → Result (List Atom) QuestionFault
-in_front atom read = read >>= (λ atoms. Ok (atom ∷ atoms))
-
-behind-in_front : (done : List Atom) (atom : Atom) (read : Result (List Atom) QuestionFault) → behind done (in_front atom read) ≡ behind (done ++ atom ∷ []) read
-behind-in_front done atom (Ok atoms) = ap Ok (sym (append_assoc done (atom ∷ []) atoms))
-behind-in_front done atom (Err fault) = refl
-
-module _ (sizes : Sizes) (words : List (List ℕ)) (old : List Atom) where
-  -- the first part, and what is left behind it
-  first_part : (k : ℕ) → k ≡ before_and words → behind old (atoms_from sizes words) ≡ behind old (each_atom sizes (take k words ∷ behind_and words k))
-  first_part k at =
-      ap (λ groups. behind old (each_atom sizes groups)) (parted-first [] words)
-      ∙ ap (λ k. behind old (each_atom sizes (take k words ∷ behind_and words k))) (sym at)
-
-  -- it is an atom
-  pub atoms-pushed : (k : ℕ) (new : List Atom) → k ≡ before_and words → IsPushed (atom_from sizes (take k words)) old new
-      → behind old (atoms_from sizes words) ≡ (if k == length words then Ok new else behind new (atoms_from sizes (drop (k + 1) words)))
-  atoms-pushed k new at pushed = first_part k at ∙ by (atom_from sizes (take k words)) pushed refl (k == length words)
+  parted-first : (part words : List (List ℕ))
+      → parted separator part words ≡ (part ++ take (before separator words) words) ∷ behind_first words (before separator words)
+  parted-first part [] =
+      parted-nil part
+      ∙ ap₂ (λ (p : List (List ℕ)) (rest : List (List (List ℕ))). p ∷ rest) (sym (append-nil part)) refl
+      ∙ ap (λ k. (part ++ take k []) ∷ behind_first [] k) (sym before-nil)
+  parted-first part (word ∷ words) = parted-cons part word words ∙ by (parted-first (part ++ word ∷ []) words) (bytes_eq word separator) refl
     where
-      of_rest : Result Atom QuestionFault → List (List (List ℕ)) → Result (List Atom) QuestionFault
-      of_rest read rest = read >>= (λ atom. in_front atom (each_atom sizes rest))
+      whole : ℕ → List (List (List ℕ))
+      whole k = (part ++ take k (word ∷ words)) ∷ behind_first (word ∷ words) k
 
-      last_one : (atom : Atom) → new ≡ old ++ atom ∷ [] → (last : Bool)
-          → behind old (in_front atom (each_atom sizes (if last then [] else parted [] (drop (suc k) words))))
-          ≡ (if last then Ok new else behind new (atoms_from sizes (drop (k + 1) words)))
-      last_one atom is true = ap Ok (sym is)
-      last_one atom is false =
-          let further : suc k ≡ k + 1 = omega arith in
-          behind-in_front old atom (atoms_from sizes (drop (suc k) words))
-          ∙ ap (λ done. behind done (atoms_from sizes (drop (suc k) words))) (sym is)
-          ∙ ap (λ n. behind new (atoms_from sizes (drop n words))) further
+      at : (b : Bool) → bytes_eq word separator ≡ b → before separator (word ∷ words) ≡ (if b then 0 else suc (before separator words))
+      at b is = before-cons word words ∙ ap (λ (b : Bool). if b then 0 else suc (before separator words)) is
 
-      by : (read : Result Atom QuestionFault) → IsPushed read old new → atom_from sizes (take k words) ≡ read → (last : Bool)
-          → behind old (of_rest (atom_from sizes (take k words)) (if last then [] else parted [] (drop (suc k) words)))
-          ≡ (if last then Ok new else behind new (atoms_from sizes (drop (k + 1) words)))
-      by (Ok atom) is read last =
-          ap (λ r. behind old (of_rest r (if last then [] else parted [] (drop (suc k) words)))) read ∙ last_one atom is last
-      by (Err fault) is read last = absurd is
+      by : parted separator (part ++ word ∷ []) words ≡ ((part ++ word ∷ []) ++ take (before separator words) words) ∷ behind_first words (before separator words)
+          → (b : Bool) → bytes_eq word separator ≡ b
+          → (if b then part ∷ [] else []) ++ parted separator (if b then [] else part ++ word ∷ []) words
+          ≡ (part ++ take (before separator (word ∷ words)) (word ∷ words)) ∷ behind_first (word ∷ words) (before separator (word ∷ words))
+      by further true is =
+          ap (λ p. p ∷ parted separator [] words) (sym (append-nil part))
+          ∙ ap (λ (b : Bool). (part ++ []) ∷ (if b then [] else parted separator [] words)) (sym (eqb-zero-suc (length words)))
+          ∙ ap whole (sym (at true is))
+      by further false is =
+          further
+          ∙ ap (λ p. p ∷ behind_first words (before separator words)) (append_assoc part (word ∷ []) (take (before separator words) words))
+          ∙ ap (λ (b : Bool). (part ++ (word ∷ take (before separator words) words)) ∷ (if b then [] else parted separator [] (drop (suc (before separator words)) words)))
+          (sym (eqb-suc-suc (before separator words) (length words)))
+          ∙ ap whole (sym (at false is))
 
-  -- it is none
-  pub atoms-untaken : (k : ℕ) (untaken : Untaken) → k ≡ before_and words → IsUntaken (atom_from sizes (take k words)) untaken
-      → IsUntaken (behind old (atoms_from sizes words)) untaken
-  atoms-untaken k (Refused fault) at is =
-      first_part k at ∙ ap (λ (r : Result Atom QuestionFault). behind old (r >>= (λ atom. in_front atom (each_atom sizes (behind_and words k))))) is
-  atoms-untaken k OutOfMemory at is = tt
+-- ---- part by part
+
+module _ {A : Type 0} where
+  -- what was said, and behind it what is read, unless there is a fault
+  abbrev pub behind : List A → Result (List A) QuestionFault → Result (List A) QuestionFault
+  behind done (Ok all) = Ok (done ++ all)
+  behind done (Err fault) = Err fault
+
+  -- what is said in front of what is read
+  abbrev in_front : A → Result (List A) QuestionFault → Result (List A) QuestionFault
+  in_front said read = read >>= (λ all. Ok (said ∷ all))
+
+  behind-in_front : (done : List A) (said : A) (read : Result (List A) QuestionFault) → behind done (in_front said read) ≡ behind (done ++ said ∷ []) read
+  behind-in_front done said (Ok all) = ap Ok (sym (append_assoc done (said ∷ []) all))
+  behind-in_front done said (Err fault) = refl
+
+  module _ (read : List (List ℕ) → Result A QuestionFault) (separator : List ℕ) where
+    -- what all parts say
+    abbrev pub all_parts : List (List ℕ) → Result (List A) QuestionFault
+    all_parts words = each_part read (parted separator [] words)
+
+    module _ (words : List (List ℕ)) (old : List A) where
+      -- the first part, and what is left behind it
+      first_part : (k : ℕ) → k ≡ before separator words
+          → behind old (all_parts words) ≡ behind old (each_part read (take k words ∷ behind_first separator words k))
+      first_part k at =
+          ap (λ parts. behind old (each_part read parts)) (parted-first separator [] words)
+          ∙ ap (λ k. behind old (each_part read (take k words ∷ behind_first separator words k))) (sym at)
+
+      -- it says something
+      pub part-pushed : (k : ℕ) (new : List A) → k ≡ before separator words → IsPushed (read (take k words)) old new
+          → behind old (all_parts words) ≡ (if k == length words then Ok new else behind new (all_parts (drop (k + 1) words)))
+      part-pushed k new at pushed = first_part k at ∙ by (read (take k words)) pushed refl (k == length words)
+        where
+          of_rest : Result A QuestionFault → List (List (List ℕ)) → Result (List A) QuestionFault
+          of_rest said rest = said >>= (λ said. in_front said (each_part read rest))
+
+          last_one : (said : A) → new ≡ old ++ said ∷ [] → (last : Bool)
+              → behind old (in_front said (each_part read (if last then [] else parted separator [] (drop (suc k) words))))
+              ≡ (if last then Ok new else behind new (all_parts (drop (k + 1) words)))
+          last_one said is true = ap Ok (sym is)
+          last_one said is false =
+              let further : suc k ≡ k + 1 = omega arith in
+              behind-in_front old said (all_parts (drop (suc k) words))
+              ∙ ap (λ done. behind done (all_parts (drop (suc k) words))) (sym is)
+              ∙ ap (λ n. behind new (all_parts (drop n words))) further
+
+          by : (first : Result A QuestionFault) → IsPushed first old new → read (take k words) ≡ first → (last : Bool)
+              → behind old (of_rest (read (take k words)) (if last then [] else parted separator [] (drop (suc k) words)))
+              ≡ (if last then Ok new else behind new (all_parts (drop (k + 1) words)))
+          by (Ok said) is first last =
+              ap (λ r. behind old (of_rest r (if last then [] else parted separator [] (drop (suc k) words)))) first ∙ last_one said is last
+          by (Err fault) is first last = absurd is
+
+      -- it has a fault, or memory is wanting
+      pub part-untaken : (k : ℕ) (untaken : Untaken) → k ≡ before separator words → IsUntaken (read (take k words)) untaken
+          → IsUntaken (behind old (all_parts words)) untaken
+      part-untaken k (Refused fault) at is =
+          first_part k at ∙ ap (λ (r : Result A QuestionFault). behind old (r >>= (λ said. in_front said (each_part read (behind_first separator words k))))) is
+      part-untaken k OutOfMemory at is = tt

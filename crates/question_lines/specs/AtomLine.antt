@@ -1,17 +1,24 @@
 -- The atoms of a line: what each says, or its first fault. (Own.)
-use Rattle.std.specs.Prelude.{◌≡◌, ℕ, suc, ◌==◌, ◌||◌, nat_le, Bool, true, false, if◌then◌else◌, List, [], ◌∷◌, ◌++◌, length, drop, bytes_eq, codes, Result, Ok, Err}
+use Rattle.std.specs.Prelude.{ℕ, ◌==◌, ◌&&◌, ◌||◌, nat_le, Bool, true, false, if◌then◌else◌, List, [], length, drop, bytes_eq, codes, Option, Some, None, Result, Ok, Err}
+use Rattle.cap_format.specs.declared.kind.CapKind.{CapKind}
 use Rattle.cap_format.specs.declared.kind.CapKind.TheVariants as kinds
 use Rattle.coy_text.specs.Words.{field}
 use Rattle.object_store.specs.declared.sizes.Sizes.{Sizes}
 use Rattle.listing_read.specs.Faults.{◌>>=◌, ensured}
 use Rattle.confine_check.specs.Fields.{kind_of}
 use Rattle.questions.specs.declared.atom.Atom.{Atom}
+use Rattle.questions.specs.declared.operand.Width.TheVariants.{Word}
+use Rattle.questions.specs.declared.operand.Comparison.{Comparison}
+use Rattle.questions.specs.declared.operand.Comparison.TheVariants.{Same, Below, Most, Less}
+use Rattle.questions.specs.declared.atom.Holding.TheVariants.{Object, Writable, Kind}
 use Rattle.questions.specs.declared.atom.Condition.{Condition}
 use Rattle.questions.specs.declared.atom.Condition.TheVariants as conditions
 use Rattle.listing_read.specs.declared.object_fault.QuestionFault.{QuestionFault}
 use Rattle.listing_read.specs.declared.object_fault.QuestionFault.TheVariants.{UnknownAtom, WrongWords, BadOrder}
 use Rattle.question_lines.specs.Faults.{as_question}
-use Rattle.question_lines.specs.Fields.{code_from, object_from, offset_from, register_from, value_from}
+use Rattle.question_lines.specs.Fields.{code_from, object_from, offset_in, register_from, value_from}
+use Rattle.question_lines.specs.Parts.{each_part, parted}
+use Rattle.question_lines.specs.TermLine.{term_at}
 
 -- ---- conditions
 
@@ -87,19 +94,93 @@ unfoldable pub word_atom : Sizes → List (List ℕ) → Result Condition Questi
 word_atom sizes words = do
   _ ← ensured (length words == 4) WrongWords
   page ← object_from sizes kinds.Page (field words 1)
-  offset ← offset_from (field words 2)
+  offset ← offset_in Word (field words 2)
   value ← value_from (field words 3)
   Ok (conditions.Word page offset value)
 
--- `holds KIND N KIND M`
-unfoldable pub holds_atom : Sizes → List (List ℕ) → Result Condition QuestionFault
-holds_atom sizes words = do
-  _ ← ensured (length words == 5) WrongWords
+-- `waits P E`
+unfoldable pub waits_atom : Sizes → List (List ℕ) → Result Condition QuestionFault
+waits_atom sizes words = do
+  _ ← ensured (length words == 3) WrongWords
+  process ← process_from sizes words
+  endpoint ← object_from sizes kinds.Endpoint (field words 2)
+  Ok (conditions.Waits process endpoint)
+
+-- `accepts P`
+unfoldable pub accepts_atom : Sizes → List (List ℕ) → Result Condition QuestionFault
+accepts_atom sizes words = do
+  _ ← ensured (length words == 2) WrongWords
+  process ← process_from sizes words
+  Ok (conditions.Accepts process)
+
+-- `asks P Q`
+unfoldable pub asks_atom : Sizes → List (List ℕ) → Result Condition QuestionFault
+asks_atom sizes words = do
+  _ ← ensured (length words == 3) WrongWords
+  process ← process_from sizes words
+  on ← object_from sizes kinds.Process (field words 2)
+  Ok (conditions.SleepsOn process on)
+
+-- ANY: a kind of which no object is named
+unfoldable pub any_from : List ℕ → Result CapKind QuestionFault
+any_from word =
+    if bytes_eq word (codes "range") then Ok kinds.Range
+    else (if bytes_eq word (codes "sysctl") then Ok kinds.SysCtl
+    else (if bytes_eq word (codes "kernlog") then Ok kinds.KernLog
+    else (if bytes_eq word (codes "schedule") then Ok kinds.Schedule else Err WrongWords)))
+
+-- `holds KIND N ANY`: another word in the place of ANY wants more behind it
+unfoldable pub holds_any_atom : Sizes → List (List ℕ) → Result Condition QuestionFault
+holds_any_atom sizes words = do
+  of ← any_from (field words 3)
+  kind ← as_question (kind_of (field words 1))
+  number ← object_from sizes kind (field words 2)
+  Ok (conditions.Holds kind number (Kind of))
+
+-- the words end with `writable`
+unfoldable pub is_writable : List (List ℕ) → Bool
+is_writable words = (length words == 6) && bytes_eq (field words 5) (codes "writable")
+
+-- `holds KIND N KIND M` or `holds KIND N KIND M writable`
+unfoldable pub holds_object_atom : Sizes → List (List ℕ) → Result Condition QuestionFault
+holds_object_atom sizes words = do
+  _ ← ensured (length words == 5 || is_writable words) WrongWords
   kind ← as_question (kind_of (field words 1))
   number ← object_from sizes kind (field words 2)
   of ← as_question (kind_of (field words 3))
   named ← object_from sizes of (field words 4)
-  Ok (conditions.Holds kind number of named)
+  Ok (conditions.Holds kind number (if length words == 5 then Object of named else Writable of named))
+
+-- `holds ..`
+unfoldable pub holds_atom : Sizes → List (List ℕ) → Result Condition QuestionFault
+holds_atom sizes words = if length words == 4 then holds_any_atom sizes words else holds_object_atom sizes words
+
+-- what a word asks of two terms
+unfoldable pub comparison_of : List ℕ → Option Comparison
+comparison_of word =
+    if bytes_eq word (codes "same") then Some Same
+    else (if bytes_eq word (codes "below") then Some Below
+    else (if bytes_eq word (codes "most") then Some Most
+    else (if bytes_eq word (codes "less") then Some Less else None)))
+
+-- how many terms may stand in one another, the outermost among them
+abbrev pub deepest_terms : ℕ
+deepest_terms = 16
+
+-- `same TERM TERM` and its like
+unfoldable pub compares_atom : Sizes → Comparison → List (List ℕ) → Result Condition QuestionFault
+compares_atom sizes comparison words = do
+  first ← term_at sizes words deepest_terms 1
+  second ← term_at sizes words deepest_terms first.1
+  _ ← ensured (second.1 == length words) WrongWords
+  Ok (conditions.Compares comparison first.0 second.0)
+
+-- a condition on what a process waits for, by its first word
+unfoldable pub waiting_condition : Sizes → List (List ℕ) → Result Condition QuestionFault
+waiting_condition sizes words =
+    if bytes_eq (field words 0) (codes "waits") then waits_atom sizes words
+    else (if bytes_eq (field words 0) (codes "accepts") then accepts_atom sizes words
+    else (if bytes_eq (field words 0) (codes "asks") then asks_atom sizes words else Err UnknownAtom))
 
 -- a condition on a process, by its first word
 unfoldable pub process_condition : Sizes → List (List ℕ) → Result Condition QuestionFault
@@ -109,17 +190,26 @@ process_condition sizes words =
     else (if bytes_eq (field words 0) (codes "faulted") then faulted_atom sizes words
     else (if bytes_eq (field words 0) (codes "sleeps") then sleeps_atom sizes words
     else (if bytes_eq (field words 0) (codes "pc") then pc_atom sizes words
-    else (if bytes_eq (field words 0) (codes "reg") then reg_atom sizes words else Err UnknownAtom)))))
+    else (if bytes_eq (field words 0) (codes "reg") then reg_atom sizes words else waiting_condition sizes words)))))
 
--- any condition
-unfoldable pub condition_from : Sizes → List (List ℕ) → Result Condition QuestionFault
-condition_from sizes words =
+-- one without terms
+unfoldable pub plain_condition : Sizes → List (List ℕ) → Result Condition QuestionFault
+plain_condition sizes words =
     if bytes_eq (field words 0) (codes "stuck") then alone conditions.Stuck words
     else (if bytes_eq (field words 0) (codes "halted") then alone conditions.Halted words
     else (if bytes_eq (field words 0) (codes "crossing") then alone conditions.Crossing words
     else (if bytes_eq (field words 0) (codes "word") then word_atom sizes words
     else (if bytes_eq (field words 0) (codes "holds") then holds_atom sizes words
     else process_condition sizes words))))
+
+-- one that compares terms, or one without
+unfoldable pub condition_by : Sizes → Option Comparison → List (List ℕ) → Result Condition QuestionFault
+condition_by sizes (Some comparison) words = compares_atom sizes comparison words
+condition_by sizes None words = plain_condition sizes words
+
+-- any condition
+abbrev pub condition_from : Sizes → List (List ℕ) → Result Condition QuestionFault
+condition_from sizes words = condition_by sizes (comparison_of (field words 0)) words
 
 -- ---- atoms
 
@@ -145,34 +235,10 @@ atom_from sizes words = if bytes_eq (field words 0) (codes "not") then negated_f
 
 -- ---- several
 
--- a word that stands between atoms
-abbrev pub is_and : List ℕ → Bool
-is_and word = bytes_eq word (codes "and")
-
--- how many words stand before the first `and`
-unfoldable pub before_and : List (List ℕ) → ℕ
-before_and [] = 0
-before_and (word ∷ words) = if is_and word then 0 else suc (before_and words)
-
--- the words between each `and` and the next, of unfinished ones and the words behind them
-unfoldable pub parted : List (List ℕ) → List (List ℕ) → List (List (List ℕ))
-parted group [] = group ∷ []
-parted group (word ∷ words) =
-    (if is_and word then group ∷ [] else []) ++ parted (if is_and word then [] else group ++ word ∷ []) words
-
--- each of them an atom, or the first fault
-abbrev pub each_atom : Sizes → List (List (List ℕ)) → Result (List Atom) QuestionFault
-each_atom sizes [] = Ok []
-each_atom sizes (group ∷ groups) = do
-  atom ← atom_from sizes group
-  atoms ← each_atom sizes groups
-  Ok (atom ∷ atoms)
-
 -- ATOM, or several with `and` between them
 abbrev pub atoms_from : Sizes → List (List ℕ) → Result (List Atom) QuestionFault
-atoms_from sizes words = each_atom sizes (parted [] words)
+atoms_from sizes words = each_part (atom_from sizes) (parted (codes "and") [] words)
 
--- an atom was put down behind others
-abbrev pub IsPushed : Result Atom QuestionFault → List Atom → List Atom → Type 0
-IsPushed (Ok atom) old new = new ≡ old ++ atom ∷ []
-IsPushed (Err fault) old new = ⊥
+-- such a group, or several with `or` between them
+abbrev pub groups_from : Sizes → List (List ℕ) → Result (List (List Atom)) QuestionFault
+groups_from sizes words = each_part (atoms_from sizes) (parted (codes "or") [] words)

@@ -1,5 +1,5 @@
 -- The fields of a line of a question, each with its faults in the order in which they are tried. (Own.)
-use Rattle.std.specs.Prelude.{ℕ, ◌%◌, ◌==◌, ◌&&◌, nat_le, nat_lt, if◌then◌else◌, List, bytes_eq, codes, ok_or, Result, Ok, Err}
+use Rattle.std.specs.Prelude.{ℕ, ◌+◌, ◌%◌, ◌==◌, ◌&&◌, nat_le, nat_lt, if◌then◌else◌, List, bytes_eq, codes, ok_or, Result, Ok, Err}
 use Rattle.cap_format.specs.declared.kind.CapKind.{CapKind}
 use Rattle.cap_format.specs.declared.fault.FaultCode.{FaultCode}
 use Rattle.cap_format.specs.declared.fault.FaultCode.TheVariants.{InvalidDataReference, InvalidCapReference, DataAccessTypeError, CapAccessTypeError, AccessViolation, MalformedSpace, NoSchedule, MalformedSyscall, BadAlign, BadOpcode, Breakpoint}
@@ -7,6 +7,8 @@ use Rattle.coy_text.specs.Numeral.{dec_of, hex_of}
 use Rattle.object_store.specs.declared.sizes.Sizes.{Sizes}
 use Rattle.object_store.specs.Sizes.{size_in}
 use Rattle.listing_read.specs.Faults.{◌>>=◌, ensured}
+use Rattle.questions.specs.declared.operand.Width.{Width}
+use Rattle.questions.specs.Term.{bytes_in}
 use Rattle.listing_read.specs.declared.object_fault.QuestionFault.{QuestionFault}
 use Rattle.listing_read.specs.declared.object_fault.QuestionFault.TheVariants.{BadNumber, NoHart, BadRepeat, NoObject, BadCode, BadRegister, BadOffset, BadLimit}
 
@@ -46,11 +48,11 @@ register_from word = do
   _ ← ensured (nat_le number 31) BadRegister
   Ok number
 
--- OFFSET: that of four bytes in a page, a multiple of 4
-unfoldable pub offset_from : List ℕ → Result ℕ QuestionFault
-offset_from word = do
+-- OFFSET: that of so many bytes in a page, a multiple of how many they are
+unfoldable pub offset_in : Width → List ℕ → Result ℕ QuestionFault
+offset_in width word = do
   offset ← value_from word
-  _ ← ensured (nat_le offset 4092 && (offset % 4 == 0)) BadOffset
+  _ ← ensured (nat_le (offset + bytes_in width) 4096 && (offset % bytes_in width == 0)) BadOffset
   Ok offset
 
 -- N: how many states are kept

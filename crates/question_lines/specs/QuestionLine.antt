@@ -24,7 +24,7 @@ use Rattle.question_lines.specs.declared.said.Next.TheVariants as nexts
 use Rattle.question_lines.specs.declared.said.Said.{Said}
 use Rattle.question_lines.specs.declared.said.Said.TheVariants.{Nothing, May, Asked, Depth, States, Ends}
 use Rattle.question_lines.specs.Fields.{hart_from, limit_from, number_from, times_from}
-use Rattle.question_lines.specs.AtomLine.{atoms_from}
+use Rattle.question_lines.specs.AtomLine.{groups_from}
 
 -- ---- choices
 
@@ -72,8 +72,8 @@ may_line sizes words = do
 -- `never ..`, `ever ..` and `count ..`, line `n`
 unfoldable pub asks_line : Sizes → ℕ → Asks → List (List ℕ) → Result Said QuestionFault
 asks_line sizes n asks words = do
-  atoms ← atoms_from sizes (drop 1 words)
-  Ok (Asked (property_of n asks atoms))
+  groups ← groups_from sizes (drop 1 words)
+  Ok (Asked (property_of n asks groups))
 
 -- `depth N`
 unfoldable pub depth_line : List (List ℕ) → Result Said QuestionFault

@@ -3,12 +3,14 @@ ghost use Rattle.std.specs.Prelude.{◌≡◌, ◌<◌, ◌≤◌, ◌+◌, ◌=
 ghost use Rattle.object_store.specs.Sizes.{size_in};
 ghost use Rattle.listing_read.specs.Faults.{ensured};
 ghost use Rattle.listing_read.specs.declared.object_fault.QuestionFault.TheVariants.{WrongWords};
-ghost use Rattle.question_lines.specs.Fields.{code_from, hart_from, limit_from, number_from, object_from, offset_from, register_from, times_from, value_from};
+ghost use Rattle.questions.specs.Term.{bytes_in};
+ghost use Rattle.question_lines.specs.Fields.{code_from, hart_from, limit_from, number_from, object_from, offset_in, register_from, times_from, value_from};
 
 use cap_format::{CapKind, FaultCode};
 use coy_text::{read_dec, read_hex};
 use listing_read::{QuestionFault, size_of};
 use object_store::Sizes;
+use questions::Width;
 
 /// There are so many words.
 pub(crate) fn has_words(count: usize, wanted: usize) -> Result<(), QuestionFault>
@@ -93,17 +95,31 @@ pub(crate) fn register(word: &[u8]) -> Result<u8, QuestionFault>
     Ok(value as u8)
 }
 
-/// The offset of four bytes in a page.
-#[tactic(auto, unfolding(crate::specs::Fields::offset_from))]
-pub(crate) fn offset(word: &[u8]) -> Result<u16, QuestionFault>
-    ensures value { result ≡ offset_from word.now }
-    ensures within { IfOk result (λ n. n + 4 ≤ 4096) }
+/// The offset of so many bytes in a page.
+#[tactic(auto, unfolding(crate::specs::Fields::offset_in))]
+pub(crate) fn offset(width: Width, word: &[u8]) -> Result<u16, QuestionFault>
+    ensures value { result ≡ offset_in width word.now }
+    ensures within { IfOk result (λ n. n + bytes_in width ≤ 4096) }
 {
+    let count = bytes_in(width);
     let value = value(word)?;
-    if value > 4092 || value % 4 != 0 {
+    if value > 4096 - count || value % count != 0 {
         return Err(QuestionFault::BadOffset);
     }
     Ok(value as u16)
+}
+
+/// How many bytes are read.
+fn bytes_in(width: Width) -> u32
+    ensures value { result ≡ bytes_in width }
+    ensures least { 1 ≤ result }
+    ensures most { result ≤ 4 }
+{
+    match width {
+        Width::Byte => 1,
+        Width::Half => 2,
+        Width::Word => 4,
+    }
 }
 
 /// How many states are kept.

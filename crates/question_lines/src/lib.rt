@@ -5,13 +5,15 @@
 //! through.
 #![tactic(auto)]
 
-mod atom_words;
 mod atoms;
 mod conditions;
 mod fault;
 mod fields;
+mod holding;
 mod line;
+mod phrase;
 mod said;
+mod terms;
 
 pub use fault::Untaken;
 pub use line::read_question;

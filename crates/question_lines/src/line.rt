@@ -7,9 +7,10 @@ ghost use Rattle.listing_read.specs.declared.object_fault.QuestionFault.TheVaria
 ghost use Rattle.question_lines.specs.QuestionLine.{after_said, as_untaken, asks_line, choice_line, depth_line, end_line, is_of_policy, line_answer, line_policy, line_question, may_line, next_of, plain_line, policy_answered, question_line, run_line, said_by, states_line, step_line, tick_line, times_of, IsSaid, IsUntaken};
 ghost use Rattle.separation_lines.specs.PolicyLine.{policy_line, after_line as policy_after_line};
 
-use crate::atoms::atoms;
+use crate::atoms::groups;
 use crate::fault::Untaken;
 use crate::fields::{hart, has_words, limit, number, times};
+use crate::phrase::Phrase;
 use crate::said::{Next, Said};
 use coy_io::LINE_LIMIT;
 use coy_text::{is_skipped, is_visible, word, word_count, words_from};
@@ -148,8 +149,8 @@ fn asks(alloc: Global, sizes: Sizes, n: u32, asks: Asks, line: &[u8]) -> Result<
     ensures range { IfOk result (IsSaid sizes) }
     ensures untaken { IfErr result (IsUntaken (asks_line sizes n asks (words_of line.now))) }
 {
-    match atoms(alloc, sizes, words_from(line, 1)) {
-        Ok(atoms) => Ok(Said::Asked(Property::new(n, asks, atoms))),
+    match groups(alloc, sizes, &Phrase::of(words_from(line, 1))) {
+        Ok(groups) => Ok(Said::Asked(Property::new(n, asks, groups))),
         Err(untaken) => Err(untaken),
     }
 }

@@ -8,7 +8,7 @@ use Rattle.questions.specs.declared.atom.Condition.TheVariants as conditions
 use Rattle.confinement.specs.Acts.{system_of}
 use Rattle.separation_policy.specs.Policy.{PolicyValue, PolicyHolds}
 use Rattle.questions.specs.Atom.{all_hold, atom_holds, condition_holds, crosses, is_crossing, is_of_policy}
-use Rattle.questions.specs.Question.{PropertyValue, QuestionValue, IsIndifferent, fails, first_failing, is_about_policy, is_never, property_holds}
+use Rattle.questions.specs.Question.{PropertyValue, QuestionValue, IsIndifferent, any_holds, fails, first_failing, is_about_policy, is_never, property_holds}
 
 or_first : (a b : Bool) → (a || b) ≡ false → a ≡ false
 or_first true b none = none
@@ -30,19 +30,29 @@ module _ (c d : Bool) (s : State) where
   condition-alike (conditions.Pc p first last) none = refl
   condition-alike (conditions.Register p i value) none = refl
   condition-alike (conditions.Word page offset value) none = refl
-  condition-alike (conditions.Holds kind n of named) none = refl
+  condition-alike (conditions.Waits p e) none = refl
+  condition-alike (conditions.Accepts p) none = refl
+  condition-alike (conditions.SleepsOn p on) none = refl
+  condition-alike (conditions.Holds kind n holding) none = refl
+  condition-alike (conditions.Compares comparison a b) none = refl
   condition-alike conditions.Crossing none = absurd (cc (none))
 
   atom-alike : (atom : Atom) → is_of_policy atom ≡ false → atom_holds c s atom ≡ atom_holds d s atom
   atom-alike atom none = ap (λ (b : Bool). if atom.negated then not b else b) (condition-alike atom.condition none)
 
-  pub all-alike : (atoms : List Atom) → list_any is_of_policy atoms ≡ false → all_hold c s atoms ≡ all_hold d s atoms
+  all-alike : (atoms : List Atom) → list_any is_of_policy atoms ≡ false → all_hold c s atoms ≡ all_hold d s atoms
   all-alike [] none = refl
   all-alike (atom ∷ atoms) none =
       ap₂ (λ (a b : Bool). a && b) (atom-alike atom (or_first (is_of_policy atom) _ none)) (all-alike atoms (or_second (is_of_policy atom) _ none))
 
+  pub any-alike : (groups : List (List Atom)) → list_any (list_any is_of_policy) groups ≡ false → any_holds c s groups ≡ any_holds d s groups
+  any-alike [] none = refl
+  any-alike (group ∷ groups) none =
+      ap₂ (λ (a b : Bool). a || b) (all-alike group (or_first (list_any is_of_policy group) _ none))
+      (any-alike groups (or_second (list_any is_of_policy group) _ none))
+
   fails-alike : (property : PropertyValue) → is_about_policy property ≡ false → fails c s property ≡ fails d s property
-  fails-alike property none = ap (λ (b : Bool). is_never property.asks && b) (all-alike property.atoms none)
+  fails-alike property none = ap (λ (b : Bool). is_never property.asks && b) (any-alike property.groups none)
 
   front-alike : (properties : List PropertyValue) → list_any is_about_policy properties ≡ false
       → position_or_len (fails c s) properties ≡ position_or_len (fails d s) properties
@@ -71,5 +81,5 @@ module _ (question : QuestionValue) (policy : PolicyValue) (s : State) (uncrosse
   pub indifferent-holds : (n : ℕ) (d : PropertyValue) → n < length question.properties → IsIndifferent question policy s → property_holds false s (get_or question.properties n d) ≡ property_holds (crosses policy s) s (get_or question.properties n d)
   indifferent-holds n d within (inl none) =
       let property = get_or question.properties n d in
-      all-alike false (crosses policy s) s property.atoms (none-about question.properties n d within none)
+      any-alike false (crosses policy s) s property.groups (none-about question.properties n d within none)
   indifferent-holds n d within (inr holds) = ap (λ (b : Bool). property_holds b s (get_or question.properties n d)) (sym (uncrossed holds))

@@ -6,3 +6,5 @@ pub mod Any
 pub mod First
 pub mod About
 mod Collecting
+mod Held
+mod Groups

@@ -3,15 +3,17 @@ use Rattle.std.specs.Prelude.{ℕ, ◌+◌, ◌<◌, ◌≤◌, ◌==◌, ◌&&�
 use Rattle.std.specs.List.{list_all}
 use Rattle.cap_format.specs.declared.kind.CapKind.{CapKind}
 use Rattle.cap_format.specs.declared.fault.FaultCode.{FaultCode}
+use Rattle.cap_format.specs.Capability.{Capability}
 use Rattle.cap_format.specs.Codes.{fault_number}
-use Rattle.page_store.specs.Page.{bytes_at}
+use Rattle.cap_format.specs.Kind.{number_of}
+use Rattle.cap_format.specs.Restr.{RO, has}
 use Rattle.process_objects.specs.declared.state.State.{State as ProcessState}
 use Rattle.process_objects.specs.declared.state.State.TheVariants as states
 use Rattle.object_store.specs.declared.sizes.Sizes.{Sizes}
 use Rattle.object_store.specs.Sizes.{size_in}
-use Rattle.object_store.specs.Store.{Store, page_at}
+use Rattle.object_store.specs.Store.{Store, endpoint_at, page_at}
 use Rattle.schedules.specs.Queues.{QueuesValue, priorities, hart_of, ready_queue, sleepers_of, stands_in}
-use Rattle.machine_state.specs.DataAccess.{number_of as number_spelled}
+use Rattle.invocation.specs.Answerer.{takes}
 use Rattle.machine_state.specs.State.{State, process, pc_of, register_of}
 use Rattle.object_store.specs.Places.{places_in, cap_in}
 use Rattle.separation_policy.specs.Policy.{PolicyValue}
@@ -19,6 +21,10 @@ use Rattle.separation_check.specs.Crossings.{crossings_in}
 use Rattle.quiet_runs.specs.Finding.{is_below, runs}
 use Rattle.quiet_runs.specs.Reaching.{names}
 use Rattle.questions.specs.declared.atom.Atom.{Atom}
+use Rattle.questions.specs.declared.atom.Holding.{Holding}
+use Rattle.questions.specs.declared.atom.Holding.TheVariants.{Object, Writable, Kind}
+use Rattle.questions.specs.declared.operand.Width.TheVariants.{Word}
+use Rattle.questions.specs.Term.{IsTermOf, compares, number_in, term_value}
 use Rattle.questions.specs.declared.atom.Condition.{Condition}
 use Rattle.questions.specs.declared.atom.Condition.TheVariants as conditions
 
@@ -45,6 +51,16 @@ abbrev pub is_receiving : ProcessState → Bool
 is_receiving (states.Receiving accept) = true
 is_receiving _ = false
 
+-- one that waits for a message and takes those of an endpoint with this id
+abbrev pub waits_for : ℕ → ProcessState → Bool
+waits_for id (states.Receiving accept) = takes accept.wait id
+waits_for id _ = false
+
+-- one that waits for a message and accepts a capability or more
+abbrev pub accepts_some : ProcessState → Bool
+accepts_some (states.Receiving accept) = not (accept.caps == 0)
+accepts_some _ = false
+
 -- one that is at a fault: the code 0 is that of a process that was stopped, or never ran
 abbrev pub is_faulted : ProcessState → Bool
 is_faulted (states.Faulted code address) = not (fault_number code == 0)
@@ -59,11 +75,17 @@ is_faulted_by wanted _ = false
 
 -- the four bytes of a page at an offset are this number, the least first
 abbrev pub has_word : List ℕ → ℕ → ℕ → Bool
-has_word page offset value = number_spelled (bytes_at page offset 4) == value
+has_word page offset value = number_in page offset Word == value
 
--- a capability in some place of object `n` of a kind names this object, where each capability stands as it means
-abbrev pub object_holds : Store → CapKind → ℕ → CapKind → ℕ → Bool
-object_holds s kind n of named = is_below (λ i. names (cap_in s kind n i) of named) (places_in kind)
+-- a capability is one that names an object, one that names it and isn't restricted to reading, or one of a kind
+abbrev pub is_held : Holding → Capability → Bool
+is_held (Object of named) c = names c of named
+is_held (Writable of named) c = names c of named && not (has c.restr RO)
+is_held (Kind of) c = number_of c.kind == number_of of
+
+-- a capability in some place of object `n` of a kind is this, where each capability stands as it means
+abbrev pub object_holds : Store → CapKind → ℕ → Holding → Bool
+object_holds s kind n holding = is_below (λ i. is_held holding (cap_in s kind n i)) (places_in kind)
 
 -- there is something in a list
 abbrev pub is_any : {A : Type 0} → List A → Bool
@@ -88,7 +110,11 @@ condition_holds crossing (conditions.Sleeps p) s = is_asleep s.queues p
 condition_holds crossing (conditions.Pc p first last) s = nat_le first (pc_of s p) && nat_le (pc_of s p) last
 condition_holds crossing (conditions.Register p i value) s = register_of s p i == value
 condition_holds crossing (conditions.Word page offset value) s = has_word (page_at s.store page) offset value
-condition_holds crossing (conditions.Holds kind n of named) s = object_holds s.store kind n of named
+condition_holds crossing (conditions.Waits p e) s = waits_for (endpoint_at s.store e).id (process s p).state
+condition_holds crossing (conditions.Accepts p) s = accepts_some (process s p).state
+condition_holds crossing (conditions.SleepsOn p on) s = stands_in (sleepers_of s.queues on) p
+condition_holds crossing (conditions.Holds kind n holding) s = object_holds s.store kind n holding
+condition_holds crossing (conditions.Compares comparison a b) s = compares comparison (term_value s a) (term_value s b)
 condition_holds crossing conditions.Crossing s = crossing
 
 -- whether an atom holds of it
@@ -121,7 +147,11 @@ IsConditionOf sizes (conditions.Sleeps p) = p < sizes.processes
 IsConditionOf sizes (conditions.Pc p first last) = p < sizes.processes
 IsConditionOf sizes (conditions.Register p i value) = (p < sizes.processes) × (i ≤ 31)
 IsConditionOf sizes (conditions.Word page offset value) = (page < sizes.pages) × (offset + 4 ≤ 4096)
-IsConditionOf sizes (conditions.Holds kind n of named) = n < size_in sizes kind
+IsConditionOf sizes (conditions.Waits p e) = (p < sizes.processes) × (e < sizes.endpoints)
+IsConditionOf sizes (conditions.Accepts p) = p < sizes.processes
+IsConditionOf sizes (conditions.SleepsOn p on) = (p < sizes.processes) × (on < sizes.processes)
+IsConditionOf sizes (conditions.Holds kind n holding) = n < size_in sizes kind
+IsConditionOf sizes (conditions.Compares comparison a b) = IsTermOf sizes a × IsTermOf sizes b
 IsConditionOf sizes _ = Unit {0}
 
 -- so does an atom

@@ -1,4 +1,7 @@
 pub mod Choice
+pub mod Term
+pub mod TermTree
+pub mod TermCode
 pub mod Atom
 pub mod Question
 pub mod Asking

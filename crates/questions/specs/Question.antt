@@ -1,6 +1,6 @@
 -- Questions: what may come next, and what is asked of the states that are reached. (Own.)
-use Rattle.std.specs.Prelude.{◌≡◌, ℕ, ◌≤◌, ◌&&◌, ◌⊎◌, Bool, true, false, List, [], ◌∷◌, ◌++◌, Option, Some, None, IfSome, flat_map, slice_index_or}
-use Rattle.std.specs.List.{All, list_any, position}
+use Rattle.std.specs.Prelude.{◌≡◌, ℕ, ◌≤◌, ◌&&◌, ◌⊎◌, Bool, true, false, List, [], ◌∷◌, ◌++◌, Option, Some, None, IfSome, flat_map, length, slice_index_or}
+use Rattle.std.specs.List.{All, list_any, position, sum_by}
 use Rattle.object_store.specs.declared.sizes.Sizes.{Sizes}
 use Rattle.machine_state.specs.State.{State}
 use Rattle.confinement.specs.Acts.{system_of}
@@ -13,27 +13,40 @@ use Rattle.questions.specs.declared.atom.Condition.{Condition}
 use Rattle.questions.specs.declared.atom.Condition.TheVariants as conditions
 use Rattle.questions.specs.declared.choice.Choice.{Choice}
 use Rattle.questions.specs.Choice.{IsChoiceOf, all_choices}
+use Rattle.questions.specs.Term.{operand_pages, operand_processes, read_by}
 use Rattle.questions.specs.Atom.{IsAtomOf, all_hold, crosses, is_of_policy}
 
 -- ---- properties
 
--- what a line asks: the number of the line, what it asks, and the atoms that hold together
+-- what a line asks: the number of the line, what it asks, and its groups of atoms
 pub record PropertyValue : Type 0 where
   pub line : ℕ
   pub asks : Asks
-  pub atoms : List Atom
+  pub groups : List (List Atom)
 
 -- a property by its parts
-abbrev pub property_of : ℕ → Asks → List Atom → PropertyValue
-property_of line asks atoms = record { line = line; asks = asks; atoms = atoms }
+abbrev pub property_of : ℕ → Asks → List (List Atom) → PropertyValue
+property_of line asks groups = record { line = line; asks = asks; groups = groups }
 
--- all of its atoms hold in a state, in which the policy doesn't hold if `crossing`
+-- all atoms of one of these groups hold in a state, in which the policy doesn't hold if `crossing`
+abbrev pub any_holds : Bool → State → List (List Atom) → Bool
+any_holds crossing s groups = list_any (all_hold crossing s) groups
+
+-- so it is with the groups of a property
 abbrev pub property_holds : Bool → State → PropertyValue → Bool
-property_holds crossing s property = all_hold crossing s property.atoms
+property_holds crossing s property = any_holds crossing s property.groups
+
+-- how many atoms groups have
+abbrev pub count_atoms : List (List Atom) → ℕ
+count_atoms groups = sum_by length groups
+
+-- how many atoms a property has
+abbrev pub atoms_in : PropertyValue → ℕ
+atoms_in property = count_atoms property.groups
 
 -- one of them is about the policy
 abbrev pub is_about_policy : PropertyValue → Bool
-is_about_policy property = list_any is_of_policy property.atoms
+is_about_policy property = list_any (list_any is_of_policy) property.groups
 
 -- a property that says `never`
 abbrev pub is_never : Asks → Bool
@@ -52,7 +65,7 @@ is_count _ = false
 
 -- a property of a machine of these sizes
 abbrev pub IsPropertyOf : Sizes → PropertyValue → Type 0
-IsPropertyOf sizes property = All (IsAtomOf sizes) property.atoms
+IsPropertyOf sizes property = All (All (IsAtomOf sizes)) property.groups
 
 -- ---- questions
 
@@ -110,16 +123,22 @@ choices_of question = choices_by question.sizes.harts question.choices
 abbrev pub processes_in : Condition → List ℕ
 processes_in (conditions.Pc p first last) = p ∷ []
 processes_in (conditions.Register p i value) = p ∷ []
+processes_in (conditions.Compares comparison a b) = read_by operand_processes a ++ read_by operand_processes b
 processes_in _ = []
 
 -- the pages whose bytes it looks at
 abbrev pub pages_in : Condition → List ℕ
 pages_in (conditions.Word page offset value) = page ∷ []
+pages_in (conditions.Compares comparison a b) = read_by operand_pages a ++ read_by operand_pages b
 pages_in _ = []
+
+-- those of all atoms of a group
+abbrev pub watched_by : (Condition → List ℕ) → List Atom → List ℕ
+watched_by of atoms = flat_map (λ atom. of atom.condition) atoms
 
 -- those of all atoms of a question's properties
 abbrev pub watched_in : (Condition → List ℕ) → List PropertyValue → List ℕ
-watched_in of properties = flat_map (λ property. flat_map (λ atom. of atom.condition) property.atoms) properties
+watched_in of properties = flat_map (λ property. flat_map (watched_by of) property.groups) properties
 
 -- what a question looks at besides capabilities, states of processes and who stands where
 abbrev pub watch_for : List PropertyValue → Watch
@@ -139,6 +158,6 @@ first_failing question policy s = position (fails (crosses policy s) s) question
 abbrev pub IsIndifferent : QuestionValue → PolicyValue → State → Type 0
 IsIndifferent question policy s = (list_any is_about_policy question.properties ≡ false) ⊎ PolicyHolds policy (system_of s)
 
--- all atoms of a property hold in a state
+-- a property holds in a state
 abbrev pub holds : QuestionValue → PolicyValue → State → ℕ → Bool
 holds question policy s n = property_holds (crosses policy s) s (slice_index_or question.properties n (property_of 0 Never []))

@@ -1,8 +1,21 @@
 //! What may hold of a state.
+use crate::operand::Comparison;
+use crate::term::Term;
 use cap_format::{CapKind, FaultCode};
 
-/// What may hold of a state.
+/// What a capability may be.
 #[derive(Clone, Copy)]
+pub enum Holding {
+    /// One that names object `named` of kind `of`; an entry names its endpoint.
+    Object { of: CapKind, named: u16 },
+    /// One that does, and is not restricted to reading.
+    Writable { of: CapKind, named: u16 },
+    /// One of this kind.
+    Kind { of: CapKind },
+}
+
+/// What may hold of a state.
+#[derive(Drop)]
 pub enum Condition {
     /// No process is on a hart or in a ready queue.
     Stuck,
@@ -47,20 +60,38 @@ pub enum Condition {
         offset: u16,
         value: u32,
     },
-    /// The object holds, in any of its places, a live capability that names object `named` of kind `of`; an entry names its
-    /// endpoint.
+    /// The process waits for a message, and takes those that come through the endpoint: it waits for all, or for its id.
+    Waits {
+        process: u16,
+        endpoint: u16,
+    },
+    /// The process waits for a message, and accepts one capability or more.
+    Accepts {
+        process: u16,
+    },
+    /// The process sleeps on this other one.
+    SleepsOn {
+        process: u16,
+        on: u16,
+    },
+    /// The object holds, in any of its places, a live capability that is this.
     Holds {
         kind: CapKind,
         number: u16,
-        of: CapKind,
-        named: u16,
+        holding: Holding,
+    },
+    /// Two terms stand so to each other.
+    Compares {
+        comparison: Comparison,
+        first: Term,
+        second: Term,
     },
     /// The policy of the question doesn't hold.
     Crossing,
 }
 
 /// A condition, or that it doesn't hold.
-#[derive(Clone, Copy)]
+#[derive(Drop)]
 pub struct Atom {
     pub negated: bool,
     pub condition: Condition,

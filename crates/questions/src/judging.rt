@@ -1,25 +1,20 @@
 //! One machine, judged by reading it.
 ghost use Rattle.std.specs.Prelude.{◌≡◌, ◌<◌, ◌≤◌, ◌+◌, ◌*◌, ◌||◌, not, false, length, slice_index_or, [], IsTrue};
 ghost use Rattle.std.specs.List.{All, list_any, position, sum_by};
-ghost use Rattle.cap_format.specs.declared.kind.CapKind.TheVariants.{Gpt, Process};
+ghost use Rattle.cap_format.specs.declared.kind.CapKind.TheVariants.{Gpt};
 ghost use Rattle.object_store.specs.Store.{size_of, sizes_of};
-ghost use Rattle.machine_state.specs.State.{state_of, process};
-ghost use Rattle.questions.specs.Atom.{IsAtomOf, IsConditionOf, all_hold, atom_holds, condition_holds, crosses, has_word, is_faulted, is_faulted_by, is_receiving, is_stuck};
+ghost use Rattle.machine_state.specs.State.{state_of};
+ghost use Rattle.questions.specs.Atom.{IsAtomOf, all_hold, atom_holds, crosses, is_of_policy};
 ghost use Rattle.separation_policy.specs.Closure.{IsClosure};
-ghost use Rattle.quiet_runs.specs.Finding.{runs};
-ghost use Rattle.questions.specs.Question.{IsPropertyOf, IsIndifferent, fails, first_failing, holds, is_about_policy, property_of};
+ghost use Rattle.questions.specs.Question.{IsPropertyOf, IsIndifferent, any_holds, atoms_in, count_atoms, fails, first_failing, holds, is_about_policy, property_of};
 
 use crate::asks::Asks;
 use crate::atom::{Atom, Condition};
+use crate::conditions::condition_holds;
 use crate::crossing::{crosses, tell_uncrossed};
-use crate::object_holds::object_holds;
-use crate::property::Property;
+use crate::property::{Group, Property};
 use crate::question::Question;
-use crate::standing::{is_asleep, some_on_hart, some_ready};
-use cap_format::FaultCode;
 use machine_state::Machine;
-use page_store::Page;
-use process_objects::State;
 use separation_policy::{Closure, Policy};
 use std::sync::ledger::Ledger;
 use steps::Steps;
@@ -62,9 +57,9 @@ pub fn first_failing<T: Translator, L: Ledger>(
     ensures value { result ≡ first_failing question.now policy.now (state_of machine.now) }
     ensures least { fetches.old ≤ fetches.new }
     ensures most { fetches.new ≤ fetches.old + 16 * size_of machine.now.objects.items Gpt
-        + 16 * sum_by (λ property. length property.atoms) question.now.properties }
+        + 16 * sum_by atoms_in question.now.properties }
     ensures few { IsTrue indifferent → fetches.new ≤ fetches.old
-        + 16 * sum_by (λ property. length property.atoms) question.now.properties }
+        + 16 * sum_by atoms_in question.now.properties }
 {
     let properties = question.properties();
     if indifferent {
@@ -75,7 +70,7 @@ pub fn first_failing<T: Translator, L: Ledger>(
     failing(properties, crossing, machine, fetches)
 }
 
-/// Whether all atoms of a property of a question hold of the state of a machine. The policy is looked at only where it may
+/// Whether a property of a question holds of the state of a machine. The policy is looked at only where it may
 /// make a difference (not `indifferent`), and this property is about it.
 pub fn holds<T: Translator, L: Ledger>(
     question: &Question,
@@ -93,20 +88,20 @@ pub fn holds<T: Translator, L: Ledger>(
     ensures value { result ≡ holds question.now policy.now (state_of machine.now) property }
     ensures least { fetches.old ≤ fetches.new }
     ensures most { let asked = slice_index_or question.now.properties property (property_of 0 Asks.Never []) in
-        fetches.new ≤ fetches.old + 16 * size_of machine.now.objects.items Gpt + 16 * length asked.atoms }
+        fetches.new ≤ fetches.old + 16 * size_of machine.now.objects.items Gpt + 16 * atoms_in asked }
     ensures few { let asked = slice_index_or question.now.properties property (property_of 0 Asks.Never []) in
-        IsTrue indifferent → fetches.new ≤ fetches.old + 16 * length asked.atoms }
+        IsTrue indifferent → fetches.new ≤ fetches.old + 16 * atoms_in asked }
 {
     let property = &question.properties()[property];
     if indifferent {
         tell_uncrossed(machine, policy);
-        return all_hold(property.atoms(), false, machine, fetches);
+        return any_holds(property.groups(), false, machine, fetches);
     }
     if about_policy(property) {
         let crossing = crosses(machine, policy, closure, fetches);
-        return all_hold(property.atoms(), crossing, machine, fetches);
+        return any_holds(property.groups(), crossing, machine, fetches);
     }
-    all_hold(property.atoms(), false, machine, fetches)
+    any_holds(property.groups(), false, machine, fetches)
 }
 
 /// Whether one of the properties is about the policy.
@@ -120,7 +115,14 @@ fn ask_policy(properties: &[Property]) -> bool
 fn about_policy(property: &Property) -> bool
     ensures { result ≡ is_about_policy property.now }
 {
-    property
+    property.groups().iter().any(|group| group_about(group))
+}
+
+/// Whether one of the atoms of a group is.
+fn group_about(group: &Group) -> bool
+    ensures { result ≡ list_any is_of_policy group.now }
+{
+    group
         .atoms()
         .iter()
         .any(|atom| matches!(atom.condition, Condition::Crossing))
@@ -136,7 +138,7 @@ fn failing<T: Translator, L: Ledger>(
     requires { All (IsPropertyOf (sizes_of machine.now.objects)) properties.now }
     ensures value { result ≡ position (fails crossing (state_of machine.now)) properties.now }
     ensures least { fetches.old ≤ fetches.new }
-    ensures most { fetches.new ≤ fetches.old + 16 * sum_by (λ property. length property.atoms) properties.now }
+    ensures most { fetches.new ≤ fetches.old + 16 * sum_by atoms_in properties.now }
 {
     'each: for i in 0..properties.len() {
         if fails(&properties[i], crossing, machine, fetches) {
@@ -156,12 +158,33 @@ fn fails<T: Translator, L: Ledger>(
     requires { IsPropertyOf (sizes_of machine.now.objects) property.now }
     ensures value { result ≡ fails crossing (state_of machine.now) property.now }
     ensures least { fetches.old ≤ fetches.new }
-    ensures most { fetches.new ≤ fetches.old + 16 * length property.now.atoms }
+    ensures most { fetches.new ≤ fetches.old + 16 * atoms_in property.now }
 {
-    matches!(property.asks(), Asks::Never) && all_hold(property.atoms(), crossing, machine, fetches)
+    matches!(property.asks(), Asks::Never)
+        && any_holds(property.groups(), crossing, machine, fetches)
 }
 
-/// Whether all atoms hold of the state of a machine, in which the policy doesn't hold if `crossing`.
+/// Whether all atoms of one of the groups hold of the state of a machine, in which the policy doesn't hold if `crossing`.
+fn any_holds<T: Translator, L: Ledger>(
+    groups: &[Group],
+    crossing: bool,
+    machine: &Machine<T>,
+    fetches: &mut Steps<L>,
+) -> bool
+    requires { All (All (IsAtomOf (sizes_of machine.now.objects))) groups.now }
+    ensures value { result ≡ any_holds crossing (state_of machine.now) groups.now }
+    ensures least { fetches.old ≤ fetches.new }
+    ensures most { fetches.new ≤ fetches.old + 16 * count_atoms groups.now }
+{
+    'each: for i in 0..groups.len() {
+        if all_hold(groups[i].atoms(), crossing, machine, fetches) {
+            return true;
+        }
+    }
+    false
+}
+
+/// Whether all atoms of a list do.
 fn all_hold<T: Translator, L: Ledger>(
     atoms: &[Atom],
     crossing: bool,
@@ -174,7 +197,7 @@ fn all_hold<T: Translator, L: Ledger>(
     ensures most { fetches.new ≤ fetches.old + 16 * length atoms.now }
 {
     'each: for atom in atoms {
-        if !atom_holds(*atom, crossing, machine, fetches) {
+        if !atom_holds(atom, crossing, machine, fetches) {
             return false;
         }
     }
@@ -183,124 +206,16 @@ fn all_hold<T: Translator, L: Ledger>(
 
 /// Whether one does.
 fn atom_holds<T: Translator, L: Ledger>(
-    atom: Atom,
+    atom: &Atom,
     crossing: bool,
     machine: &Machine<T>,
     fetches: &mut Steps<L>,
 ) -> bool
-    requires { IsAtomOf (sizes_of machine.now.objects) atom }
-    ensures value { result ≡ atom_holds crossing (state_of machine.now) atom }
+    requires { IsAtomOf (sizes_of machine.now.objects) atom.now }
+    ensures value { result ≡ atom_holds crossing (state_of machine.now) atom.now }
     ensures least { fetches.old ≤ fetches.new }
     ensures most { fetches.new ≤ fetches.old + 16 }
 {
-    let holds = condition_holds(atom.condition, crossing, machine, fetches);
+    let holds = condition_holds(&atom.condition, crossing, machine, fetches);
     if atom.negated { !holds } else { holds }
-}
-
-/// Whether a condition does. At most the slots of one GPT are read.
-fn condition_holds<T: Translator, L: Ledger>(
-    condition: Condition,
-    crossing: bool,
-    machine: &Machine<T>,
-    fetches: &mut Steps<L>,
-) -> bool
-    requires { IsConditionOf (sizes_of machine.now.objects) condition }
-    ensures value { result ≡ condition_holds crossing condition (state_of machine.now) }
-    ensures least { fetches.old ≤ fetches.new }
-    ensures most { fetches.new ≤ fetches.old + 16 }
-{
-    let objects = machine.objects();
-    match condition {
-        Condition::Stuck => is_stuck(machine),
-        Condition::Halted => machine.halted(),
-        Condition::Running { process } => is_running(state(machine, process)),
-        Condition::Receiving { process } => is_receiving(state(machine, process)),
-        Condition::Faulted { process } => is_faulted(state(machine, process)),
-        Condition::FaultedBy { process, code } => is_faulted_by(code, state(machine, process)),
-        Condition::Sleeps { process } => {
-            is_asleep(machine.queues(), objects.sizes().processes, process)
-        }
-        Condition::Pc {
-            process,
-            first,
-            last,
-        } => first <= machine.pc(process) && machine.pc(process) <= last,
-        Condition::Register {
-            process,
-            register,
-            value,
-        } => machine.registers(process)[register as usize] == value,
-        Condition::Word {
-            page,
-            offset,
-            value,
-        } => has_word(objects.page(page), offset, value),
-        Condition::Holds {
-            kind,
-            number,
-            of,
-            named,
-        } => object_holds(objects, kind, number, of, named, fetches),
-        Condition::Crossing => crossing,
-    }
-}
-
-/// Whether no process is on a hart or in a ready queue.
-fn is_stuck<T: Translator>(machine: &Machine<T>) -> bool
-    ensures { result ≡ is_stuck machine.now.queues }
-{
-    let queues = machine.queues();
-    let harts = machine.objects().sizes().harts;
-    !(some_on_hart(queues, harts) || some_ready(queues))
-}
-
-/// What a process does.
-#[tactic(auto, using(crate::proofs::Reading::state_meant))]
-fn state<T: Translator>(machine: &Machine<T>, p: u16) -> State
-    requires { p < size_of machine.now.objects.items Process }
-    ensures { result ≡ (process (state_of machine.now) p).state }
-{
-    machine.objects().process(p).state()
-}
-
-fn is_running(state: State) -> bool
-    ensures { result ≡ runs state }
-{
-    matches!(state, State::Running)
-}
-
-fn is_receiving(state: State) -> bool
-    ensures { result ≡ is_receiving state }
-{
-    matches!(state, State::Receiving(_))
-}
-
-/// Whether it is at a fault, and not stopped.
-fn is_faulted(state: State) -> bool
-    ensures { result ≡ is_faulted state }
-{
-    match state {
-        State::Faulted { code, .. } => code.number() != 0,
-        _ => false,
-    }
-}
-
-/// Whether it is at this fault.
-fn is_faulted_by(wanted: FaultCode, state: State) -> bool
-    ensures { result ≡ is_faulted_by wanted state }
-{
-    match state {
-        State::Faulted { code, .. } => code.number() == wanted.number(),
-        _ => false,
-    }
-}
-
-/// Whether the four bytes of a page at an offset are a number, the least first.
-fn has_word(page: &Page, offset: u16, value: u32) -> bool
-    requires within { offset + 4 ≤ 4096 }
-    ensures { result ≡ has_word page.now offset value }
-{
-    let mut bytes = [0; 4];
-    page.read(offset, &mut bytes);
-    u32::from_le_bytes(bytes) == value
 }

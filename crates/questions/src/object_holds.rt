@@ -4,9 +4,11 @@ ghost use Rattle.object_store.specs.Store.{size_of};
 ghost use Rattle.object_store.specs.Meaning.{state_map};
 ghost use Rattle.object_store.specs.Places.{cap_in, object_reads, places_in, reads_in};
 ghost use Rattle.quiet_runs.specs.Reaching.{names};
-ghost use Rattle.questions.specs.Atom.{object_holds};
+ghost use Rattle.questions.specs.Atom.{is_held, object_holds};
 
-use cap_format::{Cap, CapKind};
+use crate::atom::Holding;
+use bitflags::Flags;
+use cap_format::{Cap, CapKind, Restr};
 use object_store::{Objects, cap_in, places};
 use std::sync::ledger::Ledger;
 use steps::Steps;
@@ -19,44 +21,52 @@ fn names_object(cap: Cap, of: CapKind, named: u16) -> bool
     kind.is_counted() && kind.object_kind() == of && cap.object() == named as u32
 }
 
-/// Whether the capability in a place of an object names another, where it is live.
+/// Whether a capability is what is asked for.
+fn is_held(cap: Cap, holding: Holding) -> bool
+    ensures { result ≡ is_held holding cap }
+{
+    match holding {
+        Holding::Object { of, named } => names_object(cap, of, named),
+        Holding::Writable { of, named } => {
+            names_object(cap, of, named) && !cap.restr().contains(Restr::RO)
+        }
+        Holding::Kind { of } => cap.kind() == of,
+    }
+}
+
+/// Whether the capability in a place of an object is, where it is live.
 fn place_holds<L: Ledger>(
     objects: &Objects,
     kind: CapKind,
     n: u16,
     i: u16,
-    of: CapKind,
-    named: u16,
+    holding: Holding,
     fetches: &mut Steps<L>,
 ) -> bool
     requires there { n < size_of objects.now.items kind }
     requires place { i < places_in kind }
-    ensures value { result ≡ names (cap_in (state_map objects.now) kind n i) of named }
+    ensures value { result ≡ is_held holding (cap_in (state_map objects.now) kind n i) }
     ensures counted { fetches.new ≡ fetches.old + reads_in kind }
 {
-    names_object(
-        objects.live(cap_in(objects, kind, n, i, fetches)),
-        of,
-        named,
-    )
+    is_held(objects.live(cap_in(objects, kind, n, i, fetches)), holding)
 }
 
-/// Whether an object holds, in any of its places, a live capability that names another. Each slot of a GPT is read once at most.
+/// Whether an object holds, in any of its places, a live capability that is what is asked for. Each slot of a GPT is read
+/// once at most.
 pub(crate) fn object_holds<L: Ledger>(
     objects: &Objects,
     kind: CapKind,
     n: u16,
-    of: CapKind,
-    named: u16,
+    holding: Holding,
     fetches: &mut Steps<L>,
 ) -> bool
     requires { n < size_of objects.now.items kind }
-    ensures value { result ≡ object_holds (state_map objects.now) kind n of named }
+    ensures value { result ≡ object_holds (state_map objects.now) kind n holding }
     ensures least { fetches.old ≤ fetches.new }
     ensures most { fetches.new ≤ fetches.old + object_reads kind }
 {
     'each: for i in 0..places(kind) {
-        if place_holds(objects, kind, n, i, of, named, fetches) {
+        if place_holds(objects, kind, n, i, holding, fetches) {
             return true;
         }
     }

@@ -26,6 +26,11 @@ impl Model for Question {
 
     ghost Value = { QuestionValue };
 
+    ghost use Rattle.questions.specs.contracts.term.Term as terms;
+    ghost use Rattle.std.specs.Coded.{codes};
+
+    ghost coded = { Prim.hlevel (codes, terms.the_row.coded) };
+
     ghost view = { λ q. question_of q.sizes q.choices.items q.properties.items q.depth q.states };
 
     ghost invariant = { λ q. IsQuestion (question_of q.sizes q.choices.items q.properties.items q.depth q.states) };

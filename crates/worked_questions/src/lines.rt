@@ -99,11 +99,70 @@ BadOffset |never word 2 2 x|
 BadNumber |never word 2 4 x|
 question |never holds process 2 endpoint 1|
 WrongWords |never holds process 2 endpoint|
+WrongWords |never holds entry 2 endpoint|
+question |never holds process 2 range and holds gpt 1 sysctl and holds cappage 0 kernlog and holds process 0 schedule|
+WrongWords |never holds process 2 discrim|
+BadValue |never holds entry 2 range|
+NoObject |never holds process 3 schedule|
+question |never holds process 2 page 1 writable|
+WrongWords |never holds process 2 page 1 readable|
+WrongWords |never holds process 2 range writable x|
+BadValue |never holds process 2 range writable|
+NoObject |never holds process 2 page 3 writable|
 BadValue |never holds entry 2 endpoint 1|
 BadNumber |never holds gpt x endpoint 1|
 NoObject |never holds gpt 3 thing 1|
 BadValue |never holds gpt 2 schedule 3|
 NoObject |never holds gpt 2 page 3|
+question |never waits 2 1 and accepts 0 and asks 0 0|
+WrongWords |never waits 2|
+NoObject |never waits 3 x|
+BadNumber |never waits 2 x|
+NoObject |never waits 2 3|
+WrongWords |never accepts 1 1|
+NoObject |never accepts 3|
+WrongWords |never asks 1|
+NoObject |never asks 1 3|
+question |never stuck or halted and not running 0 or sleeps 1|
+UnknownAtom |never or stuck|
+UnknownAtom |never stuck or|
+UnknownAtom |never stuck or or halted|
+UnknownAtom |never stuck and or halted|
+UnknownAtom |never stuck or and halted|
+UnknownAtom |never stuck or not|
+WrongWords |never stuck or halted x and halt|
+question |never same number 0 number ffffffff|
+question |ever below reg 0 31 pc 2 or most word 2 ffc half 2 ffe|
+question |count not less byte 0 fff age endpoint 2 and same payload 2 payload 0|
+question |never same plus minus number 1 pc 0 both reg 0 1 number f number 2|
+WrongWords |never same|
+WrongWords |never same pc 0|
+WrongWords |never same pc 0 pc|
+WrongWords |never same pc 0 plus pc 0|
+WrongWords |never same pc 0 pc 1 pc 2|
+WrongWords |never same reg 9|
+NoObject |never same word 9 9|
+BadTerm |never same 0 pc 0|
+BadTerm |never same pc 0 0|
+BadTerm |never same Pc 0 pc 0|
+BadTerm |never same plus number 1 stuck|
+BadTerm |never same not pc 0 pc 0|
+BadNumber |never same number 123456789 x|
+NoObject |never same pc 3 x|
+NoObject |never same reg 3 x x|
+BadRegister |never same reg 0 32 x|
+BadOffset |never same word 0 2 x|
+BadOffset |never same half 0 1 x|
+BadOffset |never same half 0 1000 x|
+BadOffset |never same byte 0 1000 x|
+BadNumber |never same byte 0 x x|
+BadValue |never same age entry 9 x|
+NoObject |never same age gpt 3 x|
+NoObject |never same payload 3 x|
+WrongWords |never same pc 0 pc 0 and same or stuck|
+question |never same plus plus plus plus plus plus plus plus plus plus plus plus plus plus plus pc 0 pc 0 pc 0 pc 0 pc 0 pc 0 pc 0 pc 0 pc 0 pc 0 pc 0 pc 0 pc 0 pc 0 pc 0 pc 0 pc 0|
+BadTerm |never same plus plus plus plus plus plus plus plus plus plus plus plus plus plus plus plus x|
+BadTerm |never same pc 0 plus plus plus plus plus plus plus plus plus plus plus plus plus plus plus plus|
 question |domain a process 0 1|
 Taken |domain b process 1|
 BadName |domain A page 0|
@@ -149,6 +208,7 @@ fn fault_name(fault: QuestionFault) -> &'static str {
         QuestionFault::BadRegister => "BadRegister",
         QuestionFault::BadOffset => "BadOffset",
         QuestionFault::BadLimit => "BadLimit",
+        QuestionFault::BadTerm => "BadTerm",
         QuestionFault::OfPolicy(PolicyFault::WrongWords) => "WrongWords",
         QuestionFault::OfPolicy(PolicyFault::BadName) => "BadName",
         QuestionFault::OfPolicy(PolicyFault::Taken) => "Taken",

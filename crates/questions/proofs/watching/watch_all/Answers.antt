@@ -1,14 +1,9 @@
-use Rattle.std.proofs.Common.{◌<◌, false, length, ap, refl, arith}
+use Rattle.std.proofs.Common.{◌<◌, length, ap, refl, arith}
 use Rattle.std.proofs.Math.ListN.{drop_of_length-le}
 use Rattle.quiet_finding.specs.Watched.{WatchedValue}
-use Rattle.questions.specs.declared.atom.Atom.{Atom}
-use Rattle.questions.specs.declared.atom.Condition.TheVariants.{Stuck}
 use Rattle.questions.specs.Question.{pages_in, processes_in}
 use Rattle.questions.proofs.Collecting.{both, collecting-all, collecting-more}
 use Rattle.questions.proofs.watching.watch_all.Goals as goal
-
-abbrev any_atom : Atom
-any_atom = record { negated = false; condition = Stuck }
 
 pub each-init : goal.each-init
 each-init c = record { processes = refl; pages = refl }
@@ -16,13 +11,14 @@ each-init c = record { processes = refl; pages = refl }
 pub each-preserved : goal.each-preserved
 each-preserved c =
     let atoms = c.args.atoms.now in
+    let x = c.index-atoms-i.result in
     let within : c.each.i < length atoms = omega arith in
     record {
       processes =
-          collecting-more (λ atom. processes_in atom.condition) atoms c.args.all.now.processes c.each.all.processes c.watch.new.all.processes c.each.i any_atom c.each.invariant.processes within
+          collecting-more (λ atom. processes_in atom.condition) atoms c.args.all.now.processes c.each.all.processes c.watch.new.all.processes c.each.i x c.each.invariant.processes within
           (ap (λ (v : WatchedValue). v.processes) c.in_ok-watch.ensures);
       pages =
-          collecting-more (λ atom. pages_in atom.condition) atoms c.args.all.now.pages c.each.all.pages c.watch.new.all.pages c.each.i any_atom c.each.invariant.pages within
+          collecting-more (λ atom. pages_in atom.condition) atoms c.args.all.now.pages c.each.all.pages c.watch.new.all.pages c.each.i x c.each.invariant.pages within
           (ap (λ (v : WatchedValue). v.pages) c.in_ok-watch.ensures);
     }
 
