@@ -45,6 +45,11 @@ impl<'a, L: Ledger> Model for MachineSpace<'a, L> {
 
     ghost Value = { SpaceValue };
 
+    ghost use Rattle.questions.specs.contracts.term.Term as terms;
+    ghost use Rattle.std.specs.Coded.{codes};
+
+    ghost coded = { Prim.hlevel (codes, terms.the_row.coded) };
+
     ghost view = { λ s. record { question = s.question.now; policy = s.policy.now; indifferent = s.indifferent; states = s.states; start = state_in s.states.tables s.start } };
 
     ghost invariant = { λ s. IsSpace s.question.now s.policy.now s.indifferent s.closure s.choices.items s.watched s.states.tables s.start };
