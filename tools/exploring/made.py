@@ -72,8 +72,27 @@ class Made:
         """Lines that ask something, but for choices."""
         process = self.by.randrange(self.processes)
         atoms = [f"faulted {process}", f"receiving {process}", f"sleeps {process}", "halted", "stuck", f"running {process}",
-                 f"faulted {process} Breakpoint", f"holds process {process} page {self.by.randrange(self.processes)}"]
+                 f"faulted {process} Breakpoint", f"holds process {process} page {self.by.randrange(self.processes)}",
+                 f"waits {process} {self.other(process)}", f"accepts {process}", f"asks {process} {self.other(process)}",
+                 f"holds process {process} {self.by.choice(('range', 'sysctl', 'schedule'))}",
+                 f"holds process {process} page {self.processes + process} writable",
+                 f"most payload {process} age process {self.other(process)}"]
         if self.likely(0.3):
-            atoms += [f"pc {process} 8", f"reg {process} 7 1", f"word {self.by.randrange(2 * self.processes + 1)} 0 3"]
-        asked = [f"{'not ' * self.likely(0.3)}{atom}" for atom in self.by.sample(atoms, 4)]
-        return [f"count {asked[0]}", f"never {asked[1]} and {asked[2]}", f"ever {asked[3]}"]
+            atoms += [f"pc {process} 8", f"reg {process} 7 1", f"word {self.by.randrange(2 * self.processes + 1)} 0 3",
+                      *(self.comparison() for _ in range(3))]
+        asked = [f"{'not ' * self.likely(0.3)}{atom}" for atom in self.by.sample(atoms, 6)]
+        return [f"count {asked[0]} or {asked[4]} and {asked[5]}", f"never {asked[1]} and {asked[2]}",
+                f"ever {asked[3]} or {asked[5]}"]
+
+    def comparison(self):
+        return f"{self.by.choice(('same', 'below', 'most', 'less'))} {self.term()} {self.term()}"
+
+    def term(self, depth=0):
+        """A term, in which few others stand."""
+        process, page = self.by.randrange(self.processes), self.by.randrange(2 * self.processes + 1)
+        if self.likely(0.4 - 0.1 * depth):
+            return f"{self.by.choice(('plus', 'minus', 'both'))} {self.term(depth + 1)} {self.term(depth + 1)}"
+        return self.by.choice([
+            f"number {self.by.choice((0, 1, 3, 0x7fffffff, 0x80000000, 0xffffffff)):x}", f"reg {process} {self.by.randint(7, 10)}",
+            f"pc {process}", f"word {page} 0", f"half {page} {self.by.choice((0, 2)):x}", f"byte {page} {self.by.randrange(4):x}",
+            f"age page {page}", f"payload {process}"])

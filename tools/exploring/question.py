@@ -1,16 +1,18 @@
 """The input of `explore`: a machine, a question, and a schedule that sets the machine up. What the lines say is taken from
 docs/explore.md; a line that says something else is told as wrong, without the name of its fault."""
-import re
 from collections import namedtuple
 
 from exploring.policy import Policy
+from exploring.terms import COMPARISONS, looked_at, terms_of
 
-Line = namedtuple("Line", "number asks atoms")
-Atom = namedtuple("Atom", "negated words")
+Line = namedtuple("Line", "number asks groups")
+Atom = namedtuple("Atom", "negated words terms")
 
 # How many words stand behind the first of an atom.
 ATOMS = {"stuck": (0,), "halted": (0,), "running": (1,), "receiving": (1,), "faulted": (1, 2), "sleeps": (1,), "pc": (2, 3),
-         "reg": (3,), "word": (3,), "holds": (4,), "crossing": (0,)}
+         "reg": (3,), "word": (3,), "holds": (3, 4, 5), "crossing": (0,), "waits": (2,), "accepts": (1,), "asks": (2,)}
+# Kinds of which no object is named.
+ANY = ("range", "sysctl", "kernlog", "schedule")
 ASKS = ("never", "ever", "count")
 
 
@@ -25,7 +27,7 @@ def words_of(line):
 
 
 class Question:
-    """A listing and what is asked of it, from the text of an input."""
+    """A listing and what is asked of it, from the text of an input. One without the line `end` of a question has none."""
 
     def __init__(self, text):
         self.listing, self.setup, self.lines, self.choices = [], [], [], []
@@ -67,7 +69,7 @@ class Question:
         if words[0] == "may":
             self.choices.append(choice_of(words[1:]))
         elif words[0] in ASKS:
-            self.lines.append(Line(number, words[0], atoms_of(words[1:])))
+            self.lines.append(Line(number, words[0], groups_of(words[1:])))
         elif words[0] == "depth":
             self.depth, = map(int, words[1:])
         elif words[0] == "states":
@@ -80,9 +82,11 @@ class Question:
     @property
     def watched(self):
         """The processes whose pc or registers an atom is about, and the pages of which it is about bytes."""
-        words = [atom.words for line in self.lines for atom in line.atoms]
-        return ({int(said[1]) for said in words if said[0] in ("pc", "reg")},
-                {int(said[1]) for said in words if said[0] == "word"})
+        atoms = [atom for line in self.lines for group in line.groups for atom in group]
+        seen = [looked_at(term) for atom in atoms for term in atom.terms]
+        seen += [({int(atom.words[1])}, set()) for atom in atoms if atom.words[0] in ("pc", "reg")]
+        seen += [(set(), {int(atom.words[1])}) for atom in atoms if atom.words[0] == "word"]
+        return tuple(set().union(*(one[part] for one in seen)) for part in (0, 1))
 
     def asking(self, asks):
         """The lines that ask this, in their order."""
@@ -98,14 +102,34 @@ def choice_of(words):
     raise ValueError
 
 
-def atoms_of(words):
-    """The atoms behind `never` and the like."""
-    atoms = []
-    for group in re.split(r"(?:^| )and(?= |$)", " ".join(words)):
-        group = group.split()
-        negated = group[0] == "not"
-        group = group[negated:]
-        if len(group) - 1 not in ATOMS[group[0]] if group[0] in ATOMS else True:
-            raise ValueError
-        atoms.append(Atom(negated, group))
-    return atoms
+def parted(words, by):
+    """Words between each that parts them and the next."""
+    parts = [[]]
+    for word in words:
+        if word == by:
+            parts.append([])
+        else:
+            parts[-1].append(word)
+    return parts
+
+
+def groups_of(words):
+    """The groups behind `never` and the like, each of atoms that hold together."""
+    return [[atom_of(part) for part in parted(group, "and")] for group in parted(words, "or")]
+
+
+def atom_of(words):
+    negated = words[0] == "not"
+    words = words[negated:]
+    if words[0] in COMPARISONS:
+        return Atom(negated, words, terms_of(words[1:]))
+    if len(words) - 1 not in ATOMS.get(words[0], ()) or not is_holding(words):
+        raise ValueError
+    return Atom(negated, words, [])
+
+
+def is_holding(words):
+    """What stands behind `holds` is that many words."""
+    if words[0] != "holds" or len(words) == 5:
+        return True
+    return words[3] in ANY if len(words) == 4 else words[5] == "writable"

@@ -23,7 +23,7 @@ class Search:
         self.depths.append(depth)
         state = State(text)
         for line in self.question.lines:
-            if state.holds_all(line.atoms, self.question.policy):
+            if state.holds_any(line.groups, self.question.policy):
                 self.holding[line.number].append(number)
                 if line.asks == "never" and self.found is None:
                     self.found = line.number

@@ -1,5 +1,6 @@
 """A state as the program printed it, and which atoms hold of it."""
 from exploring.policy import named_by
+from exploring.terms import COMPARISONS, compares
 
 ROW = 16
 
@@ -10,6 +11,7 @@ class State:
     def __init__(self, data):
         self.is_halted, self.is_stuck = False, True
         self.sleepers, self.processes, self.registers, self.rows = {}, {}, {}, {}
+        self.endpoints, self.counts = {}, {}
         self.held = {}  # the capabilities in each object, by its kind and number
         for line in data.decode().splitlines():
             words = line.split()
@@ -41,7 +43,11 @@ class State:
     def take_slot(self, words):
         self.hold("gpt", words[0], words[2:])
 
+    def take_count(self, words):
+        self.counts[words[0], int(words[1])] = int(words[2])
+
     def take_endpoint(self, words):
+        self.endpoints[int(words[0])] = int(words[2], 16), int(words[3], 16)
         self.hold("endpoint", words[0], words[1:2])
 
     def take_process(self, words):
@@ -56,11 +62,21 @@ class State:
 
     # -- atoms
 
-    def holds_all(self, atoms, policy):
-        return all(self.atom(atom.words[0], atom.words[1:], policy) != atom.negated for atom in atoms)
+    def process(self, number):
+        """The pc of a process, and what it does."""
+        return self.processes.get(number, (0, ["stop"]))
+
+    def holds_any(self, groups, policy):
+        """Whether all atoms of one of some groups hold."""
+        return any(all(self.holds(atom, policy) for atom in group) for group in groups)
+
+    def holds(self, atom, policy):
+        name, words = atom.words[0], atom.words[1:]
+        holds = compares(name, atom.terms, self) if name in COMPARISONS else self.atom(name, words, policy)
+        return holds != atom.negated
 
     def atom(self, name, words, policy):
-        """Whether an atom holds, without its `not`."""
+        """Whether an atom without terms holds, without its `not`."""
         if name == "stuck":
             return self.is_stuck
         if name == "halted":
@@ -68,15 +84,23 @@ class State:
         if name == "crossing":
             return policy.is_crossed(self)
         if name == "word":
-            return self.word(int(words[0]), int(words[1], 16)) == int(words[2], 16)
+            return self.number(int(words[0]), int(words[1], 16), 4) == int(words[2], 16)
         if name == "holds":
-            return any(named_by(word) == (words[2], int(words[3])) for word in self.held.get((words[0], int(words[1])), []))
+            held = self.held.get((words[0], int(words[1])), [])
+            return any(is_held(capability, words[2:]) for capability in held)
         return self.process_atom(name, int(words[0]), words[1:])
 
     def process_atom(self, name, process, words):
-        pc, doing = self.processes.get(process, (0, ["stop"]))
+        pc, doing = self.process(process)
         if name == "sleeps":
             return process in self.sleepers
+        if name == "asks":
+            return self.sleepers.get(process) == int(words[0])
+        if name == "waits":
+            found = self.endpoints.get(int(words[0]), (0, 0))[0]
+            return doing[0] == "waiting" and (doing[1] == "open" or int(doing[1], 16) == found)
+        if name == "accepts":
+            return doing[0] == "waiting" and int(doing[2]) > 0
         if name == "pc":
             return int(words[0], 16) <= pc <= int(words[-1], 16)
         if name == "reg":
@@ -85,7 +109,15 @@ class State:
             return doing[0] == "faulted" and words in ([], doing[1:2])
         return doing[0] == {"running": "run", "receiving": "waiting"}[name]
 
-    def word(self, page, offset):
-        """Four bytes of a page, the least first."""
+    def number(self, page, offset, size):
+        """So many bytes of a page, the least first."""
         row = self.rows.get((page, offset // ROW * ROW), bytes(ROW))
-        return int.from_bytes(row[offset % ROW:offset % ROW + 4], "little")
+        return int.from_bytes(row[offset % ROW:offset % ROW + size], "little")
+
+
+def is_held(capability, wanted):
+    """Whether a capability is of a kind, or to an object; with `writable`, one that is not restricted to reading."""
+    if len(wanted) == 1:
+        return capability.split(":")[0] == wanted[0]
+    letters = capability.partition("+")[2]
+    return named_by(capability) == (wanted[0], int(wanted[1])) and not ("writable" in wanted and "r" in letters)

@@ -5,8 +5,9 @@ from rules.behind import EVENTS, Policy, hart, times, unknown
 from rules.statement import count_words, kind_of
 from rules.words import Refused, decimal_of, end_of, hexadecimal_of
 
-FORMS = {"may": "may step H [N], may run H, may tick H", "never": "never ATOM [and ATOM ..]", "ever": "ever ATOM [and ATOM ..]",
-         "count": "count ATOM [and ATOM ..]", "domain": "domain NAME KIND N [M]", "reads": "reads A B", "writes": "writes A B",
+ATOMS_FORM = "ATOM [and ATOM ..] [or ATOM ..]"
+FORMS = {"may": "may step H [N], may run H, may tick H", "never": f"never {ATOMS_FORM}", "ever": f"ever {ATOMS_FORM}",
+         "count": f"count {ATOMS_FORM}", "domain": "domain NAME KIND N [M]", "reads": "reads A B", "writes": "writes A B",
          "halts": "halts A", "logs": "logs A", "depth": "depth N",
          "states": "states N", "end": "end"}
 CHOICES = {"step": "may step H [N]", "run": "may run H", "tick": "may tick H"}
@@ -14,10 +15,21 @@ CHOICES = {"step": "may step H [N]", "run": "may run H", "tick": "may tick H"}
 ATOMS = {"stuck": ("stuck", 1, 1), "halted": ("halted", 1, 1), "crossing": ("crossing", 1, 1),
          "running": ("running P", 2, 2), "receiving": ("receiving P", 2, 2), "faulted": ("faulted P [CODE]", 2, 3),
          "sleeps": ("sleeps P", 2, 2), "pc": ("pc P FIRST [LAST]", 3, 4), "reg": ("reg P N VALUE", 4, 4),
-         "word": ("word PAGE OFFSET VALUE", 4, 4), "holds": ("holds KIND N KIND M", 5, 5)}
+         "word": ("word PAGE OFFSET VALUE", 4, 4), "holds": ("holds KIND N KIND M [writable], holds KIND N ANY", 4, 6),
+         "waits": ("waits P E", 3, 3), "accepts": ("accepts P", 2, 2), "asks": ("asks P Q", 3, 3),
+         **{word: (f"{word} TERM TERM", None, None) for word in ("same", "below", "most", "less")}}
+# Kinds of which no object is named.
+ANY = ("range", "sysctl", "kernlog", "schedule")
+# Each term that has no terms in it, with its form.
+OPERANDS = {"number": "number VALUE", "reg": "reg P N", "pc": "pc P", "word": "word PAGE OFFSET", "half": "half PAGE OFFSET",
+            "byte": "byte PAGE OFFSET", "age": "age KIND N", "payload": "payload E"}
+OPERATORS = {word: f"{word} TERM TERM" for word in ("plus", "minus", "both")}
+TERMS = {**OPERANDS, **OPERATORS}
+BYTES = {"word": 4, "half": 2, "byte": 1}
+DEEPEST = 16
 FAULTS = ("InvalidDataReference", "InvalidCapReference", "DataAccessTypeError", "CapAccessTypeError", "AccessViolation",
           "MalformedSpace", "NoSchedule", "MalformedSyscall", "BadAlign", "BadOpcode", "Breakpoint")
-LAST_OFFSET, LAST_REGISTER = 0xffc, 31
+PAGE, LAST_REGISTER = 0x1000, 31
 
 
 class Question:
@@ -66,7 +78,7 @@ class Question:
         """The atoms behind the first word, from left to right."""
         group = []
         for word in [*words[1:], None]:
-            if word is not None and word != "and":
+            if word is not None and word not in ("and", "or"):
                 group.append(word)
                 continue
             self.atom(group, word or end_of(words))
@@ -80,6 +92,9 @@ class Question:
                           "an atom: " + ", ".join(form for form, _, _ in ATOMS.values()),
                           atom_seen(words[0]) if words else "there is none")
         form, least, most = ATOMS[words[0]]
+        if most is None:
+            self.terms_atom(words, form)
+            return
         count_words(words, least, most, form)
         judge = getattr(self, f"{words[0]}_atom", None)
         if judge:
@@ -111,21 +126,82 @@ class Question:
 
     def reg_atom(self, words):
         self.process(words)
-        if decimal_of(words[2]) > LAST_REGISTER:
-            raise Refused("BadRegister", words[2], f"a register, 0 to {LAST_REGISTER}", f"there is no x{int(words[2])}")
+        self.register(words[2])
         hexadecimal_of(words[3])
+
+    @staticmethod
+    def register(word):
+        if decimal_of(word) > LAST_REGISTER:
+            raise Refused("BadRegister", word, f"a register, 0 to {LAST_REGISTER}", f"there is no x{int(word)}")
 
     def word_atom(self, words):
-        self.object("page", words[1])
-        offset = hexadecimal_of(words[2])
-        if offset > LAST_OFFSET or offset % 4:
-            raise Refused("BadOffset", words[2], f"an offset in the page, a multiple of 4 up to {LAST_OFFSET:x}",
-                          f"{offset:x} is too large" if offset > LAST_OFFSET else f"{offset:x} is no multiple of 4")
+        self.bytes("word", words)
         hexadecimal_of(words[3])
 
+    def bytes(self, word, words):
+        """A page and an offset behind the first word."""
+        self.object("page", words[1])
+        offset, count = hexadecimal_of(words[2]), BYTES[word]
+        last = PAGE - count
+        if offset > last or offset % count:
+            raise Refused("BadOffset", words[2], f"an offset in the page, a multiple of {count} up to {last:x}",
+                          f"{offset:x} is too large" if offset > last else f"{offset:x} is no multiple of {count}")
+
+    def waits_atom(self, words):
+        self.process(words)
+        self.object("endpoint", words[2])
+
+    def asks_atom(self, words):
+        self.process(words)
+        self.object("process", words[2])
+
     def holds_atom(self, words):
-        for kind, number in (words[1:3], words[3:5]):
+        form = ATOMS["holds"][0]
+        if len(words) == 4 and words[3] not in ANY:
+            raise Refused("WrongWords", end_of(words), form, "a word is missing, or the last is none of " + ", ".join(ANY))
+        if len(words) == 6 and words[5] != "writable":
+            raise Refused("WrongWords", words[5], form, "a word is too many, or it is not writable")
+        for kind, number in [words[1:3], words[3:5]][:2 if len(words) > 4 else 1]:
             self.object(kind_of(kind), number)
+
+    # -- terms
+
+    def terms_atom(self, words, form):
+        behind = self.term(words, self.term(words, 1, 1, form), 1, form)
+        if words[behind:]:
+            raise Refused("WrongWords", words[behind], form, "a word is too many: two terms stand in front")
+
+    def term(self, words, at, depth, form):
+        """Judges the term from a word on; where the words behind it begin."""
+        if depth > DEEPEST:
+            raise Refused("BadTerm", (words[at:] or [end_of(words)])[0], f"at most {DEEPEST} terms in one another",
+                          "this one is one too many")
+        if not words[at:]:
+            raise Refused("WrongWords", end_of(words), form, "a term is missing")
+        word = words[at]
+        if word in OPERATORS:
+            return self.term(words, self.term(words, at + 1, depth + 1, OPERATORS[word]), depth + 1, OPERATORS[word])
+        if word not in OPERANDS:
+            raise Refused("BadTerm", word, "a term: " + ", ".join(TERMS.values()), term_seen(word))
+        operand = words[at:at + len(OPERANDS[word].split())]
+        count_words(operand, len(OPERANDS[word].split()), 0, OPERANDS[word])
+        self.operand(operand)
+        return at + len(operand)
+
+    def operand(self, words):
+        word = words[0]
+        if word in BYTES:
+            self.bytes(word, words)
+        elif word == "number":
+            hexadecimal_of(words[1])
+        elif word == "age":
+            self.object(kind_of(words[1]), words[2])
+        elif word == "payload":
+            self.object("endpoint", words[1])
+        else:
+            self.process(words)
+            for register in words[2:]:
+                self.register(register)
 
 
 def atom_seen(word):
@@ -135,4 +211,14 @@ def atom_seen(word):
     if word.lower() in ATOMS:
         return f"it has large letters: {word.lower()}"
     found = difflib.get_close_matches(word, list(ATOMS), 1)
+    return f"there is {found[0]}" if found else ""
+
+
+def term_seen(word):
+    """What a word is that is no term."""
+    if word.lower() in TERMS:
+        return f"it has large letters: {word.lower()}"
+    if word[:1].isdigit():
+        return "a number stands behind the word `number`"
+    found = difflib.get_close_matches(word, list(TERMS), 1)
     return f"there is {found[0]}" if found else ""
