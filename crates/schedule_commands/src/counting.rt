@@ -1,5 +1,5 @@
 //! The command `check`: the lines behind a listing with their events counted. No machine is made.
-ghost use Rattle.std.specs.Prelude.{ℕ, ◌≡◌, false};
+ghost use Rattle.std.specs.Prelude.{ℕ, ◌≡◌, ◌≢◌, false};
 ghost use Rattle.coy_io.specs.Reader.{TellsEnd};
 ghost use Rattle.courses.specs.Course.{cached};
 ghost use Rattle.courses.specs.Ending.{EndsIn};
@@ -35,9 +35,10 @@ fn count_schedule<S: Source, K: Sink>(
 ) -> Exit
     requires reader { lines.old.failed ≡ false }
     requires told { TellsEnd lines.old (S.held input.old) }
-    ensures { (fetches : ℕ) → TakesLines S.held S.faults K.taken K.faults lines.old lines.new
+    ensures course { (fetches : ℕ) → TakesLines S.held S.faults K.taken K.faults lines.old lines.new
         input.old input.new output.old output.new fetches fetches result cached
         (check_course listing.now lines.old.number) }
+    ensures memory { result ≢ Exit.OutOfMemory }
 {
     let harts = listing.sizes().harts;
     let answer = count_lines(lines, input, harts);

@@ -1,5 +1,5 @@
 //! The lines behind a listing, run over a mapping cache, and what is written of them and behind them.
-ghost use Rattle.std.specs.Prelude.{◌≡◌, false};
+ghost use Rattle.std.specs.Prelude.{◌≡◌, ◌≢◌, false};
 ghost use Rattle.coy_io.specs.Reader.{TellsEnd, ahead};
 ghost use Rattle.map_cache.specs.Cache.{kept_of};
 ghost use Rattle.map_cache.specs.Kept.{nothing};
@@ -39,6 +39,7 @@ pub(crate) fn answer_lines<S: Source, K: Sink, L: Ledger>(
         input.old input.new output.old output.new fetches.old fetches.new result cached (λ parts.
         course_of command (state_of machine.old)
         (scheduled machine.old.objects.harts lines.old.number parts)) }
+    ensures memory { result ≢ Exit.OutOfMemory }
 
     // What the entries of the mapping cache say then.
     ensures entries { result ≡ Exit.Done → OnParts (ahead lines.old (S.held input.old)) (λ parts.

@@ -3,6 +3,7 @@ use Rattle.map_cache.specs.Cache.{kept_of}
 use Rattle.map_cache.specs.Kept.{cost_of, kept_after, kept_without, nothing}
 use Rattle.courses.specs.declared.exit.Exit.TheVariants.{Done}
 use Rattle.courses.proofs.Concluding.{concludes-own}
+use Rattle.courses.proofs.Lacking.{concludes-memory, ends-memory, replay-memory}
 use Rattle.courses.proofs.Running.{run-ended, run-stopped}
 use Rattle.schedule_commands.specs.Finished.{runner_of}
 use Rattle.schedule_commands.proofs.RunEntries.{replays-mode, run-entries, undone}
@@ -33,3 +34,11 @@ pub returns-in-Err-clause-entries : goal.returns-in-Err-clause-entries
 returns-in-Err-clause-entries g c = λ done.
     let own = concludes-own g.K.Sink.taken g.K.Sink.faults _ _ _ c.in-Err.exit c.conclude.ensures Done (λ bad. cc) done in
     absurd (undone c.replay-replayed.result (sym c.counts_or_exit.ensures ∙ c.in-Err.is ∙ ap Err own))
+
+pub returns-in-Ok-clause-memory : goal.returns-in-Ok-clause-memory
+returns-in-Ok-clause-memory g c = ends-memory g.K.Sink.taken g.K.Sink.faults _ _ _ _ (λ bad. cc) c.finish.ensures.ends
+
+pub returns-in-Err-clause-memory : goal.returns-in-Err-clause-memory
+returns-in-Err-clause-memory g c =
+    concludes-memory g.K.Sink.taken g.K.Sink.faults _ _ _ c.in-Err.exit
+    (replay-memory c.replay-replayed.result c.in-Err.exit (sym c.counts_or_exit.ensures ∙ c.in-Err.is)) c.conclude.ensures
