@@ -2,6 +2,7 @@ pub mod Made
 mod Restoring
 mod Filtered
 mod Results
+pub mod Passing
 mod Deciding
 pub mod More
 mod With

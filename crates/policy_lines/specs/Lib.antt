@@ -1,3 +1,4 @@
+pub mod Passages
 pub mod Permission
 pub mod Unused
 pub mod Least

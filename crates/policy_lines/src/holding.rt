@@ -1,5 +1,5 @@
 //! Whether a policy holds.
-ghost use Rattle.std.specs.Prelude.{◌≡◌, ◌≤◌, ◌+◌, ◌*◌, ◌↔◌, length, IfOk, IsTrue};
+ghost use Rattle.std.specs.Prelude.{◌≡◌, ◌≤◌, ◌+◌, ◌*◌, ◌↔◌, length, IfOk, IsTrue, OnErr};
 ghost use Rattle.cap_format.specs.declared.kind.CapKind.TheVariants.{Gpt};
 ghost use Rattle.object_store.specs.Store.{size_of};
 ghost use Rattle.machine_state.specs.State.{state_of};
@@ -26,6 +26,7 @@ pub(crate) fn holds<T: Translator, L: Ledger>(
     ensures value { IfOk result (λ yes. yes ≡ holds_in policy.now (state_of machine.now)) }
     ensures counted { IfOk result (λ yes. fetches.new ≡
         fetches.old + 16 * size_of machine.now.objects.items Gpt) }
+    ensures err { OnErr result (fetches.new ≡ fetches.old) }
     ensures most { fetches.new ≤ fetches.old + 16 * size_of machine.now.objects.items Gpt }
 {
     let found = crossings(alloc, machine, policy, fetches)?;
@@ -45,6 +46,7 @@ pub(crate) fn holds_without<T: Translator, L: Ledger>(
     ensures same { policy.new ≡ policy.old }
     ensures counted { IfOk result (λ yes. fetches.new ≡
         fetches.old + 16 * size_of machine.now.objects.items Gpt) }
+    ensures err { OnErr result (fetches.new ≡ fetches.old) }
     ensures most { fetches.new ≤ fetches.old + 16 * size_of machine.now.objects.items Gpt }
 {
     policy.len();

@@ -1,11 +1,12 @@
 //! The least lines with which a policy holds.
-ghost use Rattle.std.specs.Prelude.{◌≡◌, ◌<◌, ◌≤◌, ◌+◌, ◌*◌, ◌++◌, [], drop, length, map, IfOk};
+ghost use Rattle.std.specs.Prelude.{◌≡◌, ◌<◌, ◌≤◌, ◌+◌, ◌*◌, ◌++◌, [], drop, length, map, IfOk, OnErr};
 ghost use Rattle.std.specs.List.{All};
 ghost use Rattle.cap_format.specs.declared.kind.CapKind.TheVariants.{Gpt};
 ghost use Rattle.object_store.specs.Store.{size_of};
 ghost use Rattle.machine_state.specs.State.{state_of};
 ghost use Rattle.separation_policy.specs.Making.{bare_policy};
 ghost use Rattle.separation_check.specs.Crossings.{crossings_in, meant_crossing};
+ghost use Rattle.policy_lines.specs.Passages.{ReadsWhole};
 ghost use Rattle.policy_lines.specs.Permission.{IsMade, lines_of};
 ghost use Rattle.policy_lines.specs.Unused.{holds_in};
 ghost use Rattle.policy_lines.specs.Least.{only, thinned};
@@ -42,6 +43,8 @@ pub fn least<T: Translator, L: Ledger>(
     ensures after { policy.new ≡ bare_policy policy.old }
     ensures counted { IfOk result (λ needed. fetches.new ≡
         fetches.old + 16 * size_of machine.now.objects.items Gpt * passages_in policy.old (state_of machine.now)) }
+    ensures err { OnErr result (ReadsWhole (16 * size_of machine.now.objects.items Gpt)
+        (passages_in policy.old (state_of machine.now)) fetches.old fetches.new) }
     ensures most { fetches.new ≤
         fetches.old + 16 * size_of machine.now.objects.items Gpt * passages_in policy.old (state_of machine.now) }
 {
@@ -64,6 +67,8 @@ fn find_needed<T: Translator, L: Ledger>(
     ensures bare { bare_policy policy.new ≡ bare_policy policy.old }
     ensures counted { IfOk result (λ needed. fetches.new ≡
         fetches.old + 16 * size_of machine.now.objects.items Gpt * passages_in policy.old (state_of machine.now)) }
+    ensures err { OnErr result (ReadsWhole (16 * size_of machine.now.objects.items Gpt)
+        (passages_in policy.old (state_of machine.now)) fetches.old fetches.new) }
     ensures most { fetches.new ≤
         fetches.old + 16 * size_of machine.now.objects.items Gpt * passages_in policy.old (state_of machine.now) }
 {
@@ -88,6 +93,7 @@ fn bare_crossings<T: Translator, L: Ledger>(
     ensures after { policy.new ≡ bare_policy policy.old }
     ensures counted { IfOk result (λ found. fetches.new ≡
         fetches.old + 16 * size_of machine.now.objects.items Gpt) }
+    ensures err { OnErr result (fetches.new ≡ fetches.old) }
     ensures most { fetches.new ≤ fetches.old + 16 * size_of machine.now.objects.items Gpt }
 {
     policy.clear();
@@ -110,6 +116,9 @@ fn find_least<T: Translator, L: Ledger>(
     ensures counted { let all = lines_of (only policy.old (named_by (length policy.old.domains) found.now)) in
         IfOk result (λ kept. fetches.new ≡
         fetches.old + 16 * size_of machine.now.objects.items Gpt * length all) }
+    ensures err { let all = lines_of (only policy.old (named_by (length policy.old.domains) found.now)) in
+        OnErr result (ReadsWhole (16 * size_of machine.now.objects.items Gpt) (length all)
+        fetches.old fetches.new) }
     ensures most { let all = lines_of (only policy.old (named_by (length policy.old.domains) found.now)) in
         fetches.new ≤ fetches.old + 16 * size_of machine.now.objects.items Gpt * length all }
 {
@@ -134,6 +143,8 @@ fn thin<T: Translator, L: Ledger>(
     ensures bare { bare_policy policy.new ≡ bare_policy policy.old }
     ensures counted { IfOk result (λ kept. fetches.new ≡
         fetches.old + 16 * size_of machine.now.objects.items Gpt * length lines.now) }
+    ensures err { OnErr result (ReadsWhole (16 * size_of machine.now.objects.items Gpt)
+        (length lines.now) fetches.old fetches.new) }
     ensures most { fetches.new ≤
         fetches.old + 16 * size_of machine.now.objects.items Gpt * length lines.now }
 {
@@ -168,6 +179,7 @@ fn holds_with<T: Translator, L: Ledger>(
     ensures after { policy.new ≡ only policy.old (kept.now ++ rest.now) }
     ensures counted { IfOk result (λ yes. fetches.new ≡
         fetches.old + 16 * size_of machine.now.objects.items Gpt) }
+    ensures err { OnErr result (fetches.new ≡ fetches.old) }
     ensures most { fetches.new ≤ fetches.old + 16 * size_of machine.now.objects.items Gpt }
 {
     allow_only(policy, kept);

@@ -1,10 +1,11 @@
 //! Lines of a policy that it doesn't need.
-ghost use Rattle.std.specs.Prelude.{◌≡◌, ◌≤◌, ◌+◌, ◌*◌, ◌↔◌, length, IfOk};
+ghost use Rattle.std.specs.Prelude.{◌≡◌, ◌≤◌, ◌+◌, ◌*◌, ◌↔◌, length, IfOk, OnErr};
 ghost use Rattle.std.specs.List.{Contains};
 ghost use Rattle.cap_format.specs.declared.kind.CapKind.TheVariants.{Gpt};
 ghost use Rattle.object_store.specs.Store.{size_of};
 ghost use Rattle.machine_state.specs.State.{state_of};
 ghost use Rattle.confinement.specs.Acts.{system_of};
+ghost use Rattle.policy_lines.specs.Passages.{ReadsWhole};
 ghost use Rattle.policy_lines.specs.Permission.{channels_of};
 ghost use Rattle.policy_lines.specs.Unused.{IsUnused, unused_in};
 
@@ -35,6 +36,8 @@ pub fn unused<T: Translator, L: Ledger>(
     ensures same { policy.new ≡ policy.old }
     ensures counted { IfOk result (λ found. fetches.new ≡
         fetches.old + 16 * size_of machine.now.objects.items Gpt * length (channels_of policy.old)) }
+    ensures err { OnErr result (ReadsWhole (16 * size_of machine.now.objects.items Gpt)
+        (length (channels_of policy.old)) fetches.old fetches.new) }
     ensures most { fetches.new ≤
         fetches.old + 16 * size_of machine.now.objects.items Gpt * length (channels_of policy.old) }
 {
@@ -53,6 +56,8 @@ fn all_unused<T: Translator, L: Ledger>(
     ensures same { policy.new ≡ policy.old }
     ensures counted { IfOk result (λ found. fetches.new ≡
         fetches.old + 16 * size_of machine.now.objects.items Gpt * length (channels_of policy.old)) }
+    ensures err { OnErr result (ReadsWhole (16 * size_of machine.now.objects.items Gpt)
+        (length (channels_of policy.old)) fetches.old fetches.new) }
     ensures most { fetches.new ≤
         fetches.old + 16 * size_of machine.now.objects.items Gpt * length (channels_of policy.old) }
 {

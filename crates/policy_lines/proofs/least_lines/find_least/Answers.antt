@@ -11,7 +11,8 @@ use Rattle.policy_lines.specs.Unused.{holds_in}
 use Rattle.policy_lines.specs.Least.{only, with_lines, thinned}
 use Rattle.policy_lines.specs.Needed.{named_by}
 use Rattle.policy_lines.proofs.Adding.{bare-only}
-use Rattle.policy_lines.proofs.Results.{if_ok}
+use Rattle.policy_lines.proofs.Passing.{reads-none, reads-same}
+use Rattle.policy_lines.proofs.Results.{if_err, if_ok, so_err}
 use Rattle.policy_lines.proofs.least_lines.find_least.Goals as goal
 
 pub allow_only-requires : goal.allow_only-requires
@@ -59,3 +60,20 @@ returns-clause-most g c =
 
 pub returns-in_err-all-clause-bare : goal.returns-in_err-all-clause-bare
 returns-in_err-all-clause-bare g c = ap (λ (p : PolicyValue). bare_policy p) c.allow_only.ensures ∙ bare-only c.args.policy.now c.deref.result.now
+
+-- ---- where memory is wanting
+
+pub returns-in_err-named-clause-err : goal.returns-in_err-named-clause-err
+returns-in_err-named-clause-err g c = so_err _ _ (reads-none _ _ _)
+
+pub returns-in_err-all-clause-err : goal.returns-in_err-all-clause-err
+returns-in_err-all-clause-err g c = so_err _ _ (reads-none _ _ _)
+
+pub returns-clause-err : goal.returns-clause-err
+returns-clause-err g c =
+    let policy = c.args.policy.now in
+    let given : c.allow_only.new.policy ≡ only policy (named_by (length policy.domains) c.args.found.now) =
+    c.allow_only.ensures ∙ ap (λ (ls : List Permission). only policy ls) (c.deref.ensures.value ∙ (c.in_ok-named.ensures.value ∙ ap (λ (n : ℕ). named_by n c.args.found.now) c.len.ensures.value)) in
+    let all : c.deref-2.result.now ≡ lines_of (only policy (named_by (length policy.domains) c.args.found.now)) =
+    c.deref-2.ensures.value ∙ (c.in_ok-all.ensures.value ∙ ap (λ (p : PolicyValue). lines_of p) given) in
+    if_err c.thin.result _ _ (reads-same _ _ _ _ _ (ap length all)) c.thin.ensures.err

@@ -5,11 +5,14 @@ use Rattle.machine_state.specs.State.{state_of}
 use Rattle.separation_policy.specs.Policy.{PolicyValue}
 use Rattle.separation_policy.specs.Making.{bare_policy}
 use Rattle.separation_check.specs.declared.crossing.Crossing.{Crossing}
+use Rattle.policy_lines.specs.Passages.{ReadsWhole}
 use Rattle.policy_lines.specs.Permission.{lines_of}
 use Rattle.policy_lines.specs.Unused.{holds_in}
 use Rattle.policy_lines.specs.Least.{only, thinned}
 use Rattle.policy_lines.specs.Needed.{barred, named_by}
 use Rattle.policy_lines.proofs.Adding.{bare-twice}
+use Rattle.policy_lines.proofs.Passing.{passages-some, reads-more, reads-none, reads-once}
+use Rattle.policy_lines.proofs.Results.{so_err}
 use Rattle.policy_lines.proofs.Telling.{tells-barred, tells-lines, tells-passages, read-once, read-all, within-all}
 use Rattle.policy_lines.proofs.least_lines.find_needed.Goals as goal
 
@@ -93,3 +96,22 @@ returns-clause-most g c =
     subst (λ (xs : List Crossing). c.find_least.new.fetches ≤ c.bare_crossings.new.fetches + 16 * size_of c.args.machine.now.objects.items Gpt
     * length (lines_of (only c.bare_crossings.new.policy (named_by (length c.bare_crossings.new.policy.domains) xs)))) c.deref-2.ensures.value c.in_ok-kept.ensures.most in
     within-all c.args.fetches.now c.bare_crossings.new.fetches c.find_least.new.fetches (16 * size_of c.args.machine.now.objects.items Gpt) _ _ all c.in_ok-found.ensures.counted tried
+
+-- ---- where memory is wanting
+
+pub returns-in_err-found-clause-err : goal.returns-in_err-found-clause-err
+returns-in_err-found-clause-err g c = so_err _ _ (subst (ReadsWhole _ _ c.args.fetches.now) (sym c.in_err-found.ensures.err) (reads-none _ _ _))
+
+pub returns-in_err-those-clause-err : goal.returns-in_err-those-clause-err
+returns-in_err-those-clause-err g c = so_err _ _ (reads-once _ _ _ _ (passages-some c.args.policy.now (state_of c.args.machine.now)) c.in_ok-found.ensures.counted)
+
+pub returns-in_err-kept-clause-err : goal.returns-in_err-kept-clause-err
+returns-in_err-kept-clause-err g c =
+    let are : c.in_ok-those.those.items ≡ barred (length c.bare_crossings.new.policy.domains) c.in_ok-found.found.items =
+    c.in_ok-those.ensures ∙ ap₂ (λ (n : ℕ) (xs : List Crossing). barred n xs) c.len.ensures.value c.deref.ensures.value in
+    let all = tells-passages c.args.policy.now c.bare_crossings.new.policy (state_of c.args.machine.now) c.in_ok-found.found.items c.in_ok-found.ensures.after c.in_ok-found.ensures.means
+    c.in_ok-those.those.items are (ap (λ (n : ℕ). n == 0) (sym c.in_ok-those.those.ok.0) ∙ (sym c.is_empty.ensures ∙ c.if-not-is_empty.false)) in
+    let slots = 16 * size_of c.args.machine.now.objects.items Gpt in
+    let more = subst (λ (xs : List Crossing). ReadsWhole slots (length (lines_of (only c.bare_crossings.new.policy (named_by (length c.bare_crossings.new.policy.domains) xs))))
+    c.bare_crossings.new.fetches c.find_least.new.fetches) c.deref-2.ensures.value c.in_err-kept.ensures.err in
+    so_err _ _ (reads-more slots _ _ c.args.fetches.now c.bare_crossings.new.fetches c.find_least.new.fetches all c.in_ok-found.ensures.counted more)

@@ -10,6 +10,8 @@ use Rattle.policy_lines.specs.Permission.{IsMade}
 use Rattle.policy_lines.specs.Unused.{holds_in}
 use Rattle.policy_lines.specs.Least.{only, thinned}
 use Rattle.policy_lines.proofs.Made.{all-none, all-if}
+use Rattle.policy_lines.proofs.Passing.{reads-some}
+use Rattle.policy_lines.proofs.Results.{so_err}
 use Rattle.policy_lines.proofs.Thinned.{one-thinned}
 use Rattle.policy_lines.proofs.Adding.{bare-only, same-only, same-count}
 use Rattle.policy_lines.proofs.least_lines.thin.Goals as goal
@@ -72,3 +74,17 @@ returns-in_err-enough-clause-bare g c =
 pub returns-in_err-push_if-clause-bare : goal.returns-in_err-push_if-clause-bare
 returns-in_err-push_if-clause-bare g c =
     ap (λ (p : PolicyValue). bare_policy p) c.in_ok-enough.ensures.after ∙ (bare-only c.each.policy (c.deref.result.now ++ c.behind.result.now) ∙ c.each.invariant.bare)
+
+-- ---- where memory is wanting
+
+pub returns-in_err-enough-clause-err : goal.returns-in_err-enough-clause-err
+returns-in_err-enough-clause-err g c =
+    let read = c.each.invariant.counted in
+    let none = c.in_err-enough.ensures.err in
+    so_err _ _ (reads-some _ _ _ _ c.each.i (omega arith) (none ∙ read))
+
+pub returns-in_err-push_if-clause-err : goal.returns-in_err-push_if-clause-err
+returns-in_err-push_if-clause-err g c =
+    let read = c.each.invariant.counted in
+    let once = c.in_ok-enough.ensures.counted in
+    so_err _ _ (reads-some _ _ _ _ (c.each.i + 1) (omega arith) (omega (arith, read, once)))
