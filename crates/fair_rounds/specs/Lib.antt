@@ -6,3 +6,4 @@ pub mod Loops
 pub mod Classes
 pub mod Told
 pub mod Meaning
+pub mod Laws

@@ -1,9 +1,17 @@
 -- Rounds that lead from a node back to it, and how they are found.
 use Rattle.std.specs.Prelude.{◌≡◌, ℕ, ◌-◌, ◌<◌, ◌≤◌, true, false, Bool, List, ◌++◌, length, All, Option, Some, slice_get, MatchOption}
 use Rattle.std.specs.List.{Contains}
-use Rattle.reaches_back.specs.Edges.{end_of, walked}
+use Rattle.reaches_back.specs.Edges.{end_of, walked, CanReach}
 use Rattle.fair_rounds.specs.Table.{is_marked, ComesTo, IsLoop}
 use Rattle.fair_rounds.specs.declared.breadth.Found.{Found}
+
+-- what is marked in one list is marked in the other
+abbrev pub KeepsMarks : List Bool → List Bool → Type 0
+KeepsMarks old new = (at : ℕ) → is_marked old at ≡ true → is_marked new at ≡ true
+
+-- from each node that is marked in the second list, edges lead to one that is in the first
+abbrev pub AllReach : ℕ → List ℕ → List Bool → List Bool → Type 0
+AllReach width ends old new = (at : ℕ) → is_marked new at ≡ true → CanReach width ends old at
 
 -- each node of the list is marked
 abbrev pub AreMarkedNodes : List Bool → List ℕ → Type 0

@@ -1,15 +1,13 @@
 //! Edges by the nodes at which they end.
 
-ghost use Rattle.std.specs.Prelude.{◌≡◌, ◌<◌, ◌≤◌, ◌*◌, ℕ, true, All, length, IfOk, OnOk};
-ghost use Rattle.reaches_back.specs.Edges.{CanReach};
+ghost use Rattle.std.specs.Prelude.{◌≡◌, ◌<◌, true, length, OnOk};
 ghost use Rattle.fair_rounds.specs.Table.{IsTable, is_marked};
-ghost use Rattle.fair_rounds.specs.Loops.{AreMarkedNodes};
+ghost use Rattle.fair_rounds.specs.Loops.{AllReach, AreMarkedNodes, KeepsMarks};
 
 use std::alloc::{AllocError, Global};
 
-/// Of each node the last edge that ends there, and of each edge the one before that ends at the same node, counted from 1.
-///
-/// Nothing of it is proved: whoever goes over these edges looks where they end.
+/// The last edge that ends at each node, and before each edge the next one that ends at the same node,
+/// counted from 1. Nothing of it is proved: whoever follows these edges looks where they end.
 #[derive(Drop)]
 pub(crate) struct Arrivals {
     lasts: Vec<u32>,
@@ -60,8 +58,8 @@ fn add_arrivals(
     requires wide { 0 < width }
     requires node { is_marked marks.old node ≡ true }
     requires list { AreMarkedNodes marks.old list.old.items }
-    ensures sound { OnOk result ((at : ℕ) → is_marked marks.new at ≡ true → CanReach width ends.now marks.old at) }
-    ensures kept { OnOk result ((at : ℕ) → is_marked marks.old at ≡ true → is_marked marks.new at ≡ true) }
+    ensures sound { OnOk result (AllReach width ends.now marks.old marks.new) }
+    ensures kept { OnOk result (KeepsMarks marks.old marks.new) }
     ensures list { OnOk result (AreMarkedNodes marks.new list.new.items) }
 {
     let mut edge = arrivals.last(node as usize) as usize;
@@ -90,8 +88,8 @@ pub(crate) fn flood(
     requires table { IsTable width ends.now (length marks.old) }
     requires wide { 0 < width }
     requires list { AreMarkedNodes marks.old list.old.items }
-    ensures sound { OnOk result ((at : ℕ) → is_marked marks.new at ≡ true → CanReach width ends.now marks.old at) }
-    ensures kept { OnOk result ((at : ℕ) → is_marked marks.old at ≡ true → is_marked marks.new at ≡ true) }
+    ensures sound { OnOk result (AllReach width ends.now marks.old marks.new) }
+    ensures kept { OnOk result (KeepsMarks marks.old marks.new) }
     ensures list { OnOk result (AreMarkedNodes marks.new list.new.items) }
 {
     for at in 0..marks.len() {

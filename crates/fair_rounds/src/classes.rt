@@ -1,10 +1,10 @@
-//! Nodes from which no round leads back, told by classes into which the nodes fall.
+//! Nodes from which no round leads back, by classes of nodes that edges only lead down.
 
 ghost use Rattle.std.specs.Prelude.{◌≡◌, ◌<◌, ◌≤◌, ◌+◌, ◌*◌, ℕ, true, length, IfOk};
 ghost use Rattle.reaches_back.specs.Edges.{AreEdges, end_of};
 ghost use Rattle.fair_rounds.specs.Table.{IsTable, is_marked};
-ghost use Rattle.fair_rounds.specs.Loops.{AreLoopless};
-ghost use Rattle.fair_rounds.specs.Classes.{FallsFrom, IsFalling, IsInnerFrom, AreInner, Lacks, class_of};
+ghost use Rattle.fair_rounds.specs.Loops.{AreLoopless, KeepsMarks};
+ghost use Rattle.fair_rounds.specs.Classes.{AreInner, FallsFrom, IsFalling, IsInnerFrom, Lacks};
 
 use crate::hints::classes_of;
 use std::alloc::{AllocError, Global};
@@ -42,7 +42,7 @@ fn mark_inner(width: usize, ends: &[u32], classes: &[u32], at: usize, inner: &mu
     requires falling { IsFalling width ends.now classes.now }
     requires at { at < length classes.now }
     requires inner { length inner.old ≡ length classes.now * width }
-    ensures kept { (i : ℕ) → is_marked inner.old i ≡ true → is_marked inner.new i ≡ true }
+    ensures kept { KeepsMarks inner.old inner.new }
     ensures inner { IsInnerFrom width ends.now classes.now at inner.new }
 {
     let class = classes[at] as usize;
@@ -84,7 +84,8 @@ fn lacks(width: usize, inner: &[bool], class: usize) -> bool
     false
 }
 
-/// Marks nodes from which no round leads back to them. With good classes, those are all such nodes.
+/// Marks nodes from which no round leads back to them. If the classes are those that nodes make that
+/// lead to each other, all such nodes are marked; what is proved is that each marked node is such.
 pub(crate) fn loopless(
     alloc: Global,
     width: usize,

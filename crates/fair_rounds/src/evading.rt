@@ -14,12 +14,12 @@ use crate::tables::{first_node, wall, want};
 use crate::ways::path_to;
 use std::alloc::{AllocError, Global};
 
-/// Choices that pass no goal from some node on where one has to come, however often the last of them are taken again.
+/// A path and a cycle behind it that pass no goal from some node on behind which one has to come.
 #[derive(Drop)]
 pub struct Evasion {
-    /// The choices from the start to a node from which the cycle leads back to it, the first first.
+    /// The choices from the start to a node of the cycle, the first first.
     pub path: Vec<u32>,
-    /// The choices that lead from there to there, each choice among them.
+    /// The choices that lead from this node back to it. Each choice is among them.
     pub cycle: Vec<u32>,
 }
 
@@ -31,7 +31,7 @@ pub(crate) struct Caught {
     pub(crate) cycle: Vec<u32>,
 }
 
-/// A round that leads from the node with this double back to it, if it is one and there is such a round.
+/// If this is the double of a node: a round that leads from the node back to it, if there is one.
 fn caught_from(
     alloc: Global,
     width: usize,
@@ -61,7 +61,8 @@ fn first_caught(
     found: &[Found],
 ) -> Result<Option<Caught>, AllocError>
     requires table { IsTable width walls.now (nodes + 1) }
-    requires found { (i : ℕ) (f : Found) → slice_get found.now i ≡ Some f → f.node < nodes + nodes }
+    requires found { (i : ℕ) (f : Found)
+        → slice_get found.now i ≡ Some f → f.node < nodes + nodes }
     ensures { IfOk result (IsCaught width walls.now nodes found.now) }
 {
     let marks = loopless(alloc, width, walls, nodes + 1)?;
@@ -74,11 +75,13 @@ fn first_caught(
     Ok(None)
 }
 
-/// A shortest way to evade the goals on a fair schedule, or none if as many rounds as there are nodes always pass one.
+/// A shortest way to evade the goals on a fair schedule. If there is none, as many rounds as there are
+/// nodes always pass a goal.
 ///
-/// Each node has `width` edges, one a choice, and `ends` lists where they lead, those of the first node first. A goal has to
-/// come behind each node of `firsts` that some choices lead to from the start, which may be a goal itself. A round is a list
-/// of choices that has each at least once.
+/// Each node has `width` edges, one for each choice, and `ends` lists where they lead, those of the
+/// first node first. A goal has to come behind each node of `firsts` to which choices lead from the
+/// start; a node that is a goal itself counts as well. A round is a list of choices in which each
+/// choice occurs at least once. An error is want of memory.
 pub fn find_evasion(
     alloc: Global,
     width: usize,

@@ -1,8 +1,7 @@
-//! Classes of nodes: those of one class lead to each other, and edges to other classes lead to lower ones.
-//!
-//! Nothing of this is proved but that it ends: whoever takes the classes tries them.
+//! Classes of nodes: the nodes of one class lead to each other, and edges to other classes lead to
+//! lower ones. Nothing of this is proved: whoever takes the classes tests them.
 
-ghost use Rattle.std.specs.Prelude.{◌≡◌, ◌<◌, ◌≤◌, ◌^◌, ℕ, length, IfOk};
+ghost use Rattle.std.specs.Prelude.{◌≡◌, ◌<◌, length, IfOk};
 ghost use Rattle.fair_rounds.specs.Table.{IsTable};
 
 use crate::arrivals::{Arrivals, flood};
@@ -125,7 +124,7 @@ fn gather(
     Ok(())
 }
 
-/// Gives classes to the nodes, in turn from the last of an order, to those that were left last the highest.
+/// Gives classes to the nodes, from the last of an order to the first. Those of the last are highest.
 fn gather_all(
     alloc: Global,
     width: usize,

@@ -1,7 +1,7 @@
-//! What comes on every fair schedule: whether each list of rounds from some nodes passes a goal, or else choices that pass
-//! none for ever, though each choice comes again and again.
+//! Fair rounds: whether every list of rounds from some nodes passes a goal, or else a cycle that
+//! passes none, however often it is repeated, although each choice occurs in it.
 //!
-//! It knows tables of numbers alone: nothing of what nodes and choices stand for.
+//! It works on tables of numbers, and doesn't know what nodes and choices stand for.
 #![tactic(auto)]
 
 mod arrivals;

@@ -1,10 +1,10 @@
 //! Rounds that lead from a node back to it.
 
-ghost use Rattle.std.specs.Prelude.{◌≡◌, ◌<◌, ℕ, ◌↔◌, true, false, length, replicate, All, IfOk, OnOk, MatchOption, slice_set};
+ghost use Rattle.std.specs.Prelude.{◌≡◌, ◌<◌, ℕ, ◌↔◌, true, false, length, replicate, IfOk, OnOk, MatchOption, slice_set};
 ghost use Rattle.std.specs.List.{Contains};
 ghost use Rattle.reaches_back.specs.Edges.{AreEdges, CanReach};
 ghost use Rattle.fair_rounds.specs.Table.{IsTable, is_marked, ComesTo, IsLoop};
-ghost use Rattle.fair_rounds.specs.Loops.{AreLeading, HaveEdge, GoesOn, Returns, IsLoopless};
+ghost use Rattle.fair_rounds.specs.Loops.{AllReach, AreLeading, HaveEdge, GoesOn, Returns, IsLoopless, KeepsMarks};
 
 use crate::arrivals::{Arrivals, flood};
 use crate::ways::way_to;
@@ -21,7 +21,8 @@ fn one_mark(alloc: Global, nodes: usize, at: usize) -> Result<Vec<bool>, AllocEr
     Ok(marks)
 }
 
-/// Marks nodes from which edges lead to a marked one: all of them, if the lists of arriving edges are good.
+/// Marks nodes from which edges lead to a marked one. It is meant to find all of them, but only that
+/// those marked are such is proved.
 fn mark_most(
     alloc: Global,
     width: usize,
@@ -32,8 +33,8 @@ fn mark_most(
     requires table { IsTable width ends.now (length marks.old) }
     requires at { is_marked marks.old at ≡ true }
     requires within { at < length marks.old }
-    ensures sound { OnOk result ((i : ℕ) → is_marked marks.new i ≡ true → CanReach width ends.now marks.old i) }
-    ensures kept { OnOk result ((i : ℕ) → is_marked marks.old i ≡ true → is_marked marks.new i ≡ true) }
+    ensures sound { OnOk result (AllReach width ends.now marks.old marks.new) }
+    ensures kept { OnOk result (KeepsMarks marks.old marks.new) }
 {
     if width == 0 {
         return Ok(());
@@ -110,7 +111,8 @@ fn has(choices: &[u32], choice: u32) -> bool
     false
 }
 
-/// Goes on over an edge of one choice to a node that is marked, and tells to which. Where the choice was taken before, it stays.
+/// Goes on to a node with an edge of one choice to a marked node, takes the edge, and answers where it
+/// ends. If the choice was taken before, it stays where it is.
 fn go_on(
     alloc: Global,
     width: usize,
@@ -124,7 +126,8 @@ fn go_on(
     requires choice { choice < width }
     requires from { from < length marks.now }
     requires marked { is_marked marks.now from ≡ true }
-    ensures { IfOk result (GoesOn width ends.now marks.now choice from taken.old.items taken.new.items) }
+    ensures { IfOk result (GoesOn width ends.now marks.now choice
+        from taken.old.items taken.new.items) }
 {
     if has(taken, choice as u32) {
         return Ok(Some(from));

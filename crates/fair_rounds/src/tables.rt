@@ -1,6 +1,6 @@
 //! The tables that are searched: with goals as walls, and with doubles of the nodes.
 
-ghost use Rattle.std.specs.Prelude.{◌≡◌, ◌<◌, ◌≤◌, ℕ, ◌+◌, ◌++◌, ◌*◌, ◌^◌, true, false, length, map, All, IfOk, OnOk};
+ghost use Rattle.std.specs.Prelude.{◌≡◌, ◌<◌, ◌+◌, ◌++◌, ◌^◌, true, false, length, map, All, IfOk, OnOk};
 ghost use Rattle.reaches_back.specs.Edges.{AreEdges};
 ghost use Rattle.fair_rounds.specs.Table.{walled_end, walled, wanting_end, wanting};
 
@@ -64,7 +64,8 @@ fn want_half(
     requires ends { All (λ end. end < length goals.now) ends.now }
     requires firsts { length firsts.now ≡ length goals.now }
     requires few { length goals.now + length goals.now < 2 ^ 32 }
-    ensures { OnOk result (table.new.items ≡ table.old.items ++ map (wanting_end goals.now firsts.now before) ends.now) }
+    ensures { OnOk result (table.new.items
+        ≡ table.old.items ++ map (wanting_end goals.now firsts.now before) ends.now) }
 {
     for end in ends {
         table.push(want_end(goals, firsts, before, *end))?;
@@ -72,7 +73,7 @@ fn want_half(
     Ok(())
 }
 
-/// The table with the doubles of the nodes, to which those edges lead behind which a goal is wanted.
+/// The table of the nodes and their doubles. An edge leads to a double if a goal is wanted behind it.
 pub(crate) fn want(
     alloc: Global,
     ends: &[u32],
