@@ -202,6 +202,10 @@ static inline __attribute__((noreturn, always_inline)) void coy_fail(void) {
     }
 }
 
+/* Makes a variable 0 that isn't needed any more, in the register in which it is. Where all states are gone through, each
+   value of a register makes states of its own, so a program that forgets what it is done with has fewer. */
+#define coy_forget(variable) __asm__ volatile("li %0, 0" : "+r"(variable))
+
 /* ---- the other system calls */
 
 static inline void coy_loadcap(const void *address, coy_cap into) {

@@ -13,6 +13,7 @@ from plans.words import Wrong, complaint
 HOLDS, REFUSED, BROKEN, OPEN = 0, 1, 10, 11
 MOST_SHOWN = 40  # lines of a run that are told
 CUT = "sed '/^end *$/q'"  # a listing without its schedule
+SETUP = "sed '1,/^end *$/d'"  # what sets the system up, behind a question
 FOUND = "sed -n '/^step /p; /^tick /p'"  # the schedule of an answer
 
 
@@ -178,7 +179,8 @@ class Asking:
 
     def show_found(self):
         """Tells the run that was found, and makes its page."""
-        self.run(f"{{ {CUT} {self.file('.coy')}; {FOUND} {self.file('.explored')}; }} > {self.file('.found.coy')}")
+        self.run(f"{{ {CUT} {self.file('.coy')}; {SETUP} {self.file('.question')}; {FOUND} {self.file('.explored')}; }} > "
+                 f"{self.file('.found.coy')}")
         self.run(f"{self.program('coyotos')} trace < {self.file('.found.coy')} > {self.file('.found.trace')}")
         self.run(f"{self.tool('explain')} --symbols {shown(self.made)} {self.file('.found.coy')} {self.file('.found.trace')} > "
                  f"{self.file('.found.told')}")

@@ -71,6 +71,6 @@ def header_lines(plan, name):
         if table:
             yield f"/* {about} */"
             yield from (f"#define {each} 0x{value:x}u" for each, value in table.items())
-    for file in dict.fromkeys(made.file for made in plan.all("program")):
+    for file in dict.fromkeys(made.file for made in plan.all("program") if made.file):
         yield from file_lines(plan, file)
     yield "#endif"

@@ -64,7 +64,8 @@ def space_lines(made):
 def process_lines(made):
     """A process with its registers."""
     yield numbered("process", made.number, made.number, made.name)
-    yield remark(f"file of process {made.number}: {made.file}")
+    if made.file:
+        yield remark(f"file of process {made.number}: {made.file}")
     yield (f"process {made.number} {made.entry:08x} {made.space.capability()} schedule:{made.priority} {made.handler} "
            f"{made.state}")
     for register, value in made.registers.items():

@@ -2,6 +2,7 @@
 import re
 
 from plans.program import MACHINE_PAGES, MOST_PAGES, Program
+from plans.device import input_line, sender_line
 from plans.names import Files
 from plans.question import ASKING, asked
 from plans.words import (AREA, PAGE, TOP, Wrong, is_domain_name, is_name, letters, need, number, page_address,
@@ -44,7 +45,7 @@ class Plan:
         self.folder, self.directory = folder, directory
         self.at, self.harts, self.gpts, self.cappages = 0, None, 0, 0
         self.things, self.lines, self.domains, self.allowed = {}, {}, {}, []
-        self.question, self.program_files = [], Files(self)
+        self.question, self.program_files, self.devices, self.setup = [], Files(self), [], []
         self.pages, self.named_pages, self.schedule, self.mapped = [], [], [], []
         self.placed, self.payloads, self.writable = [], [], set()
         self.page_count, self.said, self.passed = 0, {}, {}
@@ -138,6 +139,12 @@ class Plan:
         self.wait("said places", made.place_said)
         self.wait("chosen places", made.place_chosen)
         self.wait("chosen places", lambda: made.begin(self))
+
+    def input_line(self, words):
+        input_line(self, words)
+
+    def sender_line(self, words):
+        sender_line(self, words)
 
     def write(self, first, offset, block):
         """Writes bytes into pages, from an offset of the first of them on."""
@@ -360,7 +367,14 @@ class Plan:
         need(self.harts > 0, "there is at least one hart")
         need(self.harts <= 8, f"the plan asks for {self.harts:,} harts, a machine has 8")
 
+    def setup_line(self, words):
+        self.event_line(words, self.setup)
+
     def schedule_line(self, words):
+        self.event_line(words, self.schedule)
+
+    def event_line(self, words, lines):
+        """A line of a schedule, which goes to these."""
         lengths = {"step": 3, "tick": 2, "round": 2}
         need(words and lengths.get(words[0]) == len(words), "a line of the schedule is step H N, tick H or round N")
         numbers = []
@@ -374,7 +388,7 @@ class Plan:
             if words[0] != "round":
                 need(numbers[0] < self.harts,
                      f"there is no hart {numbers[0]}: the machine has {self.harts}, from 0 on")
-            self.schedule.append(" ".join([words[0], *map(str, numbers)]))
+            lines.append(" ".join([words[0], *map(str, numbers)]))
         self.wait("names", name)
 
     # -- the whole
@@ -405,6 +419,9 @@ class Plan:
             self.take(turn)
         self.number_gpts()
         self.take("names")
+        for self.at, made in self.devices:
+            need(self.harts > len(self.devices), f"{made.name} never rests, so it takes a hart of its own: beside {len(self.devices)} "
+                 f"such the plan has no hart for others, of {self.harts}")
         self.at = 0
         need(self.all("program"), "the plan has no program")
         self.within_limits({"capability pages": self.cappages, "GPTs": self.gpts,

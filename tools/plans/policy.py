@@ -44,6 +44,7 @@ def policy_lines(plan, name):
     yield remark(f"The domains of {name}, made by tools/listing-of.")
     yield from named_lines(plan)
     yield "end"
+    yield from plan.setup
 
 
 def cut_lines(plan, name, domain):

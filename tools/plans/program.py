@@ -23,14 +23,19 @@ class Program:
         self.number, self.name, self.file = number_of_process, words[0], words[1]
         need(is_file_name(self.file),
              f"a program's file is named by printable letters of ASCII, and lies below the directory: {self.file}")
-        self.priority, self.data, self.state, self.args = None, None, "run", None
+        self.begin_bare()
+        self.priority, self.data, self.args = None, None, None
         self.sizes, self.places, self.first = {"stack": 1, "heap": 0}, {}, {}
-        self.pages, self.held, self.handler, self.said = [], {}, "null", set()
-        self.space = Space(self.name)
         rest = words[2:]
         while rest:
             rest = self.option(rest[0], rest[1:])
         need(self.priority is not None, FORM)
+
+    def begin_bare(self):
+        """What each process has, whatever it runs."""
+        self.priority, self.state, self.handler = 3, "run", "null"
+        self.pages, self.held, self.said = [], {}, set()
+        self.space = Space(self.name)
 
     def option(self, word, rest):
         """Takes an option; the words behind it."""

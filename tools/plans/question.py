@@ -37,6 +37,7 @@ def numbered_lines(plan, name):
             yield remark(one.said), None
         yield one.told, one
     yield "end", None
+    yield from ((line, None) for line in plan.setup)
 
 
 def question_lines(plan, name):
@@ -129,6 +130,7 @@ def place_of_pc(plan, words):
     """The first and the last address of an atom of a pc."""
     if words[2] == "in":
         need(len(words) == 4, "pc PROGRAM in FUNCTION")
+        need(plan.program(words[1]).file, f"{words[1]} has no functions")
         return function(plan.directory / plan.program(words[1]).file, words[3])
     first, last = (number(word, "an address", TOP - 1, 16) for word in (words[2], words[-1]))
     need(first <= last, f"the last address is below the first: {words[-1]}")

@@ -22,6 +22,8 @@ def cause(plan, words, codes):
     if about in (halted, word):
         return about(plan, words)
     made = plan.program(words[1])
+    if not made.file:
+        return None
     code = codes.setdefault(made.file, Code(plan.directory / made.file))
     return about(plan, words, made, code)
 

@@ -1,0 +1,3 @@
+/* The same with a mistake: the motor stands 29. */
+#define MOST 30
+#include "controller.h"
