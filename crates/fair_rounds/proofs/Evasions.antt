@@ -1,10 +1,10 @@
 -- From what a search found to rounds that pass a goal, or choices that evade the goals.
-use Rattle.std.proofs.Common.{◌≡◌, ℕ, ◌+◌, ◌-◌, ◌<◌, ◌≤◌, ◌⊎◌, inl, inr, Bool, true, false, List, ◌++◌, length, All, Some, slice_get, sym, ap, ◌∙◌, subst, arith}
+use Rattle.std.proofs.Common.{◌≡◌, ℕ, ◌+◌, ◌-◌, ◌<◌, ◌≤◌, ◌⊎◌, inl, inr, Bool, true, false, List, ◌++◌, length, All, Some, slice_get, refl, sym, ap, ◌∙◌, subst, arith}
 use Rattle.std.proofs.lemmas.Bool.{cases_lt}
 use Rattle.std.proofs.lemmas.List.Elements.{All-append}
 use Rattle.reaches_back.specs.Edges.{end_of, walked, AreEdges}
 use Rattle.fair_rounds.specs.declared.breadth.Found.{Found}
-use Rattle.fair_rounds.specs.Rounds.{after, IsLasso, AlwaysComes, IsEvasion, IsShortest}
+use Rattle.fair_rounds.specs.Rounds.{after, IsLasso, AlwaysComes, IsEarlier, IsEvasion, IsShortest}
 use Rattle.fair_rounds.specs.Table.{is_marked, IsLoop, walled, is_wanted, doubled, wanting_end, wanting}
 use Rattle.fair_rounds.specs.Search.{IsSearched, IsWay}
 use Rattle.fair_rounds.specs.Loops.{NoneFrom, OneFrom, IsFirstCaught}
@@ -19,15 +19,16 @@ use Rattle.fair_rounds.proofs.Wanting.{wants, IsWanted, doubled-far, wanting-wal
 module _ (width : ℕ) (ends : List ℕ) (goals firsts : List Bool) (start : ℕ) (are : AreEdges width ends (length goals)) (within : start < length goals)
     (found : List Found) (searched : IsSearched width (wanting ends goals firsts) (length goals + length goals) (wanting_end goals firsts false start) found) where
   -- a lasso behind a first node ends at a node whose double was found
-  pub record IsMet (most : ℕ) (cycle : List ℕ) : Type 0 where
+  pub record IsMet (path cycle : List ℕ) : Type 0 where
     pub place : ℕ
     pub entry : Found
     pub there : slice_get found place ≡ Some entry
-    pub near : entry.depth ≤ most
+    pub near : entry.depth ≤ length path
+    pub is : entry.node ≡ walked width (wanting ends goals firsts) (wanting_end goals firsts false start) path
     pub one : OneFrom width (walled width ends goals) (length goals) entry.node cycle
 
   pub lasso-met : (stem rest cycle : List ℕ) → All (λ c. c < width) stem → is_marked firsts (after (end_of width ends) start stem) ≡ true
-      → IsLasso (end_of width ends) (is_marked goals) width (after (end_of width ends) start stem) rest cycle → IsMet (length (stem ++ rest)) cycle
+      → IsLasso (end_of width ends) (is_marked goals) width (after (end_of width ends) start stem) rest cycle → IsMet (stem ++ rest) cycle
   lasso-met stem rest cycle choices begins lasso =
       let next = end_of width ends in
       let all = All-append (λ c. c < width) stem rest choices lasso.choices in
@@ -48,6 +49,7 @@ module _ (width : ℕ) (ends : List ℕ) (goals firsts : List Bool) (start : ℕ
         entry = f.entry;
         there = f.there;
         near = f.depth;
+        is = f.is;
         one = (omega (arith, node), subst (λ n. IsLoop width (walled width ends goals) n cycle) same loop);
       }
 
@@ -110,9 +112,20 @@ module _ (width : ℕ) (ends : List ℕ) (goals firsts : List Bool) (start : ℕ
         let met = lasso-met e.stem e.rest round e.choices e.begins e.lasso in
         by met (cases_lt met.place place)
       where
-        by : (met : IsMet (length (e.stem ++ e.rest)) round) → (met.place < place) ⊎ (place ≤ met.place) → length path ≤ length other
+        by : (met : IsMet (e.stem ++ e.rest) round) → (met.place < place) ⊎ (place ≤ met.place) → length path ≤ length other
         by met (inl l) = absurd (caught.before met.place met.entry l met.there met.one.0 round met.one.1)
         by met (inr l) = omega (arith, long, searched.order place met.place caught.entry met.entry l caught.there met.there, met.near, ap length e.parts)
+
+    earliest : (other round : List ℕ) → IsEvasion (end_of width ends) (is_marked goals) width (is_marked firsts) start other round → length other ≡ length path → IsEarlier other path → ⊥
+    earliest other round e as-long earlier =
+        let met = lasso-met e.stem e.rest round e.choices e.begins e.lasso in
+        let all : All (λ c. c < width) other = subst (All (λ c. c < width)) (sym e.parts) (All-append (λ c. c < width) e.stem e.rest e.choices e.lasso.choices) in
+        let y = way.earliest 0 head.0 head.1 other all as-long (inr (refl, earlier)) in
+        let same : y.entry.node ≡ met.entry.node =
+        y.is ∙ ap (λ n. walked width (wanting ends goals firsts) n other) (searched.start head.0 head.1)
+        ∙ ap (walked width (wanting ends goals firsts) (wanting_end goals firsts false start)) e.parts ∙ sym met.is in
+        let one = subst (λ n. OneFrom width (walled width ends goals) (length goals) n round) (sym same) met.one in
+        caught.before y.at y.entry y.before y.there one.0 round one.1
 
     -- the first that was found is a shortest evasion
     pub one-evades : IsShortest (end_of width ends) (is_marked goals) width (is_marked firsts) start path cycle
@@ -127,4 +140,5 @@ module _ (width : ℕ) (ends : List ℕ) (goals firsts : List Bool) (start : ℕ
         evades = lasso-evades (end_of width ends) (is_marked goals) width (after (end_of width ends) start since.stem) since.rest cycle lasso;
       };
       shortest = shortest;
+      earliest = earliest;
     }

@@ -113,4 +113,5 @@ module _ {S : Type 0} (next : S → ℕ → S) (goal first : S → Bool) (width 
   shortest-means start path cycle a s = record {
     evasion = evasion-means start path cycle a s.evasion;
     shortest = λ other round e. s.shortest other round (evasion-back start other round a e);
+    earliest = λ other round e. s.earliest other round (evasion-back start other round a e);
   }

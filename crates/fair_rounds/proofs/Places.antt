@@ -10,6 +10,12 @@ get-old [] ys i a h = absurd (none-some a h)
 get-old (x ∷ xs) ys zero a h = h
 get-old (x ∷ xs) ys (suc i) a h = get-old xs ys i a h
 
+-- an item before those behind is one of the front
+pub get-front : {X : Type 0} (xs ys : List X) (i : ℕ) (a : X) → i < length xs → slice_get (xs ++ ys) i ≡ Some a → slice_get xs i ≡ Some a
+get-front [] ys i a l h = absurd (omega (arith, l))
+get-front (x ∷ xs) ys zero a l h = h
+get-front (x ∷ xs) ys (suc i) a l h = get-front xs ys i a (omega (arith, l)) h
+
 -- the last item
 pub get-new : {X : Type 0} (xs : List X) (x : X) → slice_get (xs ++ x ∷ []) (length xs) ≡ Some x
 get-new [] x = refl

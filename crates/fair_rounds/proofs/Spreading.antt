@@ -7,8 +7,8 @@ use Rattle.std.proofs.lemmas.Bool.{cases_eq}
 use Rattle.std.proofs.lemmas.Option.{slice_get_within, same_Some}
 use Rattle.reaches_back.specs.Edges.{end_of, walked}
 use Rattle.fair_rounds.specs.declared.breadth.Found.{Found}
-use Rattle.fair_rounds.specs.Search.{IsFound, IsChild, IsSearched, IsSpread}
-use Rattle.fair_rounds.proofs.Places.{get-old, get-new, get-push, some-at}
+use Rattle.fair_rounds.specs.Search.{IsFound, IsFoundBefore, IsChild, IsSearched, IsSpread}
+use Rattle.fair_rounds.proofs.Places.{get-old, get-front, get-new, get-push, some-at}
 
 -- a mark more is one less that isn't
 pub count-set : (marks : List Bool) (at : ℕ) → at < length marks → get_or marks at false ≡ false → count_by not (set marks at true) + 1 ≡ count_by not marks
@@ -26,12 +26,31 @@ count-none nodes =
 pub found-old : (found more : List Found) (node most : ℕ) → IsFound found node most → IsFound (found ++ more) node most
 found-old found more node most f = record { at = f.at; entry = f.entry; there = get-old found more f.at f.entry f.there; is = f.is; depth = f.depth }
 
+before-old : (found more : List Found) (node place : ℕ) → IsFoundBefore found node place → IsFoundBefore (found ++ more) node place
+before-old found more node place f = record { at = f.at; before = f.before; entry = f.entry; there = get-old found more f.at f.entry f.there; is = f.is }
+
+-- what was found was found before the next
+before-next : (found more : List Found) (node most : ℕ) → IsFound found node most → IsFoundBefore (found ++ more) node (length found)
+before-next found more node most f = record { at = f.at; before = slice_get_within found f.at f.entry f.there; entry = f.entry; there = get-old found more f.at f.entry f.there; is = f.is }
+
 pub found-more : (found : List Found) (node most more : ℕ) → most ≤ more → IsFound found node most → IsFound found node more
 found-more found node most more l f = record { at = f.at; entry = f.entry; there = f.there; is = f.is; depth = omega (arith, l, f.depth) }
 
 module _ (width : ℕ) (ends : List ℕ) where
   child-old : (found more : List Found) (i : ℕ) (child : Found) → IsChild width ends found i child → IsChild width ends (found ++ more) i child
-  child-old found more i child is = record { parent = is.parent; there = get-old found more child.parent is.parent is.there; earlier = is.earlier; choice = is.choice; leads = is.leads; depth = is.depth }
+  child-old found more i child is = record {
+    parent = is.parent;
+    there = get-old found more child.parent is.parent is.there;
+    earlier = is.earlier;
+    choice = is.choice;
+    leads = is.leads;
+    depth = is.depth;
+    turn = λ j f h c l before. before-old found more (end_of width ends f.node c) i (is.turn j f (get-front found more j f (within j c before) h) c l before);
+  }
+    where
+      within : (j c : ℕ) → (j < child.parent) ⊎ ((j ≡ child.parent) × (c < child.choice)) → j < length found
+      within j c (inl l) = omega (arith, l, slice_get_within found child.parent is.parent is.there)
+      within j c (inr e) = omega (arith, e.0, slice_get_within found child.parent is.parent is.there)
 
   module _ (marks : List Bool) (found : List Found) (at : ℕ) (from : Found) (there : slice_get found at ≡ Some from) (s : IsSpread width ends marks found at) where
     -- what is marked was found, no farther than one edge behind
@@ -61,7 +80,8 @@ module _ (width : ℕ) (ends : List ℕ) where
                 subst (λ (g : Found). IsFound found (end_of width ends g.node c) (g.depth + 1)) same (all c m)
             by (inr apart) = s.followed i f (omega (arith, apart)) h c m
 
-    module _ (c : ℕ) (l : c < width) (end : ℕ) (leads : end_of width ends from.node c ≡ end) (within : end < length marks) (unseen : get_or marks end false ≡ false) (new : Found) (node : new.node ≡ end) (parent : new.parent ≡ at) (choice : new.choice ≡ c) (depth : new.depth ≡ from.depth + 1) where
+    module _ (c : ℕ) (l : c < width) (end : ℕ) (leads : end_of width ends from.node c ≡ end) (within : end < length marks) (unseen : get_or marks end false ≡ false) (new : Found) (node : new.node ≡ end) (parent : new.parent ≡ at) (choice : new.choice ≡ c) (depth : new.depth ≡ from.depth + 1)
+        (so-far : (k : ℕ) → k < c → IsFound found (end_of width ends from.node k) (from.depth + 1)) where
       -- the new one is the child of the one at the place
       new-child : IsChild width ends (found ++ new ∷ []) (length found) new
       new-child = record {
@@ -71,7 +91,19 @@ module _ (width : ℕ) (ends : List ℕ) where
         choice = omega (arith, choice, l);
         leads = ap (end_of width ends from.node) choice ∙ leads ∙ sym node;
         depth = depth;
+        turn = turn;
       }
+        where
+          turn : (j : ℕ) (f : Found) → slice_get (found ++ new ∷ []) j ≡ Some f → (k : ℕ) → k < width → (j < new.parent) ⊎ ((j ≡ new.parent) × (k < new.choice))
+              → IsFoundBefore (found ++ new ∷ []) (end_of width ends f.node k) (length found)
+          turn j f h k m (inl l) =
+              let j-old : j < at = omega (arith, l, parent) in
+              before-next found (new ∷ []) (end_of width ends f.node k) (f.depth + 1)
+              (s.followed j f j-old (get-front found (new ∷ []) j f (omega (arith, j-old, slice_get_within found at from there)) h) k m)
+          turn j f h k m (inr e) =
+              let same : from ≡ f = same_Some from f (sym (get-old found (new ∷ []) at from there) ∙ ap (slice_get (found ++ new ∷ [])) (sym parent ∙ sym e.0) ∙ h) in
+              subst (λ (g : Found). IsFoundBefore (found ++ new ∷ []) (end_of width ends g.node k) (length found)) same
+              (before-next found (new ∷ []) (end_of width ends from.node k) (from.depth + 1) (so-far k (omega (arith, e.1, choice))))
 
       each : (i : ℕ) (f : Found) → 0 < i → (slice_get found i ≡ Some f) ⊎ ((i ≡ length found) × (f ≡ new)) → IsChild width ends (found ++ new ∷ []) i f
       each i f p (inl e) = child-old found (new ∷ []) i f (s.tree.each i f p e)
@@ -166,9 +198,9 @@ module _ (width : ℕ) (ends : List ℕ) where
         record {
           there = get-old found (new ∷ []) at from s.there;
           first = get-old found (new ∷ []) 0 head.0 head.1 ∙ sym head.1 ∙ s.first;
-          spread = spread-push marks found at from s.there s.spread choice l (end_of width ends from.node choice) refl within unseen new node parent is depth;
+          spread = spread-push marks found at from s.there s.spread choice l (end_of width ends from.node choice) refl within unseen new node parent is depth s.so_far;
           so_far = one-more (found ++ new ∷ []) from choice (λ c m. found-old found (new ∷ []) (end_of width ends from.node c) (from.depth + 1) (s.so_far c m))
-              (push-found marks found at from s.there s.spread choice l (end_of width ends from.node choice) refl within unseen new node parent is depth);
+              (push-found marks found at from s.there s.spread choice l (end_of width ends from.node choice) refl within unseen new node parent is depth s.so_far);
         }
 
   -- where all edges were followed, all nodes were found

@@ -1,6 +1,13 @@
 -- Rounds of choices: what comes within them, and what evades them.
-use Rattle.std.specs.Prelude.{◌≡◌, ℕ, ◌<◌, ◌≤◌, ◌||◌, Bool, true, false, List, [], ◌∷◌, ◌++◌, length, All}
+use Rattle.std.specs.Prelude.{◌≡◌, ℕ, ◌<◌, ◌≤◌, ◌⊎◌, ◌||◌, Bool, true, false, List, [], ◌∷◌, ◌++◌, length, All}
 use Rattle.std.specs.List.{concat, Contains}
+
+-- in the order of choices the first list comes before the other, which is as long: where they first differ it has the earlier
+-- choice
+abbrev pub IsEarlier : List ℕ → List ℕ → Type 0
+IsEarlier [] path = ⊥
+IsEarlier (c ∷ other) [] = ⊥
+IsEarlier (c ∷ other) (d ∷ path) = (c < d) ⊎ ((c ≡ d) × IsEarlier other path)
 
 -- each of so many choices occurs, and nothing else
 pub record IsRound (width : ℕ) (round : List ℕ) : Type 0 where
@@ -53,7 +60,8 @@ module _ {S : Type 0} (next : S → ℕ → S) where
           pub lasso : IsLasso (after start stem) rest cycle
           pub evades : (most : ℕ) → Evades (after start stem) most
 
-        -- no path of another evasion is shorter
+        -- no path of another evasion is shorter, nor as long and earlier
         pub record IsShortest (path cycle : List ℕ) : Type 0 where
           pub evasion : IsEvasion path cycle
           pub shortest : (other round : List ℕ) → IsEvasion other round → length path ≤ length other
+          pub earliest : (other round : List ℕ) → IsEvasion other round → length other ≡ length path → IsEarlier other path → ⊥

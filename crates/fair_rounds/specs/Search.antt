@@ -1,6 +1,7 @@
 -- What a breadth-first search finds.
-use Rattle.std.specs.Prelude.{◌≡◌, ℕ, ◌+◌, ◌<◌, ◌≤◌, Bool, true, false, not, List, length, All, Some, slice_get, slice_index_or, count_by, Option, MatchOption}
+use Rattle.std.specs.Prelude.{◌≡◌, ℕ, ◌+◌, ◌<◌, ◌≤◌, ◌⊎◌, Bool, true, false, not, List, length, All, Some, slice_get, slice_index_or, count_by, Option, MatchOption}
 use Rattle.reaches_back.specs.Edges.{end_of, walked}
+use Rattle.fair_rounds.specs.Rounds.{IsEarlier}
 use Rattle.fair_rounds.specs.declared.breadth.Found.{Found}
 use Rattle.fair_rounds.specs.declared.ways.Way.{Way}
 
@@ -12,6 +13,14 @@ pub record IsFound (found : List Found) (node most : ℕ) : Type 0 where
   pub is : entry.node ≡ node
   pub depth : entry.depth ≤ most
 
+-- the node was found, before the one at this place
+pub record IsFoundBefore (found : List Found) (node place : ℕ) : Type 0 where
+  pub at : ℕ
+  pub before : at < place
+  pub entry : Found
+  pub there : slice_get found at ≡ Some entry
+  pub is : entry.node ≡ node
+
 -- each but the first was found from an earlier one
 abbrev pub AreEarlier : List Found → Type 0
 AreEarlier found = (i : ℕ) (f : Found) → 0 < i → slice_get found i ≡ Some f → f.parent < i
@@ -21,7 +30,7 @@ abbrev pub AreInOrder : List Found → Type 0
 AreInOrder found = (i j : ℕ) (a b : Found) → i ≤ j → slice_get found i ≡ Some a → slice_get found j ≡ Some b → a.depth ≤ b.depth
 
 module _ (width : ℕ) (ends : List ℕ) where
-  -- the node at the place was found by an edge of an earlier one
+  -- the node at the place was found by an edge of an earlier one; all edges before that lead to nodes that were found before
   pub record IsChild (found : List Found) (i : ℕ) (child : Found) : Type 0 where
     pub parent : Found
     pub there : slice_get found child.parent ≡ Some parent
@@ -29,6 +38,8 @@ module _ (width : ℕ) (ends : List ℕ) where
     pub choice : child.choice < width
     pub leads : end_of width ends parent.node child.choice ≡ child.node
     pub depth : child.depth ≡ parent.depth + 1
+    pub turn : (j : ℕ) (f : Found) → slice_get found j ≡ Some f → (c : ℕ) → c < width → (j < child.parent) ⊎ ((j ≡ child.parent) × (c < child.choice))
+        → IsFoundBefore found (end_of width ends f.node c) i
 
   -- the first is nearest, and each other is the child of an earlier one
   pub record IsTree (found : List Found) : Type 0 where
@@ -36,11 +47,14 @@ module _ (width : ℕ) (ends : List ℕ) where
     pub first : (f : Found) → slice_get found 0 ≡ Some f → f.depth ≡ 0
     pub each : (i : ℕ) (f : Found) → 0 < i → slice_get found i ≡ Some f → IsChild found i f
 
-  -- by so many edges as one is farther than the other, the choices lead from its node to the other's
+  -- by so many edges as one is farther than the other, the choices lead from its node to the other's; as many that are earlier,
+  -- or from a node that was found before, lead to one that was
   pub record IsWay (found : List Found) (at to : ℕ) (path : List ℕ) : Type 0 where
     pub choices : All (λ c. c < width) path
     pub leads : (a b : Found) → slice_get found at ≡ Some a → slice_get found to ≡ Some b → walked width ends a.node path ≡ b.node
     pub long : (a b : Found) → slice_get found at ≡ Some a → slice_get found to ≡ Some b → length path + a.depth ≡ b.depth
+    pub earliest : (j : ℕ) (f : Found) → slice_get found j ≡ Some f → (other : List ℕ) → All (λ c. c < width) other → length other ≡ length path
+        → (j < at) ⊎ ((j ≡ at) × IsEarlier other path) → IsFoundBefore found (walked width ends f.node other) to
 
   -- all nodes to which edges lead from the start were found, in the order of their distance
   pub record IsSearched (nodes from : ℕ) (found : List Found) : Type 0 where

@@ -75,7 +75,7 @@ fn first_caught(
     Ok(None)
 }
 
-/// A shortest way to evade the goals on a fair schedule. If there is none, as many rounds as there are
+/// The first among the shortest ways to evade the goals on a fair schedule. If there is none, as many rounds as there are
 /// nodes always pass a goal.
 ///
 /// Each node has `width` edges, one for each choice, and `ends` lists where they lead, those of the

@@ -3,8 +3,15 @@ use Rattle.std.proofs.lemmas.List.{reverse-append}
 use Rattle.std.proofs.lemmas.Option.{slice_get-get_or}
 use Rattle.fair_rounds.specs.declared.breadth.Found.{Found}
 use Rattle.fair_rounds.specs.Search.{IsWay}
-use Rattle.fair_rounds.proofs.WaysBack.{way-back}
+use Rattle.fair_rounds.proofs.WaysBack.{way-back, way-none}
 use Rattle.fair_rounds.proofs.ways.path_to.Goals as goal
+
+pub loop-at-init : goal.loop-at-init
+loop-at-init c = record {
+  within = c.requires.place;
+  way = λ width ends tree. subst (λ p. IsWay width ends c.args.found.now c.args.place c.args.place (reverse p)) (sym c.new-path.ensures.items)
+      (way-none width ends c.args.found.now c.args.place);
+}
 
 pub loop-at-preserved : goal.loop-at-preserved
 loop-at-preserved c =
