@@ -4,6 +4,7 @@ from collections import namedtuple
 
 from exploring.policy import Policy
 from exploring.state import State
+from exploring.terms import compares, terms_of, value
 from run_page.remarks import names_of
 from runs.moments import states
 
@@ -66,7 +67,6 @@ class Values:
 
     def of_terms(self, atom):
         """Those of a comparison: each of its terms that is no number, and whether it holds."""
-        from exploring.terms import compares, terms_of, value
         terms = terms_of(atom.words[1:])
         found = [(self.words_of(term), lambda _, state, term=term: f"{value(term, state):x}")
                  for outer in terms for term in within(outer) if term.word != "number"]
