@@ -17,6 +17,11 @@ SETUP = "sed '1,/^end *$/d'"  # what sets the system up, behind a question
 FOUND = "sed -n '/^step /p; /^tick /p'"  # the schedule of an answer
 
 
+def graver(one, other):
+    """Of two statuses the one that tells more: what is broken, then what a limit left open."""
+    return next((status for status in (BROKEN, OPEN) if status in (one, other)), HOLDS)
+
+
 class Ended(Exception):
     """Why there is no answer, in a sentence, with the status to end with."""
 
@@ -135,7 +140,7 @@ class Asking:
         self.join(".policy", ".judged")
         status = self.ask("separation", ".judged", ".separation", (HOLDS, BROKEN))
         self.run(f"{self.tool('explain')} {self.file('.coy')} {self.file('.separation')}")
-        self.status = max(self.status, status)
+        self.status = graver(self.status, status)
 
     def ask(self, program, asked, answer, statuses):
         """Asks a program; what it says goes to a file, and is told where it is no answer."""
@@ -168,7 +173,7 @@ class Asking:
                 say(f"    {verdict(one.kind(), number, last, counts.get(number))}")
         if status == BROKEN:
             self.show_found()
-        self.status = max(self.status, status)
+        self.status = graver(self.status, status)
 
     def asked(self):
         """The lines of the question with their numbers in what `explore` reads."""
@@ -211,7 +216,8 @@ def verdict(kind, number, last, count):
     if word == "holds":
         return f"holds in all {states}" if kind == "never" else f"holds: it can come to that from each of the {states}"
     if kind == "never":
-        return f"holds in the {states} that were seen, which are all within {times(facts['depth'], 'choice')}; a limit ended the search"
+        return (f"holds in the {states} that were seen, all those within {times(facts['depth'], 'choice')} among them; a limit "
+                "ended the search")
     return "isn't judged: a limit ended the search"
 
 
