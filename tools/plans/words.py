@@ -25,6 +25,7 @@ def need(truth, sentence):
 def number(word, what, most, base=10):
     """The number that a word spells, in decimal or (base 16) in hexadecimal digits, and at most `most`."""
     digits = "[0-9]+" if base == 10 else "[0-9a-fA-F]+"
+    need(base == 10 or not word.lower().startswith("0x"), f"write hexadecimal without 0x: {word}")
     need(re.fullmatch(digits, word), f"{what} is no number: {word}")
     told = word.lstrip("0") or "0"
     value = int(told, base) if len(told) <= MOST_DIGITS else most + 1
