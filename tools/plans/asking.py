@@ -193,8 +193,9 @@ class Asking:
         say("that run:")
         for line in ([f"(the last {MOST_SHOWN} lines of {len(told)})"] if len(told) > MOST_SHOWN else []) + told[-MOST_SHOWN:]:
             say(f"    {line}".rstrip())
-        self.run(f"{self.tool('show')} --symbols {shown(self.made)} --found {self.file('.explored')} {self.file('.asked')} > "
-                 f"{self.file('.html')}")
+        named = f"--program {shown(os.environ['COYOTOS'])} " if os.environ.get("COYOTOS") else ""
+        self.run(f"{self.tool('show')} {named}--symbols {shown(self.made)} --found {self.file('.explored')} "
+                 f"{self.file('.asked')} > {self.file('.html')}")
         say(f"its page: {self.room / 'system.html'}")
 
 
