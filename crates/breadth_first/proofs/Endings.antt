@@ -66,13 +66,13 @@ module _ {S : Type 0} (g : System S) (law : IsEquality g.same) where
       by before (inr l) = subst (AllPairs (λ a b. a ≢ b)) (sym (opened-done g law n l)) before
 
   -- states that the opening begins with are distinct
+  pub front-apart : (n : ℕ) (states : List S) → Front states (opened g n) → AllPairs (λ a b. a ≢ b) states
+  front-apart n states front i j d l m e =
+      opened-differ n i j d l (omega (arith, front-length front))
+      (ap (λ t. get_or t i d) front.is ∙ get_or_append_left states front.rest d i (omega arith) ∙ e ∙ sym (get_or_append_left states front.rest d j m) ∙ sym (ap (λ t. get_or t j d) front.is))
+
   pub front-distinct : (n : ℕ) (states : List S) → Front states (opened g n) → IsDistinct g.same states
-  front-distinct n states front = IsDistinct-from_AllPairs law states apart
-    where
-      apart : AllPairs (λ a b. a ≢ b) states
-      apart i j d l m e =
-          opened-differ n i j d l (omega (arith, front-length front))
-          (ap (λ t. get_or t i d) front.is ∙ get_or_append_left states front.rest d i (omega arith) ∙ e ∙ sym (get_or_append_left states front.rest d j m) ∙ sym (ap (λ t. get_or t j d) front.is))
+  front-distinct n states front = IsDistinct-from_AllPairs law states (front-apart n states front)
 
   pub reached-front : (d : ℕ) (states : List S) → Front states (reached g d) → Front states (opened g (reached-opened g law d).0)
   reached-front d states front = subst (Front states) (reached-opened g law d).1 front

@@ -1,25 +1,15 @@
 -- From the first state from which a test can't be come to.
-use Rattle.std.proofs.Common.{◌≡◌, ℕ, ◌+◌, ◌*◌, ◌<◌, ◌⊎◌, inl, inr, Bool, true, false, List, length, map, slice_get, Option, Some, All, refl, sym, ap, ◌∙◌, subst, arith}
+use Rattle.std.proofs.Common.{◌≡◌, ℕ, ◌+◌, ◌<◌, ◌⊎◌, inl, inr, Bool, true, false, List, slice_get, Some, All, refl, sym, ap, ◌∙◌, subst, arith}
 use Rattle.std.proofs.lemmas.Bool.{cases_eq}
 use Rattle.std.proofs.lemmas.Option.{slice_get-get_or, same_Some}
 use Rattle.breadth_first.specs.System.{System, IsEquality}
 use Rattle.breadth_first.specs.Paths.{after, AreChoices, CanCome}
-use Rattle.breadth_first.specs.Kept.{Keeps}
-use Rattle.breadth_first.specs.Answer.{CanAlwaysCome, IsLost}
+use Rattle.breadth_first.specs.Answer.{CanAlwaysCome, IsLost, Holds}
 use Rattle.breadth_first.specs.Origins.{IsPathTo}
-use Rattle.breadth_first.specs.Progress.{AreAll, AreEdges, IsOpened, IsFirstStuck}
-use Rattle.breadth_first.proofs.Keys.{keeps-map}
+use Rattle.breadth_first.specs.Progress.{AreAll, IsOpened, IsFirstStuck}
+use Rattle.breadth_first.specs.declared.answer.Want.{Want}
 use Rattle.breadth_first.proofs.Tracing.{shorter, sooner}
 use Rattle.breadth_first.proofs.Endings.{All-at}
-
--- what is known of states at one moment is known at another
-module _ {K S : Type 0} {g h : System S} {held holds : K → Type 0} {means stands : K → S} (keeps : Keeps g held means h holds stands) (keys : List K) (all : All held keys) where
-  pub edges-keeps : (ends : List ℕ) → AreEdges g (map means keys) (length keys * g.choices) ends → AreEdges h (map stands keys) (length keys * h.choices) ends
-  edges-keeps ends is =
-      subst (λ s. AreEdges s (map stands keys) (length keys * s.choices) ends) (sym keeps.system) (subst (λ l. AreEdges g l (length keys * g.choices) ends) (sym (keeps-map keeps keys all)) is)
-
-  pub stuck-same : (t : ℕ) (first : Option ℕ) → IsFirstStuck h (map stands keys) t first → IsFirstStuck g (map means keys) t first
-  stuck-same t first is = subst (λ s. IsFirstStuck s (map means keys) t first) keeps.system (subst (λ l. IsFirstStuck h l t first) (keeps-map keeps keys all) is)
 
 module _ {S : Type 0} (g : System S) (law : IsEquality g.same) where
   -- no state is stuck
@@ -29,11 +19,8 @@ module _ {S : Type 0} (g : System S) (law : IsEquality g.same) where
       All-at (CanCome g t) states come place.0 (after g g.start path) (slice_get-get_or states place.0 (after g g.start path) place.1 ∙ ap Some place.2)
 
   -- the first that is
-  pub is-lost : (states : List S) → IsOpened g states → (evers : List ℕ) (ever t : ℕ) → slice_get evers ever ≡ Some t → (i : ℕ) → IsFirstStuck g states t (Some i) → (path : List ℕ) → IsPathTo g states i path
-      → ((k u : ℕ) → k < ever → slice_get evers k ≡ Some u → CanAlwaysCome g u) → IsLost g states evers ever path
-  is-lost states begun evers ever t there i (s, at, stuck, before) path to earlier = record {
-    test = t;
-    there = there;
+  pub is-lost : (states : List S) → IsOpened g states → (t i : ℕ) → IsFirstStuck g states t (Some i) → (path : List ℕ) → IsPathTo g states i path → IsLost g states t path
+  is-lost states begun t i (s, at, stuck, before) path to = record {
     choices = to.choices;
     never = λ other choices. never other choices (g.test t (after g (after g g.start path) other)) refl;
     shortest = shorter g law (CanCome g t) begun.upto states begun.front i path to before;
@@ -41,7 +28,6 @@ module _ {S : Type 0} (g : System S) (law : IsEquality g.same) where
     index = i;
     state = to.leads;
     first = before;
-    earlier = earlier;
   }
     where
       is : s ≡ after g g.start path
@@ -51,11 +37,11 @@ module _ {S : Type 0} (g : System S) (law : IsEquality g.same) where
       never other choices true e = absurd (stuck (subst (CanCome g t) (sym is) (other, choices, e)))
       never other choices false e = e
 
--- one test more that can always be come to
-pub always-more : {S : Type 0} (g : System S) (evers : List ℕ) (ever t : ℕ) → slice_get evers ever ≡ Some t → ((i u : ℕ) → i < ever → slice_get evers i ≡ Some u → CanAlwaysCome g u) → CanAlwaysCome g t
-    → (i u : ℕ) → i < ever + 1 → slice_get evers i ≡ Some u → CanAlwaysCome g u
-always-more g evers ever t there earlier here i u l at = by (cases_eq i ever)
+-- one want more that holds
+pub holds-more : {S : Type 0} (g : System S) (most : ℕ) (wants : List Want) (n : ℕ) (want : Want) → slice_get wants n ≡ Some want → ((i : ℕ) (w : Want) → i < n → slice_get wants i ≡ Some w → Holds g most w) → Holds g most want
+    → (i : ℕ) (w : Want) → i < n + 1 → slice_get wants i ≡ Some w → Holds g most w
+holds-more g most wants n want there earlier here i w l at = by (cases_eq i n)
   where
-    by : (i ≡ ever) ⊎ (i ≡ ever → ⊥) → CanAlwaysCome g u
-    by (inl e) = subst (CanAlwaysCome g) (same_Some t u (sym there ∙ ap (slice_get evers) (sym e) ∙ at)) here
-    by (inr apart) = earlier i u (omega (arith, apart)) at
+    by : (i ≡ n) ⊎ (i ≡ n → ⊥) → Holds g most w
+    by (inl e) = subst (Holds g most) (same_Some want w (sym there ∙ ap (slice_get wants) (sym e) ∙ at)) here
+    by (inr apart) = earlier i w (omega (arith, apart)) at

@@ -8,5 +8,6 @@ mod Counts
 mod Judging
 mod Numbers
 mod Evers
+mod Musts
 mod Telling
 pub mod One

@@ -1,5 +1,5 @@
 -- Edges by numbers, and the choices that they stand for.
-use Rattle.std.proofs.Common.{◌≡◌, ℕ, zero, suc, ◌+◌, ◌*◌, ◌/◌, ◌%◌, ◌<◌, Bool, true, false, List, [], ◌∷◌, length, map, slice_get, get_or, Option, Some, None, sym, ◌∙◌, subst, arith, true≢false}
+use Rattle.std.proofs.Common.{◌≡◌, ℕ, zero, suc, ◌+◌, ◌*◌, ◌/◌, ◌%◌, ◌<◌, Bool, true, false, List, [], ◌∷◌, length, map, slice_get, get_or, Option, Some, None, IfSome, sym, ◌∙◌, subst, arith, true≢false}
 use Rattle.std.proofs.lemmas.Option.{slice_get_within, get_or_from_slice_get, same_Some}
 use Rattle.reaches_back.specs.Edges.{walked, end_of, CanReach, AreEdges as AreNumbered}
 use Rattle.breadth_first.specs.System.{System}
@@ -18,9 +18,14 @@ first-unreached width ends marks reached many says (Some i) (l, here, before) =
     let inside : i < length marks = omega (arith, many, l) in
     (inside, (λ r. true≢false (sym ((says i inside).1 r) ∙ here)), (λ k m. (says k (omega (arith, m, inside))).0 (before k m)))
 
+-- it is one of them
+pub unreached-within : (width : ℕ) (ends : List ℕ) (marks : List Bool) (first : Option ℕ) → IsFirstUnreached width ends marks first → (n : ℕ) → length marks ≡ n → IfSome first (λ i. i < n)
+unreached-within width ends marks None is n many = tt
+unreached-within width ends marks (Some i) is n many = omega (arith, is.0, many)
+
 module _ {S : Type 0} (g : System S) (states : List S) (ends : List ℕ) (are : AreEdges g states (length states * g.choices) ends) where
   -- the edge of a choice ends where the choice leads
-  edge-ends : (at choice : ℕ) (s : S) → slice_get states at ≡ Some s → choice < g.choices → slice_get states (end_of g.choices ends at choice) ≡ Some (g.next s choice)
+  pub edge-ends : (at choice : ℕ) (s : S) → slice_get states at ≡ Some s → choice < g.choices → slice_get states (end_of g.choices ends at choice) ≡ Some (g.next s choice)
   edge-ends at choice s there l =
       let inside : at * g.choices + choice < length states * g.choices = place-in (length states) g.choices at choice (slice_get_within states at s there) l in
       let e = are.each at choice l inside in

@@ -1,20 +1,26 @@
 -- Two answers to one question tell the same.
-use Rattle.std.proofs.Common.{◌≡◌, ◌≢◌, ℕ, zero, suc, ◌+◌, ◌-◌, ◌*◌, ◌<◌, ◌≤◌, ◌⊎◌, inl, inr, true, false, List, [], ◌∷◌, length, take, slice_get, get_or, Option, Some, None, is_some, All, IfSome, MatchOption, refl, sym, ap, ◌∙◌, subst, arith, true≢false}
+use Rattle.std.proofs.Common.{◌≡◌, ◌≢◌, ℕ, zero, suc, ◌+◌, ◌-◌, ◌*◌, ◌<◌, ◌≤◌, ◌⊎◌, inl, inr, Bool, true, false, List, [], ◌∷◌, length, take, slice_get, get_or, Option, Some, None, is_some, All, IfSome, MatchOption, refl, sym, ap, ◌∙◌, subst, arith, true≢false}
 use Rattle.std.proofs.lemmas.Bool.{cases_lt}
 use Rattle.std.proofs.lemmas.List.{ext_get_or}
 use Rattle.std.proofs.lemmas.List.Elements.{All-contains}
 use Rattle.std.proofs.lemmas.Option.{slice_get_within, slice_get-get_or, same_Some}
+use Rattle.std.specs.List.{concat}
+use Rattle.fair_rounds.specs.Rounds.{passes}
 use Rattle.breadth_first.specs.System.{System, IsEquality}
 use Rattle.breadth_first.specs.Paths.{after, AreChoices, CanCome, IsEarlier}
 use Rattle.breadth_first.specs.Order.{trying, opened, reached}
-use Rattle.breadth_first.specs.Answer.{before, seen, IsFound, IsSeen, IsClosed, LeavesOut, EndsByDepth, EndsByStates, IsOpen, IsFirst, IsCount, AreCounts, CanAlwaysCome, IsLost, IsEver, IsAnswer}
-use Rattle.breadth_first.specs.Told.{LostValue, told, lost_told}
+use Rattle.breadth_first.specs.Answer.{before, seen, IsFound, IsSeen, IsClosed, LeavesOut, EndsByDepth, EndsByStates, IsOpen, IsFirst, IsCount, AreCounts, IsLost, IsAvoided, Holds, Misses, IsMissed, want_of, IsAnswer}
+use Rattle.breadth_first.specs.Told.{told, want_told, missed_told}
+use Rattle.breadth_first.specs.Told.MissedTold.{TellsLost, TellsAvoided}
 use Rattle.breadth_first.specs.Told.Told.{TellsFound, TellsClosed, TellsOpen}
 use Rattle.breadth_first.specs.Front.{Front}
 use Rattle.breadth_first.specs.declared.answer.Limits.{Limits}
 use Rattle.breadth_first.specs.declared.answer.Size.{Size}
 use Rattle.breadth_first.specs.declared.answer.Count.{Count}
-use Rattle.breadth_first.specs.declared.answer.Lost.{Lost}
+use Rattle.breadth_first.specs.declared.answer.Want.{Want}
+use Rattle.breadth_first.specs.declared.answer.Want.TheVariants.{Ever, Must, MustAfter}
+use Rattle.breadth_first.specs.declared.answer.Missed.{Missed}
+use Rattle.breadth_first.specs.declared.answer.Missed.TheVariants.{Lost, Avoided}
 use Rattle.breadth_first.specs.declared.answer.Explored.{Explored}
 use Rattle.breadth_first.specs.declared.answer.Explored.TheVariants.{Found, Closed, Open}
 use Rattle.breadth_first.proofs.Fronts.{front-refl, front-trans, front-length, front-full, front-any, front-compare, slice_get-some}
@@ -312,65 +318,90 @@ module _ {S : Type 0} (g : System S) (law : IsEquality g.same) (limits : Limits)
 
   -- ---- what can't be come to
 
-  not-lost : (states : List S) (tests : List ℕ) (ever : ℕ) (path : List ℕ) (l : IsLost g states tests ever path) → CanAlwaysCome g l.test → ⊥
-  not-lost states tests ever path l can =
-      let come = can path l.choices in
-      true≢false (sym come.2 ∙ l.never come.0 come.1)
+  -- a want that is missed doesn't hold, within however many rounds
+  pub not-missed : (states : List S) (most : ℕ) (want : Want) (missed : Missed) → Misses g states want missed → Holds g most want → ⊥
+  not-missed states most (Ever t) (Lost lost) is can =
+      let come = can lost.path.items is.choices in
+      true≢false (sym come.2 ∙ is.never come.0 come.1)
+  not-missed states most (Ever t) (Avoided avoided) is can = is
+  not-missed states most (Must t) (Lost lost) is must = is
+  not-missed states most (Must t) (Avoided avoided) is must =
+      let e = is.evasion in
+      let v = e.evades most in
+      let same : g.start ≡ after g g.start e.stem = (law g.start (after g g.start e.stem)).0 e.begins in
+      true≢false (sym (must v.rounds v.many v.are) ∙ subst (λ s. passes g.next (g.test t) s (concat v.rounds) ≡ false) (sym same) v.never)
+  not-missed states most (MustAfter t) (Lost lost) is must = is
+  not-missed states most (MustAfter t) (Avoided avoided) is must =
+      let e = is.evasion in
+      let v = e.evades most in
+      true≢false (sym (must e.stem e.choices e.begins v.rounds v.many v.are) ∙ v.never)
 
-  same-lost : (states : List S) (tests : List ℕ) (e f : ℕ) (a b : List ℕ) → IsLost g states tests e a → IsLost g states tests f b → (e ≡ f) × (a ≡ b)
-  same-lost states tests e f a b x y = (ever, path)
+  same-lost : (states : List S) (t : ℕ) (a b : List ℕ) → IsLost g states t a → IsLost g states t b → a ≡ b
+  same-lost states t a b x y =
+      only (λ p. CanCome g t (after g g.start p) → ⊥) (λ p. CanCome g t (after g g.start p)) (λ p bad good. bad good) a b
+      (record { choices = x.choices; is = stuck (after g g.start a) x.never; shortest = x.shortest; earliest = x.earliest })
+      (record { choices = y.choices; is = stuck (after g g.start b) y.never; shortest = y.shortest; earliest = y.earliest })
     where
-      by : (e < f) ⊎ (f ≤ e) → (f < e) ⊎ (e ≤ f) → e ≡ f
-      by (inl l) _ = absurd (not-lost states tests e a x (y.earlier e x.test l x.there))
-      by (inr j) (inl l) = absurd (not-lost states tests f b y (x.earlier f y.test l y.there))
+      stuck : (s : S) → ((other : List ℕ) → AreChoices g other → g.test t (after g s other) ≡ false) → CanCome g t s → ⊥
+      stuck s never come = true≢false (sym come.2 ∙ never come.0 come.1)
+
+  same-avoided : (first : S → Bool) (t : ℕ) (a c b d : List ℕ) → IsAvoided g first t a c → IsAvoided g first t b d → a ≡ b
+  same-avoided first t a c b d x y = by (cases_lt (length a) (length b)) (cases_lt (length b) (length a))
+    where
+      long : length a ≡ length b → (a ≡ b) ⊎ (IsEarlier a b ⊎ IsEarlier b a) → a ≡ b
+      long e (inl is) = is
+      long e (inr (inl l)) = absurd (y.earliest a c x.evasion e l)
+      long e (inr (inr l)) = absurd (x.earliest b d y.evasion (sym e) l)
+
+      by : (length a < length b) ⊎ (length b ≤ length a) → (length b < length a) ⊎ (length a ≤ length b) → a ≡ b
+      by (inl l) _ = absurd (omega (arith, l, y.shortest a c x.evasion))
+      by (inr j) (inl l) = absurd (omega (arith, l, x.shortest b d y.evasion))
+      by (inr j) (inr k) = let e : length a ≡ length b = omega (arith, j, k) in long e (compared a b e)
+
+  -- one want is missed in one way, but for the cycle
+  same-way : (states : List S) (want : Want) (x y : Missed) → Misses g states want x → Misses g states want y → want_of x ≡ want_of y → want_told x ≡ want_told y
+  same-way states (Ever t) (Lost a) (Lost b) x y e = ap (λ n. TellsLost n a.path.items) e ∙ ap (TellsLost b.want) (same-lost states t a.path.items b.path.items x y)
+  same-way states (Ever t) (Lost a) (Avoided b) x y e = absurd y
+  same-way states (Ever t) (Avoided a) b x y e = absurd x
+  same-way states (Must t) (Lost a) b x y e = absurd x
+  same-way states (Must t) (Avoided a) (Lost b) x y e = absurd y
+  same-way states (Must t) (Avoided a) (Avoided b) x y e =
+      ap (λ n. TellsAvoided n a.path.items) e ∙ ap (TellsAvoided b.want) (same-avoided (g.same g.start) t a.path.items a.cycle.items b.path.items b.cycle.items x y)
+  same-way states (MustAfter t) (Lost a) b x y e = absurd x
+  same-way states (MustAfter t) (Avoided a) (Lost b) x y e = absurd y
+  same-way states (MustAfter t) (Avoided a) (Avoided b) x y e =
+      ap (λ n. TellsAvoided n a.path.items) e ∙ ap (TellsAvoided b.want) (same-avoided (g.first t) t a.path.items a.cycle.items b.path.items b.cycle.items x y)
+
+  same-missed : (states : List S) (most : ℕ) (wants : List Want) (x y : Option Missed) → IsMissed g states most wants x → IsMissed g states most wants y → missed_told x ≡ missed_told y
+  same-missed states most wants None None a b = refl
+  same-missed states most wants None (Some m) a b = absurd (not-missed states most b.want m b.misses (All-at (Holds g most) wants a (want_of m) b.want b.there))
+  same-missed states most wants (Some m) None a b = absurd (not-missed states most a.want m a.misses (All-at (Holds g most) wants b (want_of m) a.want a.there))
+  same-missed states most wants (Some m) (Some n) a b =
+      let e = by (cases_lt (want_of m) (want_of n)) (cases_lt (want_of n) (want_of m)) in
+      let same : a.want ≡ b.want = same_Some a.want b.want (sym a.there ∙ ap (slice_get wants) e ∙ b.there) in
+      ap Some (same-way states a.want m n a.misses (subst (λ w. Misses g states w n) (sym same) b.misses) e)
+    where
+      by : (want_of m < want_of n) ⊎ (want_of n ≤ want_of m) → (want_of n < want_of m) ⊎ (want_of m ≤ want_of n) → want_of m ≡ want_of n
+      by (inl l) _ = absurd (not-missed states most a.want m a.misses (b.earlier (want_of m) a.want l a.there))
+      by (inr j) (inl l) = absurd (not-missed states most b.want n b.misses (a.earlier (want_of n) b.want l b.there))
       by (inr j) (inr k) = omega (arith, j, k)
-
-      ever : e ≡ f
-      ever = by (cases_lt e f) (cases_lt f e)
-
-      test : x.test ≡ y.test
-      test = same_Some x.test y.test (sym x.there ∙ ap (slice_get tests) ever ∙ y.there)
-
-      stuck : (t : ℕ) (s : S) → ((other : List ℕ) → AreChoices g other → g.test t (after g s other) ≡ false) → CanCome g t s → ⊥
-      stuck t s never come = true≢false (sym come.2 ∙ never come.0 come.1)
-
-      path : a ≡ b
-      path = only (λ p. CanCome g x.test (after g g.start p) → ⊥) (λ p. CanCome g x.test (after g g.start p)) (λ p bad good. bad good) a b
-          (record { choices = x.choices; is = stuck x.test (after g g.start a) x.never; shortest = x.shortest; earliest = x.earliest })
-          (record {
-            choices = y.choices;
-            is = stuck x.test (after g g.start b) (λ other are. ap (λ t. g.test t (after g (after g g.start b) other)) test ∙ y.never other are);
-            shortest = λ other are l. subst (λ t. CanCome g t (after g g.start other)) (sym test) (y.shortest other are l);
-            earliest = λ other are long l. subst (λ t. CanCome g t (after g g.start other)) (sym test) (y.earliest other are long l);
-          })
-
-  same-ever : (states : List S) (tests : List ℕ) (x y : Option Lost) → IsEver g states tests x → IsEver g states tests y → lost_told x ≡ lost_told y
-  same-ever states tests None None a b = refl
-  same-ever states tests None (Some l) a b = absurd (not-lost states tests l.ever l.path.items b (All-at (CanAlwaysCome g) tests a l.ever b.test b.there))
-  same-ever states tests (Some l) None a b = absurd (not-lost states tests l.ever l.path.items a (All-at (CanAlwaysCome g) tests b l.ever a.test a.there))
-  same-ever states tests (Some l) (Some m) a b =
-      let same = same-lost states tests l.ever m.ever l.path.items m.path.items a b in
-      ap (λ n. Some (lost n l.path.items)) same.0 ∙ ap (λ p. Some (lost m.ever p)) same.1
-    where
-      lost : ℕ → List ℕ → LostValue
-      lost n p = record { ever = n; path = p }
 
   -- ---- all
 
-  pub one_answer : (evers counts : List ℕ) (a b : Explored) → IsAnswer g limits evers counts a → IsAnswer g limits evers counts b → told a ≡ told b
-  one_answer evers counts (Found p path) (Found q other) x y = found-found p q path.items other.items x y
-  one_answer evers counts (Found p path) (Closed size all lost) x y = absurd (found-closed p path.items size x y.0)
-  one_answer evers counts (Found p path) (Open size all) x y = absurd (found-open p path.items size x y.0)
-  one_answer evers counts (Closed size all lost) (Found p path) x y = absurd (found-closed p path.items size y x.0)
-  one_answer evers counts (Closed size all lost) (Closed size' all' lost') x y =
+  pub one_answer : (wants : List Want) (counts : List ℕ) (a b : Explored) → IsAnswer g limits wants counts a → IsAnswer g limits wants counts b → told a ≡ told b
+  one_answer wants counts (Found p path) (Found q other) x y = found-found p q path.items other.items x y
+  one_answer wants counts (Found p path) (Closed size all missed) x y = absurd (found-closed p path.items size x y.0)
+  one_answer wants counts (Found p path) (Open size all) x y = absurd (found-open p path.items size x y.0)
+  one_answer wants counts (Closed size all missed) (Found p path) x y = absurd (found-closed p path.items size y x.0)
+  one_answer wants counts (Closed size all missed) (Closed size' all' missed') x y =
       let same = closed-size size size' x.0 y.0 in
       let many = same-counts (seen g size) counts all.items all'.items x.1 (subst (λ s. AreCounts g (seen g s) counts all'.items) (sym same) y.1) in
-      let ever = same-ever (seen g size) evers lost lost' x.2 (subst (λ s. IsEver g (seen g s) evers lost') (sym same) y.2) in
-      ap (λ s. TellsClosed s all.items (lost_told lost)) same ∙ ap (λ c. TellsClosed size' c (lost_told lost)) many ∙ ap (TellsClosed size' all'.items) ever
-  one_answer evers counts (Closed size all lost) (Open size' all') x y = absurd (closed-open size size' x.0 y.0)
-  one_answer evers counts (Open size all) (Found p path) x y = absurd (found-open p path.items size y x.0)
-  one_answer evers counts (Open size all) (Closed size' all' lost') x y = absurd (closed-open size' size y.0 x.0)
-  one_answer evers counts (Open size all) (Open size' all') x y =
+      let way = same-missed (seen g size) size.states wants missed missed' x.2 (subst (λ s. IsMissed g (seen g s) s.states wants missed') (sym same) y.2) in
+      ap (λ s. TellsClosed s all.items (missed_told missed)) same ∙ ap (λ c. TellsClosed size' c (missed_told missed)) many ∙ ap (TellsClosed size' all'.items) way
+  one_answer wants counts (Closed size all missed) (Open size' all') x y = absurd (closed-open size size' x.0 y.0)
+  one_answer wants counts (Open size all) (Found p path) x y = absurd (found-open p path.items size y x.0)
+  one_answer wants counts (Open size all) (Closed size' all' missed') x y = absurd (closed-open size' size y.0 x.0)
+  one_answer wants counts (Open size all) (Open size' all') x y =
       let same = open-size size size' x.0 y.0 in
       let many = same-counts (seen g size) counts all.items all'.items x.1 (subst (λ s. AreCounts g (seen g s) counts all'.items) (sym same) y.1) in
       ap (λ s. TellsOpen s all.items) same ∙ ap (TellsOpen size') many

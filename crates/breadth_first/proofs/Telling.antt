@@ -1,23 +1,20 @@
 -- What is told of a search, and what that rests on.
-use Rattle.std.proofs.Common.{◌≡◌, ℕ, suc, ◌*◌, ◌-◌, ◌<◌, ◌≤◌, Bool, true, false, List, [], ◌∷◌, length, map, slice_get, Option, Some, None, is_some, All, IfSome, IfOk, OnOk, Result, Ok, Err, not, ◌==◌, refl, sym, ap, subst, arith}
+use Rattle.std.proofs.Common.{◌≡◌, ℕ, suc, ◌*◌, ◌-◌, ◌<◌, ◌≤◌, Bool, true, false, List, [], ◌∷◌, length, slice_get, Option, Some, None, is_some, IfSome, IfOk, OnOk, Result, Ok, Err, not, ◌==◌, refl, sym, ap, subst, arith}
 use Rattle.std.proofs.lemmas.Bool.Decides.{Decides-eqb}
 use Rattle.std.proofs.lemmas.List.{length_push}
 use Rattle.std.proofs.lemmas.Option.{slice_get_within}
 use Rattle.breadth_first.specs.System.{System, IsEquality}
-use Rattle.breadth_first.specs.Kept.{Keeps}
 use Rattle.breadth_first.specs.Paths.{after, AreChoices, IsEarlier}
 use Rattle.breadth_first.specs.Order.{trying, opened, reached}
-use Rattle.breadth_first.specs.Answer.{seen, first_violating, IsFound, IsClosed, IsEver}
+use Rattle.breadth_first.specs.Answer.{seen, first_violating, IsFound, IsClosed}
 use Rattle.breadth_first.specs.Front.{Front}
 use Rattle.breadth_first.specs.Origins.{AreOrigins, IsPathTo}
-use Rattle.breadth_first.specs.Progress.{EndsBadly, IsFull, AreWithin, IsOpened, AreAll}
+use Rattle.breadth_first.specs.Progress.{EndsBadly, IsFull, AreWithin, IsOpened}
 use Rattle.breadth_first.specs.declared.origins.Origin.{Origin}
 use Rattle.breadth_first.specs.declared.answer.Limits.{Limits}
 use Rattle.breadth_first.specs.declared.answer.Size.{Size}
-use Rattle.breadth_first.specs.declared.answer.Lost.{Lost}
 use Rattle.breadth_first.proofs.Fronts.{front-refl, front-length}
 use Rattle.breadth_first.proofs.Order.{trying-front, trying-upto, opened-suc, reached-opened, reached-step, reached-start}
-use Rattle.breadth_first.proofs.Keys.{keeps-map}
 use Rattle.breadth_first.proofs.Endings.{closed, found, find-at, seen-is, reached-front}
 
 module _ {S : Type 0} (g : System S) (law : IsEquality g.same) where
@@ -70,17 +67,6 @@ module _ {S : Type 0} (g : System S) (law : IsEquality g.same) where
   found-last limits d property states front bad n last many is path to below few =
       let place : last ≡ length bad.others = omega (arith, many, is, ap length bad.are, length_push bad.others bad.last) in
       found g law limits d property states front bad path (subst (λ i. IsPathTo g states i path) place to) below few
-
--- what is known of states at one moment is known at another
-module _ {K S : Type 0} {g h : System S} {held holds : K → Type 0} {means stands : K → S} (keeps : Keeps g held means h holds stands) (keys : List K) (all : All held keys) where
-  pub all-keeps : AreAll g (map means keys) → AreAll h (map stands keys)
-  all-keeps is = subst (λ s. AreAll s (map stands keys)) (sym keeps.system) (subst (AreAll g) (sym (keeps-map keeps keys all)) is)
-
-  pub ever-same : (evers : List ℕ) (lost : Option Lost) → IsEver h (map stands keys) evers lost → IsEver g (map means keys) evers lost
-  ever-same evers lost is = subst (λ s. IsEver s (map means keys) evers lost) keeps.system (subst (λ l. IsEver h l evers lost) (keeps-map keeps keys all) is)
-
-  pub tests-keep : (tests : List ℕ) → All (λ t. t < g.tests) tests → All (λ t. t < h.tests) tests
-  tests-keep tests is = subst (λ s. All (λ t. t < s.tests) tests) (sym keeps.system) is
 
 -- as many as a limit has room for
 pub room-of : {K : Type 0} (limit : Option ℕ) (keys : List K) (n : ℕ) → n ≡ length keys → IfSome limit (λ m. length keys ≤ m) → IfSome limit (λ m. n ≤ m)

@@ -1,15 +1,24 @@
 -- What a search answers.
-use Rattle.std.specs.Prelude.{◌≡◌, ◌≢◌, ℕ, zero, suc, ◌+◌, ◌*◌, ◌<◌, ◌≤◌, ◌⊎◌, true, false, List, length, take, All, Contains, Option, None, Some, IfSome, is_some, find, count_by, slice_get, MatchOption}
+use Rattle.std.specs.Prelude.{◌≡◌, ◌≢◌, ℕ, zero, suc, ◌+◌, ◌*◌, ◌<◌, ◌≤◌, ◌⊎◌, Bool, true, false, List, length, take, All, Contains, Option, None, Some, IfSome, is_some, find, count_by, slice_get, MatchOption}
 use Rattle.std.specs.List.{list_any, IsDistinct}
 use Rattle.breadth_first.specs.System.{System}
-use Rattle.breadth_first.specs.Paths.{after, AreChoices, CanCome, IsEarlier}
+use Rattle.fair_rounds.specs.Rounds.{MustWithin, IsShortest}
+use Rattle.breadth_first.specs.Paths.{after, AreChoices, CanCome, MustCome, IsEarlier}
 use Rattle.breadth_first.specs.Order.{trying, opened, reached}
 use Rattle.breadth_first.specs.declared.answer.Limits.{Limits}
 use Rattle.breadth_first.specs.declared.answer.Size.{Size}
 use Rattle.breadth_first.specs.declared.answer.Count.{Count}
-use Rattle.breadth_first.specs.declared.answer.Lost.{Lost}
+use Rattle.breadth_first.specs.declared.answer.Want.{Want}
+use Rattle.breadth_first.specs.declared.answer.Want.TheVariants.{Ever, Must, MustAfter}
+use Rattle.breadth_first.specs.declared.answer.Missed.{Missed}
+use Rattle.breadth_first.specs.declared.answer.Missed.TheVariants.{Lost, Avoided}
 use Rattle.breadth_first.specs.declared.answer.Explored.{Explored}
 use Rattle.breadth_first.specs.declared.answer.Explored.TheVariants.{Found, Closed, Open}
+
+-- which of the wants, from 0
+abbrev pub want_of : Missed → ℕ
+want_of (Lost lost) = lost.want
+want_of (Avoided avoided) = avoided.want
 
 module _ {S : Type 0} (g : System S) where
   -- the states that were seen, in their order: all within `depth` choices, and of those behind them as many as there was
@@ -132,26 +141,50 @@ module _ {S : Type 0} (g : System S) where
   abbrev pub CanAlwaysCome : ℕ → Type 0
   CanAlwaysCome t = (path : List ℕ) → AreChoices g path → CanCome g t (after g g.start path)
 
-  -- from the state after the path no choices lead to one that passes test number `ever` of the list; from each state to which
-  -- a shorter path leads, or an earlier one of its length, some do, and the tests before it can always be come to
-  pub record IsLost (states : List S) (tests : List ℕ) (ever : ℕ) (path : List ℕ) : Type 0 where
-    pub test : ℕ
-    pub there : slice_get tests ever ≡ Some test
+  -- what has to come does, each want in its way; what must come does within so many rounds
+  abbrev pub Holds : ℕ → Want → Type 0
+  Holds most (Ever t) = CanAlwaysCome t
+  Holds most (Must t) = MustWithin g.next (g.test t) g.choices g.start most
+  Holds most (MustAfter t) = MustCome g (g.first t) t most
+
+  -- from the state after the path no choices lead to one that passes the test; from each state to which a shorter path leads, or
+  -- an earlier one of its length, some do
+  pub record IsLost (states : List S) (t : ℕ) (path : List ℕ) : Type 0 where
     pub choices : AreChoices g path
-    pub never : (other : List ℕ) → AreChoices g other → g.test test (after g (after g g.start path) other) ≡ false
-    pub shortest : (other : List ℕ) → AreChoices g other → length other < length path → CanCome g test (after g g.start other)
-    pub earliest : (other : List ℕ) → AreChoices g other → length other ≡ length path → IsEarlier other path → CanCome g test (after g g.start other)
+    pub never : (other : List ℕ) → AreChoices g other → g.test t (after g (after g g.start path) other) ≡ false
+    pub shortest : (other : List ℕ) → AreChoices g other → length other < length path → CanCome g t (after g g.start other)
+    pub earliest : (other : List ℕ) → AreChoices g other → length other ≡ length path → IsEarlier other path → CanCome g t (after g g.start other)
     pub index : ℕ
     pub state : slice_get states index ≡ Some (after g g.start path)
-    pub first : (i : ℕ) (s : S) → i < index → slice_get states i ≡ Some s → CanCome g test s
-    pub earlier : (i t : ℕ) → i < ever → slice_get tests i ≡ Some t → CanAlwaysCome t
+    pub first : (i : ℕ) (s : S) → i < index → slice_get states i ≡ Some s → CanCome g t s
 
-  -- the first test of the list that can't be come to from some state, or all can always be come to
-  abbrev pub IsEver : List S → List ℕ → Option Lost → Type 0
-  IsEver states tests lost = MatchOption lost (All CanAlwaysCome tests) (λ l. IsLost states tests l.ever l.path.items)
+  -- the path leads through a state that begins so to one from which the cycle, a round, leads back to it, and from the one that
+  -- begins none passes the test; it is the first among the shortest that do
+  abbrev pub IsAvoided : (S → Bool) → ℕ → List ℕ → List ℕ → Type 0
+  IsAvoided first t path cycle = IsShortest g.next (g.test t) g.choices first g.start path cycle
 
-  -- the answer to a question with these limits and tests
-  abbrev pub IsAnswer : Limits → List ℕ → List ℕ → Explored → Type 0
-  IsAnswer limits evers counts (Found property path) = IsFound limits property path.items
-  IsAnswer limits evers counts (Closed size told lost) = IsClosed limits size × AreCounts (seen size) counts told.items × IsEver (seen size) evers lost
-  IsAnswer limits evers counts (Open size told) = IsOpen limits size × AreCounts (seen size) counts told.items
+  -- a want is missed so
+  abbrev pub Misses : List S → Want → Missed → Type 0
+  Misses states (Ever t) (Lost lost) = IsLost states t lost.path.items
+  Misses states (Ever t) (Avoided avoided) = ⊥
+  Misses states (Must t) (Lost lost) = ⊥
+  Misses states (Must t) (Avoided avoided) = IsAvoided (g.same g.start) t avoided.path.items avoided.cycle.items
+  Misses states (MustAfter t) (Lost lost) = ⊥
+  Misses states (MustAfter t) (Avoided avoided) = IsAvoided (g.first t) t avoided.path.items avoided.cycle.items
+
+  -- one of the wants is missed so, and those before it hold
+  pub record IsFirstMissed (states : List S) (most : ℕ) (wants : List Want) (missed : Missed) : Type 0 where
+    pub want : Want
+    pub there : slice_get wants (want_of missed) ≡ Some want
+    pub misses : Misses states want missed
+    pub earlier : (i : ℕ) (w : Want) → i < want_of missed → slice_get wants i ≡ Some w → Holds most w
+
+  -- the first of the wants that is missed, or all hold
+  abbrev pub IsMissed : List S → ℕ → List Want → Option Missed → Type 0
+  IsMissed states most wants missed = MatchOption missed (All (Holds most) wants) (IsFirstMissed states most wants)
+
+  -- the answer to a question with these limits, wants and tests
+  abbrev pub IsAnswer : Limits → List Want → List ℕ → Explored → Type 0
+  IsAnswer limits wants counts (Found property path) = IsFound limits property path.items
+  IsAnswer limits wants counts (Closed size told missed) = IsClosed limits size × AreCounts (seen size) counts told.items × IsMissed (seen size) size.states wants missed
+  IsAnswer limits wants counts (Open size told) = IsOpen limits size × AreCounts (seen size) counts told.items

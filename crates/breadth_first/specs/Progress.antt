@@ -5,9 +5,9 @@ use Rattle.indexmap.specs.IndexSet.{insert_key}
 use Rattle.reaches_back.specs.Edges.{CanReach}
 use Rattle.breadth_first.specs.System.{System}
 use Rattle.breadth_first.specs.Front.{Front}
-use Rattle.breadth_first.specs.Paths.{after, AreChoices, CanCome}
+use Rattle.breadth_first.specs.Paths.{after, AreChoices, CanCome, MustCome}
 use Rattle.breadth_first.specs.Order.{trying, opened, reached}
-use Rattle.breadth_first.specs.Answer.{before}
+use Rattle.breadth_first.specs.Answer.{before, want_of, Holds, Misses, CanAlwaysCome, IsLost, IsAvoided}
 use Rattle.breadth_first.specs.Origins.{AreOrigins}
 use Rattle.breadth_first.specs.declared.origins.Origin.{Origin}
 use Rattle.breadth_first.specs.declared.search.Added.{Added}
@@ -17,6 +17,9 @@ use Rattle.breadth_first.specs.declared.search.Stop.TheVariants.{Bad, NoRoom}
 use Rattle.breadth_first.specs.declared.levels.End.{End}
 use Rattle.breadth_first.specs.declared.levels.End.TheVariants.{AllReached, TooFar, Stopped}
 use Rattle.breadth_first.specs.declared.answer.Limits.{Limits}
+use Rattle.breadth_first.specs.declared.answer.Want.{Want}
+use Rattle.breadth_first.specs.declared.answer.Missed.{Missed}
+use Rattle.breadth_first.specs.declared.answer.Missed.TheVariants.{Lost, Avoided}
 
 -- what a search keeps: keys that stand for states, each with its origin, and no more than the limit
 pub record Searched {K S : Type 0} (g : System S) (held : K → Type 0) (means : K → S) (limit : Option ℕ) (keys : List K) (origins : List Origin) : Type 0 where
@@ -163,11 +166,28 @@ IsFirstStuck {S} g states t first = MatchOption first (All (CanCome g t) states)
 abbrev pub AreAll : {S : Type 0} → System S → List S → Type 0
 AreAll {S} g states = (path : List ℕ) → AreChoices g path → Contains states (after g g.start path)
 
--- where a search came to all states and tests have to be come to, the edges are kept
-abbrev pub EdgesAreKept : {S : Type 0} → System S → List S → List ℕ → List ℕ → End → Type 0
-EdgesAreKept g states evers ends end = (d : ℕ) → end ≡ AllReached d → 0 < length evers → AreEdges g states (length states * g.choices) ends
+-- where a search came to all states and there are wants, the edges are kept
+abbrev pub EdgesAreKept : {S : Type 0} → System S → List S → List Want → List ℕ → End → Type 0
+EdgesAreKept g states wants ends end = (d : ℕ) → end ≡ AllReached d → 0 < length wants → AreEdges g states (length states * g.choices) ends
 
 -- the first node from which no edges lead to one that is marked, if there is one
 abbrev pub IsFirstUnreached : ℕ → List ℕ → List Bool → Option ℕ → Type 0
 IsFirstUnreached width ends marks first = MatchOption first ((at : ℕ) → at < length marks → CanReach width ends marks at)
     (λ i. (i < length marks) × (CanReach width ends marks i → ⊥) × ((k : ℕ) → k < i → CanReach width ends marks k))
+
+-- it must come, or it is avoided so, by this one of the wants
+abbrev pub MayAvoid : {S : Type 0} → System S → ℕ → (S → Bool) → ℕ → ℕ → Option Missed → Type 0
+MayAvoid g most first t number None = MustCome g first t most
+MayAvoid g most first t number (Some (Lost lost)) = ⊥
+MayAvoid g most first t number (Some (Avoided avoided)) = (avoided.want ≡ number) × IsAvoided g first t avoided.path.items avoided.cycle.items
+
+-- it can always be come to, or it is lost so, by this one of the wants
+abbrev pub MayLose : {S : Type 0} → System S → List S → ℕ → ℕ → Option Missed → Type 0
+MayLose g states t number None = CanAlwaysCome g t
+MayLose g states t number (Some (Lost lost)) = (lost.want ≡ number) × IsLost g states t lost.path.items
+MayLose g states t number (Some (Avoided avoided)) = ⊥
+
+-- the want holds, or it is missed so, by this one of the wants
+abbrev pub MayMiss : {S : Type 0} → System S → List S → ℕ → Want → ℕ → Option Missed → Type 0
+MayMiss g states most want number None = Holds g most want
+MayMiss g states most want number (Some missed) = (want_of missed ≡ number) × Misses g states want missed

@@ -2,7 +2,8 @@
 use Rattle.std.specs.Prelude.{◌≡◌, ℕ, Bool, Option, Decides}
 
 -- a start, how many choices there are in each state, and where each leads; when two states are the same; the first of
--- some properties that a state violates; and tests of states, by number
+-- some properties that a state violates; tests of states, by number; and from which states on each of them has to be passed,
+-- where it has to be after some
 pub record System (S : Type 0) : Type 0 where
   pub start : S
   pub choices : ℕ
@@ -11,6 +12,7 @@ pub record System (S : Type 0) : Type 0 where
   pub violated : S → Option ℕ
   pub tests : ℕ
   pub test : ℕ → S → Bool
+  pub first : ℕ → S → Bool
 
 -- `same` is equality of states
 abbrev pub IsEquality : {S : Type 0} → (S → S → Bool) → Type 0

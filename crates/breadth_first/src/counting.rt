@@ -3,9 +3,11 @@
 ghost use Rattle.std.specs.Prelude.{◌≡◌, ◌<◌, ℕ, true, false, not, map, length, count_by, All, IfOk, OnOk, MatchOption, slice_index_or, slice_get, Some};
 ghost use Rattle.breadth_first.specs.Answer.{IsCount, AreCounts};
 ghost use Rattle.breadth_first.specs.Kept.{Keeps};
-ghost use Rattle.breadth_first.specs.Marks.{judged};
+ghost use Rattle.breadth_first.specs.Marks.{judged, number_of};
+ghost use Rattle.breadth_first.specs.declared.asked.Test.TheVariants.{Passes};
 ghost use Rattle.breadth_first.specs.Progress.{Searched, IsOpened, IsFirstMark};
 
+use crate::asked::Test;
 use crate::marks::{Marks, judge, no_marks};
 use crate::search::Search;
 use crate::{Count, Space};
@@ -36,10 +38,10 @@ impl<S: Space> Search<S> {
         &self,
         alloc: Global,
         space: &mut S,
-        tests: &[usize],
+        tests: &[Test],
     ) -> Result<Vec<Marks>, AllocError>
         requires all { All (S.held space.old) self.now.seen.keys }
-        requires tests { All (λ t. t < (S.system space.old).tests) tests.now }
+        requires tests { All (λ t. number_of t < (S.system space.old).tests) tests.now }
         ensures keeps { OnOk result
             (Keeps (S.system space.old) (S.held space.old) (S.means space.old)
             (S.system space.new) (S.held space.new) (S.means space.new)) }
@@ -96,7 +98,7 @@ impl<S: Space> Search<S> {
             limit self.now.seen.keys self.now.origins.items }
         requires opened { IsOpened (S.system space.now) (map (S.means space.now) self.now.seen.keys) }
         requires marks { lists.now
-            ≡ judged (S.system space.now) tests.now (map (S.means space.now) self.now.seen.keys) }
+            ≡ judged (S.system space.now) (map Passes tests.now) (map (S.means space.now) self.now.seen.keys) }
         ensures { IfOk result (λ counts. AreCounts (S.system space.now)
             (map (S.means space.now) self.now.seen.keys) tests.now counts.items) }
     {

@@ -1,15 +1,12 @@
 //! From which states a test can be come to.
 
-ghost use Rattle.std.specs.Prelude.{◌≡◌, ◌<◌, ◌*◌, ℕ, map, length, IfOk};
-ghost use Rattle.breadth_first.specs.Answer.{IsEver};
-ghost use Rattle.breadth_first.specs.Marks.{judged};
-ghost use Rattle.breadth_first.specs.Progress.{Searched, IsOpened, AreAll, AreEdges, IsFirstStuck, IsFirstUnreached};
+ghost use Rattle.std.specs.Prelude.{◌≡◌, ◌<◌, ◌*◌, ℕ, map, length, IfOk, IfSome};
+ghost use Rattle.breadth_first.specs.Progress.{Searched, IsOpened, AreAll, AreEdges, IsFirstStuck, IsFirstUnreached, MayLose};
 ghost use Rattle.reaches_back.specs.Edges.{AreEdges as AreNumbered};
 
 use crate::counting::first_mark;
-use crate::marks::Marks;
 use crate::search::Search;
-use crate::{Lost, Space};
+use crate::{Lost, Missed, Space};
 use reaches_back::reach_back;
 use std::alloc::{AllocError, Global};
 
@@ -33,7 +30,8 @@ impl<S: Space> Search<S> {
         requires many { length marks.now ≡ length self.now.seen.keys }
         requires edges { AreEdges (S.system space.now) (map (S.means space.now) self.now.seen.keys)
             (length self.now.seen.keys * (S.system space.now).choices) self.now.edges.ends.items }
-        ensures { IfOk result (λ first. (t : ℕ)
+        ensures index { IfOk result (λ first. IfSome first (λ index. index < length self.now.seen.keys)) }
+        ensures first { IfOk result (λ first. (t : ℕ)
             → marks.now ≡ map ((S.system space.now).test t) (map (S.means space.now) self.now.seen.keys)
             → IsFirstStuck (S.system space.now) (map (S.means space.now) self.now.seen.keys) t first) }
     {
@@ -42,33 +40,30 @@ impl<S: Space> Search<S> {
         Ok(first_unreached(width, &self.edges.ends, &mut marks))
     }
 
-    /// The first of the tests by which the states were judged that can't be come to from some state, with the first such
-    /// state.
+    /// Whether a test can always be come to, or the first state from which it can't. It is what this one of the wants wants.
     pub(crate) fn lost(
         &self,
         alloc: Global,
         space: &S,
         limit: Option<usize>,
-        evers: &[usize],
-        lists: &[Marks],
-    ) -> Result<Option<Lost>, AllocError>
+        want: usize,
+        marks: &[bool],
+    ) -> Result<Option<Missed>, AllocError>
         requires searched { Searched (S.system space.now) (S.held space.now) (S.means space.now)
             limit self.now.seen.keys self.now.origins.items }
         requires opened { IsOpened (S.system space.now) (map (S.means space.now) self.now.seen.keys) }
         requires all { AreAll (S.system space.now) (map (S.means space.now) self.now.seen.keys) }
-        requires marks { lists.now
-            ≡ judged (S.system space.now) evers.now (map (S.means space.now) self.now.seen.keys) }
-        requires edges { 0 < length evers.now → AreEdges (S.system space.now) (map (S.means space.now) self.now.seen.keys)
+        requires many { length marks.now ≡ length self.now.seen.keys }
+        requires edges { AreEdges (S.system space.now) (map (S.means space.now) self.now.seen.keys)
             (length self.now.seen.keys * (S.system space.now).choices) self.now.edges.ends.items }
-        ensures { IfOk result (IsEver (S.system space.now)
-            (map (S.means space.now) self.now.seen.keys) evers.now) }
+        ensures { IfOk result (λ missed. (t : ℕ)
+            → marks.now ≡ map ((S.system space.now).test t) (map (S.means space.now) self.now.seen.keys)
+            → MayLose (S.system space.now) (map (S.means space.now) self.now.seen.keys) t want missed) }
     {
-        for ever in 0..evers.len() {
-            if let Some(index) = self.first_stuck(alloc, space, lists[ever].as_slice())? {
-                let path = self.path(alloc, space, limit, index)?;
-                return Ok(Some(Lost { ever, path }));
-            }
-        }
-        Ok(None)
+        let Some(index) = self.first_stuck(alloc, space, marks)? else {
+            return Ok(None);
+        };
+        let path = self.path(alloc, space, limit, index)?;
+        Ok(Some(Missed::Lost(Lost { want, path })))
     }
 }

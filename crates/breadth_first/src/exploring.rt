@@ -3,16 +3,19 @@
 ghost use Rattle.std.specs.Prelude.{◌≡◌, ◌<◌, ◌*◌, ◌++◌, List, ℕ, map, length, IfOk, OnOk, IfSome, All, Some};
 ghost use Rattle.breadth_first.specs.Answer.{IsAnswer, IsClosed, seen};
 ghost use Rattle.breadth_first.specs.Kept.{Keeps};
-ghost use Rattle.breadth_first.specs.Marks.{judged};
+ghost use Rattle.breadth_first.specs.Marks.{judged, goal_of, tests_of};
+ghost use Rattle.breadth_first.specs.declared.answer.Want.{Want};
+ghost use Rattle.breadth_first.specs.declared.asked.Test.TheVariants.{Passes};
 ghost use Rattle.breadth_first.specs.declared.levels.End.TheVariants.{AllReached};
 ghost use Rattle.breadth_first.specs.Progress.{Searched, IsOpened, GoesOn, LeavesOutAt, MeetsLimit, Ends, AreEdges, EdgesAreKept};
 
 use crate::answering::tried_of;
+use crate::asked::tests_for;
 use crate::edges::Edges;
 use crate::levels::End;
 use crate::marks::{Marks, no_marks};
 use crate::search::{Search, Stop};
-use crate::{Explored, Limits, Size, Space, Watcher};
+use crate::{Explored, Limits, Size, Space, Want, Watcher};
 use indexmap::IndexSet;
 use std::alloc::{AllocError, Global};
 
@@ -37,8 +40,8 @@ impl<S: Space> Search<S> {
         ensures keeps { OnOk result
             (Keeps (S.system space.old) (S.held space.old) (S.means space.old)
             (S.system space.new) (S.held space.new) (S.means space.new)) }
-        ensures answer { IfOk result (λ answer. (evers : List ℕ)
-            → IsAnswer (S.system space.old) limits evers counts.now answer) }
+        ensures answer { IfOk result (λ answer. (wants : List Want)
+            → IsAnswer (S.system space.old) limits wants counts.now answer) }
     {
         let tried = tried_of(at, space.choices()) + u64::from(choice) + 1;
         let size = Size {
@@ -46,7 +49,8 @@ impl<S: Space> Search<S> {
             tried,
             depth,
         };
-        let lists = self.judged(alloc, space, counts)?;
+        let tests = tests_for(alloc, &[], counts)?;
+        let lists = self.judged(alloc, space, &tests)?;
         let counts = self.counts(alloc, space, limits.states, counts, &lists)?;
         Ok(Explored::Open { size, counts })
     }
@@ -57,7 +61,7 @@ impl<S: Space> Search<S> {
         alloc: Global,
         space: &S,
         limits: Limits,
-        evers: &[usize],
+        wants: &[Want],
         counts: &[usize],
         lists: &[Marks],
         size: Size,
@@ -66,17 +70,21 @@ impl<S: Space> Search<S> {
             limits.states self.now.seen.keys self.now.origins.items }
         requires opened { IsOpened (S.system space.now) (map (S.means space.now) self.now.seen.keys) }
         requires marks { lists.now
-            ≡ judged (S.system space.now) (evers.now ++ counts.now) (map (S.means space.now) self.now.seen.keys) }
+            ≡ judged (S.system space.now) (tests_of wants.now ++ map Passes counts.now) (map (S.means space.now) self.now.seen.keys) }
         requires ended { IsClosed (S.system space.now) limits size }
         requires seen { seen (S.system space.now) size ≡ map (S.means space.now) self.now.seen.keys }
-        requires edges { 0 < length evers.now → AreEdges (S.system space.now) (map (S.means space.now) self.now.seen.keys)
+        requires edges { 0 < length wants.now → AreEdges (S.system space.now) (map (S.means space.now) self.now.seen.keys)
             (length self.now.seen.keys * (S.system space.now).choices) self.now.edges.ends.items }
-        ensures { IfOk result (IsAnswer (S.system space.now) limits evers.now counts.now) }
+        ensures { IfOk result (IsAnswer (S.system space.now) limits wants.now counts.now) }
     {
-        let first = evers.len();
-        let counts = self.counts(alloc, space, limits.states, counts, &lists[first..])?;
-        let lost = self.lost(alloc, space, limits.states, evers, &lists[..first])?;
-        Ok(Explored::Closed { size, counts, lost })
+        let wanted = lists.len() - counts.len();
+        let counts = self.counts(alloc, space, limits.states, counts, &lists[wanted..])?;
+        let missed = self.missed(alloc, space, limits.states, wants, &lists[..wanted])?;
+        Ok(Explored::Closed {
+            size,
+            counts,
+            missed,
+        })
     }
 
     /// The answer where the search stopped while it tried the choices of states that `depth` choices lead to.
@@ -98,8 +106,8 @@ impl<S: Space> Search<S> {
         ensures keeps { OnOk result
             (Keeps (S.system space.old) (S.held space.old) (S.means space.old)
             (S.system space.new) (S.held space.new) (S.means space.new)) }
-        ensures answer { IfOk result (λ answer. (evers : List ℕ)
-            → IsAnswer (S.system space.old) limits evers counts.now answer) }
+        ensures answer { IfOk result (λ answer. (wants : List Want)
+            → IsAnswer (S.system space.old) limits wants counts.now answer) }
     {
         match stop {
             Stop::Bad(property) => {
@@ -118,7 +126,7 @@ impl<S: Space> Search<S> {
         alloc: Global,
         space: &mut S,
         limits: Limits,
-        evers: &[usize],
+        wants: &[Want],
         counts: &[usize],
         lists: &[Marks],
         end: End,
@@ -126,16 +134,16 @@ impl<S: Space> Search<S> {
         requires searched { Searched (S.system space.old) (S.held space.old) (S.means space.old)
             limits.states self.now.seen.keys self.now.origins.items }
         requires ends { Ends (S.system space.old) limits (map (S.means space.old) self.now.seen.keys) end }
-        requires evers { All (λ t. t < (S.system space.old).tests) evers.now }
+        requires wants { All (λ want. goal_of want < (S.system space.old).tests) wants.now }
         requires counts { All (λ t. t < (S.system space.old).tests) counts.now }
         requires edges { EdgesAreKept (S.system space.old) (map (S.means space.old) self.now.seen.keys)
-            evers.now self.now.edges.ends.items end }
+            wants.now self.now.edges.ends.items end }
         requires marks { (d : ℕ) → end ≡ AllReached d → lists.now
-            ≡ judged (S.system space.old) (evers.now ++ counts.now) (map (S.means space.old) self.now.seen.keys) }
+            ≡ judged (S.system space.old) (tests_of wants.now ++ map Passes counts.now) (map (S.means space.old) self.now.seen.keys) }
         ensures keeps { OnOk result
             (Keeps (S.system space.old) (S.held space.old) (S.means space.old)
             (S.system space.new) (S.held space.new) (S.means space.new)) }
-        ensures answer { IfOk result (IsAnswer (S.system space.old) limits evers.now counts.now) }
+        ensures answer { IfOk result (IsAnswer (S.system space.old) limits wants.now counts.now) }
     {
         match end {
             End::Stopped(depth, stop) => self.told_stop(alloc, space, limits, counts, depth, stop),
@@ -150,37 +158,29 @@ impl<S: Space> Search<S> {
                     tried,
                     depth,
                 };
-                self.told_closed(alloc, space, limits, evers, counts, lists, size)
+                self.told_closed(alloc, space, limits, wants, counts, lists, size)
             }
         }
     }
 }
 
-/// The tests of both lists.
-fn both(alloc: Global, evers: &[usize], counts: &[usize]) -> Result<Vec<usize>, AllocError>
-    ensures { IfOk result (λ tests. tests.items ≡ evers.now ++ counts.now) }
-{
-    let mut tests = evers.to_vec(alloc)?;
-    tests.extend_from_slice(counts)?;
-    Ok(tests)
-}
-
 /// Searches the space from its start, and tells which states are reached.
 ///
-/// `evers` are the tests that each state has to be able to come to, judged where the search closes; `counts` those of which
-/// is told how many states pass. An error is want of memory, or there were more than 2^32 states.
+/// `wants` are what has to come, judged in their order where the search closes; `counts` are the tests of which is told how
+/// many states pass. An error is want of memory, or there were more than 2^32 states, or, where a want is `Must` or
+/// `MustAfter`, 2^31 or more.
 pub fn explore<S: Space, W: Watcher>(
     alloc: Global,
     space: &mut S,
     limits: &Limits,
-    evers: &[usize],
+    wants: &[Want],
     counts: &[usize],
     watcher: &mut W,
 ) -> Result<Explored, AllocError>
     requires room { IfSome limits.now.states (λ n. 0 < n) }
-    requires evers { All (λ t. t < (S.system space.old).tests) evers.now }
+    requires wants { All (λ want. goal_of want < (S.system space.old).tests) wants.now }
     requires counts { All (λ t. t < (S.system space.old).tests) counts.now }
-    ensures answer { IfOk result (IsAnswer (S.system space.old) limits.now evers.now counts.now) }
+    ensures answer { IfOk result (IsAnswer (S.system space.old) limits.now wants.now counts.now) }
     ensures keeps { OnOk result
         (Keeps (S.system space.old) (S.held space.old) (S.means space.old)
         (S.system space.new) (S.held space.new) (S.means space.new)) }
@@ -188,7 +188,7 @@ pub fn explore<S: Space, W: Watcher>(
     let mut search = Search {
         seen: IndexSet::new(alloc),
         origins: Vec::new(alloc),
-        edges: Edges::new(alloc, !evers.is_empty()),
+        edges: Edges::new(alloc, !wants.is_empty()),
     };
     if let Some(property) = search.begin(space, limits.states)? {
         return Ok(Explored::Found {
@@ -196,8 +196,8 @@ pub fn explore<S: Space, W: Watcher>(
             path: Vec::new(alloc),
         });
     }
-    let tests = both(alloc, evers, counts)?;
+    let tests = tests_for(alloc, wants, counts)?;
     let mut lists = no_marks(alloc, tests.len())?;
     let end = search.walk(space, *limits, &tests, &mut lists, watcher)?;
-    search.answer(alloc, space, *limits, evers, counts, &lists, end)
+    search.answer(alloc, space, *limits, wants, counts, &lists, end)
 }

@@ -4,10 +4,11 @@ ghost use Rattle.std.specs.Prelude.{◌≡◌, ◌<◌, ◌*◌, ◌∷◌, [], 
 ghost use Rattle.breadth_first.specs.declared.levels.End.TheVariants.{AllReached};
 ghost use Rattle.breadth_first.specs.Answer.{before};
 ghost use Rattle.breadth_first.specs.Kept.{Keeps};
-ghost use Rattle.breadth_first.specs.Marks.{judged};
+ghost use Rattle.breadth_first.specs.Marks.{judged, number_of};
 ghost use Rattle.breadth_first.specs.Order.{reached};
 ghost use Rattle.breadth_first.specs.Progress.{Searched, AreSafe, AreWithin, GoesOn, Ends, KeepsEdges};
 
+use crate::asked::Test;
 use crate::marks::Marks;
 use crate::search::{Search, Stop, is_met};
 use crate::{Limits, Space, Watcher};
@@ -36,7 +37,7 @@ impl<S: Space> Search<S> {
         limit: Option<usize>,
         from: usize,
         depth: usize,
-        tests: &[usize],
+        tests: &[Test],
         lists: &mut Vec<Marks>,
         watcher: &mut W,
     ) -> Result<Option<Stop>, AllocError>
@@ -47,7 +48,7 @@ impl<S: Space> Search<S> {
         requires safe { AreSafe (S.system space.old) (map (S.means space.old) self.old.seen.keys) }
         requires edges { KeepsEdges (S.system space.old) (map (S.means space.old) self.old.seen.keys)
             (from * (S.system space.old).choices) self.old.edges.keeps self.old.edges.ends.items }
-        requires tests { All (λ t. t < (S.system space.old).tests) tests.now }
+        requires tests { All (λ t. number_of t < (S.system space.old).tests) tests.now }
         requires marks { lists.old.items
             ≡ judged (S.system space.old) tests.now (take from (map (S.means space.old) self.old.seen.keys)) }
         ensures keeps { OnOk result
@@ -86,7 +87,7 @@ impl<S: Space> Search<S> {
         limits: Limits,
         from: usize,
         depth: usize,
-        tests: &[usize],
+        tests: &[Test],
         lists: &mut Vec<Marks>,
         watcher: &mut W,
     ) -> Result<End, AllocError>
@@ -97,7 +98,7 @@ impl<S: Space> Search<S> {
         requires within { AreWithin (S.system space.old) depth (map (S.means space.old) self.old.seen.keys) }
         requires edges { KeepsEdges (S.system space.old) (map (S.means space.old) self.old.seen.keys)
             (from * (S.system space.old).choices) self.old.edges.keeps self.old.edges.ends.items }
-        requires tests { All (λ t. t < (S.system space.old).tests) tests.now }
+        requires tests { All (λ t. number_of t < (S.system space.old).tests) tests.now }
         requires marks { lists.old.items
             ≡ judged (S.system space.old) tests.now (take from (map (S.means space.old) self.old.seen.keys)) }
         ensures keeps { OnOk result
@@ -130,7 +131,7 @@ impl<S: Space> Search<S> {
         &mut self,
         space: &mut S,
         limits: Limits,
-        tests: &[usize],
+        tests: &[Test],
         lists: &mut Vec<Marks>,
         watcher: &mut W,
     ) -> Result<End, AllocError>
@@ -139,7 +140,7 @@ impl<S: Space> Search<S> {
         requires start { map (S.means space.old) self.old.seen.keys ≡ (S.system space.old).start ∷ [] }
         requires safe { AreSafe (S.system space.old) (map (S.means space.old) self.old.seen.keys) }
         requires edges { self.old.edges.ends.items ≡ [] }
-        requires tests { All (λ t. t < (S.system space.old).tests) tests.now }
+        requires tests { All (λ t. number_of t < (S.system space.old).tests) tests.now }
         requires marks { lists.old.items ≡ map (λ t. []) tests.now }
         ensures keeps { OnOk result
             (Keeps (S.system space.old) (S.held space.old) (S.means space.old)

@@ -6,16 +6,18 @@
 
 mod answer;
 mod answering;
+mod asked;
 mod counting;
 mod edges;
 mod ever;
 mod exploring;
 mod levels;
 mod marks;
+mod missing;
 mod origins;
 mod search;
 mod space;
 
-pub use answer::{Count, Explored, Limits, Lost, Size};
+pub use answer::{Avoided, Count, Explored, Limits, Lost, Missed, Size, Want};
 pub use exploring::explore;
 pub use space::{Space, Watcher};

@@ -2,9 +2,10 @@
 
 ghost use Rattle.std.specs.Prelude.{◌≡◌, ◌<◌, ◌++◌, ◌∷◌, [], List, length, replicate, All, IfOk, OnOk, slice_set, slice_index_or};
 ghost use Rattle.breadth_first.specs.Kept.{Keeps};
-ghost use Rattle.breadth_first.specs.Marks.{judged};
+ghost use Rattle.breadth_first.specs.Marks.{judged, is_as, number_of};
 
 use crate::Space;
+use crate::asked::Test;
 use std::alloc::{AllocError, Global};
 use std::marker::Model;
 
@@ -66,15 +67,31 @@ fn note(lists: &mut Vec<Marks>, place: usize, mark: bool) -> Result<(), AllocErr
     lists[place].push(mark)
 }
 
+/// Whether a state is as a test asks.
+fn is_so<S: Space>(space: &mut S, key: &S::Key, test: Test) -> Result<bool, AllocError>
+    requires held { S.held space.old key.now }
+    requires test { number_of test < (S.system space.old).tests }
+    ensures value { IfOk result (λ so. so
+        ≡ is_as (S.system space.old) test (S.means space.old key.now)) }
+    ensures keeps { OnOk result
+        (Keeps (S.system space.old) (S.held space.old) (S.means space.old)
+        (S.system space.new) (S.held space.new) (S.means space.new)) }
+{
+    match test {
+        Test::Passes(number) => space.passes(key, number),
+        Test::IsFirst(number) => space.is_first(key, number),
+    }
+}
+
 /// Judges one more state by each of the tests.
 pub(crate) fn judge<S: Space>(
     space: &mut S,
     key: &S::Key,
-    tests: &[usize],
+    tests: &[Test],
     lists: &mut Vec<Marks>,
 ) -> Result<(), AllocError>
     requires held { S.held space.old key.now }
-    requires tests { All (λ t. t < (S.system space.old).tests) tests.now }
+    requires tests { All (λ t. number_of t < (S.system space.old).tests) tests.now }
     requires many { length lists.old.items ≡ length tests.now }
     ensures keeps { OnOk result
         (Keeps (S.system space.old) (S.held space.old) (S.means space.old)
@@ -84,8 +101,8 @@ pub(crate) fn judge<S: Space>(
         → lists.new.items ≡ judged (S.system space.old) tests.now (states ++ S.means space.old key.now ∷ [])) }
 {
     for place in 0..tests.len() {
-        let passes = space.passes(key, tests[place])?;
-        note(lists, place, passes)?;
+        let so = is_so(space, key, tests[place])?;
+        note(lists, place, so)?;
     }
     Ok(())
 }

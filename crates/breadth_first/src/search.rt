@@ -2,11 +2,12 @@
 
 ghost use Rattle.std.specs.Prelude.{◌≡◌, ◌<◌, ◌≤◌, ◌+◌, ◌*◌, ◌^◌, ◌↔◌, [], map, length, take, All, IfOk, OnOk, IfSome, IsTrue, Some, None};
 ghost use Rattle.breadth_first.specs.Kept.{Keeps};
-ghost use Rattle.breadth_first.specs.Marks.{judged};
+ghost use Rattle.breadth_first.specs.Marks.{judged, number_of};
 ghost use Rattle.breadth_first.specs.Order.{opened};
 ghost use Rattle.breadth_first.specs.Progress.{Searched, Adds, AreSafe, Begins, Expands, KeepsEdges};
 
 use crate::Space;
+use crate::asked::Test;
 use crate::edges::Edges;
 use crate::marks::{Marks, judge};
 use crate::origins::Origin;
@@ -133,7 +134,7 @@ impl<S: Space> Search<S> {
         space: &mut S,
         limit: Option<usize>,
         at: usize,
-        tests: &[usize],
+        tests: &[Test],
         lists: &mut Vec<Marks>,
     ) -> Result<Option<Stop>, AllocError>
         requires searched { Searched (S.system space.old) (S.held space.old) (S.means space.old)
@@ -143,7 +144,7 @@ impl<S: Space> Search<S> {
         requires safe { AreSafe (S.system space.old) (map (S.means space.old) self.old.seen.keys) }
         requires edges { KeepsEdges (S.system space.old) (map (S.means space.old) self.old.seen.keys)
             (at * (S.system space.old).choices) self.old.edges.keeps self.old.edges.ends.items }
-        requires tests { All (λ t. t < (S.system space.old).tests) tests.now }
+        requires tests { All (λ t. number_of t < (S.system space.old).tests) tests.now }
         requires marks { lists.old.items
             ≡ judged (S.system space.old) tests.now (take at (map (S.means space.old) self.old.seen.keys)) }
         ensures keeps { OnOk result

@@ -75,6 +75,15 @@ pub trait Space {
             (Keeps (system self.old) (held self.old) (means self.old)
             (system self.new) (held self.new) (means self.new)) };
 
+    /// Whether the state is one from which on the test has to be passed, where that is asked of some states.
+    fn is_first(&mut self, key: &Self::Key, test: usize) -> Result<bool, AllocError>
+        requires held { held self.old key.now }
+        requires test { test < (system self.old).tests }
+        ensures value { IfOk result (λ first. first ≡ (system self.old).first test (means self.old key.now)) }
+        ensures keeps { OnOk result
+            (Keeps (system self.old) (held self.old) (means self.old)
+            (system self.new) (held self.new) (means self.new)) };
+
     /// Two keys are equal exactly where they stand for the same state.
     ghost alike: { (space : Self) (a b : Self.Key) → held space a → held space b
         → Self.Key.Eq.eq a b ≡ (system space).same (means space a) (means space b) };

@@ -5,7 +5,8 @@ use Rattle.breadth_first.specs.Progress.{Begins, Ends, AreEdges}
 use Rattle.breadth_first.proofs.Keys.{keeps-trans}
 use Rattle.breadth_first.proofs.Steps.{searched-same, safe-same}
 use Rattle.breadth_first.proofs.Telling.{found-start, on-ok, not-empty}
-use Rattle.breadth_first.proofs.Judging.{empties}
+use Rattle.breadth_first.specs.Marks.{goal_of, number_of}
+use Rattle.breadth_first.proofs.Judging.{empties, tests-within}
 use Rattle.breadth_first.proofs.exploring.explore.Goals as goal
 
 pub begin-requires-clause-seen : goal.begin-requires-clause-seen
@@ -49,10 +50,17 @@ answer-requires-clause-searched g c = searched-same c.in_ok-end.ensures.keeps.sy
 pub answer-requires-clause-ends : goal.answer-requires-clause-ends
 answer-requires-clause-ends g c = subst (λ t. Ends t c.args.limits.now (map (g.S.Space.means c.walk.new.space) c.walk.new.self.seen.keys) c.in_ok-end.end) (sym c.in_ok-end.ensures.keeps.system) c.in_ok-end.ensures.ends
 
-pub answer-requires-clause-evers : goal.answer-requires-clause-evers
-answer-requires-clause-evers g c =
+pub answer-requires-clause-wants : goal.answer-requires-clause-wants
+answer-requires-clause-wants g c =
     let both = keeps-trans c.in_ok-property.ensures.keeps c.in_ok-end.ensures.keeps in
-    subst (λ s. All (λ t. t < s.tests) c.args.evers.now) (sym both.system) c.requires.evers
+    subst (λ s. All (λ want. goal_of want < s.tests) c.args.wants.now) (sym both.system) c.requires.wants
+
+pub walk-requires-clause-tests : goal.walk-requires-clause-tests
+walk-requires-clause-tests g c =
+    let system = g.S.Space.system c.args.space.now in
+    let tests = c.deref.ensures.value ∙ c.in_ok-tests.ensures in
+    subst (λ s. All (λ t. number_of t < s.tests) c.deref.result.now) (sym c.in_ok-property.ensures.keeps.system)
+    (subst (All (λ t. number_of t < system.tests)) (sym tests) (tests-within system.tests c.args.wants.now c.requires.wants c.args.counts.now c.requires.counts))
 
 pub answer-requires-clause-counts : goal.answer-requires-clause-counts
 answer-requires-clause-counts g c =
@@ -62,7 +70,7 @@ answer-requires-clause-counts g c =
 pub answer-requires-clause-edges : goal.answer-requires-clause-edges
 answer-requires-clause-edges g c d e l =
     let kept : c.walk.new.self.edges.keeps ≡ true =
-    c.in_ok-end.ensures.keeping ∙ ap (λ e. e.keeps) c.begin.ensures.edges ∙ c.new-3.ensures.keeps ∙ ap not c.is_empty.ensures ∙ not-empty (length c.args.evers.now) l in
+    c.in_ok-end.ensures.keeping ∙ ap (λ e. e.keeps) c.begin.ensures.edges ∙ c.new-3.ensures.keeps ∙ ap not c.is_empty.ensures ∙ not-empty (length c.args.wants.now) l in
     let are = c.in_ok-end.ensures.edges d e kept in
     let here = subst (λ s. AreEdges s (map (g.S.Space.means c.walk.new.space) c.walk.new.self.seen.keys) (length c.walk.new.self.seen.keys * s.choices) c.walk.new.self.edges.ends.items) (sym c.in_ok-end.ensures.keeps.system) are in
     subst (λ n. AreEdges (g.S.Space.system c.walk.new.space) (map (g.S.Space.means c.walk.new.space) c.walk.new.self.seen.keys) (n * (g.S.Space.system c.walk.new.space).choices) c.walk.new.self.edges.ends.items) (sym (length-map c.walk.new.self.seen.keys (g.S.Space.means c.walk.new.space))) here
@@ -70,7 +78,7 @@ answer-requires-clause-edges g c d e l =
 pub returns-clause-answer : goal.returns-clause-answer
 returns-clause-answer g c =
     let both = keeps-trans c.in_ok-property.ensures.keeps c.in_ok-end.ensures.keeps in
-    subst (λ t. IfOk c.answer.result (IsAnswer t c.args.limits.now c.args.evers.now c.args.counts.now)) both.system c.answer.ensures.answer
+    subst (λ t. IfOk c.answer.result (IsAnswer t c.args.limits.now c.args.wants.now c.args.counts.now)) both.system c.answer.ensures.answer
 
 pub returns-clause-keeps : goal.returns-clause-keeps
 returns-clause-keeps g c =

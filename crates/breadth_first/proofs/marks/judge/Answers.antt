@@ -1,5 +1,7 @@
-use Rattle.std.proofs.Common.{ℕ, length, get_or, ap, ◌∙◌, arith}
+use Rattle.std.proofs.Common.{length, get_or, ap, ◌∙◌, arith}
 use Rattle.std.proofs.lemmas.List.{length-set}
+use Rattle.breadth_first.specs.declared.asked.Test.{Test}
+use Rattle.breadth_first.specs.declared.asked.Test.TheVariants.{Passes}
 use Rattle.breadth_first.proofs.Keys.{keeps-refl, keeps-trans}
 use Rattle.breadth_first.proofs.Judging.{marked-step, marked-all, mark-is}
 use Rattle.breadth_first.proofs.marks.judge.Goals as goal
@@ -9,11 +11,11 @@ loop-place-init g c =
     let s = c.args.space.now in
     record { keeps = keeps-refl (g.S.Space.system s) (g.S.Space.held s) (g.S.Space.means s); many = c.requires.many; marks = λ states are. are }
 
-pub passes-requires-clause-held : goal.passes-requires-clause-held
-passes-requires-clause-held g c = c.loop-place.invariant.keeps.still c.args.key.now c.requires.held
+pub is_so-requires-clause-held : goal.is_so-requires-clause-held
+is_so-requires-clause-held g c = c.loop-place.invariant.keeps.still c.args.key.now c.requires.held
 
-pub passes-requires-clause-test : goal.passes-requires-clause-test
-passes-requires-clause-test g c = omega (arith, c.requires.tests c.loop-place.place 0 c.loop-place-test.true, ap (λ t. t.tests) c.loop-place.invariant.keeps.system)
+pub is_so-requires-clause-test : goal.is_so-requires-clause-test
+is_so-requires-clause-test g c = omega (arith, c.requires.tests c.loop-place.place (Passes 0) c.loop-place-test.true, ap (λ t. t.tests) c.loop-place.invariant.keeps.system)
 
 pub note-requires : goal.note-requires
 note-requires g c = omega (arith, c.loop-place.invariant.many, c.loop-place-test.true)
@@ -22,12 +24,12 @@ pub loop-place-preserved : goal.loop-place-preserved
 loop-place-preserved g c =
     let l = c.loop-place in
     let s = c.args.space.now in
-    let test : ℕ = get_or c.args.tests.now l.place 0 in
-    let is = mark-is l.invariant.keeps test c.args.key.now c.requires.held c.in_ok-passes.passes c.in_ok-passes.ensures.value in
+    let test : Test = get_or c.args.tests.now l.place (Passes 0) in
+    let is = mark-is l.invariant.keeps test c.args.key.now c.requires.held c.in_ok-so.so c.in_ok-so.ensures.value in
     record {
-      keeps = keeps-trans l.invariant.keeps c.in_ok-passes.ensures.keeps;
+      keeps = keeps-trans l.invariant.keeps c.in_ok-so.ensures.keeps;
       many = ap length c.in_ok-note.ensures ∙ length-set l.lists.items l.place _ ∙ l.invariant.many;
-      marks = λ states are. marked-step (g.S.Space.system s) c.args.tests.now states (g.S.Space.means s c.args.key.now) l.place l.lists.items c.note.new.lists.items c.in_ok-passes.passes c.loop-place-test.true (l.invariant.marks states are) is c.in_ok-note.ensures;
+      marks = λ states are. marked-step (g.S.Space.system s) c.args.tests.now states (g.S.Space.means s c.args.key.now) l.place (Passes 0) l.lists.items c.note.new.lists.items c.in_ok-so.so c.loop-place-test.true (l.invariant.marks states are) is c.in_ok-note.ensures;
     }
 
 pub returns-clause-keeps : goal.returns-clause-keeps

@@ -60,10 +60,10 @@ told_closed-requires-clause-edges g c l =
     subst (λ n. AreEdges (g.S.Space.system c.args.space.now) states (n * (g.S.Space.system c.args.space.now).choices) c.args.self.now.edges.ends.items) (length-map keys (g.S.Space.means c.args.space.now)) (c.requires.edges c.in-AllReached.depth c.in-AllReached.is l)
 
 pub returns-in-Stopped-clause-answer : goal.returns-in-Stopped-clause-answer
-returns-in-Stopped-clause-answer g c = ok-then c.told_stop.result c.told_stop.ensures.answer (λ a is. is c.args.evers.now)
+returns-in-Stopped-clause-answer g c = ok-then c.told_stop.result c.told_stop.ensures.answer (λ a is. is c.args.wants.now)
 
 pub returns-in-TooFar-clause-answer : goal.returns-in-TooFar-clause-answer
-returns-in-TooFar-clause-answer g c = ok-then c.told_open.result c.told_open.ensures.answer (λ a is. is c.args.evers.now)
+returns-in-TooFar-clause-answer g c = ok-then c.told_open.result c.told_open.ensures.answer (λ a is. is c.args.wants.now)
 
 pub returns-in-AllReached-clause-answer : goal.returns-in-AllReached-clause-answer
 returns-in-AllReached-clause-answer g c = c.told_closed.ensures

@@ -1,6 +1,6 @@
 use Rattle.std.proofs.Common.{map, sym, ap, ◌∙◌, subst, arith, ◌<◌, All}
 use Rattle.std.proofs.lemmas.List.{length-map, take_all}
-use Rattle.breadth_first.specs.Marks.{judged}
+use Rattle.breadth_first.specs.Marks.{judged, number_of}
 use Rattle.breadth_first.proofs.Keys.{keeps-refl, keeps-trans, held-at}
 use Rattle.breadth_first.proofs.Judging.{judged-none, judged-next, lists-many}
 use Rattle.breadth_first.proofs.search.Search.judged.Goals as goal
@@ -15,7 +15,7 @@ judge-requires-clause-held g c =
     c.loop-index.invariant.keeps.still c.index.result.now (held-at (g.S.Space.held c.args.space.now) c.args.self.now.seen.keys c.requires.all c.loop-index.index c.index.result.now c.index.ensures)
 
 pub judge-requires-clause-tests : goal.judge-requires-clause-tests
-judge-requires-clause-tests g c = subst (λ t. All (λ n. n < t.tests) c.args.tests.now) (sym c.loop-index.invariant.keeps.system) c.requires.tests
+judge-requires-clause-tests g c = subst (λ t. All (λ n. number_of n < t.tests) c.args.tests.now) (sym c.loop-index.invariant.keeps.system) c.requires.tests
 
 pub judge-requires-clause-many : goal.judge-requires-clause-many
 judge-requires-clause-many g c = lists-many (g.S.Space.system c.args.space.now) c.args.tests.now _ c.loop-index.lists.items c.loop-index.invariant.marks

@@ -1,7 +1,7 @@
 use Rattle.std.proofs.Common.{◌≡◌, suc, ◌+◌, ◌*◌, ◌<◌, ◌≤◌, length, map, take, All, Some, None, refl, sym, ap, ◌∙◌, subst, arith}
 use Rattle.std.proofs.lemmas.List.{length-map}
 use Rattle.breadth_first.specs.Answer.{before}
-use Rattle.breadth_first.specs.Marks.{judged}
+use Rattle.breadth_first.specs.Marks.{judged, number_of}
 use Rattle.breadth_first.specs.Order.{opened, reached}
 use Rattle.breadth_first.specs.Progress.{Expands, KeepsEdges}
 use Rattle.breadth_first.proofs.Keys.{keeps-refl, keeps-trans}
@@ -114,7 +114,7 @@ returns-clause-edges g c _ =
     subst (λ n. KeepsEdges (g.S.Space.system c.args.space.now) (map (g.S.Space.means c.loop-at.space) c.loop-at.self.seen.keys) (n * (g.S.Space.system c.args.space.now).choices) c.loop-at.self.edges.keeps c.loop-at.self.edges.ends.items) last inv.edges
 
 pub expand-requires-clause-tests : goal.expand-requires-clause-tests
-expand-requires-clause-tests g c = subst (λ t. All (λ n. n < t.tests) c.args.tests.now) (sym c.loop-at.invariant.keeps.system) c.requires.tests
+expand-requires-clause-tests g c = subst (λ t. All (λ n. number_of n < t.tests) c.args.tests.now) (sym c.loop-at.invariant.keeps.system) c.requires.tests
 
 pub expand-requires-clause-marks : goal.expand-requires-clause-marks
 expand-requires-clause-marks g c =

@@ -1,7 +1,22 @@
-use Rattle.std.proofs.Common.{subst, Contains}
+use Rattle.std.proofs.Common.{◌≡◌, length, map, sym, ap, ◌∙◌, subst, Contains}
+use Rattle.std.proofs.lemmas.List.{length-map}
+use Rattle.breadth_first.specs.Answer.{AreCounts, IsMissed}
 use Rattle.breadth_first.specs.Paths.{after}
 use Rattle.breadth_first.proofs.search.Search.told_closed.Goals as goal
 
-pub lost-requires-clause-all : goal.lost-requires-clause-all
-lost-requires-clause-all g c path choices =
+pub missed-requires-clause-all : goal.missed-requires-clause-all
+missed-requires-clause-all g c path choices =
     subst (λ l. Contains l (after (g.S.Space.system c.args.space.now) (g.S.Space.system c.args.space.now).start path)) c.requires.seen (c.requires.ended.all path choices)
+
+pub returns : goal.returns
+returns g c =
+    let s = c.args.space.now in
+    let system = g.S.Space.system s in
+    let keys = c.args.self.now.seen.keys in
+    let states = map (g.S.Space.means s) keys in
+    let many : length keys ≡ c.args.size.states = sym (length-map keys (g.S.Space.means s)) ∙ sym (ap length c.requires.seen) ∙ c.requires.ended.states in
+    let missed = subst (λ n. IsMissed system states n c.args.wants.now c.in_ok-missed.missed) many c.in_ok-missed.ensures in (
+      c.requires.ended,
+      subst (λ l. AreCounts system l c.args.counts.now c.in_ok-counts.counts.items) (sym c.requires.seen) c.in_ok-counts.ensures,
+      subst (λ l. IsMissed system l c.args.size.states c.args.wants.now c.in_ok-missed.missed) (sym c.requires.seen) missed,
+    )

@@ -1,11 +1,13 @@
-use Rattle.std.proofs.Common.{◌≡◌, ◌+◌, ◌*◌, ◌^◌, ◌<◌, length, map, Some, sym, ap, subst, arith, ◌∙◌}
+use Rattle.std.proofs.Common.{All, [], ◌≡◌, ◌+◌, ◌*◌, ◌^◌, ◌<◌, length, map, Some, sym, ap, subst, arith, ◌∙◌}
 use Rattle.std.proofs.lemmas.List.{length-map}
 use Rattle.breadth_first.specs.Answer.{AreCounts}
 use Rattle.breadth_first.specs.declared.answer.Size.{Size}
 use Rattle.breadth_first.proofs.Keys.{keeps-map}
 use Rattle.breadth_first.proofs.Steps.{searched-keeps}
 use Rattle.breadth_first.proofs.Counts.{opened-keeps}
-use Rattle.breadth_first.proofs.Judging.{judged-keeps}
+use Rattle.breadth_first.proofs.Judging.{judged-keeps, tests-within}
+use Rattle.breadth_first.specs.Marks.{judged, goal_of, number_of}
+use Rattle.std.proofs.lemmas.List.Elements.{All-nil}
 use Rattle.breadth_first.proofs.Endings.{open-left}
 use Rattle.breadth_first.proofs.Telling.{full-opened, full-at, room-of}
 use Rattle.breadth_first.proofs.search.Search.told_open.Goals as goal
@@ -53,10 +55,12 @@ counts-requires-clause-opened g c =
 
 pub counts-requires-clause-marks : goal.counts-requires-clause-marks
 counts-requires-clause-marks g c =
-    c.deref.ensures.value ∙ c.in_ok-lists.ensures.marks ∙ sym (judged-keeps c.in_ok-lists.ensures.keeps c.args.self.now.seen.keys c.requires.searched.all c.args.counts.now)
+    let keys = c.args.self.now.seen.keys in
+    c.deref-2.ensures.value ∙ c.in_ok-lists.ensures.marks ∙ sym (judged-keeps c.in_ok-lists.ensures.keeps keys c.requires.searched.all c.deref.result.now)
+    ∙ ap (λ ts. judged (g.S.Space.system c.judged.new.space) ts (map (g.S.Space.means c.judged.new.space) keys)) (c.deref.ensures.value ∙ c.in_ok-tests.ensures)
 
 pub returns-clause-answer : goal.returns-clause-answer
-returns-clause-answer g c evers =
+returns-clause-answer g c wants =
     let keeps = c.in_ok-lists.ensures.keeps in
     let keys = c.args.self.now.seen.keys in
     let s = c.args.space.now in
@@ -71,3 +75,8 @@ returns-clause-answer g c evers =
     let told = c.in_ok-counts.counts.items in
     let here = subst (λ t. AreCounts t there c.args.counts.now told) keeps.system c.in_ok-counts.ensures in
     (opens.0, subst (λ l. AreCounts (g.S.Space.system s) l c.args.counts.now told) (keeps-map keeps keys c.requires.searched.all ∙ sym opens.1) here)
+
+pub judged-requires-clause-tests : goal.judged-requires-clause-tests
+judged-requires-clause-tests g c =
+    let most = (g.S.Space.system c.args.space.now).tests in
+    subst (All (λ t. number_of t < most)) (sym (c.deref.ensures.value ∙ c.in_ok-tests.ensures)) (tests-within most [] (All-nil (λ want. goal_of want < most)) c.args.counts.now c.requires.counts)

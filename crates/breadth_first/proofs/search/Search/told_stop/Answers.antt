@@ -21,7 +21,7 @@ path-requires-clause-index g c =
     omega (arith, many, c.len.ensures.len, ap length bad.1.are, length_push bad.1.others bad.1.last)
 
 pub returns-in_ok-path-in-Bad-clause-answer : goal.returns-in_ok-path-in-Bad-clause-answer
-returns-in_ok-path-in-Bad-clause-answer g c evers =
+returns-in_ok-path-in-Bad-clause-answer g c wants =
     let keys = c.args.self.now.seen.keys in
     let states = map (g.S.Space.means c.args.space.now) keys in
     let many : c.len.result ≡ length states = c.len.ensures.len ∙ sym (length-map keys (g.S.Space.means c.args.space.now)) in

@@ -1,7 +1,7 @@
 use Rattle.std.proofs.Common.{◌≡◌, ℕ, suc, ◌+◌, ◌*◌, ◌<◌, ◌≤◌, length, map, take, All, Option, IfSome, IfOk, Some, None, refl, sym, ap, ◌∙◌, subst, arith, true≢false}
 use Rattle.std.proofs.lemmas.List.{length-map, take_all}
 use Rattle.breadth_first.specs.Answer.{before}
-use Rattle.breadth_first.specs.Marks.{judged}
+use Rattle.breadth_first.specs.Marks.{judged, number_of}
 use Rattle.breadth_first.specs.Order.{reached}
 use Rattle.breadth_first.specs.Progress.{GoesOn, AreWithin, Ends, KeepsEdges}
 use Rattle.breadth_first.specs.declared.search.Stop.{Stop}
@@ -141,7 +141,7 @@ returns-then-len-to-clause-edges g c d _ =
     (subst (λ t. KeepsEdges t (map (g.S.Space.means c.level.new.space) c.level.new.self.seen.keys) (length c.levels.self.seen.keys * t.choices) c.level.new.self.edges.keeps c.level.new.self.edges.ends.items) c.levels.invariant.keeps.system (c.in_ok-stop.ensures.edges c.in_default.is))
 
 pub level-requires-clause-tests : goal.level-requires-clause-tests
-level-requires-clause-tests g c = subst (λ t. All (λ n. n < t.tests) c.args.tests.now) (sym c.levels.invariant.keeps.system) c.requires.tests
+level-requires-clause-tests g c = subst (λ t. All (λ n. number_of n < t.tests) c.args.tests.now) (sym c.levels.invariant.keeps.system) c.requires.tests
 
 pub level-requires-clause-marks : goal.level-requires-clause-marks
 level-requires-clause-marks g c =
@@ -173,7 +173,7 @@ last_level-requires-clause-edges g c =
     subst (λ t. KeepsEdges t (map (g.S.Space.means c.levels.space) c.levels.self.seen.keys) (c.levels.from * t.choices) c.levels.self.edges.keeps c.levels.self.edges.ends.items) (sym c.levels.invariant.keeps.system) c.levels.invariant.edges
 
 pub last_level-requires-clause-tests : goal.last_level-requires-clause-tests
-last_level-requires-clause-tests g c = subst (λ t. All (λ n. n < t.tests) c.args.tests.now) (sym c.levels.invariant.keeps.system) c.requires.tests
+last_level-requires-clause-tests g c = subst (λ t. All (λ n. number_of n < t.tests) c.args.tests.now) (sym c.levels.invariant.keeps.system) c.requires.tests
 
 pub last_level-requires-clause-marks : goal.last_level-requires-clause-marks
 last_level-requires-clause-marks g c =
