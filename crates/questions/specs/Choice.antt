@@ -1,6 +1,6 @@
 -- Choices: what may come next, and the states to which lists of them lead. (Own.)
-use Rattle.std.specs.Prelude.{ℕ, zero, suc, ◌<◌, ◌≤◌, List, [], ◌∷◌, ◌++◌, length, replicate, slice_index_or}
-use Rattle.std.specs.List.{All}
+use Rattle.std.specs.Prelude.{◌≡◌, ℕ, zero, suc, ◌<◌, ◌≤◌, ◌==◌, ◌&&◌, Bool, false, List, [], ◌∷◌, ◌++◌, Some, length, replicate, slice_get, slice_index_or}
+use Rattle.std.specs.List.{All, list_any}
 use Rattle.machine_state.specs.declared.event.Event.{Event}
 use Rattle.machine_state.specs.declared.event.Event.TheVariants.{Step, Tick}
 use Rattle.machine_state.specs.State.{State}
@@ -15,6 +15,21 @@ abbrev pub IsChoiceOf : ℕ → Choice → Type 0
 IsChoiceOf harts (Steps hart times) = (hart < harts) × (1 ≤ times) × (times ≤ 1000000)
 IsChoiceOf harts (Run hart) = hart < harts
 IsChoiceOf harts (TimerTick hart) = hart < harts
+
+-- two choices are the same
+abbrev pub same_choice : Choice → Choice → Bool
+same_choice (Steps hart times) (Steps other count) = (hart == other) && (times == count)
+same_choice (Run hart) (Run other) = hart == other
+same_choice (TimerTick hart) (TimerTick other) = hart == other
+same_choice _ _ = false
+
+-- a choice is among some
+abbrev pub is_among : List Choice → Choice → Bool
+is_among choices choice = list_any (same_choice choice) choices
+
+-- no choice is in the list twice
+abbrev pub EachOnce : List Choice → Type 0
+EachOnce choices = (i j : ℕ) (choice : Choice) → slice_get choices i ≡ Some choice → slice_get choices j ≡ Some choice → i ≡ j
 
 -- the choice with its steps counted: a run of a hart is one step of it, and then those that are quiet
 abbrev pub counted_choice : Watch → State → Choice → Choice

@@ -1,5 +1,5 @@
 -- Questions: what may come next, and what is asked of the states that are reached. (Own.)
-use Rattle.std.specs.Prelude.{◌≡◌, ℕ, ◌≤◌, ◌&&◌, ◌⊎◌, Bool, true, false, List, [], ◌∷◌, ◌++◌, Option, Some, None, IfSome, flat_map, length, slice_index_or}
+use Rattle.std.specs.Prelude.{◌≡◌, ℕ, ◌≤◌, ◌&&◌, ◌||◌, ◌⊎◌, Bool, true, false, List, [], ◌∷◌, ◌++◌, Option, Some, None, IfSome, flat_map, length, slice_index_or}
 use Rattle.std.specs.List.{All, list_any, position, sum_by}
 use Rattle.object_store.specs.declared.sizes.Sizes.{Sizes}
 use Rattle.machine_state.specs.State.{State}
@@ -7,26 +7,32 @@ use Rattle.confinement.specs.Acts.{system_of}
 use Rattle.separation_policy.specs.Policy.{PolicyValue, PolicyHolds}
 use Rattle.quiet_runs.specs.Runs.{Watch, watch_by}
 use Rattle.questions.specs.declared.asks.Asks.{Asks}
-use Rattle.questions.specs.declared.asks.Asks.TheVariants.{Never, Ever, Count}
+use Rattle.questions.specs.declared.asks.Asks.TheVariants.{Never, Ever, Must, MustAfter, Count}
 use Rattle.questions.specs.declared.atom.Atom.{Atom}
 use Rattle.questions.specs.declared.atom.Condition.{Condition}
 use Rattle.questions.specs.declared.atom.Condition.TheVariants as conditions
 use Rattle.questions.specs.declared.choice.Choice.{Choice}
-use Rattle.questions.specs.Choice.{IsChoiceOf, all_choices}
+use Rattle.questions.specs.Choice.{EachOnce, IsChoiceOf, all_choices}
 use Rattle.questions.specs.Term.{operand_pages, operand_processes, read_by}
 use Rattle.questions.specs.Atom.{IsAtomOf, all_hold, crosses, is_of_policy}
 
 -- ---- properties
 
--- what a line asks: the number of the line, what it asks, and its groups of atoms
+-- what a line asks: the number of the line, what it asks, its groups of atoms, and before these, in `after .. must ..`, the
+-- groups of the states from which it asks it
 pub record PropertyValue : Type 0 where
   pub line : ℕ
   pub asks : Asks
+  pub first : List (List Atom)
   pub groups : List (List Atom)
 
 -- a property by its parts
+abbrev pub property_with : ℕ → Asks → List (List Atom) → List (List Atom) → PropertyValue
+property_with line asks first groups = record { line = line; asks = asks; first = first; groups = groups }
+
+-- one without first groups
 abbrev pub property_of : ℕ → Asks → List (List Atom) → PropertyValue
-property_of line asks groups = record { line = line; asks = asks; groups = groups }
+property_of line asks groups = property_with line asks [] groups
 
 -- all atoms of one of these groups hold in a state, in which the policy doesn't hold if `crossing`
 abbrev pub any_holds : Bool → State → List (List Atom) → Bool
@@ -44,9 +50,13 @@ count_atoms groups = sum_by length groups
 abbrev pub atoms_in : PropertyValue → ℕ
 atoms_in property = count_atoms property.groups
 
--- one of them is about the policy
+-- an atom of some groups is about the policy
+abbrev pub are_about_policy : List (List Atom) → Bool
+are_about_policy groups = list_any (list_any is_of_policy) groups
+
+-- one of a property is
 abbrev pub is_about_policy : PropertyValue → Bool
-is_about_policy property = list_any (list_any is_of_policy) property.groups
+is_about_policy property = are_about_policy property.first || are_about_policy property.groups
 
 -- a property that says `never`
 abbrev pub is_never : Asks → Bool
@@ -58,6 +68,16 @@ abbrev pub is_ever : Asks → Bool
 is_ever Ever = true
 is_ever _ = false
 
+-- one that says `must`
+abbrev pub is_must : Asks → Bool
+is_must Must = true
+is_must _ = false
+
+-- one that says `after .. must ..`
+abbrev pub is_must_after : Asks → Bool
+is_must_after MustAfter = true
+is_must_after _ = false
+
 -- one that says `count`
 abbrev pub is_count : Asks → Bool
 is_count Count = true
@@ -65,7 +85,7 @@ is_count _ = false
 
 -- a property of a machine of these sizes
 abbrev pub IsPropertyOf : Sizes → PropertyValue → Type 0
-IsPropertyOf sizes property = All (All (IsAtomOf sizes)) property.groups
+IsPropertyOf sizes property = All (All (IsAtomOf sizes)) (property.first ++ property.groups)
 
 -- ---- questions
 
@@ -82,9 +102,11 @@ abbrev pub question_of : Sizes → List Choice → List PropertyValue → Option
 question_of sizes choices properties depth states =
     record { sizes = sizes; choices = choices; properties = properties; depth = depth; states = states }
 
--- what each question keeps: its choices and properties name what the machine has, and at least one state is kept
+-- what each question keeps: its choices and properties name what the machine has, no choice is stated twice, and at least one
+-- state is kept
 pub record IsQuestion (question : QuestionValue) : Type 0 where
   pub choices : All (IsChoiceOf question.sizes.harts) question.choices
+  pub once : EachOnce question.choices
   pub properties : All (IsPropertyOf question.sizes) question.properties
   pub some_state : IfSome question.states (λ most. 1 ≤ most)
 
@@ -136,9 +158,13 @@ pages_in _ = []
 abbrev pub watched_by : (Condition → List ℕ) → List Atom → List ℕ
 watched_by of atoms = flat_map (λ atom. of atom.condition) atoms
 
+-- those of all atoms of a property
+abbrev pub watched_of : (Condition → List ℕ) → PropertyValue → List ℕ
+watched_of of property = flat_map (watched_by of) property.first ++ flat_map (watched_by of) property.groups
+
 -- those of all atoms of a question's properties
 abbrev pub watched_in : (Condition → List ℕ) → List PropertyValue → List ℕ
-watched_in of properties = flat_map (λ property. flat_map (watched_by of) property.groups) properties
+watched_in of properties = flat_map (watched_of of) properties
 
 -- what a question looks at besides capabilities, states of processes and who stands where
 abbrev pub watch_for : List PropertyValue → Watch
@@ -154,10 +180,18 @@ fails crossing s property = is_never property.asks && property_holds crossing s 
 abbrev pub first_failing : QuestionValue → PolicyValue → State → Option ℕ
 first_failing question policy s = position (fails (crosses policy s) s) question.properties
 
--- whether the policy holds makes no difference to what is asked of a state: nothing asked is about it, or it holds
+-- whether the policy holds makes no difference in a state: nothing that is asked of it is `about` the policy, or it holds
+abbrev pub MakesNoDifference : Bool → PolicyValue → State → Type 0
+MakesNoDifference about policy s = (about ≡ false) ⊎ PolicyHolds policy (system_of s)
+
+-- so it is with all that a question asks
 abbrev pub IsIndifferent : QuestionValue → PolicyValue → State → Type 0
-IsIndifferent question policy s = (list_any is_about_policy question.properties ≡ false) ⊎ PolicyHolds policy (system_of s)
+IsIndifferent question policy s = MakesNoDifference (list_any is_about_policy question.properties) policy s
 
 -- a property holds in a state
 abbrev pub holds : QuestionValue → PolicyValue → State → ℕ → Bool
 holds question policy s n = property_holds (crosses policy s) s (slice_index_or question.properties n (property_of 0 Never []))
+
+-- in a state all atoms of one of the first groups of a property hold
+abbrev pub first_holds : QuestionValue → PolicyValue → State → ℕ → Bool
+first_holds question policy s n = any_holds (crosses policy s) s (slice_index_or question.properties n (property_of 0 Never [])).first

@@ -1,7 +1,7 @@
 //! What may come next.
 ghost use Rattle.std.specs.Prelude.{◌≡◌, ◌≤◌, ◌++◌, ◌∷◌, IfOk};
 ghost use Rattle.std.specs.List.{All};
-ghost use Rattle.questions.specs.Choice.{IsChoiceOf, step_below, tick_below, all_choices};
+ghost use Rattle.questions.specs.Choice.{IsChoiceOf, all_choices, same_choice, step_below, tick_below};
 
 use cap_format::OutOfMemory;
 use std::alloc::Global;
@@ -15,6 +15,24 @@ pub enum Choice {
     Run { hart: u8 },
     /// A tick of a hart's timer.
     Tick { hart: u8 },
+}
+
+/// Whether two choices are the same.
+pub(crate) fn is_same(a: Choice, b: Choice) -> bool
+    ensures { result ≡ same_choice a b }
+{
+    match (a, b) {
+        (
+            Choice::Steps { hart, times },
+            Choice::Steps {
+                hart: other,
+                times: count,
+            },
+        ) => { hart == other && times == count }
+        (Choice::Run { hart }, Choice::Run { hart: other }) => hart == other,
+        (Choice::Tick { hart }, Choice::Tick { hart: other }) => hart == other,
+        _ => false,
+    }
 }
 
 /// All choices of one event on a machine with so many harts: a step of each hart, and then a tick of each.

@@ -6,7 +6,7 @@ ghost use Rattle.object_store.specs.Store.{size_of, sizes_of};
 ghost use Rattle.machine_state.specs.State.{state_of};
 ghost use Rattle.questions.specs.Atom.{IsAtomOf, all_hold, atom_holds, crosses, is_of_policy};
 ghost use Rattle.separation_policy.specs.Closure.{IsClosure};
-ghost use Rattle.questions.specs.Question.{IsPropertyOf, IsIndifferent, any_holds, atoms_in, count_atoms, fails, first_failing, holds, is_about_policy, property_of};
+ghost use Rattle.questions.specs.Question.{IsPropertyOf, IsIndifferent, MakesNoDifference, any_holds, are_about_policy, atoms_in, count_atoms, fails, first_failing, first_holds, holds, is_about_policy, property_of};
 
 use crate::asks::Asks;
 use crate::atom::{Atom, Condition};
@@ -70,8 +70,8 @@ pub fn first_failing<T: Translator, L: Ledger>(
     failing(properties, crossing, machine, fetches)
 }
 
-/// Whether a property of a question holds of the state of a machine. The policy is looked at only where it may
-/// make a difference (not `indifferent`), and this property is about it.
+/// Whether a property of a question holds of the state of a machine: all atoms of one of its groups do. The policy is looked
+/// at only where it may make a difference (not `indifferent`), and one of these groups is about it.
 pub fn holds<T: Translator, L: Ledger>(
     question: &Question,
     policy: &Policy,
@@ -92,30 +92,98 @@ pub fn holds<T: Translator, L: Ledger>(
     ensures few { let asked = slice_index_or question.now.properties property (property_of 0 Asks.Never []) in
         IsTrue indifferent → fetches.new ≤ fetches.old + 16 * atoms_in asked }
 {
-    let property = &question.properties()[property];
+    groups_hold(
+        question.properties()[property].groups(),
+        policy,
+        closure,
+        indifferent,
+        machine,
+        fetches,
+    )
+}
+
+/// Whether all atoms of one of the first groups of a property hold of the state of a machine. The policy is looked at as by
+/// `holds`.
+pub fn first_holds<T: Translator, L: Ledger>(
+    question: &Question,
+    policy: &Policy,
+    closure: &Closure,
+    indifferent: bool,
+    machine: &Machine<T>,
+    property: usize,
+    fetches: &mut Steps<L>,
+) -> bool
+    requires sizes { question.now.sizes ≡ sizes_of machine.now.objects }
+    requires closure { IsClosure policy.now closure.now }
+    requires indifferent { IsTrue indifferent → IsIndifferent question.now policy.now (state_of machine.now) }
+    requires there { property < length question.now.properties }
+    ensures value { result ≡ first_holds question.now policy.now (state_of machine.now) property }
+    ensures least { fetches.old ≤ fetches.new }
+    ensures most { let asked = slice_index_or question.now.properties property (property_of 0 Asks.Never []) in
+        fetches.new ≤ fetches.old + 16 * size_of machine.now.objects.items Gpt + 16 * count_atoms asked.first }
+    ensures few { let asked = slice_index_or question.now.properties property (property_of 0 Asks.Never []) in
+        IsTrue indifferent → fetches.new ≤ fetches.old + 16 * count_atoms asked.first }
+{
+    groups_hold(
+        question.properties()[property].first(),
+        policy,
+        closure,
+        indifferent,
+        machine,
+        fetches,
+    )
+}
+
+/// Whether all atoms of one of some groups do.
+fn groups_hold<T: Translator, L: Ledger>(
+    groups: &[Group],
+    policy: &Policy,
+    closure: &Closure,
+    indifferent: bool,
+    machine: &Machine<T>,
+    fetches: &mut Steps<L>,
+) -> bool
+    requires range { All (All (IsAtomOf (sizes_of machine.now.objects))) groups.now }
+    requires closure { IsClosure policy.now closure.now }
+    requires indifferent { IsTrue indifferent →
+        MakesNoDifference (are_about_policy groups.now) policy.now (state_of machine.now) }
+    ensures value { result ≡
+        any_holds (crosses policy.now (state_of machine.now)) (state_of machine.now) groups.now }
+    ensures least { fetches.old ≤ fetches.new }
+    ensures most { fetches.new ≤ fetches.old + 16 * size_of machine.now.objects.items Gpt
+        + 16 * count_atoms groups.now }
+    ensures few { IsTrue indifferent → fetches.new ≤ fetches.old + 16 * count_atoms groups.now }
+{
     if indifferent {
         tell_uncrossed(machine, policy);
-        return any_holds(property.groups(), false, machine, fetches);
+        return any_holds(groups, false, machine, fetches);
     }
-    if about_policy(property) {
+    if are_about_policy(groups) {
         let crossing = crosses(machine, policy, closure, fetches);
-        return any_holds(property.groups(), crossing, machine, fetches);
+        return any_holds(groups, crossing, machine, fetches);
     }
-    any_holds(property.groups(), false, machine, fetches)
+    any_holds(groups, false, machine, fetches)
 }
 
 /// Whether one of the properties is about the policy.
 fn ask_policy(properties: &[Property]) -> bool
     ensures { result ≡ list_any is_about_policy properties.now }
 {
-    properties.iter().any(|property| about_policy(property))
+    properties.iter().any(|property| is_about_policy(property))
 }
 
 /// Whether a property is.
-fn about_policy(property: &Property) -> bool
+fn is_about_policy(property: &Property) -> bool
     ensures { result ≡ is_about_policy property.now }
 {
-    property.groups().iter().any(|group| group_about(group))
+    are_about_policy(property.first()) || are_about_policy(property.groups())
+}
+
+/// Whether one of the atoms of some groups is.
+fn are_about_policy(groups: &[Group]) -> bool
+    ensures { result ≡ are_about_policy groups.now }
+{
+    groups.iter().any(|group| group_about(group))
 }
 
 /// Whether one of the atoms of a group is.

@@ -1,9 +1,11 @@
 //! What a line of a question asks.
 ghost use Rattle.std.specs.Prelude.{◌≡◌};
-ghost use Rattle.questions.specs.Question.{property_of};
+ghost use Rattle.questions.specs.declared.asks.Asks.TheVariants.{MustAfter};
+ghost use Rattle.questions.specs.Question.{property_of, property_with};
 
 use crate::asks::Asks;
 use crate::atom::Atom;
+use std::alloc::Global;
 use std::marker::Model;
 
 /// Atoms that hold together. A clause sees the list of them.
@@ -42,16 +44,17 @@ impl Group {
     }
 }
 
-/// What a line asks of the states in which all atoms of one of some groups hold.
+/// What a line asks of the states in which all atoms of one of some groups hold, and from which states on.
 #[derive(Drop)]
 pub struct Property {
     line: u32,
     asks: Asks,
+    first: Vec<Group>,
     groups: Vec<Group>,
 }
 
 impl Model for Property {
-    ghost use Rattle.questions.specs.Question.{PropertyValue, property_of};
+    ghost use Rattle.questions.specs.Question.{PropertyValue, property_with};
 
     ghost Value = { PropertyValue };
 
@@ -60,15 +63,32 @@ impl Model for Property {
 
     ghost coded = { Prim.hlevel (codes, terms.the_row.coded) };
 
-    ghost view = { λ p. property_of p.line p.asks p.groups.items };
+    ghost view = { λ p. property_with p.line p.asks p.first.items p.groups.items };
 }
 
 impl Property {
-    /// What the line of this number asks.
-    pub fn new(line: u32, asks: Asks, groups: Vec<Group>) -> Property
+    /// What the line of this number asks of all states, or from the start.
+    pub fn new(alloc: Global, line: u32, asks: Asks, groups: Vec<Group>) -> Property
         ensures { result ≡ property_of line asks groups.items }
     {
-        Property { line, asks, groups }
+        Property {
+            line,
+            asks,
+            first: Vec::new(alloc),
+            groups,
+        }
+    }
+
+    /// What the line of this number asks from the states on in which one of the first groups holds.
+    pub fn must_after(line: u32, first: Vec<Group>, groups: Vec<Group>) -> Property
+        ensures { result ≡ property_with line MustAfter first.items groups.items }
+    {
+        Property {
+            line,
+            asks: Asks::MustAfter,
+            first,
+            groups,
+        }
     }
 
     /// The number of its line.
@@ -82,6 +102,13 @@ impl Property {
         ensures { result ≡ self.now.asks }
     {
         self.asks
+    }
+
+    /// The groups of which one holds where it is asked, in the order of the line: none unless it asks `MustAfter`.
+    pub fn first(&self) -> &[Group]
+        ensures { result.now ≡ self.now.first }
+    {
+        &self.first
     }
 
     /// The groups of which one holds, in the order of the line.

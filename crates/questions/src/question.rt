@@ -1,10 +1,10 @@
 //! A question about all states that a machine can come to.
-ghost use Rattle.std.specs.Prelude.{◌≡◌, ◌<◌, ◌≤◌, OnOk, OnErr, IfOk, length, IfSome};
+ghost use Rattle.std.specs.Prelude.{◌≡◌, ◌<◌, ◌≤◌, false, OnOk, OnErr, IfOk, length, IfSome};
 ghost use Rattle.std.specs.List.{All};
-ghost use Rattle.questions.specs.Choice.{IsChoiceOf};
+ghost use Rattle.questions.specs.Choice.{EachOnce, IsChoiceOf, is_among};
 ghost use Rattle.questions.specs.Question.{IsPropertyOf, nothing_asked, with_choice, with_property, with_depth, with_states, choices_of};
 
-use crate::choice::{Choice, all_choices};
+use crate::choice::{Choice, all_choices, is_same};
 use crate::property::Property;
 use cap_format::OutOfMemory;
 use object_store::Sizes;
@@ -61,6 +61,7 @@ impl Question {
     pub fn choices(&self, alloc: Global) -> Result<Vec<Choice>, OutOfMemory>
         ensures value { IfOk result (λ choices. choices.items ≡ choices_of self.now) }
         ensures range { IfOk result (λ choices. All (IsChoiceOf self.now.sizes.harts) choices.items) }
+        ensures once { EachOnce (choices_of self.now) }
     {
         if self.choices.is_empty() {
             return all_choices(alloc, self.sizes.harts);
@@ -91,9 +92,17 @@ impl Question {
         self.states
     }
 
-    /// States a choice.
+    /// Whether this choice was stated.
+    pub fn has_choice(&self, choice: Choice) -> bool
+        ensures { result ≡ is_among self.now.choices choice }
+    {
+        self.choices.iter().any(|stated| is_same(choice, *stated))
+    }
+
+    /// States a choice that was not stated yet.
     pub fn may(&mut self, choice: Choice) -> Result<(), OutOfMemory>
-        requires { IsChoiceOf self.old.sizes.harts choice }
+        requires range { IsChoiceOf self.old.sizes.harts choice }
+        requires new { is_among self.old.choices choice ≡ false }
         ensures ok { OnOk result (self.new ≡ with_choice self.old choice) }
         ensures err { OnErr result (self.new ≡ self.old) }
     {

@@ -1,7 +1,7 @@
 //! What a question looks at besides capabilities, states of processes and who stands where.
 ghost use Rattle.std.specs.Prelude.{◌≡◌, ◌++◌, flat_map, IfOk, OnOk};
 ghost use Rattle.quiet_finding.specs.Watched.{watched};
-ghost use Rattle.questions.specs.Question.{pages_in, processes_in, watched_by, watched_in};
+ghost use Rattle.questions.specs.Question.{pages_in, processes_in, watched_by, watched_in, watched_of};
 ghost use Rattle.questions.specs.Term.{operand_pages, operand_processes, read_by};
 
 use crate::operand::Operand;
@@ -18,9 +18,19 @@ pub fn watched_in(alloc: Global, properties: &[Property]) -> Result<Watched, Out
 {
     let mut all = Watched::new(alloc);
     'each: for i in 0..properties.len() {
-        watch_groups(&mut all, properties[i].groups())?;
+        watch_property(&mut all, &properties[i])?;
     }
     Ok(all)
+}
+
+/// Those that a property looks at: in its first groups, and in the others.
+fn watch_property(all: &mut Watched, property: &Property) -> Result<(), OutOfMemory>
+    ensures { OnOk result (all.new
+        ≡ watched (all.old.processes ++ watched_of processes_in property.now)
+        (all.old.pages ++ watched_of pages_in property.now)) }
+{
+    watch_groups(all, property.first())?;
+    watch_groups(all, property.groups())
 }
 
 /// Those that groups of atoms look at.

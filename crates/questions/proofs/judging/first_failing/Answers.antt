@@ -9,4 +9,4 @@ pub returns-then-indifferent-clause-value : goal.returns-then-indifferent-clause
 returns-then-indifferent-clause-value g c =
     let s : State = state_of c.args.machine.now in
     c.failing.ensures.value ∙ ap (λ (ps : List PropertyValue). position (fails false s) ps) c.properties-properties.ensures.value
-    ∙ indifferent-first c.args.question.now c.args.policy.now s c.tell_uncrossed.ensures (c.requires.indifferent c.if-indifferent.true)
+    ∙ indifferent-first c.args.policy.now s c.tell_uncrossed.ensures c.args.question.now (c.requires.indifferent c.if-indifferent.true)
