@@ -1,5 +1,5 @@
 -- A line of a question: what it says, or its first fault, and the question after it. (Own.)
-use Rattle.std.specs.Prelude.{ℕ, ◌≤◌, ◌==◌, ◌||◌, nat_le, Bool, if◌then◌else◌, List, length, drop, bytes_eq, codes, Result, Ok, Err, ⊤, ◌≡◌}
+use Rattle.std.specs.Prelude.{ℕ, suc, ◌≤◌, ◌==◌, ◌||◌, nat_le, Bool, if◌then◌else◌, List, length, drop, take, bytes_eq, codes, Result, Ok, Err, ⊤, ◌≡◌}
 use Rattle.coy_io.specs.Limits.{line_limit}
 use Rattle.coy_text.specs.Line.{is_visible_line, is_skipped}
 use Rattle.coy_text.specs.Words.{words_of, field}
@@ -10,13 +10,13 @@ use Rattle.separation_policy.specs.Policy.{PolicyValue}
 use Rattle.separation_lines.specs.PolicyLine.{policy_line, after_line as policy_after_line}
 use Rattle.separation_lines.specs.declared.said.Said.{Said as PolicySaid}
 use Rattle.questions.specs.declared.asks.Asks.{Asks}
-use Rattle.questions.specs.declared.asks.Asks.TheVariants.{Never, Ever, Count}
+use Rattle.questions.specs.declared.asks.Asks.TheVariants.{Never, Ever, Must, MustAfter, Count}
 use Rattle.questions.specs.declared.choice.Choice.{Choice}
 use Rattle.questions.specs.declared.choice.Choice.TheVariants.{Steps, Run, Tick}
-use Rattle.questions.specs.Choice.{IsChoiceOf}
-use Rattle.questions.specs.Question.{IsPropertyOf, QuestionValue, property_of, with_choice, with_depth, with_property, with_states}
+use Rattle.questions.specs.Choice.{IsChoiceOf, is_among}
+use Rattle.questions.specs.Question.{IsPropertyOf, QuestionValue, property_of, property_with, with_choice, with_depth, with_property, with_states}
 use Rattle.listing_read.specs.declared.object_fault.QuestionFault.{QuestionFault}
-use Rattle.listing_read.specs.declared.object_fault.QuestionFault.TheVariants.{LineTooLong, BadByte, UnknownQuestion, UnknownEvent, WrongWords, OfPolicy}
+use Rattle.listing_read.specs.declared.object_fault.QuestionFault.TheVariants.{LineTooLong, BadByte, UnknownQuestion, UnknownEvent, WrongWords, Taken, OfPolicy}
 use Rattle.question_lines.specs.declared.fault.Untaken.{Untaken}
 use Rattle.question_lines.specs.declared.fault.Untaken.TheVariants.{Refused, OutOfMemory}
 use Rattle.question_lines.specs.declared.said.Next.{Next}
@@ -24,6 +24,7 @@ use Rattle.question_lines.specs.declared.said.Next.TheVariants as nexts
 use Rattle.question_lines.specs.declared.said.Said.{Said}
 use Rattle.question_lines.specs.declared.said.Said.TheVariants.{Nothing, May, Asked, Depth, States, Ends}
 use Rattle.question_lines.specs.Fields.{hart_from, limit_from, number_from, times_from}
+use Rattle.question_lines.specs.Parts.{before}
 use Rattle.question_lines.specs.AtomLine.{groups_from}
 
 -- ---- choices
@@ -69,11 +70,22 @@ may_line sizes words = do
 
 -- ---- properties and limits
 
--- `never ..`, `ever ..` and `count ..`, line `n`
+-- `never ..`, `ever ..`, `must ..` and `count ..`, line `n`
 unfoldable pub asks_line : Sizes → ℕ → Asks → List (List ℕ) → Result Said QuestionFault
 asks_line sizes n asks words = do
   groups ← groups_from sizes (drop 1 words)
   Ok (Asked (property_of n asks groups))
+
+-- groups, `must` and groups: the first are those before the first `must`, or all there are
+unfoldable pub must_after : Sizes → ℕ → List (List ℕ) → Result Said QuestionFault
+must_after sizes n words = do
+  first ← groups_from sizes (take (before (codes "must") words) words)
+  groups ← groups_from sizes (drop (suc (before (codes "must") words)) words)
+  Ok (Asked (property_with n MustAfter first groups))
+
+-- `after .. must ..`
+abbrev pub must_after_line : Sizes → ℕ → List (List ℕ) → Result Said QuestionFault
+must_after_line sizes n words = must_after sizes n (drop 1 words)
 
 -- `depth N`
 unfoldable pub depth_line : List (List ℕ) → Result Said QuestionFault
@@ -110,8 +122,10 @@ unfoldable pub said_by : Sizes → ℕ → List (List ℕ) → Result Said Quest
 said_by sizes n words =
     if bytes_eq (field words 0) (codes "never") then asks_line sizes n Never words
     else (if bytes_eq (field words 0) (codes "ever") then asks_line sizes n Ever words
+    else (if bytes_eq (field words 0) (codes "must") then asks_line sizes n Must words
+    else (if bytes_eq (field words 0) (codes "after") then must_after_line sizes n words
     else (if bytes_eq (field words 0) (codes "count") then asks_line sizes n Count words
-    else plain_line sizes words))
+    else plain_line sizes words))))
 
 -- a line by its words
 abbrev pub question_words : Sizes → ℕ → List (List ℕ) → Result Said QuestionFault
@@ -123,6 +137,15 @@ question_line sizes n line = do
   _ ← ensured (nat_le (length line) line_limit) LineTooLong
   _ ← ensured (is_visible_line line) BadByte
   question_words sizes n (words_of line)
+
+-- what a line says, or its fault where a line above it states the same choice
+abbrev pub new_said : List Choice → Said → Result Said QuestionFault
+new_said choices (May choice) = if is_among choices choice then Err Taken else Ok (May choice)
+new_said choices said = Ok said
+
+-- what line `n` of a question says
+abbrev pub said_of : QuestionValue → ℕ → List ℕ → Result Said QuestionFault
+said_of question n line = question_line question.sizes n line >>= new_said question.choices
 
 -- the question after what a line says
 abbrev pub after_said : QuestionValue → Said → QuestionValue
@@ -170,7 +193,7 @@ policy_answered (Err fault) = Err (OfPolicy fault)
 -- what line `n` is answered with
 abbrev pub line_answer : PolicyValue → QuestionValue → ℕ → List ℕ → Result Next QuestionFault
 line_answer policy question n line =
-    if is_of_policy (words_of line) then policy_answered (policy_line policy line) else answered (question_line question.sizes n line)
+    if is_of_policy (words_of line) then policy_answered (policy_line policy line) else answered (said_of question n line)
 
 -- the policy after it
 abbrev pub line_policy : PolicyValue → List ℕ → PolicyValue
@@ -178,7 +201,7 @@ line_policy policy line = if is_of_policy (words_of line) then policy_after_line
 
 -- and the question after it
 abbrev pub line_question : QuestionValue → ℕ → List ℕ → QuestionValue
-line_question question n line = if is_of_policy (words_of line) then question else after_line question (question_line question.sizes n line)
+line_question question n line = if is_of_policy (words_of line) then question else after_line question (said_of question n line)
 
 -- an answer, as it is told of a line that is read by itself
 abbrev pub as_untaken : Result Next QuestionFault → Result Next Untaken

@@ -6,6 +6,7 @@
 #![tactic(auto)]
 
 mod atoms;
+mod choices;
 mod conditions;
 mod fault;
 mod fields;

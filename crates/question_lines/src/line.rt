@@ -3,13 +3,16 @@ ghost use Rattle.std.specs.Prelude.{◌≡◌, ◌≢◌, ◌<◌, ◌≤◌, �
 ghost use Rattle.coy_text.specs.Words.{words_of};
 ghost use Rattle.object_store.specs.declared.sizes.Sizes.{Sizes};
 ghost use Rattle.questions.specs.Choice.{IsChoiceOf};
+ghost use Rattle.questions.specs.Question.{with_choice};
 ghost use Rattle.listing_read.specs.declared.object_fault.QuestionFault.TheVariants.{WrongWords};
-ghost use Rattle.question_lines.specs.QuestionLine.{after_said, as_untaken, asks_line, choice_line, depth_line, end_line, is_of_policy, line_answer, line_policy, line_question, may_line, next_of, plain_line, policy_answered, question_line, run_line, said_by, states_line, step_line, tick_line, times_of, IsSaid, IsUntaken};
+ghost use Rattle.question_lines.specs.declared.said.Said.TheVariants.{May};
+ghost use Rattle.question_lines.specs.QuestionLine.{after_said, answered, as_untaken, asks_line, depth_line, end_line, is_of_policy, line_answer, line_policy, line_question, may_line, must_after, new_said, plain_line, policy_answered, question_line, said_by, states_line, IsSaid, IsUntaken};
 ghost use Rattle.separation_lines.specs.PolicyLine.{policy_line, after_line as policy_after_line};
 
 use crate::atoms::groups;
+use crate::choices::choice;
 use crate::fault::Untaken;
-use crate::fields::{hart, has_words, limit, number, times};
+use crate::fields::{has_words, limit, number};
 use crate::phrase::Phrase;
 use crate::said::{Next, Said};
 use coy_io::LINE_LIMIT;
@@ -71,20 +74,17 @@ fn state_policy(line: &[u8], policy: &mut Policy) -> Result<Next, QuestionFault>
     }
 }
 
-/// Does with a question what a line says.
+/// Does with a question what a line says, unless it was said.
 fn take_in(said: Said, question: &mut Question) -> Result<Next, Untaken>
     requires { IsSaid question.old.sizes said }
-    ensures ok { IfOk result (λ next. next ≡ next_of said) }
+    ensures value { IfOk result (λ next. answered (new_said question.old.choices said) ≡ Ok next) }
     ensures after { OnOk result (question.new ≡ after_said question.old said) }
-    ensures err { IfErr result (λ untaken. untaken ≡ Untaken.OutOfMemory) }
+    ensures untaken { IfErr result (IsUntaken (new_said question.old.choices said)) }
     ensures before { OnErr result (question.new ≡ question.old) }
 {
     match said {
         Said::Nothing => Ok(Next::Question),
-        Said::May(choice) => match question.may(choice) {
-            Ok(()) => Ok(Next::Question),
-            Err(_) => Err(Untaken::OutOfMemory),
-        },
+        Said::May(choice) => state_choice(choice, question),
         Said::Asked(property) => match question.ask(property) {
             Ok(()) => Ok(Next::Question),
             Err(_) => Err(Untaken::OutOfMemory),
@@ -98,6 +98,24 @@ fn take_in(said: Said, question: &mut Question) -> Result<Next, Untaken>
             Ok(Next::Question)
         }
         Said::Ends => Ok(Next::Schedule),
+    }
+}
+
+/// States a choice, unless a line above states it.
+fn state_choice(choice: Choice, question: &mut Question) -> Result<Next, Untaken>
+    requires { IsChoiceOf question.old.sizes.harts choice }
+    ensures value { IfOk result (λ next.
+        answered (new_said question.old.choices (May choice)) ≡ Ok next) }
+    ensures after { OnOk result (question.new ≡ with_choice question.old choice) }
+    ensures untaken { IfErr result (IsUntaken (new_said question.old.choices (May choice))) }
+    ensures before { OnErr result (question.new ≡ question.old) }
+{
+    if question.has_choice(choice) {
+        return Err(Untaken::Refused(QuestionFault::Taken));
+    }
+    match question.may(choice) {
+        Ok(()) => Ok(Next::Question),
+        Err(_) => Err(Untaken::OutOfMemory),
     }
 }
 
@@ -133,6 +151,12 @@ fn by_first_word(alloc: Global, sizes: Sizes, n: u32, line: &[u8]) -> Result<Sai
     if first == b"ever".as_slice() {
         return asks(alloc, sizes, n, Asks::Ever, line);
     }
+    if first == b"must".as_slice() {
+        return asks(alloc, sizes, n, Asks::Must, line);
+    }
+    if first == b"after".as_slice() {
+        return must_after(alloc, sizes, n, &Phrase::of(words_from(line, 1)));
+    }
     if first == b"count".as_slice() {
         return asks(alloc, sizes, n, Asks::Count, line);
     }
@@ -150,7 +174,25 @@ fn asks(alloc: Global, sizes: Sizes, n: u32, asks: Asks, line: &[u8]) -> Result<
     ensures untaken { IfErr result (IsUntaken (asks_line sizes n asks (words_of line.now))) }
 {
     match groups(alloc, sizes, &Phrase::of(words_from(line, 1))) {
-        Ok(groups) => Ok(Said::Asked(Property::new(n, asks, groups))),
+        Ok(groups) => Ok(Said::Asked(Property::new(alloc, n, asks, groups))),
+        Err(untaken) => Err(untaken),
+    }
+}
+
+/// What has to come after something else.
+#[tactic(auto, unfolding(crate::specs::QuestionLine::must_after))]
+fn must_after(alloc: Global, sizes: Sizes, n: u32, words: &Phrase<'_>) -> Result<Said, Untaken>
+    ensures value { IfOk result (λ said. must_after sizes n words.now ≡ Ok said) }
+    ensures range { IfOk result (IsSaid sizes) }
+    ensures untaken { IfErr result (IsUntaken (must_after sizes n words.now)) }
+{
+    let count = words.before(b"must".as_slice());
+    let first = match groups(alloc, sizes, &words.first(count)) {
+        Ok(first) => first,
+        Err(untaken) => return Err(untaken),
+    };
+    match groups(alloc, sizes, &words.behind_word(b"must".as_slice())) {
+        Ok(groups) => Ok(Said::Asked(Property::must_after(n, first, groups))),
         Err(untaken) => Err(untaken),
     }
 }
@@ -184,71 +226,6 @@ fn may(sizes: Sizes, line: &[u8]) -> Result<Said, QuestionFault>
 {
     let choice = choice(sizes, line)?;
     Ok(Said::May(choice))
-}
-
-#[tactic(auto, unfolding(crate::specs::QuestionLine::choice_line))]
-fn choice(sizes: Sizes, line: &[u8]) -> Result<Choice, QuestionFault>
-    ensures value { result ≡ choice_line sizes (words_of line.now) }
-    ensures range { IfOk result (IsChoiceOf sizes.harts) }
-{
-    let second = word(line, 1);
-    if second == b"step".as_slice() {
-        return step(sizes, line);
-    }
-    if second == b"run".as_slice() {
-        return run(sizes, line);
-    }
-    if second == b"tick".as_slice() {
-        return tick(sizes, line);
-    }
-    Err(QuestionFault::UnknownEvent)
-}
-
-#[tactic(auto, unfolding(crate::specs::QuestionLine::step_line))]
-fn step(sizes: Sizes, line: &[u8]) -> Result<Choice, QuestionFault>
-    ensures value { result ≡ step_line sizes (words_of line.now) }
-    ensures range { IfOk result (IsChoiceOf sizes.harts) }
-{
-    let count = word_count(line);
-    if count != 3 && count != 4 {
-        return Err(QuestionFault::WrongWords);
-    }
-    let hart = hart(sizes.harts, word(line, 2))?;
-    let times = times_of(line)?;
-    Ok(Choice::Steps { hart, times })
-}
-
-/// How many steps, 1 where it isn't said.
-#[tactic(auto, unfolding(crate::specs::QuestionLine::times_of))]
-fn times_of(line: &[u8]) -> Result<u32, QuestionFault>
-    ensures value { result ≡ times_of (words_of line.now) }
-    ensures least { IfOk result (λ n. 1 ≤ n) }
-    ensures most { IfOk result (λ n. n ≤ 1000000) }
-{
-    if word_count(line) == 3 {
-        return Ok(1);
-    }
-    times(word(line, 3))
-}
-
-#[tactic(auto, unfolding(crate::specs::QuestionLine::run_line))]
-fn run(sizes: Sizes, line: &[u8]) -> Result<Choice, QuestionFault>
-    ensures value { result ≡ run_line sizes (words_of line.now) }
-    ensures range { IfOk result (IsChoiceOf sizes.harts) }
-{
-    has_words(word_count(line), 3)?;
-    let hart = hart(sizes.harts, word(line, 2))?;
-    Ok(Choice::Run { hart })
-}
-
-#[tactic(auto, unfolding(crate::specs::QuestionLine::tick_line))]
-fn tick(sizes: Sizes, line: &[u8]) -> Result<Choice, QuestionFault>
-    ensures value { result ≡ tick_line sizes (words_of line.now) }
-    ensures range { IfOk result (IsChoiceOf sizes.harts) }
-{
-    has_words(word_count(line), 3)?;
-    let hart = hart(sizes.harts, word(line, 2))?;
-    Ok(Choice::Tick { hart })
 }
 
 #[tactic(auto, unfolding(crate::specs::QuestionLine::depth_line))]

@@ -1,5 +1,5 @@
 //! Words of a line that stand together.
-ghost use Rattle.std.specs.Prelude.{◌≡◌, ◌≤◌, length, take, drop};
+ghost use Rattle.std.specs.Prelude.{◌≡◌, ◌≤◌, suc, length, take, drop};
 ghost use Rattle.coy_text.specs.Words.{words_of, field};
 ghost use Rattle.question_lines.specs.Parts.{before};
 
@@ -72,6 +72,17 @@ impl<'a> Phrase<'a> {
             text: words_from(self.text, n),
             count: self.count - n,
         }
+    }
+
+    /// The words behind the first that is this one, none where there is none.
+    pub(crate) fn behind_word(&self, separator: &[u8]) -> Phrase<'a>
+        ensures { result ≡ drop (suc (before separator.now self.now)) self.now }
+    {
+        let before = self.before(separator);
+        if before == self.count() {
+            return self.behind(before);
+        }
+        self.behind(before + 1)
     }
 
     /// How many words stand before the first that is this one.
