@@ -14,7 +14,7 @@ use Rattle.question_lines.specs.declared.said.Next.{Next}
 use Rattle.question_lines.specs.declared.said.Next.TheVariants as nexts
 use Rattle.question_lines.specs.declared.said.Said.{Said}
 use Rattle.question_lines.specs.declared.said.Said.TheVariants as saids
-use Rattle.question_lines.specs.QuestionLine.{after_line, after_said, is_of_policy, question_line}
+use Rattle.question_lines.specs.QuestionLine.{after_line, after_said, is_of_policy, said_of}
 use Rattle.questions.specs.Question.{QuestionValue}
 use Rattle.coy_text.specs.Words.{words_of}
 use Rattle.schedule_replay.specs.Lines.{FailsOn, ReadsOn}
@@ -90,7 +90,7 @@ said-sizes question (saids.States states) = refl
 said-sizes question saids.Ends = refl
 
 line-sizes : (asked : Asked) (n : ℕ) (line : List ℕ) → (line_asked asked n line).question.sizes ≡ asked.question.sizes
-line-sizes asked n line = by (is_of_policy (words_of line)) (question_line asked.question.sizes n line)
+line-sizes asked n line = by (is_of_policy (words_of line)) (said_of asked.question n line)
   where
     by : (policy : Bool) (said : Result Said QuestionFault) → (if policy then asked.question else after_line asked.question said).sizes ≡ asked.question.sizes
     by true said = refl
