@@ -15,6 +15,7 @@ use Rattle.independence.specs.Rewrite.{SameButData}
 use Rattle.object_store.specs.Places.{places_in}
 use Rattle.separation_policy.specs.Policy.{PolicyValue}
 use Rattle.quiet_runs.specs.Finding.{is_below, runs}
+use Rattle.quiet_runs.specs.Runs.{SeesOnly}
 use Rattle.questions.specs.declared.asks.Asks.TheVariants.{Never}
 use Rattle.questions.specs.declared.atom.Atom.{Atom}
 use Rattle.questions.specs.declared.atom.Condition.{Condition}
@@ -24,8 +25,8 @@ use Rattle.questions.specs.declared.operand.Operand.TheVariants as operands
 use Rattle.questions.specs.Term.{TermValue, compares, number_in, operand_pages, operand_processes, operand_value, operated, read_by, term_value}
 use Rattle.questions.specs.Term.TermValue.{Leaf, Node}
 use Rattle.questions.specs.Atom.{accepts_some, all_hold, atom_holds, condition_holds, crosses, has_word, is_asleep, is_faulted, is_faulted_by, is_held, is_receiving, is_stuck, waits_for}
-use Rattle.questions.specs.Question.{PropertyValue, any_holds, pages_in, processes_in, property_of, watched_by}
-use Rattle.interleavings.specs.Laws.{SeesOnlyLaw}
+use Rattle.questions.specs.Question.{PropertyValue, QuestionValue, any_holds, pages_in, processes_in, property_of, watch_for, watched_by, watched_of}
+use Rattle.interleavings.specs.Laws.{FirstSeesOnlyLaw, SeesOnlyLaw}
 use Rattle.interleavings.proofs.Watched.{stands-alone, stands-first, stands-of, stands-second}
 use Rattle.interleavings.proofs.Alike.{caps-same, crosses-same}
 
@@ -119,13 +120,26 @@ module _ (policy : PolicyValue) (s t : State) (same : SameButData s t) where
 abbrev no_property : PropertyValue
 no_property = property_of 0 Never []
 
-pub sees_only_law : SeesOnlyLaw
-sees_only_law question policy n s t same = elim (cases_lt n (length question.properties)) [
-  | inl there ↦ any-same policy s t same.same (get_or question.properties n no_property).groups
-      (λ p stands. same.processes p (stands-of (λ (property : PropertyValue). flat_map (watched_by processes_in) property.groups) question.properties n no_property p there stands))
-      (λ m stands. same.pages m (stands-of (λ (property : PropertyValue). flat_map (watched_by pages_in) property.groups) question.properties n no_property m there stands))
+-- some groups of a property hold in both or not, if what they look at is among what the property does
+groups-same : (groups : PropertyValue → List (List Atom)) → groups no_property ≡ []
+    → ((of : Condition → List ℕ) (property : PropertyValue) (k : ℕ) → stands_in (flat_map (watched_by of) (groups property)) k ≡ true → stands_in (watched_of of property) k ≡ true)
+    → (question : QuestionValue) (policy : PolicyValue) (n : ℕ)
+    → SeesOnly (watch_for question.properties) (λ t. any_holds (crosses policy t) t (groups (get_or question.properties n no_property)))
+groups-same groups none among question policy n s t same = elim (cases_lt n (length question.properties)) [
+  | inl there ↦
+      let property = get_or question.properties n no_property in
+      any-same policy s t same.same (groups property)
+      (λ p stands. same.processes p (stands-of (watched_of processes_in) question.properties n no_property p there (among processes_in property p stands)))
+      (λ m stands. same.pages m (stands-of (watched_of pages_in) question.properties n no_property m there (among pages_in property m stands)))
   | inr past ↦
-      let none = get_or_past question.properties n no_property past in
-      ap (λ (property : PropertyValue). any_holds (crosses policy s) s property.groups) none
-      ∙ sym (ap (λ (property : PropertyValue). any_holds (crosses policy t) t property.groups) none)
+      let empty = ap groups (get_or_past question.properties n no_property past) ∙ none in
+      ap (any_holds (crosses policy s) s) empty ∙ sym (ap (any_holds (crosses policy t) t) empty)
 ]
+
+pub sees_only_law : SeesOnlyLaw
+sees_only_law = groups-same (λ property. property.groups) refl
+    (λ of property k stands. stands-second (flat_map (watched_by of) property.first) (flat_map (watched_by of) property.groups) k stands)
+
+pub first_sees_only_law : FirstSeesOnlyLaw
+first_sees_only_law = groups-same (λ property. property.first) refl
+    (λ of property k stands. stands-first (flat_map (watched_by of) property.first) (flat_map (watched_by of) property.groups) k stands)

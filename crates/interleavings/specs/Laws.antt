@@ -7,7 +7,7 @@ use Rattle.quiet_runs.specs.Runs.{SeesOnly, after_steps}
 use Rattle.quiet_runs.specs.Laws.{AreHarts, CanCome}
 use Rattle.questions.specs.declared.choice.Choice.{Choice}
 use Rattle.questions.specs.declared.choice.Choice.TheVariants.{Run}
-use Rattle.questions.specs.Question.{QuestionValue, choices_of, holds, watch_for}
+use Rattle.questions.specs.Question.{QuestionValue, choices_of, first_holds, holds, watch_for}
 use Rattle.exploration.specs.Explored.{AllCanCome, AsksEver, IsSafe, NoneFails, NoneFailsWithin}
 
 -- each hart of the question's machine can be run
@@ -27,6 +27,11 @@ OnlyRuns question = All (IsRunOf question.sizes.harts) (choices_of question)
 abbrev pub SeesOnlyLaw : Type 0
 SeesOnlyLaw = (question : QuestionValue) (policy : PolicyValue) (n : ℕ)
     → SeesOnly (watch_for question.properties) (λ t. holds question policy t n)
+
+-- So it is with its first groups.
+abbrev pub FirstSeesOnlyLaw : Type 0
+FirstSeesOnlyLaw = (question : QuestionValue) (policy : PolicyValue) (n : ℕ)
+    → SeesOnly (watch_for question.properties) (λ t. first_holds question policy t n)
 
 -- Never: where each hart can be run, and no `never` fails after any choices, none fails after any steps of the harts.
 abbrev pub NeverStepwiseLaw : Type 0

@@ -12,13 +12,18 @@
 //! how quiet steps are found, or how states are gone through.
 #![tactic(auto)]
 
-ghost use Rattle.interleavings.specs.Laws.{SeesOnlyLaw, NeverStepwiseLaw, WithinStepwiseLaw, EverStepwiseLaw};
+ghost use Rattle.interleavings.specs.Laws.{SeesOnlyLaw, FirstSeesOnlyLaw, NeverStepwiseLaw, WithinStepwiseLaw, EverStepwiseLaw};
 
 use quiet_runs::{ever_law, found_law, never_law, simulation_law};
 
 /// A property sees nothing of a state but what its question looks at.
 pub fn sees_only_law()
     ensures { SeesOnlyLaw }
+{}
+
+/// So do its first groups.
+pub fn first_sees_only_law()
+    ensures { FirstSeesOnlyLaw }
 {}
 
 /// Where each hart can be run, what no choices lead to no steps lead to.
