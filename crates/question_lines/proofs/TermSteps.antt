@@ -1,13 +1,11 @@
 -- A term, by its first word.
-use Rattle.std.proofs.Common.{◌≡◌, ◌∙◌, ℕ, zero, suc, ◌+◌, ◌-◌, ◌<◌, nat_lt, Bool, true, if◌then◌else◌, List, length, Option, Some, None, Result, Ok, Err, refl, ap, arith}
+use Rattle.std.proofs.Common.{◌≡◌, ◌∙◌, ℕ, zero, suc, ◌-◌, ◌<◌, nat_lt, Bool, List, length, Some, None, refl, ap, arith}
 use Rattle.std.proofs.lemmas.Bool.{lt-ltb}
 use Rattle.coy_text.specs.Words.{field}
 use Rattle.object_store.specs.declared.sizes.Sizes.{Sizes}
 use Rattle.listing_read.specs.Faults.{◌>>=◌, ensured}
-use Rattle.listing_read.specs.declared.object_fault.QuestionFault.{QuestionFault}
 use Rattle.listing_read.specs.declared.object_fault.QuestionFault.TheVariants.{WrongWords}
 use Rattle.questions.specs.declared.operand.Operator.{Operator}
-use Rattle.questions.specs.Term.{TermValue}
 use Rattle.question_lines.specs.TermLine.{leaf_at, node_at, operator_of, term_at, term_by}
 
 module _ (sizes : Sizes) (words : List (List ℕ)) where

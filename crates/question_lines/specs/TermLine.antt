@@ -1,5 +1,5 @@
 -- The terms of an atom: what each says, or its first fault. (Own.)
-use Rattle.std.specs.Prelude.{ℕ, zero, suc, ◌+◌, ◌==◌, nat_le, nat_lt, if◌then◌else◌, List, length, drop, bytes_eq, codes, Option, Some, None, Result, Ok, Err}
+use Rattle.std.specs.Prelude.{ℕ, zero, suc, ◌+◌, nat_le, nat_lt, if◌then◌else◌, List, length, drop, bytes_eq, codes, Option, Some, None, Result, Ok, Err}
 use Rattle.cap_format.specs.declared.kind.CapKind.TheVariants as kinds
 use Rattle.coy_text.specs.Words.{field}
 use Rattle.object_store.specs.declared.sizes.Sizes.{Sizes}

@@ -1,4 +1,4 @@
-use Rattle.std.proofs.Common.{◌≡◌, ◌∙◌, ◌<◌, ◌-◌, ℕ, IfErr, IfOk, List, Ok, Option, Result, length, sym, ap, subst, arith}
+use Rattle.std.proofs.Common.{◌≡◌, ◌∙◌, ◌-◌, ℕ, IfErr, IfOk, Ok, Result, sym, ap, subst, arith}
 use Rattle.listing_read.specs.declared.object_fault.QuestionFault.{QuestionFault}
 use Rattle.questions.specs.Term.{TermValue}
 use Rattle.question_lines.specs.QuestionLine.{IsUntaken}

@@ -1,4 +1,4 @@
-use Rattle.std.proofs.Common.{◌≡◌, ◌∙◌, ◌+◌, ◌-◌, ◌≤◌, ℕ, List, drop, length, take, sym, ap, arith}
+use Rattle.std.proofs.Common.{◌≡◌, ◌∙◌, ◌+◌, ◌-◌, ◌≤◌, drop, length, take, sym, ap, arith}
 use Rattle.std.proofs.lemmas.List.{drop-take, length-take}
 use Rattle.coy_text.specs.Words.{words_of}
 use Rattle.question_lines.proofs.phrase.Phrase.behind.Goals as goal
