@@ -1,16 +1,16 @@
 //! What may hold of a state, judged by reading the machine.
 ghost use Rattle.std.specs.Prelude.{◌≡◌, ◌<◌, ◌≤◌, ◌+◌};
-ghost use Rattle.cap_format.specs.declared.kind.CapKind.TheVariants.{Process};
-ghost use Rattle.object_store.specs.Store.{size_of, sizes_of};
+ghost use Rattle.cap_format.specs.declared.kind.CapKind.TheVariants.{Endpoint, Process};
+ghost use Rattle.object_store.specs.Store.{endpoint_at, size_of, sizes_of};
 ghost use Rattle.machine_state.specs.State.{state_of, process};
 ghost use Rattle.quiet_runs.specs.Finding.{runs};
-ghost use Rattle.questions.specs.Atom.{IsConditionOf, accepts_some, condition_holds, is_faulted, is_faulted_by, is_receiving, is_stuck, waits_for};
+ghost use Rattle.questions.specs.Atom.{IsConditionOf, accepts_some, condition_holds, is_asleep, is_faulted, is_faulted_by, is_receiving, is_stuck, waits_for};
 
 use crate::atom::Condition;
 use crate::object_holds::object_holds;
 use crate::operand::Width;
 use crate::standing::{is_asleep, some_on_hart, some_ready};
-use crate::term_values::{compares, number_in, term_value};
+use crate::term_values::{number_in, terms_compare};
 use cap_format::FaultCode;
 use machine_state::Machine;
 use process_objects::{State, Wait};
@@ -31,7 +31,6 @@ pub(crate) fn condition_holds<T: Translator, L: Ledger>(
     ensures least { fetches.old ≤ fetches.new }
     ensures most { fetches.new ≤ fetches.old + 16 }
 {
-    let objects = machine.objects();
     match condition {
         Condition::Stuck => is_stuck(machine),
         Condition::Halted => machine.halted(),
@@ -39,9 +38,7 @@ pub(crate) fn condition_holds<T: Translator, L: Ledger>(
         Condition::Receiving { process } => is_receiving(state(machine, *process)),
         Condition::Faulted { process } => is_faulted(state(machine, *process)),
         Condition::FaultedBy { process, code } => is_faulted_by(*code, state(machine, *process)),
-        Condition::Sleeps { process } => {
-            is_asleep(machine.queues(), objects.sizes().processes, *process)
-        }
+        Condition::Sleeps { process } => sleeps(machine, *process),
         Condition::Pc {
             process,
             first,
@@ -56,27 +53,20 @@ pub(crate) fn condition_holds<T: Translator, L: Ledger>(
             page,
             offset,
             value,
-        } => number_in(objects.page(*page), *offset, Width::Word) == *value,
-        Condition::Waits { process, endpoint } => waits_for(
-            objects.endpoint(*endpoint).id,
-            state(machine, *process),
-        ),
+        } => number_in(machine.objects().page(*page), *offset, Width::Word) == *value,
+        Condition::Waits { process, endpoint } => waits(machine, *process, *endpoint),
         Condition::Accepts { process } => accepts_some(state(machine, *process)),
         Condition::SleepsOn { process, on } => sleeps_on(machine.queues(), *process, *on),
         Condition::Holds {
             kind,
             number,
             holding,
-        } => object_holds(objects, *kind, *number, *holding, fetches),
+        } => object_holds(machine.objects(), *kind, *number, *holding, fetches),
         Condition::Compares {
             comparison,
             first,
             second,
-        } => compares(
-            *comparison,
-            term_value(machine, first),
-            term_value(machine, second),
-        ),
+        } => terms_compare(machine, *comparison, first, second),
         Condition::Crossing => crossing,
     }
 }
@@ -88,6 +78,24 @@ fn is_stuck<T: Translator>(machine: &Machine<T>) -> bool
     let queues = machine.queues();
     let harts = machine.objects().sizes().harts;
     !(some_on_hart(queues, harts) || some_ready(queues))
+}
+
+/// Whether a process sleeps on another.
+fn sleeps<T: Translator>(machine: &Machine<T>, p: u16) -> bool
+    ensures { result ≡ is_asleep machine.now.queues p }
+{
+    is_asleep(machine.queues(), machine.objects().sizes().processes, p)
+}
+
+/// Whether a process waits for a message, and takes those of an endpoint.
+fn waits<T: Translator>(machine: &Machine<T>, p: u16, e: u16) -> bool
+    requires process { p < size_of machine.now.objects.items Process }
+    requires endpoint { e < size_of machine.now.objects.items Endpoint }
+    ensures { let s = state_of machine.now in
+        result ≡ waits_for (endpoint_at s.store e).id (process s p).state }
+{
+    let id = machine.objects().endpoint(e).id;
+    waits_for(id, state(machine, p))
 }
 
 /// What a process does.

@@ -80,8 +80,25 @@ fn operated(operator: Operator, first: u32, second: u32) -> u32
     }
 }
 
+/// Whether two terms stand so to each other.
+pub(crate) fn terms_compare<T: Translator>(
+    machine: &Machine<T>,
+    comparison: Comparison,
+    first: &Term,
+    second: &Term,
+) -> bool
+    requires first { IsTermOf (sizes_of machine.now.objects) first.now }
+    requires second { IsTermOf (sizes_of machine.now.objects) second.now }
+    ensures { let s = state_of machine.now in
+        result ≡ compares comparison (term_value s first.now) (term_value s second.now) }
+{
+    let first = term_value(machine, first);
+    let second = term_value(machine, second);
+    compares(comparison, first, second)
+}
+
 /// Whether two numbers stand so to each other.
-pub(crate) fn compares(comparison: Comparison, first: u32, second: u32) -> bool
+fn compares(comparison: Comparison, first: u32, second: u32) -> bool
     ensures { result ≡ compares comparison first second }
 {
     match comparison {
