@@ -13,6 +13,7 @@ mod fields;
 mod holding;
 mod line;
 mod phrase;
+mod process_conditions;
 mod said;
 mod terms;
 
