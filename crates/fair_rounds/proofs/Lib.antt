@@ -1,7 +1,7 @@
 mod Places
 mod Spreading
-mod Passing
-mod Lassos
+pub mod Passing
+pub mod Lassos
 mod Edges
 mod Counting
 mod Walls
@@ -12,4 +12,4 @@ mod WaysBack
 mod Falling
 mod Flooding
 pub mod Meaning
-mod Fairness
+pub mod Fairness
