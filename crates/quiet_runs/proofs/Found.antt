@@ -1,5 +1,5 @@
 -- The steps that are found to be quiet are.
-use Rattle.std.proofs.Common.{◌≡◌, ℕ, zero, suc, ◌%◌, ◌==◌, ◌<◌, nat_lt, ⊎_elim, Bool, true, false, not, ◌&&◌, if◌then◌else◌, length, Option, Some, None, Result, Ok, Err, refl, sym, ◌∙◌, ap}
+use Rattle.std.proofs.Common.{◌≡◌, ℕ, zero, suc, ◌%◌, ◌==◌, ◌<◌, ◌≤◌, nat_lt, ⊎_elim, Bool, true, false, not, ◌&&◌, if◌then◌else◌, length, Option, Some, None, Result, Ok, Err, refl, sym, ◌∙◌, ap, arith}
 use Rattle.std.proofs.lemmas.Bool.{and_parts, and_cases, or_parts, false≢true, not-true, eqb-true, ltb-true}
 use Rattle.cap_format.specs.declared.kind.CapKind.TheVariants.{Page, Window}
 use Rattle.object_store.specs.Store.{slot_at}
@@ -24,6 +24,7 @@ use Rattle.quiet_runs.specs.Runs.{Watch, IsQuietFor, AreQuiet, after_step}
 use Rattle.quiet_runs.specs.Reaching.{reached_by, is_alone}
 use Rattle.quiet_runs.specs.Finding.{is_far_reaching, is_secluded, is_own, is_watched, reaches_own, is_quiet_effect, is_quiet_word, is_quiet_fetch, is_quiet_next, is_quiet_on, is_quiet, quiet_within}
 use Rattle.quiet_runs.specs.Laws.{FoundLaw}
+use Rattle.quiet_runs.specs.RoundLaws.{ShortLaw}
 use Rattle.quiet_runs.proofs.Below.{below-none}
 use Rattle.quiet_runs.proofs.Reached.{shared, shared-gpt, alone-unshared}
 use Rattle.quiet_runs.proofs.Cutting.{own_cut, left-process, left-alone, left-gpt, left-page, right-watched, secluded, secluded-on, secluded-near}
@@ -157,3 +158,16 @@ found-within (suc most) watch s hart = on (is_quiet watch s hart) refl (found-wi
 -- the steps that are found are quiet
 pub found_law : FoundLaw
 found_law watch s hart = found-within 4096 watch s hart
+
+-- they are no more than are counted
+within-short : (most : ℕ) (watch : Watch) (s : State) (hart : ℕ) → quiet_within most watch s hart ≤ most
+unfolding quiet_within
+within-short zero watch s hart = omega arith
+within-short (suc most) watch s hart = on (is_quiet watch s hart) (within-short most watch (after_step s hart) hart)
+  where
+    on : (b : Bool) → quiet_within most watch (after_step s hart) hart ≤ most → (if b then suc (quiet_within most watch (after_step s hart) hart) else 0) ≤ suc most
+    on true few = omega (arith, few)
+    on false few = omega arith
+
+pub short_law : ShortLaw
+short_law watch s hart = within-short 4096 watch s hart

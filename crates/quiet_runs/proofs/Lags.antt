@@ -1,9 +1,10 @@
 -- How far the processes of several harts are ahead: for each hart a number of steps, all of them quiet from the state on.
 use Rattle.std.proofs.Common.{◌≡◌, ◌≢◌, ℕ, zero, suc, ◌==◌, Bool, true, false, if◌then◌else◌, List, [], ◌∷◌, ◌++◌, replicate, refl, sym, ◌∙◌, ap, subst, eqb-true}
-use Rattle.std.proofs.lemmas.Bool.{eqb-false}
+use Rattle.std.proofs.lemmas.Bool.{eqb-false, ne_eqb}
 use Rattle.std.specs.List.{AllByRecursion as Each}
 use Rattle.machine_state.specs.State.{State}
 use Rattle.quiet_runs.specs.Runs.{after_step, after_steps, Watch, AreQuiet, SameFor}
+use Rattle.quiet_runs.specs.Begun.{with_left}
 use Rattle.quiet_runs.proofs.Steps.{after-append, after-none, by, by-steps, same-itself, same-then, many-same, many-halted, many-behind, many-order, many-either, many-both, both-order, all-earlier}
 
 -- so many steps of a hart
@@ -144,6 +145,23 @@ module _ (watch : Watch) where
   -- the lag of a hart
   abbrev pub lag : ℕ → ℕ → Lag
   lag h n = record { hart = h; steps = n }
+
+  -- those of another hart are as many without one's
+  steps-without : (g h : ℕ) (ls : List Lag) → g ≢ h → steps_of g (without h ls) ≡ steps_of g ls
+  steps-without g h [] apart = refl
+  steps-without g h (l ∷ ls) apart = on (h == l.hart) refl (steps-without g h ls apart)
+    where
+      on : (b : Bool) → (h == l.hart) ≡ b → steps_of g (without h ls) ≡ steps_of g ls → steps_of g (if b then ls else l ∷ without h ls) ≡ steps_of g (l ∷ ls)
+      on true e rest = sym (ap (λ (b : Bool). if b then l.steps else steps_of g ls) (ne_eqb g l.hart (λ same. apart (same ∙ sym (eqb-true h l.hart e)))))
+      on false e rest = ap (λ (n : ℕ). if g == l.hart then l.steps else n) rest
+
+  -- so only those of that hart change where it is given others
+  pub told-with : (h n : ℕ) (ls : List Lag) (left : ℕ → ℕ) → ((g : ℕ) → steps_of g ls ≡ left g) → (g : ℕ) → steps_of g (lag h n ∷ without h ls) ≡ with_left left h n g
+  told-with h n ls left told g = on (g == h) refl
+    where
+      on : (b : Bool) → (g == h) ≡ b → (if b then n else steps_of g (without h ls)) ≡ (if b then n else left g)
+      on true e = refl
+      on false e = steps-without g h ls (eqb-false g h e) ∙ told g
 
   -- what is known of the lags where those of one hart are taken out
   pub record Taken (h : ℕ) (s : State) (ls : List Lag) : Type 0 where

@@ -1,6 +1,10 @@
 mod Steps
 mod Lags
+mod Running
+mod Beginning
 pub mod Simulating
+mod Rounds
+mod Spelling
 mod Below
 mod Growing
 mod Reached
