@@ -3,3 +3,5 @@ mod Alike
 mod Seeing
 mod Paths
 mod Stepwise
+mod Rounds
+mod Must

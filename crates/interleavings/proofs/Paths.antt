@@ -1,6 +1,6 @@
 -- Choices that run harts, and runs of harts, lead to the same states.
 use Rattle.std.proofs.Common.{◌≡◌, ◌∙◌, ℕ, zero, suc, ◌<◌, List, [], ◌∷◌, ◌++◌, length, replicate, refl, sym, ap, arith}
-use Rattle.std.specs.List.{All, Contains}
+use Rattle.std.specs.List.{All, AllZip, Contains}
 use Rattle.std.proofs.lemmas.List.{get_or_default}
 use Rattle.std.proofs.lemmas.List.Elements.{All-cons, All-head, All-nil, All-tail}
 use Rattle.machine_state.specs.declared.event.Event.TheVariants.{Step}
@@ -15,7 +15,8 @@ use Rattle.questions.specs.Choice.{AreChoices, after, after_choice, choice_at}
 use Rattle.interleavings.specs.Laws.{IsRunOf}
 
 -- so many steps of a hart, as events
-run-copies : (n : ℕ) (s : State) (hart : ℕ) → run_state s (replicate n (Step hart)) ≡ after_steps s (replicate n hart)
+run-copies : (n : ℕ) (s : State) (hart : ℕ)
+    → run_state s (replicate n (Step hart)) ≡ after_steps s (replicate n hart)
 unfolding run_state after_steps
 run-copies zero s hart = refl
 run-copies (suc n) s hart = run-copies n (after_step s hart) hart
@@ -31,7 +32,8 @@ module _ (watch : Watch) where
 
   module _ (choices : List Choice) where
     -- one list of choices after another
-    pub after-append : (s : State) (path on : List ℕ) → after watch choices s (path ++ on) ≡ after watch choices (after watch choices s path) on
+    pub after-append : (s : State) (path on : List ℕ)
+        → after watch choices s (path ++ on) ≡ after watch choices (after watch choices s path) on
     unfolding after
     after-append s [] on = refl
     after-append s (i ∷ path) on = after-append (after_choice watch s (choice_at choices i)) path on
@@ -40,7 +42,9 @@ module _ (watch : Watch) where
     unfolding after
     after-nil s = refl
 
-    after-cons : (s : State) (i : ℕ) (path : List ℕ) → after watch choices s (i ∷ path) ≡ after watch choices (after_choice watch s (choice_at choices i)) path
+    after-cons : (s : State) (i : ℕ) (path : List ℕ)
+        → after watch choices s (i ∷ path) ≡ after watch choices
+        (after_choice watch s (choice_at choices i)) path
     unfolding after
     after-cons s i path = refl
 
@@ -48,63 +52,98 @@ module _ (watch : Watch) where
     unfolding after_runs
     runs-nil s = refl
 
-    runs-cons : (s : State) (hart : ℕ) (runs : List ℕ) → after_runs more s (hart ∷ runs) ≡ after_runs more (after_run more s hart) runs
+    runs-cons : (s : State) (hart : ℕ) (runs : List ℕ)
+        → after_runs more s (hart ∷ runs) ≡ after_runs more (after_run more s hart) runs
     unfolding after_runs
     runs-cons s hart runs = refl
 
-    -- where one choice runs a hart, and the choices after it lead where runs do
-    both-cons : (s : State) (i hart : ℕ) (path runs : List ℕ) → choice_at choices i ≡ Run hart
-        → after watch choices (after_run more s hart) path ≡ after_runs more (after_run more s hart) runs
-        → after watch choices s (i ∷ path) ≡ after_runs more s (hart ∷ runs)
-    both-cons s i hart path runs is rest =
-        after-cons s i path
-        ∙ (ap (λ (t : State). after watch choices t path) (ap (after_choice watch s) is ∙ choice-run s hart) ∙ (rest ∙ sym (runs-cons s hart runs)))
+    -- each of these choices runs one of these harts, in this order
+    abbrev pub Chosen : List ℕ → List ℕ → Type 0
+    Chosen path harts =
+        AllZip (λ (i hart : ℕ). (i < length choices) × (choice_at choices i ≡ Run hart)) path harts
 
-    -- as many choices that lead where runs of these harts do
-    pub record AsChoices (s : State) (runs : List ℕ) : Type 0 where
+    -- a choice that runs a hart leads where its run does
+    pub chosen-one : (s : State) (i hart : ℕ) → choice_at choices i ≡ Run hart
+        → after_choice watch s (choice_at choices i) ≡ after_run more s hart
+    chosen-one s i hart is = ap (after_choice watch s) is ∙ choice-run s hart
+
+    -- they are choices
+    pub chosen-of : (path harts : List ℕ) → Chosen path harts → AreChoices choices path
+    chosen-of [] [] all = All-nil (λ i. i < length choices)
+    chosen-of [] (h ∷ harts) all = absurd all
+    chosen-of (i ∷ path) [] all = absurd all
+    chosen-of (i ∷ path) (h ∷ harts) all =
+        All-cons (λ i. i < length choices) i path all.0.0 (chosen-of path harts all.1)
+
+    -- and lead where the runs of the harts do
+    pub chosen-after : (s : State) (path harts : List ℕ) → Chosen path harts
+        → after watch choices s path ≡ after_runs more s harts
+    chosen-after s [] [] all = after-nil s ∙ sym (runs-nil s)
+    chosen-after s [] (h ∷ harts) all = absurd all
+    chosen-after s (i ∷ path) [] all = absurd all
+    chosen-after s (i ∷ path) (h ∷ harts) all =
+        after-cons s i path
+        ∙ (ap (λ (t : State). after watch choices t path) (chosen-one s i h all.0.1)
+        ∙ (chosen-after (after_run more s h) path harts all.1 ∙ sym (runs-cons s h harts)))
+
+    -- as many choices that run these harts
+    pub record AsChoices (harts : List ℕ) : Type 0 where
       pub path : List ℕ
-      pub of : AreChoices choices path
-      pub long : length path ≡ length runs
-      pub there : after watch choices s path ≡ after_runs more s runs
+      pub long : length path ≡ length harts
+      pub chosen : Chosen path harts
 
     -- there are some, where each hart can be run
-    pub as-choices : (count : ℕ) → ((hart : ℕ) → hart < count → Contains choices (Run hart)) → (s : State) (runs : List ℕ) → AreHarts count runs → AsChoices s runs
-    as-choices count each s [] all = record { path = []; of = All-nil (λ i. i < length choices); long = refl; there = after-nil s ∙ sym (runs-nil s) }
-    as-choices count each s (hart ∷ runs) all =
+    pub as-choices : (count : ℕ) → ((hart : ℕ) → hart < count → Contains choices (Run hart))
+        → (harts : List ℕ) → AreHarts count harts → AsChoices harts
+    as-choices count each [] all = record { path = []; long = refl; chosen = tt }
+    as-choices count each (hart ∷ harts) all =
         let found = each hart all.0 in
-        let rest = as-choices count each (after_run more s hart) runs all.1 in
+        let rest = as-choices count each harts all.1 in
         record {
           path = found.0 ∷ rest.path;
-          of = All-cons (λ i. i < length choices) found.0 rest.path found.1 rest.of;
           long = let long = rest.long in omega (arith, long);
-          there = both-cons s found.0 hart rest.path runs (get_or_default choices found.0 (Tick 0) (Run hart) found.1 ∙ found.2) rest.there;
+          chosen = (
+            (
+              found.1,
+              get_or_default choices found.0 (Tick 0) (Run hart) found.1
+                  ∙ found.2,
+            ),
+            rest.chosen,
+          );
         }
 
     -- a choice that runs one of so many harts
-    record RunsOne (count : ℕ) (choice : Choice) : Type 0 where
-      hart : ℕ
-      below : hart < count
-      is : choice ≡ Run hart
+    pub record RunsOne (count : ℕ) (choice : Choice) : Type 0 where
+      pub hart : ℕ
+      pub below : hart < count
+      pub is : choice ≡ Run hart
 
     run-of : (count : ℕ) (choice : Choice) → IsRunOf count choice → RunsOne count choice
     run-of count (Steps hart times) is = absurd is
     run-of count (Run hart) is = record { hart = hart; below = is; is = refl }
     run-of count (Tick hart) is = absurd is
 
-    -- runs of harts that lead where choices do
-    pub record AsRuns (count : ℕ) (s : State) (path : List ℕ) : Type 0 where
+    -- each does, where nothing else can be chosen
+    pub runs-one : (count : ℕ) → All (IsRunOf count) choices → (i : ℕ) → i < length choices
+        → RunsOne count (choice_at choices i)
+    runs-one count only i there = run-of count (choice_at choices i) (only i (Tick 0) there)
+
+    -- harts that these choices run
+    pub record AsRuns (count : ℕ) (path : List ℕ) : Type 0 where
       pub runs : List ℕ
       pub of : AreHarts count runs
-      pub there : after watch choices s path ≡ after_runs more s runs
+      pub chosen : Chosen path runs
 
-    -- there are some, where nothing else is chosen
-    pub as-runs : (count : ℕ) → All (IsRunOf count) choices → (s : State) (path : List ℕ) → AreChoices choices path → AsRuns count s path
-    as-runs count only s [] all = record { runs = []; of = tt; there = after-nil s ∙ sym (runs-nil s) }
-    as-runs count only s (i ∷ path) all =
-        let found = run-of count (choice_at choices i) (only i (Tick 0) (All-head (λ i. i < length choices) i path all)) in
-        let rest = as-runs count only (after_run more s found.hart) path (All-tail (λ i. i < length choices) i path all) in
+    -- there are some
+    pub as-runs : (count : ℕ) → All (IsRunOf count) choices → (path : List ℕ)
+        → AreChoices choices path → AsRuns count path
+    as-runs count only [] all = record { runs = []; of = tt; chosen = tt }
+    as-runs count only (i ∷ path) all =
+        let there = All-head (λ i. i < length choices) i path all in
+        let found = runs-one count only i there in
+        let rest = as-runs count only path (All-tail (λ i. i < length choices) i path all) in
         record {
           runs = found.hart ∷ rest.runs;
           of = (found.below, rest.of);
-          there = both-cons s i found.hart path rest.runs found.is rest.there;
+          chosen = ((there, found.is), rest.chosen);
         }

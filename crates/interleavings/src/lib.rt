@@ -8,13 +8,21 @@
 //! Nothing is said of ticks: a list of steps has none. Nor is anything said of `count`, since runs pass over the states within
 //! them. Where a limit ended an exploration, what it says of so many choices is so of as many steps.
 //!
+//! What must come on every fair schedule is asked of rounds of choices. Where the choices are one run
+//! of each hart and nothing else, what comes within rounds of them comes within 4,097 times as many
+//! rounds of single steps, and on each fair schedule of steps without end. Where it doesn't, and
+//! choices evade it in a cycle that is a round, the steps of these choices evade it.
+//!
 //! There is no code here: each function has a law as its contract, and calls those from which it follows. Nothing here knows
 //! how quiet steps are found, or how states are gone through.
 #![tactic(auto)]
 
 ghost use Rattle.interleavings.specs.Laws.{SeesOnlyLaw, FirstSeesOnlyLaw, NeverStepwiseLaw, WithinStepwiseLaw, EverStepwiseLaw};
+ghost use Rattle.interleavings.specs.Rounds.{MustStepwiseLaw, AlwaysStepwiseLaw};
+ghost use Rattle.interleavings.specs.Rounds.{FairStepwiseLaw, AlwaysFairLaw};
+ghost use Rattle.interleavings.specs.Rounds.{LassoStepwiseLaw, EvasionStepwiseLaw};
 
-use quiet_runs::{ever_law, found_law, never_law, simulation_law};
+use quiet_runs::{ever_law, found_law, lasso_law, must_law, never_law, short_law, simulation_law};
 
 /// A property sees nothing of a state but what its question looks at.
 pub fn sees_only_law()
@@ -47,5 +55,32 @@ pub fn ever_stepwise_law()
     ensures { EverStepwiseLaw }
 {
     ever_law();
+    found_law();
+}
+
+/// Where rounds of choices must pass a goal, 4,097 times as many rounds of steps must.
+pub fn must_stepwise_law()
+    ensures here { MustStepwiseLaw }
+    ensures always { AlwaysStepwiseLaw }
+{
+    must_law();
+    found_law();
+    short_law();
+}
+
+/// So must each fair schedule of steps without end.
+pub fn fair_stepwise_law()
+    ensures here { FairStepwiseLaw }
+    ensures always { AlwaysFairLaw }
+{
+    must_stepwise_law();
+}
+
+/// A cycle of choices that leads back and passes no goal is such a cycle of steps.
+pub fn lasso_stepwise_law()
+    ensures lasso { LassoStepwiseLaw }
+    ensures evasion { EvasionStepwiseLaw }
+{
+    lasso_law();
     found_law();
 }
