@@ -9,20 +9,21 @@ use Rattle.std.proofs.lemmas.Map.Made.{AllPairs-from_IsDistinct}
 use Rattle.std.proofs.lemmas.Option.{get_or_from_slice_get, slice_get-get_or, slice_get_within}
 use Rattle.machine_state.specs.State.{State}
 use Rattle.separation_policy.specs.Policy.{PolicyValue}
-use Rattle.breadth_first.specs.Answer.{AreCounts, CanAlwaysCome, EndsByDepth, EndsByStates, LeavesOut as LeavesOutIn, IsAnswer, IsAsFar, IsClosed, IsFirst as IsFirstIn, IsFound, IsLost, IsOpen, IsSeen, seen}
-use Rattle.breadth_first.specs.Paths.{after, CanCome as CanComeIn}
+use Rattle.breadth_first.specs.Answer.{AreCounts, EndsByDepth, EndsByStates, LeavesOut as LeavesOutIn, IsAnswer, IsAsFar, IsClosed, IsFirst as IsFirstIn, IsFound, IsOpen, IsSeen, seen}
+use Rattle.breadth_first.specs.Paths.{after}
 use Rattle.breadth_first.specs.System.{System, IsEquality}
 use Rattle.breadth_first.proofs.One.{one_answer}
 use Rattle.breadth_first.specs.declared.answer.Count.{Count}
 use Rattle.breadth_first.specs.declared.answer.Explored.{Explored}
 use Rattle.breadth_first.specs.declared.answer.Explored.TheVariants.{Found, Closed, Open}
 use Rattle.breadth_first.specs.declared.answer.Limits.{Limits}
+use Rattle.breadth_first.specs.declared.answer.Missed.TheVariants.{Lost, Avoided}
 use Rattle.breadth_first.specs.declared.answer.Size.{Size}
-use Rattle.questions.specs.Question.{QuestionValue, first_failing, holds, is_count, is_ever}
+use Rattle.questions.specs.Question.{QuestionValue, first_failing, holds, is_count}
 use Rattle.questions.specs.Asking.{asking}
-use Rattle.exploration.specs.Explored.{AllCanCome, AllSeen, AreCounted, AreDistinct, CanCome, FailsAt, IsExact, IsFirst, IsLimited, IsReached, IsSafe, LeavesOut, LostAt, NoneFails, Says, SomeAt, SomeSeen, come_to, limits_of, system_of}
+use Rattle.exploration.specs.Explored.{AllMustCome, AllSeen, AreCounted, AreDistinct, Avoids, FailsAt, IsAskedFrom, IsExact, IsFirst, IsLimited, IsReached, IsSafe, LeavesOut, MustCome, NoneFails, Says, SomeAt, SomeSeen, come_to, limits_of, system_of, wanted, wants_of}
 use Rattle.exploration.specs.Laws.{ExactLaw, OneAnswerLaw, SaysLaw}
-use Rattle.questions.proofs.Numbers.{asking-earlier, asking-has, asking-is}
+use Rattle.exploration.proofs.Missing.{all-can, all-must, avoided-at, lost-at}
 use Rattle.exploration.proofs.Runs.{after-is, after-on}
 use Rattle.exploration.proofs.Safe.{fails-some, safe-none}
 
@@ -33,19 +34,12 @@ module _ (question : QuestionValue) (policy : PolicyValue) (same : State → Sta
   abbrev limits : Limits
   limits = limits_of question
 
-  abbrev evers : List ℕ
-  evers = asking is_ever question.properties
-
   abbrev counts : List ℕ
   counts = asking is_count question.properties
 
   -- what a search tells of the state after a list of choices
   told : {X : Type 0} (f : State → X) (path : List ℕ) (x : X) → f (after g s path) ≡ x → f (come_to question policy s path) ≡ x
   told f path x is = ap f (sym (after-is question policy same s s path)) ∙ is
-
-  -- what it tells of the state to which choices behind others lead
-  told-on : (n : ℕ) (path on : List ℕ) (b : Bool) → holds question policy (after g (after g s path) on) n ≡ b → holds question policy (come_to question policy s (path ++ on)) n ≡ b
-  told-on n path on b is = ap (λ t. holds question policy t n) (sym (after-on question policy same s s path on)) ∙ is
 
   safe : (path : List ℕ) → first_failing question policy (after g s path) ≡ None → IsSafe question policy (come_to question policy s path)
   safe path none = safe-none question policy (come_to question policy s path) (told (first_failing question policy) path None none)
@@ -186,37 +180,16 @@ module _ (question : QuestionValue) (policy : PolicyValue) (same : State → Sta
   none-fails : (size : Size) → IsClosed g limits size → NoneFails question policy s
   none-fails size c path are = safe path (c.holds path are)
 
-  -- ---- ever
-
-  can-come : (n : ℕ) (path : List ℕ) → CanComeIn g n (after g s path) → CanCome question policy s path n
-  can-come n path can = record { on = can.0; choices = can.1; holds = told-on n path can.0 true can.2 }
-
-  all-can : All (CanAlwaysCome g) evers → AllCanCome question policy s
-  all-can all n asks path are =
-      let always = All-contains (CanAlwaysCome g) evers n all (asking-has is_ever question.properties n asks.there asks.asked) in
-      can-come n path (always path are)
-
-  lost-at : (states : List State) (ever : ℕ) (path : List ℕ) → IsLost g states evers ever path → LostAt question policy s (slice_index evers ever) path
-  lost-at states ever path l =
-      let is = asking-is is_ever question.properties ever l.test l.there in
-      let named : slice_index evers ever ≡ l.test = get_or_from_slice_get evers ever l.test 0 l.there in
-      subst (λ n. LostAt question policy s n path) (sym named) (record {
-        ever = record { there = is.0; asked = is.1 };
-        choices = l.choices;
-        lost = λ on are. told-on l.test path on false (l.never on are);
-        shortest = λ other are short. can-come l.test other (l.shortest other are short);
-        earliest = λ other are long earlier. can-come l.test other (l.earliest other are long earlier);
-        first = λ m before asks other are.
-            (let place = asking-earlier is_ever question.properties ever l.test m l.there before asks.asked in
-            can-come m other (l.earlier place.0 m place.1 place.2 other are));
-      })
-
   -- ---- all answers
 
-  says : (answer : Explored) → IsAnswer g limits evers counts answer → Says question policy s answer
+  says : (answer : Explored) → IsAnswer g limits (wants_of question) counts answer → Says question policy s answer
   says (Found n path) is = fails n path.items is
-  says (Closed size all None) is = (none-fails size is.0, all-can is.2, all-seen size all.items is.0 is.1)
-  says (Closed size all (Some lost)) is = (none-fails size is.0, lost-at (seen g size) lost.ever lost.path.items is.2, all-seen size all.items is.0 is.1)
+  says (Closed size all None) is =
+      (none-fails size is.0, all-can question policy same decides s size.states is.2, all-must question policy same decides s size.states is.2, all-seen size all.items is.0 is.1)
+  says (Closed size all (Some (Lost l))) is =
+      (none-fails size is.0, lost-at question policy same decides s (seen g size) size.states l is.2, all-seen size all.items is.0 is.1)
+  says (Closed size all (Some (Avoided a))) is =
+      (none-fails size is.0, avoided-at question policy same decides s (seen g size) size.states a is.2, all-seen size all.items is.0 is.1)
   says (Open size all) is = (λ path are short. safe path (is.0.holds path are short), some-seen size all.items is.0 is.1)
 
   -- a `never` that fails and doesn't
@@ -225,11 +198,21 @@ module _ (question : QuestionValue) (policy : PolicyValue) (same : State → Sta
 
   exact : (answer : Explored) → Says question policy s answer → IsExact question policy s answer
   exact (Found n path) is = λ none. both _ is.fails (none path.items is.choices n is.never)
-  exact (Closed size all None) is = (is.0, is.1)
-  exact (Closed size all (Some lost)) is = λ all.
-      let l = is.1 in
-      let can = all _ l.ever lost.path.items l.choices in
-      both _ can.holds (l.lost can.on can.choices)
+  exact (Closed size all None) is = (is.0, is.1, is.2)
+  exact (Closed size all (Some (Lost l))) is = λ all.
+      let at = is.1 in
+      let can = all _ at.ever l.path.items at.choices in
+      both _ can.holds (at.lost can.on can.choices)
+  exact (Closed size all (Some (Avoided a))) is = λ rounds all. by rounds all is.1.avoids is.1.avoids.asked
+    where
+      evaded : (rounds n : ℕ) (path cycle : List ℕ) (it : Avoids question policy s n path cycle) → MustCome question policy s rounds n (come_to question policy s it.stem) → ⊥
+      evaded rounds n path cycle it must = let e = it.evades rounds in both _ (must e.rounds e.many e.are) e.never
+
+      by : (rounds : ℕ) → AllMustCome question policy s rounds → (it : Avoids question policy s (wanted question policy s a.want) a.path.items a.cycle.items)
+          → IsAskedFrom question policy s (wanted question policy s a.want) (come_to question policy s it.stem) → ⊥
+      by rounds all it (inl asked) =
+          evaded rounds _ a.path.items a.cycle.items it (subst (λ t. MustCome question policy s rounds (wanted question policy s a.want) t) (sym asked.1) (all.must _ asked.0))
+      by rounds all it (inr asked) = evaded rounds _ a.path.items a.cycle.items it (all.after _ asked.0 it.stem it.choices asked.1)
   exact (Open size all) is = tt
 
 pub says_law : SaysLaw
@@ -250,5 +233,5 @@ one-equality same alike is are = fun_ext (λ a. fun_ext (λ b. equal (same a b) 
 pub one_answer_law : OneAnswerLaw
 one_answer_law question policy s a b x y =
     let one = one-equality x.same y.same x.decides y.decides in
-    one_answer (system_of question policy y.same s) y.decides (limits_of question) (asking is_ever question.properties) (asking is_count question.properties) a b
-    (subst (λ same. IsAnswer (system_of question policy same s) (limits_of question) (asking is_ever question.properties) (asking is_count question.properties) a) one x.searched) y.searched
+    one_answer (system_of question policy y.same s) y.decides (limits_of question) (wants_of question) (asking is_count question.properties) a b
+    (subst (λ same. IsAnswer (system_of question policy same s) (limits_of question) (wants_of question) (asking is_count question.properties) a) one x.searched) y.searched

@@ -1,5 +1,7 @@
 pub mod Runs
 mod Safe
+mod Wants
+mod Missing
 mod Answered
 mod EveryEvent
 mod Spaces

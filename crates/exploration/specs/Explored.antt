@@ -1,49 +1,82 @@
 -- Explorations: what is searched for a question, and what is so of the machine. (Own.)
 --
 -- All is said of the abstract machine: of the states to which lists of the question's choices lead from a state.
-use Rattle.std.specs.Prelude.{◌≡◌, ◌≢◌, ℕ, suc, ◌*◌, ◌<◌, ◌≤◌, ◌⊎◌, Bool, true, false, List, ◌++◌, length, slice_get, slice_index, Some, None, MatchOption, count_by, ⊤}
+use Rattle.std.specs.Prelude.{◌≡◌, ◌≢◌, ℕ, suc, ◌*◌, ◌<◌, ◌≤◌, ◌⊎◌, Bool, true, false, List, ◌++◌, length, map, slice_get, slice_index, Some, None, MatchOption, count_by, ⊤}
 use Rattle.std.specs.List.{All, Contains}
 use Rattle.machine_state.specs.State.{State}
 use Rattle.separation_policy.specs.Policy.{PolicyValue}
 use Rattle.breadth_first.specs.System.{System}
 use Rattle.breadth_first.specs.Paths.{IsEarlier}
+use Rattle.fair_rounds.specs.Rounds.{Evades, IsLasso, MustWithin}
 use Rattle.breadth_first.specs.declared.answer.Limits.{Limits}
 use Rattle.breadth_first.specs.declared.answer.Size.{Size}
 use Rattle.breadth_first.specs.declared.answer.Count.{Count}
+use Rattle.breadth_first.specs.declared.answer.Want.{Want}
+use Rattle.breadth_first.specs.declared.answer.Want.TheVariants as wants
+use Rattle.breadth_first.specs.declared.answer.Missed.TheVariants.{Lost, Avoided}
 use Rattle.breadth_first.specs.declared.answer.Explored.{Explored}
 use Rattle.breadth_first.specs.declared.answer.Explored.TheVariants.{Found, Closed, Open}
 use Rattle.questions.specs.Choice.{AreChoices, after, after_choice, choice_at}
-use Rattle.questions.specs.Question.{QuestionValue, choices_of, first_failing, holds, is_count, is_ever, is_never, watch_for}
-use Rattle.questions.specs.Asking.{asking, property_at}
+use Rattle.questions.specs.declared.asks.Asks.{Asks}
+use Rattle.questions.specs.declared.asks.Asks.TheVariants.{Must, MustAfter}
+use Rattle.questions.specs.Question.{PropertyValue, QuestionValue, choices_of, first_failing, first_holds, holds, is_count, is_ever, is_must, is_must_after, is_never, watch_for}
+use Rattle.questions.specs.Asking.{asking, is_want, property_at}
+
+-- where a choice leads, by its number
+abbrev pub next_of : QuestionValue → State → ℕ → State
+next_of question t i = after_choice (watch_for question.properties) t (choice_at (choices_of question) i)
 
 -- what is searched for a question: the states of the abstract machine from this one on, where `same` compares two
 abbrev pub system_of : QuestionValue → PolicyValue → (State → State → Bool) → State → System State
 system_of question policy same s = record {
   start = s;
   choices = length (choices_of question);
-  next = λ t i. after_choice (watch_for question.properties) t (choice_at (choices_of question) i);
+  next = next_of question;
   same = same;
   violated = first_failing question policy;
   tests = length question.properties;
   test = λ n t. holds question policy t n;
+  first = λ n t. first_holds question policy t n;
 }
+
+-- what a property wants of the states that are reached, by its number, where it asks what comes
+abbrev pub want_by : Asks → ℕ → Want
+want_by Must n = wants.Must n
+want_by MustAfter n = wants.MustAfter n
+want_by _ n = wants.Ever n
+
+-- all that properties want, in the order of their lines
+abbrev pub wants_by : List PropertyValue → List Want
+wants_by properties = map (λ n. want_by (property_at properties n).asks n) (asking is_want properties)
+
+-- all that a question wants
+abbrev pub wants_of : QuestionValue → List Want
+wants_of question = wants_by question.properties
 
 -- how far the search goes
 abbrev pub limits_of : QuestionValue → Limits
 limits_of question = record { depth = question.depth; states = question.states }
 
 -- property `n` is there and asks this
-pub record Asks (question : QuestionValue) (asks : Bool) (n : ℕ) : Type 0 where
+pub record IsAsked (question : QuestionValue) (asks : Bool) (n : ℕ) : Type 0 where
   pub there : n < length question.properties
   pub asked : asks ≡ true
 
 -- it is a `never`
 abbrev pub AsksNever : QuestionValue → ℕ → Type 0
-AsksNever question n = Asks question (is_never (property_at question.properties n).asks) n
+AsksNever question n = IsAsked question (is_never (property_at question.properties n).asks) n
 
 -- it is an `ever`
 abbrev pub AsksEver : QuestionValue → ℕ → Type 0
-AsksEver question n = Asks question (is_ever (property_at question.properties n).asks) n
+AsksEver question n = IsAsked question (is_ever (property_at question.properties n).asks) n
+
+-- it is a `must`
+abbrev pub AsksMust : QuestionValue → ℕ → Type 0
+AsksMust question n = IsAsked question (is_must (property_at question.properties n).asks) n
+
+-- it is an `after .. must`
+abbrev pub AsksMustAfter : QuestionValue → ℕ → Type 0
+AsksMustAfter question n = IsAsked question (is_must_after (property_at question.properties n).asks) n
 
 -- no `never` fails in a state
 abbrev pub IsSafe : QuestionValue → PolicyValue → State → Type 0
@@ -80,7 +113,28 @@ module _ (question : QuestionValue) (policy : PolicyValue) (s : State) where
   abbrev pub AllCanCome : Type 0
   AllCanCome = (n : ℕ) → AsksEver question n → (path : List ℕ) → AreOf path → CanCome path n
 
-  -- ---- found and lost
+  -- ---- must
+
+  -- whatever so many rounds of choices from a state on are, they pass one in which all atoms of property `n` hold; the state
+  -- itself counts
+  abbrev pub MustCome : ℕ → ℕ → State → Type 0
+  MustCome rounds n t = MustWithin (next_of question) (λ u. holds question policy u n) (length (choices_of question)) t rounds
+
+  -- the atoms of each `must` come within so many rounds: from the start on, or, whatever the choices, from each state on in
+  -- which its first atoms hold
+  pub record AllMustCome (rounds : ℕ) : Type 0 where
+    pub must : (n : ℕ) → AsksMust question n → MustCome rounds n s
+    pub after : (n : ℕ) → AsksMustAfter question n → (path : List ℕ) → AreOf path
+        → first_holds question policy (come_to path) n ≡ true → MustCome rounds n (come_to path)
+
+  -- what property `n` asks to come does so, where it asks for that
+  pub record IsMet (rounds n : ℕ) : Type 0 where
+    pub ever : AsksEver question n → (path : List ℕ) → AreOf path → CanCome path n
+    pub must : AsksMust question n → MustCome rounds n s
+    pub after : AsksMustAfter question n → (path : List ℕ) → AreOf path
+        → first_holds question policy (come_to path) n ≡ true → MustCome rounds n (come_to path)
+
+  -- ---- found, lost and avoided
 
   -- property `n` is the first `never` that fails in the state after these choices, and none fails after fewer, or after as
   -- many that come earlier in the order of choices
@@ -92,15 +146,38 @@ module _ (question : QuestionValue) (policy : PolicyValue) (s : State) where
     pub shortest : (other : List ℕ) → AreOf other → length other < length path → IsSafe question policy (come_to other)
     pub earliest : (other : List ℕ) → AreOf other → length other ≡ length path → IsEarlier other path → IsSafe question policy (come_to other)
 
-  -- property `n` is the first `ever` whose atoms can't always come to hold: they can't behind these choices, and can behind
-  -- any that are fewer, or as many that come earlier in the order of choices
-  pub record LostAt (n : ℕ) (path : List ℕ) : Type 0 where
+  -- property `n` is the first of those that ask what comes that isn't met, and an `ever`: its atoms can't come to hold behind
+  -- these choices, and can behind any that are fewer, or as many that come earlier in the order of choices
+  pub record LostAt (rounds n : ℕ) (path : List ℕ) : Type 0 where
     pub ever : AsksEver question n
     pub choices : AreOf path
     pub lost : (on : List ℕ) → AreOf on → holds question policy (come_to (path ++ on)) n ≡ false
     pub shortest : (other : List ℕ) → AreOf other → length other < length path → CanCome other n
     pub earliest : (other : List ℕ) → AreOf other → length other ≡ length path → IsEarlier other path → CanCome other n
-    pub first : (m : ℕ) → m < n → AsksEver question m → (other : List ℕ) → AreOf other → CanCome other m
+    pub first : (m : ℕ) → m < n → IsMet rounds m
+
+  -- property `n` asks for its atoms from this state on
+  abbrev pub IsAskedFrom : ℕ → State → Type 0
+  IsAskedFrom n t = (AsksMust question n × (t ≡ s)) ⊎ (AsksMustAfter question n × (first_holds question policy t n ≡ true))
+
+  -- the path goes by a state from which property `n` asks for its atoms, and on to one to which the cycle, a round, leads
+  -- back; from that state on its atoms hold in none that is passed, so any number of rounds can do without them
+  pub record Avoids (n : ℕ) (path cycle : List ℕ) : Type 0 where
+    pub stem : List ℕ
+    pub rest : List ℕ
+    pub parts : path ≡ stem ++ rest
+    pub choices : AreOf stem
+    pub asked : IsAskedFrom n (come_to stem)
+    pub lasso : IsLasso (next_of question) (λ u. holds question policy u n) (length (choices_of question)) (come_to stem) rest cycle
+    pub evades : (most : ℕ) → Evades (next_of question) (λ u. holds question policy u n) (length (choices_of question)) (come_to stem) most
+
+  -- property `n` is the first of those that ask what comes that isn't met, and a `must`: this avoids its atoms, and nothing
+  -- does whose path is shorter, or as long and earlier
+  pub record AvoidedAt (rounds n : ℕ) (path cycle : List ℕ) : Type 0 where
+    pub avoids : Avoids n path cycle
+    pub shortest : (other round : List ℕ) → Avoids n other round → length path ≤ length other
+    pub earliest : (other round : List ℕ) → Avoids n other round → length other ≡ length path → IsEarlier other path → ⊥
+    pub first : (m : ℕ) → m < n → IsMet rounds m
 
   -- ---- states and counts
 
@@ -177,16 +254,22 @@ module _ (question : QuestionValue) (policy : PolicyValue) (s : State) where
     pub left : LeavesOut states size.depth
     pub counted : AreCounted states counts
 
+  -- the number of the property that is this one of those that ask what comes
+  abbrev pub wanted : ℕ → ℕ
+  wanted want = slice_index (asking is_want question.properties) want
+
   -- what an answer says of the states to which the question's choices lead
   abbrev pub Says : Explored → Type 0
   Says (Found n path) = FailsAt n path.items
-  Says (Closed size counts None) = NoneFails × AllCanCome × AllSeen size counts.items
-  Says (Closed size counts (Some lost)) = NoneFails × LostAt (slice_index (asking is_ever question.properties) lost.ever) lost.path.items × AllSeen size counts.items
+  Says (Closed size counts None) = NoneFails × AllCanCome × AllMustCome size.states × AllSeen size counts.items
+  Says (Closed size counts (Some (Lost l))) = NoneFails × LostAt size.states (wanted l.want) l.path.items × AllSeen size counts.items
+  Says (Closed size counts (Some (Avoided a))) = NoneFails × AvoidedAt size.states (wanted a.want) a.path.items a.cycle.items × AllSeen size counts.items
   Says (Open size counts) = NoneFailsWithin size.depth × SomeSeen size counts.items
 
   -- an answer is yes exactly where the question's is, unless a limit ended the search
   abbrev pub IsExact : Explored → Type 0
   IsExact (Found n path) = NoneFails → ⊥
-  IsExact (Closed size counts None) = NoneFails × AllCanCome
-  IsExact (Closed size counts (Some lost)) = AllCanCome → ⊥
+  IsExact (Closed size counts None) = NoneFails × AllCanCome × AllMustCome size.states
+  IsExact (Closed size counts (Some (Lost l))) = AllCanCome → ⊥
+  IsExact (Closed size counts (Some (Avoided a))) = (rounds : ℕ) → AllMustCome rounds → ⊥
   IsExact (Open size counts) = ⊤

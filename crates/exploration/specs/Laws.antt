@@ -11,18 +11,18 @@ use Rattle.breadth_first.specs.Answer.{IsAnswer}
 use Rattle.breadth_first.specs.Told.{told}
 use Rattle.breadth_first.specs.declared.answer.Explored.{Explored}
 use Rattle.questions.specs.Choice.{counted_events}
-use Rattle.questions.specs.Question.{QuestionValue, is_count, is_ever}
+use Rattle.questions.specs.Question.{QuestionValue, is_count}
 use Rattle.questions.specs.Asking.{asking}
-use Rattle.exploration.specs.Explored.{IsExact, IsSafe, NoneFails, Says, come_to, limits_of, system_of}
+use Rattle.exploration.specs.Explored.{IsExact, IsSafe, NoneFails, Says, come_to, limits_of, system_of, wants_of}
 use Rattle.exploration.specs.Shown.{shown_of, told_path}
 
 -- an answer of a search for a question, from a state on, in which states are compared by some equality of states
 pub record IsAnswerTo (question : QuestionValue) (policy : PolicyValue) (s : State) (answer : Explored) : Type 0 where
   pub same : State → State → Bool
   pub decides : IsEquality same
-  pub searched : IsAnswer (system_of question policy same s) (limits_of question) (asking is_ever question.properties) (asking is_count question.properties) answer
+  pub searched : IsAnswer (system_of question policy same s) (limits_of question) (wants_of question) (asking is_count question.properties) answer
 
--- Never, ever, found and lost: what is told is so.
+-- Never, ever, must, found, lost and avoided: what is told is so.
 abbrev pub SaysLaw : Type 0
 SaysLaw = (question : QuestionValue) (policy : PolicyValue) (s : State) (answer : Explored)
     → IsAnswerTo question policy s answer → Says question policy s answer
@@ -32,7 +32,7 @@ abbrev pub ExactLaw : Type 0
 ExactLaw = (question : QuestionValue) (policy : PolicyValue) (s : State) (answer : Explored)
     → IsAnswerTo question policy s answer → IsExact question policy s answer
 
--- One answer: whatever is told of a question is the same, by whichever search.
+-- One answer: whatever is told of a question is the same, by whichever search, but for the cycle by which a `must` is avoided.
 abbrev pub OneAnswerLaw : Type 0
 OneAnswerLaw = (question : QuestionValue) (policy : PolicyValue) (s : State) (a b : Explored)
     → IsAnswerTo question policy s a → IsAnswerTo question policy s b → told a ≡ told b

@@ -1,21 +1,22 @@
 //! The search for a question, from a machine on.
-ghost use Rattle.std.specs.Prelude.{◌≡◌, IfOk, OnOk};
+ghost use Rattle.std.specs.Prelude.{◌≡◌, ◌++◌, IfOk, OnOk};
 ghost use Rattle.std.specs.List.{All};
 ghost use Rattle.object_store.specs.Store.{sizes_of};
 ghost use Rattle.machine_state.specs.State.{state_of};
 ghost use Rattle.questions.specs.Choice.{IsChoiceOf};
 ghost use Rattle.exploration.specs.Laws.{IsAnswerTo};
+ghost use Rattle.exploration.specs.Explored.{want_by, wants_by};
 ghost use Rattle.exploration.specs.Shown.{shown_of, told_path};
 
 use crate::machine_space::asked::{Asked, asked_of};
 use crate::machine_space::begun::{Begun, begun_of};
 use crate::machine_space::limits::limits_of;
 use crate::machine_space::space::MachineSpace;
-use breadth_first::{Explored, Watcher, explore};
+use breadth_first::{Explored, Missed, Want, Watcher, explore};
 use cap_format::OutOfMemory;
 use machine_state::{Machine, Records};
 use map_cache::MapCache;
-use questions::{Asks, Choice, Question, asking, is_indifferent};
+use questions::{Asks, Choice, Property, Question, asking, is_indifferent, wanting};
 use separation_policy::Policy;
 use state_choices::Looks;
 use std::alloc::Global;
@@ -26,7 +27,8 @@ use steps::Steps;
 #[derive(Drop)]
 pub struct Answered {
     pub explored: Explored,
-    /// The choices that lead to the state that the answer tells, each as so many steps or a tick; none where it tells no state.
+    /// The choices that the answer tells, each as so many steps or a tick: those that lead to the state that it tells, and
+    /// behind them, where something is avoided, those of the cycle; none where it tells of nothing.
     pub shown: Vec<Choice>,
 }
 
@@ -68,7 +70,8 @@ fn answer_of<'a, W: Watcher, L: Ledger>(
     ensures range { IfOk result (λ answered. All (IsChoiceOf question.now.sizes.harts) answered.shown.items) }
 {
     let explored = search(alloc, space, question, watcher)?;
-    let shown = space.counted_from_start(question, told_path(&explored))?;
+    let path = told_path(alloc, &explored)?;
+    let shown = space.counted_from_start(question, path.as_slice())?;
     Ok(Answered { explored, shown })
 }
 
@@ -119,23 +122,61 @@ fn search<'a, W: Watcher, L: Ledger>(
     ensures answer { IfOk result (IsAnswerTo space.old.question space.old.policy space.old.start) }
     ensures start { OnOk result (space.new.start ≡ space.old.start) }
 {
-    let evers = asking(alloc, question.properties(), Asks::Ever)?;
+    let wants = wants_of(alloc, question.properties())?;
     let counts = asking(alloc, question.properties(), Asks::Count)?;
     let limits = limits_of(question);
-    let explored = explore(alloc, space, &limits, &evers, &counts, watcher)?;
+    let explored = explore(alloc, space, &limits, &wants, &counts, watcher)?;
     Ok(explored)
 }
 
-/// The choices that an answer tells, each by its number: none where it tells of no state.
-fn told_path(explored: &Explored) -> &[u32]
-    ensures { result.now ≡ told_path explored.now }
+/// What the properties that ask what comes want, in the order of their lines.
+fn wants_of(alloc: Global, properties: &[Property]) -> Result<Vec<Want>, OutOfMemory>
+    ensures { IfOk result (λ wants. wants.items ≡ wants_by properties.now) }
+{
+    let numbers = wanting(alloc, properties)?;
+    let mut wants = Vec::new(alloc);
+    'each: for i in 0..numbers.len() {
+        let number = numbers[i];
+        wants.push(want_by(properties[number].asks(), number))?;
+    }
+    Ok(wants)
+}
+
+/// What the property with this number wants, where it asks what comes.
+fn want_by(asks: Asks, number: usize) -> Want
+    ensures { result ≡ want_by asks number }
+{
+    match asks {
+        Asks::Must => Want::Must(number),
+        Asks::MustAfter => Want::MustAfter(number),
+        _ => Want::Ever(number),
+    }
+}
+
+/// The choices that an answer tells, each by its number: none where it tells of nothing.
+fn told_path(alloc: Global, explored: &Explored) -> Result<Vec<u32>, OutOfMemory>
+    ensures { IfOk result (λ path. path.items ≡ told_path explored.now) }
+{
+    let (path, cycle) = told_parts(explored);
+    let mut told = path.to_vec(alloc)?;
+    told.extend_from_slice(cycle)?;
+    Ok(told)
+}
+
+/// The choices that an answer tells, and behind them those of a cycle, where it tells one.
+fn told_parts(explored: &Explored) -> (&[u32], &[u32])
+    ensures { result.0.now ++ result.1.now ≡ told_path explored.now }
 {
     match explored {
-        Explored::Found { path, .. } => path.as_slice(),
+        Explored::Found { path, .. } => (path.as_slice(), &[]),
         Explored::Closed {
-            lost: Some(lost),
+            missed: Some(Missed::Lost(lost)),
             ..
-        } => lost.path.as_slice(),
-        _ => &[],
+        } => (lost.path.as_slice(), &[]),
+        Explored::Closed {
+            missed: Some(Missed::Avoided(avoided)),
+            ..
+        } => (avoided.path.as_slice(), avoided.cycle.as_slice()),
+        Explored::Closed { missed: None, .. } | Explored::Open { .. } => (&[], &[]),
     }
 }

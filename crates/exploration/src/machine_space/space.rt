@@ -8,7 +8,7 @@ ghost use Rattle.questions.specs.Question.{choices_of, watch_for};
 use breadth_first::Space;
 use cap_format::OutOfMemory;
 use machine_state::Records;
-use questions::{Choice, Question, first_failing, holds, watched_in};
+use questions::{Choice, Question, first_failing, first_holds, holds, watched_in};
 use quiet_finding::Watched;
 use separation_policy::{Closure, Policy, integrity};
 use state_choices::{Looks, chosen, counted};
@@ -156,6 +156,21 @@ impl<'a, L: Ledger> Space for MachineSpace<'a, L> {
             return Err(AllocError);
         };
         Ok(holds(
+            self.question,
+            self.policy,
+            &self.closure,
+            self.indifferent,
+            self.states.machine(),
+            test,
+            self.fetches,
+        ))
+    }
+
+    fn is_first(&mut self, key: &Key, test: usize) -> Result<bool, AllocError> {
+        let Ok(()) = self.states.go(key, self.fetches) else {
+            return Err(AllocError);
+        };
+        Ok(first_holds(
             self.question,
             self.policy,
             &self.closure,
