@@ -14,17 +14,20 @@ use Rattle.separation_policy.specs.Policy.{PolicyValue, PolicyHolds}
 use Rattle.separation_policy.specs.Laws.{IntegrityLaw}
 use Rattle.breadth_first.specs.declared.answer.Explored.{Explored}
 use Rattle.breadth_first.specs.declared.answer.Limits.{Limits}
+use Rattle.breadth_first.specs.declared.answer.Want.{Want}
+use Rattle.breadth_first.specs.Marks.{goal_of}
 use Rattle.breadth_first.specs.Answer.{IsAnswer}
 use Rattle.breadth_first.specs.Kept.{Keeps}
 use Rattle.questions.specs.declared.choice.Choice.{Choice}
 use Rattle.questions.specs.declared.choice.Choice.TheVariants.{Tick as TimerTick}
 use Rattle.questions.specs.declared.asks.Asks.{Asks}
 use Rattle.questions.specs.Choice.{after_choice, choice_at}
-use Rattle.questions.specs.Question.{PropertyValue, QuestionValue, IsIndifferent, choices_of, watch_for, is_count, is_ever}
+use Rattle.questions.specs.Question.{PropertyValue, QuestionValue, IsIndifferent, choices_of, watch_for, is_count}
 use Rattle.questions.specs.Asking.{asking}
-use Rattle.exploration.specs.Explored.{limits_of, system_of}
+use Rattle.exploration.specs.Explored.{limits_of, system_of, wants_by, wants_of}
 use Rattle.exploration.specs.Laws.{IsAnswerTo}
 use Rattle.questions.proofs.Numbers.{asking-there}
+use Rattle.exploration.proofs.Wants.{wants-there}
 use Rattle.state_parts.specs.declared.key.Key.{Key}
 use Rattle.state_parts.specs.Key.{KeyValue}
 use Rattle.state_parts.specs.KeyLaws.{key_in, key_decides}
@@ -118,14 +121,20 @@ asked-there asks qs properties numbers are same =
     subst (λ (ps : List PropertyValue). All (λ n. n < length ps) numbers) same
     (subst (λ (ns : List ℕ). All (λ n. n < length qs) ns) (sym are) (asking-there asks qs))
 
+-- and so are those that want something
+pub wanted-there : (qs properties : List PropertyValue) (wants : List Want) → wants ≡ wants_by qs → qs ≡ properties → All (λ want. goal_of want < length properties) wants
+wanted-there qs properties wants are same =
+    subst (λ (ps : List PropertyValue). All (λ want. goal_of want < length ps) wants) same
+    (subst (λ (ws : List Want). All (λ want. goal_of want < length qs) ws) (sym are) (wants-there qs))
+
 -- an answer of the search is one to the question, from the state that the start means
-pub answered : (question : QuestionValue) (policy : PolicyValue) (s t : State) (limits : Limits) (evers counts : List ℕ) (answer : Explored) → s ≡ t → limits ≡ limits_of question → evers ≡ asking is_ever question.properties → counts ≡ asking is_count question.properties → IsAnswer (searched_of question policy s) limits evers counts answer → IsAnswerTo question policy t answer
-answered question policy s t limits evers counts answer here far first second is = record {
+pub answered : (question : QuestionValue) (policy : PolicyValue) (s t : State) (limits : Limits) (wants : List Want) (counts : List ℕ) (answer : Explored) → s ≡ t → limits ≡ limits_of question → wants ≡ wants_of question → counts ≡ asking is_count question.properties → IsAnswer (searched_of question policy s) limits wants counts answer → IsAnswerTo question policy t answer
+answered question policy s t limits wants counts answer here far first second is = record {
   same = same_state;
   decides = state_decides;
   searched =
-      subst (λ (x : State). IsAnswer (searched_of question policy x) (limits_of question) (asking is_ever question.properties) (asking is_count question.properties) answer) here
-      (subst (λ (l : Limits). IsAnswer (searched_of question policy s) l (asking is_ever question.properties) (asking is_count question.properties) answer) far
-      (subst (λ (ns : List ℕ). IsAnswer (searched_of question policy s) limits ns (asking is_count question.properties) answer) first
-      (subst (λ (ns : List ℕ). IsAnswer (searched_of question policy s) limits evers ns answer) second is)));
+      subst (λ (x : State). IsAnswer (searched_of question policy x) (limits_of question) (wants_of question) (asking is_count question.properties) answer) here
+      (subst (λ (l : Limits). IsAnswer (searched_of question policy s) l (wants_of question) (asking is_count question.properties) answer) far
+      (subst (λ (ws : List Want). IsAnswer (searched_of question policy s) limits ws (asking is_count question.properties) answer) first
+      (subst (λ (ns : List ℕ). IsAnswer (searched_of question policy s) limits wants ns answer) second is)));
 }

@@ -1,14 +1,15 @@
 -- What a question wants of a search, by the numbers of its properties.
-use Rattle.std.proofs.Common.{◌≡◌, ◌∙◌, ℕ, ◌<◌, Bool, true, false, List, length, map, slice_get, slice_index, Option, None, Some, refl, sym, ap}
+use Rattle.std.proofs.Common.{◌≡◌, ◌∙◌, ℕ, ◌<◌, All, Bool, true, false, List, length, map, slice_get, slice_index, Option, None, Some, refl, sym, ap, subst}
 use Rattle.core.specs.Option.{option_map}
 use Rattle.std.proofs.lemmas.Option.{get_or_from_slice_get, none-some, same_Some, slice_get-get_or, slice_get-map}
+use Rattle.breadth_first.specs.Marks.{goal_of}
 use Rattle.breadth_first.specs.declared.answer.Want.{Want}
 use Rattle.questions.specs.declared.asks.Asks.{Asks}
 use Rattle.questions.specs.declared.asks.Asks.TheVariants.{Never, Ever, Must, MustAfter, Count}
 use Rattle.questions.specs.Question.{PropertyValue, QuestionValue, is_ever, is_must, is_must_after}
 use Rattle.questions.specs.Asking.{asking, is_want, property_at}
-use Rattle.questions.proofs.Numbers.{asking-earlier, asking-has}
-use Rattle.exploration.specs.Explored.{want_by, wants_of}
+use Rattle.questions.proofs.Numbers.{asking-earlier, asking-has, asking-there}
+use Rattle.exploration.specs.Explored.{want_by, wants_by, wants_of}
 
 -- ---- what a property asks
 
@@ -34,6 +35,19 @@ must_after-is Must is = absurd (cc (is))
 must_after-is Count is = absurd (cc (is))
 
 -- ---- the list of wants
+
+goal-is : (a : Asks) (n : ℕ) → goal_of (want_by a n) ≡ n
+goal-is Never n = refl
+goal-is Ever n = refl
+goal-is Must n = refl
+goal-is MustAfter n = refl
+goal-is Count n = refl
+
+-- each is of a property that is there
+pub wants-there : (properties : List PropertyValue) → All (λ want. goal_of want < length properties) (wants_by properties)
+wants-there properties = All-map (λ want. goal_of want < length properties) (λ n. want_by (property_at properties n).asks n) (asking is_want properties)
+    (All-weaker (λ n. n < length properties) (λ n. goal_of (want_by (property_at properties n).asks n) < length properties)
+    (λ n within. subst (λ k. k < length properties) (sym (goal-is (property_at properties n).asks n)) within) (asking is_want properties) (asking-there is_want properties))
 
 module _ (question : QuestionValue) where
   abbrev properties : List PropertyValue
