@@ -12,7 +12,8 @@ use Rattle.quiet_runs.specs.RoundLaws.{AlwaysLaw, EvasionLaw, LassoLaw, MustLaw,
 use Rattle.questions.specs.Choice.{AreChoices}
 use Rattle.questions.specs.Question.{QuestionValue, choices_of}
 use Rattle.interleavings.specs.Laws.{EachHartRuns, OnlyRuns}
-use Rattle.interleavings.specs.Rounds.{AlwaysFairLaw, AlwaysStepwiseLaw, EvasionStepwiseLaw, FairStepwiseLaw, LassoStepwiseLaw, MustStepwiseLaw, SeesFor, next_of, steps_chosen}
+use Rattle.interleavings.specs.Rounds.{AlwaysFairLaw, AlwaysStepwiseLaw, EvasionStepwiseLaw, FairStepwiseLaw, LassoStepwiseLaw, MustStepwiseLaw, SeesFor, steps_chosen}
+use Rattle.exploration.specs.Explored.{next_of}
 use Rattle.interleavings.proofs.Paths.{AsRuns, as-runs}
 use Rattle.interleavings.proofs.Rounds.{Runs, always-run, both, count, counted-steps, lasso-run, leads, more, must-run, watch, width}
 

@@ -14,7 +14,8 @@ use Rattle.questions.specs.declared.choice.Choice.TheVariants.{Run, Tick}
 use Rattle.questions.specs.Choice.{choice_at, counted_choice, counted_path}
 use Rattle.questions.specs.Question.{QuestionValue, choices_of, watch_for}
 use Rattle.interleavings.specs.Laws.{EachHartRuns}
-use Rattle.interleavings.specs.Rounds.{AlwaysChoose, MustChoose, RunsOnce, next_of, steps_chosen, steps_of_choice}
+use Rattle.interleavings.specs.Rounds.{AlwaysChoose, MustChoose, RunsOnce, steps_chosen, steps_of_choice}
+use Rattle.exploration.specs.Explored.{next_of}
 use Rattle.interleavings.proofs.Paths.{Chosen, as-choices, chosen-of, chosen-one, runs-one}
 
 module _ (question : QuestionValue) where

@@ -9,14 +9,10 @@ use Rattle.machine_state.specs.State.{State}
 use Rattle.quiet_runs.specs.Runs.{SeesOnly, after_step}
 use Rattle.questions.specs.declared.choice.Choice.{Choice}
 use Rattle.questions.specs.declared.choice.Choice.TheVariants.{Steps, Run, Tick}
-use Rattle.questions.specs.Choice.{after_choice, choice_at, counted_path}
+use Rattle.questions.specs.Choice.{choice_at, counted_path}
 use Rattle.questions.specs.Question.{QuestionValue, choices_of, watch_for}
+use Rattle.exploration.specs.Explored.{next_of}
 use Rattle.interleavings.specs.Laws.{EachHartRuns, OnlyRuns}
-
--- the state after a choice of a question, by its number
-abbrev pub next_of : QuestionValue → State → ℕ → State
-next_of question t i =
-    after_choice (watch_for question.properties) t (choice_at (choices_of question) i)
 
 -- no two of these choices are equal
 abbrev pub AreDifferent : List Choice → Type 0
