@@ -1,6 +1,8 @@
 -- What a question wants of a search, by the numbers of its properties.
-use Rattle.std.proofs.Common.{◌≡◌, ◌∙◌, ℕ, ◌<◌, All, Bool, true, false, List, length, map, slice_get, slice_index, Option, None, Some, refl, sym, ap, subst}
-use Rattle.core.specs.Option.{option_map}
+use Rattle.std.proofs.Common.{◌≡◌, ◌∙◌, ℕ, ◌+◌, ◌<◌, ◌++◌, ◌∷◌, [], All, Bool, true, false, List, length, map, take, get_or, slice_get, slice_index, Option, None, Some, refl, sym, ap, subst}
+use Rattle.std.specs.Option.{option_map}
+use Rattle.std.proofs.lemmas.List.{map-append, take_more}
+use Rattle.std.proofs.lemmas.List.Elements.{All-map, All-weaker}
 use Rattle.std.proofs.lemmas.Option.{get_or_from_slice_get, none-some, same_Some, slice_get-get_or, slice_get-map}
 use Rattle.breadth_first.specs.Marks.{goal_of}
 use Rattle.breadth_first.specs.declared.answer.Want.{Want}
@@ -35,6 +37,12 @@ must_after-is Must is = absurd (cc (is))
 must_after-is Count is = absurd (cc (is))
 
 -- ---- the list of wants
+
+-- a loop makes one thing of each in its turn
+pub mapped-next : {X Y : Type 0} (f : X → Y) (xs : List X) (before now : List Y) (i : ℕ) (x d : X) → i < length xs → x ≡ get_or xs i d → before ≡ map f (take i xs) → now ≡ before ++ f x ∷ []
+    → now ≡ map f (take (i + 1) xs)
+mapped-next f xs before now i x d within at are is =
+    is ∙ ap (λ ys. ys ++ f x ∷ []) are ∙ ap (λ y. map f (take i xs) ++ f y ∷ []) at ∙ sym (map-append f (take i xs) (get_or xs i d ∷ [])) ∙ ap (map f) (sym (take_more xs i d within))
 
 goal-is : (a : Asks) (n : ℕ) → goal_of (want_by a n) ≡ n
 goal-is Never n = refl
@@ -82,7 +90,7 @@ module _ (question : QuestionValue) where
   want-named i w at = by (slice_get numbers i) refl
     where
       by : (o : Option ℕ) → slice_get numbers i ≡ o → (slice_get numbers i ≡ Some (slice_index numbers i)) × (w ≡ want_of_number (slice_index numbers i))
-      by None is = absurd (none-some (sym (slice_get-map want_of_number numbers i ∙ ap (option_map want_of_number) is) ∙ at))
+      by None is = absurd (none-some w (sym (slice_get-map want_of_number numbers i ∙ ap (option_map want_of_number) is) ∙ at))
       by (Some n) is =
           let same : slice_index numbers i ≡ n = get_or_from_slice_get numbers i n 0 is in
           (is ∙ ap Some (sym same), same_Some w (want_of_number n) (sym at ∙ named i n is) ∙ ap want_of_number (sym same))

@@ -1,5 +1,6 @@
 //! The search for a question, from a machine on.
-ghost use Rattle.std.specs.Prelude.{◌≡◌, ◌++◌, IfOk, OnOk};
+ghost use Rattle.std.specs.Prelude.{◌≡◌, ◌<◌, ◌++◌, length, IfOk, OnOk};
+ghost use Rattle.questions.specs.Asking.{property_at};
 ghost use Rattle.std.specs.List.{All};
 ghost use Rattle.object_store.specs.Store.{sizes_of};
 ghost use Rattle.machine_state.specs.State.{state_of};
@@ -136,13 +137,20 @@ fn wants_of(alloc: Global, properties: &[Property]) -> Result<Vec<Want>, OutOfMe
     let numbers = wanting(alloc, properties)?;
     let mut wants = Vec::new(alloc);
     'each: for i in 0..numbers.len() {
-        let number = numbers[i];
-        wants.push(want_by(properties[number].asks(), number))?;
+        wants.push(want_at(properties, numbers[i]))?;
     }
     Ok(wants)
 }
 
 /// What the property with this number wants, where it asks what comes.
+fn want_at(properties: &[Property], number: usize) -> Want
+    requires { number < length properties.now }
+    ensures { result ≡ want_by (property_at properties.now number).asks number }
+{
+    want_by(properties[number].asks(), number)
+}
+
+/// The same of one that asks this.
 fn want_by(asks: Asks, number: usize) -> Want
     ensures { result ≡ want_by asks number }
 {
