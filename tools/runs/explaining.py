@@ -104,7 +104,7 @@ class Explainer(Teller):
         self.say(found.sentence())
         if found.loop:
             self.loop = found.loop_begins()
-            self.say(f"The loop begins with event {self.loop}: the state before it is the last state, too.")
+            self.say(f"The loop begins with event {self.loop}: the run ends in the state before it.")
         names, rows = table_of(self.options.program, found)
         if rows:
             self.say("")

@@ -1,6 +1,8 @@
 """The run that an answer of `explore` tells."""
 import re
 
+from runs.moments import states
+
 REMARK = "# "
 ASKING = ("may", "never", "ever", "must", "after", "count", "domain", "reads", "writes", "halts", "logs", "depth", "states",
           "end")
@@ -9,10 +11,12 @@ CHOICE = re.compile(r"step (\d+) (\d+)|tick (\d+)")
 ANSWER = re.compile(r"(found|lost|avoided) (\d+) depth=(\d+)(?: loop=(\d+))?")
 FORMS = {
     "found": "Line {} fails in the last state of this run{}. Its last {} there, and no fewer to a state in which one fails.",
-    "lost": "Line {} is lost in the last state of this run{}. Its last {} there; from that state nothing leads to one with "
-            "its atoms, and from all that fewer choices lead to something does.",
-    "avoided": "Line {} can be put off for ever{}. Its last {} back to the state in front of them, and no state that they pass "
-               "has its atoms. Each choice of the question is among them, so they can be repeated for ever."}
+    "lost": "Line {} is lost in the last state of this run{}. Its last {} there. No choices lead from that state to one with "
+            "its atoms; from each state that fewer choices reach, some do.",
+    "avoided": "Line {} fails in this run{}. Its last {} {}, so a schedule can repeat {} forever and still make every choice "
+               "again and again. {}"}
+WITHOUT = {"must": "No state of the run has the atoms.",
+           "after": "A state of the run has the atoms of `after`, and from that state on none has those of `must`."}
 
 
 class NoRun(Exception):
@@ -22,10 +26,11 @@ class NoRun(Exception):
 class Found:
     """An answer with the input that it is about: the listing of the run, and what the answer says."""
 
-    def __init__(self, text, text_name, answer, answer_name, turns=1):
+    def __init__(self, text, text_name, answer, answer_name, program=None, turns=1):
         self.word, self.number, self.depth, self.loop, lines = choices_of(answer, answer_name)
         self.head, question, self.setup = parts_of(text, text_name)
-        self.before = len(lines) - self.loop  # lines in front of a loop, of which each choice has a line
+        self.lines = lines
+        self.before = self.lines_before(program, answer_name)
         self.lines = lines[:self.before] + lines[self.before:] * turns
         self.policy = [line.split() for line in question if line.split()[:1] and line.split()[0] in ASKING[6:11]]
         self.line, self.plan = asked(text, self.number) if question else ("", "")
@@ -42,16 +47,32 @@ class Found:
             found.append(found[-1] + events_of(line, harts))
         return found
 
+    def lines_before(self, program, name):
+        """How many lines come before the loop; all where there is none. Where the numbers of choices leave it open, the loop
+        begins with the first line before which the program is in the last state."""
+        counts = counts_before(self.lines, self.depth, self.loop)
+        if len(counts) == 1 or program is None:
+            return counts[0]
+        events = self.events()
+        *before, last = states(program, self.listing, [*(events[count] for count in counts), events[-1]])
+        found = [count for count, state in zip(counts, before) if state.data == last.data]
+        if not found:
+            raise NoRun(f"{name} has no loop: the run comes back to no state in front of one of its lines")
+        return found[0]
+
     def loop_begins(self):
         """The event with which the loop begins; None where there is none."""
         return self.events()[self.before] if self.loop else None
 
     def sentence(self):
         """What the answer says, for a person; with the line of the question in the plan's words, where the input has it."""
-        said = self.plan or self.line
-        choices = self.loop or self.depth
-        return FORMS[self.word].format(self.number, f": {said}" if said else "",
-                                       "choice leads" if choices == 1 else f"{choices} choices lead")
+        said, count = self.plan or self.line, self.loop or self.depth
+        front = self.number, f": {said}" if said else "", "choice leads" if count == 1 else f"{count:,} choices lead"
+        if not self.loop:
+            return FORMS[self.word].format(*front)
+        way = ("back to the state before it and is the only one of the question", "it") if count == 1 else \
+            ("back to the state before them and have each choice of the question among them", "them")
+        return FORMS[self.word].format(*front, *way, WITHOUT.get(self.line.split(" ")[0], WITHOUT["must"]))
 
 
 def asked(text, number):
@@ -87,10 +108,17 @@ def parts_of(text, name):
     return lines[:head], lines[head:behind], lines[behind + 1:]
 
 
-def can_be(lines, depth, loop):
+def can_be(lines, choices):
     """Whether lines can be those of so many choices. Neighbours that are steps of one hart are one line, so a line is that of
-    one choice or of more, and each has an event. Each choice of a loop, and in front of one, has a line."""
-    return len(lines) == depth + loop if loop else len(lines) <= depth <= sum(events_of(line, 1) for line in lines)
+    one choice or of more, and each choice has an event."""
+    return len(lines) <= choices <= sum(events_of(line, 1) for line in lines)
+
+
+def counts_before(lines, depth, loop):
+    """How many of the lines can come before a loop: it begins at a line of its own."""
+    if not loop:
+        return [len(lines)] if can_be(lines, depth) else []
+    return [count for count in range(len(lines)) if can_be(lines[:count], depth) and can_be(lines[count:], loop)]
 
 
 def choices_of(answer, name):
@@ -100,7 +128,7 @@ def choices_of(answer, name):
     if not told or (told[1] == "avoided") != (told[4] is not None):
         raise NoRun(f"{name} tells no run: it {f'says {lines[0][:200]}' if lines else 'is empty'}")
     depth, loop, lines = int(told[3]), int(told[4] or 0), lines[1:]
-    if not all(map(CHOICE.fullmatch, lines)) or not can_be(lines, depth, loop):
+    if not all(map(CHOICE.fullmatch, lines)) or not counts_before(lines, depth, loop):
         raise NoRun(f"{name} is cut, or no answer of `explore`: {told[0]} has a schedule of {depth + loop} "
                     f"choice{'' if depth + loop == 1 else 's'} behind it")
     return told[1], int(told[2]), depth, loop, lines
