@@ -82,7 +82,8 @@ class Made:
                       *(self.comparison() for _ in range(3))]
         asked = [f"{'not ' * self.likely(0.3)}{atom}" for atom in self.by.sample(atoms, 6)]
         return [f"count {asked[0]} or {asked[4]} and {asked[5]}", f"never {asked[1]} and {asked[2]}",
-                f"ever {asked[3]} or {asked[5]}"]
+                f"after {asked[0]} or {asked[2]} must {asked[1]} or {asked[4]}", f"ever {asked[3]} or {asked[5]}",
+                f"must {asked[1]} and {asked[5]} or {asked[3]}"]
 
     def comparison(self):
         return f"{self.by.choice(('same', 'below', 'most', 'less'))} {self.term()} {self.term()}"

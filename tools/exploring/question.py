@@ -5,7 +5,8 @@ from collections import namedtuple
 from exploring.policy import Policy
 from exploring.terms import COMPARISONS, looked_at, terms_of
 
-Line = namedtuple("Line", "number asks groups")
+# `first` are the groups of which one has to hold where a `must` is asked, and None where it is asked at the start.
+Line = namedtuple("Line", "number asks groups first", defaults=[None])
 Atom = namedtuple("Atom", "negated words terms")
 
 # How many words stand behind the first of an atom.
@@ -13,7 +14,7 @@ ATOMS = {"stuck": (0,), "halted": (0,), "running": (1,), "receiving": (1,), "fau
          "reg": (3,), "word": (3,), "holds": (3, 4, 5), "crossing": (0,), "waits": (2,), "accepts": (1,), "asks": (2,)}
 # Kinds of which no object is named.
 ANY = ("range", "sysctl", "kernlog", "schedule")
-ASKS = ("never", "ever", "count")
+ASKS = ("never", "ever", "must", "count")
 
 
 class Wrong(Exception):
@@ -27,7 +28,7 @@ def words_of(line):
 
 
 class Question:
-    """A listing and what is asked of it, from the text of an input. One without the line `end` of a question has none."""
+    """A listing and what is asked of it, from the text of an input."""
 
     def __init__(self, text):
         self.listing, self.setup, self.lines, self.choices = [], [], [], []
@@ -46,8 +47,8 @@ class Question:
             part(number, line, words)
             if words == ["end"] and part != self.take_setup:
                 part = self.take_question if part == self.take_listing else self.take_setup
-        if part == self.take_listing:
-            raise Wrong("the listing has no line `end`")
+        if part != self.take_setup:
+            raise Wrong(f"the {'listing' if part == self.take_listing else 'question'} has no line `end`")
 
     def take_listing(self, _number, line, words):
         self.listing.append(line)
@@ -67,9 +68,12 @@ class Question:
 
     def take_words(self, number, words):
         if words[0] == "may":
-            self.choices.append(choice_of(words[1:]))
+            self.choose(number, choice_of(words[1:]))
         elif words[0] in ASKS:
             self.lines.append(Line(number, words[0], groups_of(words[1:])))
+        elif words[0] == "after":
+            first, goal = parted(words[1:], "must")
+            self.lines.append(Line(number, "must", groups_of(goal), groups_of(first)))
         elif words[0] == "depth":
             self.depth, = map(int, words[1:])
         elif words[0] == "states":
@@ -79,10 +83,15 @@ class Question:
         else:
             raise ValueError
 
+    def choose(self, number, choice):
+        if choice in self.choices:
+            raise Wrong(f"line {number} states a choice that a line before it states")
+        self.choices.append(choice)
+
     @property
     def watched(self):
         """The processes whose pc or registers an atom is about, and the pages of which it is about bytes."""
-        atoms = [atom for line in self.lines for group in line.groups for atom in group]
+        atoms = [atom for line in self.lines for group in line.groups + (line.first or []) for atom in group]
         seen = [looked_at(term) for atom in atoms for term in atom.terms]
         seen += [({int(atom.words[1])}, set()) for atom in atoms if atom.words[0] in ("pc", "reg")]
         seen += [(set(), {int(atom.words[1])}) for atom in atoms if atom.words[0] == "word"]

@@ -2,6 +2,7 @@
 import sys
 import time
 
+from exploring.rounds import Rounds
 from exploring.state import State
 
 SECONDS = 10  # between two lines that say how far it is
@@ -25,9 +26,10 @@ class Search:
 
     def __init__(self, question, places):
         self.question, self.places = question, places
-        self.numbers, self.depths, self.next = {}, [], []
+        self.numbers, self.depths, self.edges = {}, [], []  # an edge is a line of a schedule and the state behind it
         self.tried, self.found = 0, None
         self.holding = {line.number: [] for line in question.lines}  # the states of which its atoms hold
+        self.first = {line.number: [] for line in question.lines if line.first}  # those from which they must come
         self.said = time.monotonic()
 
     def judge(self, text, depth):
@@ -40,6 +42,8 @@ class Search:
                 self.holding[line.number].append(number)
                 if line.asks == "never" and self.found is None:
                     self.found = line.number
+            if line.first and state.holds_any(line.first, self.question.policy):
+                self.first[line.number].append(number)
         return self.found is not None
 
     def open(self, number):
@@ -54,9 +58,9 @@ class Search:
                 self.places.add(number, process, line)
                 if self.judge(text, self.depths[number] + 1):
                     return False
-            reached.append(self.numbers[text])
+            reached.append((line, self.numbers[text]))
         process.close()
-        self.next.append(reached)
+        self.edges.append(reached)
         return True
 
     def say(self, number):
@@ -93,18 +97,30 @@ class Search:
             yield f"count {line.number} states={len(held)}" + (f" depth={self.depths[held[0]]}" if held else "")
 
     def closed(self):
-        """What is told where all states were seen: the first `ever` that fails, and of it the first state."""
-        for line in self.question.asking("ever"):
-            lost = self.lost(self.holding[line.number])
-            if lost is not None:
-                return self.led("lost", line.number, lost)
+        """What is told where all states were seen: the first `ever` or `must` that fails."""
+        for line in self.question.lines:
+            told = {"ever": self.lost_line, "must": self.avoided_line}.get(line.asks, lambda _: None)(line)
+            if told:
+                return told
         return [self.size("holds", self.depths[-1])]
+
+    def lost_line(self, line):
+        lost = self.lost(self.holding[line.number])
+        return None if lost is None else self.led("lost", line.number, lost)
+
+    def avoided_line(self, line):
+        first = set(self.first[line.number]) if line.first else None
+        avoided = Rounds(self.edges).avoided(first, set(self.holding[line.number]))
+        if avoided is None:
+            return None
+        path, loop = avoided
+        return [f"avoided {line.number} depth={len(path)} loop={len(loop)}", *joined(path), *joined(loop)]
 
     def lost(self, held):
         """The first state from which no choices lead to one of these."""
         before = [[] for _ in self.depths]
-        for number, reached in enumerate(self.next):
-            for other in reached:
+        for number, reached in enumerate(self.edges):
+            for _, other in reached:
                 before[other].append(number)
         seen, left = set(held), list(held)
         while left:
