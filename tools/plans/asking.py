@@ -6,7 +6,7 @@ import shlex
 
 import script
 from plans.plan import Plan
-from plans.question import numbered_lines
+from plans.question import PROPERTIES, numbered_lines
 from plans.vain import warnings
 from plans.words import Wrong, complaint
 
@@ -94,7 +94,7 @@ class Asking:
         self.build()
         plan = self.plan = self.read()
         if not plan.domains and not plan.question:
-            raise Ended(f"{self.path} asks nothing: it has no line domain, never, ever or count")
+            raise Ended(f"{self.path} asks nothing: it has no line domain, {', '.join(PROPERTIES[:-1])} or {PROPERTIES[-1]}")
         self.warn()
         if plan.domains:
             self.judge()
@@ -168,7 +168,7 @@ class Asking:
         last = next(words for words in lines if words[0] != "count")
         counts = {int(words[1]): words for words in lines if words[0] == "count"}
         for number, one in self.asked():
-            if one.kind() in ("never", "ever", "count"):
+            if one.kind() in PROPERTIES:
                 say(f"{self.path}, line {one.at}: {one.said}")
                 say(f"    {verdict(one.kind(), number, last, counts.get(number))}")
         if status == BROKEN:
@@ -202,24 +202,33 @@ class Asking:
 def verdict(kind, number, last, count):
     """What an answer says of a line of the question."""
     word, facts = last[0], dict(part.split("=") for part in last[1:] if "=" in part)
-    if word in ("found", "lost") and int(last[1]) == number:
-        choices = times(facts["depth"], "choice") + (" leads" if facts["depth"] == "1" else " lead")
-        if word == "found":
-            return f"doesn't hold: {choices} to a state where it fails, and no fewer"
-        return f"doesn't hold: {choices} to a state from which it can't come to that, and no fewer"
+    failing = int(last[1]) if word in FAILED else None
+    if failing == number:
+        leads = times(facts["depth"], "choice") + (" leads" if facts["depth"] == "1" else " lead")
+        return f"doesn't hold: {leads} {FAILED[word].format(facts.get('loop'))}"
     if kind == "count":
         return counted(count)
     if word == "found":
         return "isn't judged: the search ended at what was found"
-    if word == "lost":
-        return "holds in all states" if kind == "never" else "isn't judged, or lost in a state that is farther away"
+    if word == "open" and kind != "never":
+        return "isn't judged: a limit ended the search"
+    if failing is not None:
+        return "holds in all states" if kind == "never" else HOLDS_TOO[kind] if number < failing else \
+            "isn't judged: a line before it doesn't hold"
     states = times(facts["states"], "state")
-    if word == "holds":
-        return f"holds in all {states}" if kind == "never" else f"holds: it can come to that from each of the {states}"
-    if kind == "never":
+    if word == "open":
         return (f"holds in the {states} that were seen, all those within {times(facts['depth'], 'choice')} among them; a limit "
                 "ended the search")
-    return "isn't judged: a limit ended the search"
+    return {"never": f"holds in all {states}", "ever": f"holds: it can come to that from each of the {states}"}.get(
+        kind, HOLDS_TOO["must"])
+
+
+# What is said where the line fails, and where it holds and the number of states isn't there.
+FAILED = {"found": "to a state where it fails, and no fewer",
+          "lost": "to a state from which it can't come to that, and no fewer",
+          "avoided": "to a loop of {} that has every choice of the question and can be repeated forever without it"}
+HOLDS_TOO = {"ever": "holds: it can come to that from each state",
+             **dict.fromkeys(("must", "after"), "holds: it comes whenever every choice is made again and again")}
 
 
 def counted(words):

@@ -185,8 +185,9 @@ def groups_of(tree, negated):
     return found
 
 
-def line_of(kind, groups):
-    """The line for `explore`."""
-    told = f"{kind} " + " or ".join(" and ".join("not " * negated + atom.told for negated, atom in group) for group in groups)
+def line_of(*parts):
+    """The line for `explore`, of words with the groups behind each."""
+    told = " ".join(f"{word} " + " or ".join(" and ".join("not " * negated + atom.told for negated, atom in group)
+                                             for group in groups) for word, groups in parts)
     need(len(told) <= MOST_LINE, f"for `explore` the line has {len(told)} bytes, and at most {MOST_LINE}")
     return told

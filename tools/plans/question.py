@@ -8,17 +8,19 @@ from plans.policy import named_lines
 from plans.words import AREA, PAGE, TOP, Wrong, need, number, page_address
 from run_page.symbols import FUNCTION, entries_of
 
-ASKING = ("may", "never", "ever", "count", "depth", "states")
+PROPERTIES = ("never", "ever", "must", "after", "count")
+ASKING = ("may", *PROPERTIES, "depth", "states")
+NOTHING_ASKED = "the plan has no line `never`, `ever`, `must`, `after` or `count`"
 FAULTS = ("InvalidDataReference", "InvalidCapReference", "DataAccessTypeError", "CapAccessTypeError", "AccessViolation",
           "MalformedSpace", "NoSchedule", "MalformedSyscall", "BadAlign", "BadOpcode", "Breakpoint")
 
 
 class Asked:
     """A line of the question: where it stands in the plan, its words there, the line for `explore`, and its atoms in groups
-    where it has some."""
+    where it has some; those of a line `after` that come before its `must` by themselves."""
 
-    def __init__(self, at, said, told, groups=()):
-        self.at, self.said, self.told, self.groups = at, said, told, groups
+    def __init__(self, at, said, told, groups=(), first=()):
+        self.at, self.said, self.told, self.groups, self.first = at, said, told, groups, first
 
     def kind(self):
         return self.told.split()[0]
@@ -27,8 +29,7 @@ class Asked:
 def numbered_lines(plan, name):
     """The lines of a plan's question, each behind the plan's own words, and what they are of the plan; with the policy
     where it asks for crossings."""
-    need(any(one.kind() in ("never", "ever", "count") for one in plan.question),
-         "the plan has no line `never`, `ever` or `count`")
+    need(any(one.kind() in PROPERTIES for one in plan.question), NOTHING_ASKED)
     yield remark(f"The question of {name}, made by tools/listing-of."), None
     if any("crossing" in one.told.split() for one in plan.question):
         yield from ((line, None) for line in named_lines(plan))
@@ -49,14 +50,23 @@ def asked(plan, words):
     """A line of the question."""
     said = " ".join(words)
     if words[0] == "may":
-        return Asked(plan.at, said, choice(plan, words[1:]))
+        told = choice(plan, words[1:])
+        other = next((one for one in plan.question if one.told == told), None)
+        need(other is None, f"line {other and other.at} has the same choice")
+        return Asked(plan.at, said, told)
     if words[0] in ("depth", "states"):
         need(len(words) == 2, f"{words[0]} N")
+        plan.once(words[0])
         most = number(words[1], f"the number behind {words[0]}", TOP - 1)
         need(most > 0 or words[0] == "depth", "at least one state is kept")
         return Asked(plan.at, said, f"{words[0]} {most}")
+    if words[0] == "after":
+        need(words.count("must") == 1, "after ASKED must ASKED")
+        at = words.index("must")
+        first, groups = (Line(part, Names(plan)).groups() for part in (words[:at], words[at:]))
+        return Asked(plan.at, said, line_of(("after", first), ("must", groups)), groups, first)
     groups = Line(words, Names(plan)).groups()
-    return Asked(plan.at, said, line_of(words[0], groups), groups)
+    return Asked(plan.at, said, line_of((words[0], groups)), groups)
 
 
 def choice(plan, words):
@@ -69,7 +79,7 @@ def choice(plan, words):
         return f"may {words[0]} {hart}"
     times = number(words[2], "the steps of a choice", 1_000_000)
     need(times > 0, "a choice has at least one step")
-    return f"may step {hart} {times}"
+    return f"may step {hart}" + (f" {times}" if times > 1 else "")
 
 
 # -- atoms

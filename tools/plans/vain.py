@@ -1,4 +1,4 @@
-"""Lines `never` of a plan that speak of what no program can come to, so that they say nothing."""
+"""Lines `never` and `after` of a plan about what no program can come to, so that they say nothing."""
 from plans.question import place_of_pc
 from plans.reach import EBREAK, JALR, LOAD, STORE, Code, field, is_instruction
 
@@ -9,7 +9,8 @@ def warnings(plan):
     """The lines of a plan's question that say nothing, each with the atom that can't hold, and why it can't."""
     codes = {}
     for one in plan.question:
-        for negated, atom in (pair for group in one.groups for pair in group if one.kind() == "never"):
+        about = {"never": one.groups, "after": one.first}.get(one.kind(), ())
+        for negated, atom in (pair for group in about for pair in group):
             why = None if negated or atom.words[0] not in CAUSES or not atom.told.startswith(atom.words[0]) else \
                 cause(plan, atom.words, codes)
             if why:

@@ -7,7 +7,7 @@ from rules.words import Refused, decimal_of, end_of, hexadecimal_of
 
 ATOMS_FORM = "ATOM [and ATOM ..] [or ATOM ..]"
 FORMS = {"may": "may step H [N], may run H, may tick H", "never": f"never {ATOMS_FORM}", "ever": f"ever {ATOMS_FORM}",
-         "count": f"count {ATOMS_FORM}", "domain": "domain NAME KIND N [M]", "reads": "reads A B", "writes": "writes A B",
+         "must": f"must {ATOMS_FORM}", "after": f"after {ATOMS_FORM} must {ATOMS_FORM}", "count": f"count {ATOMS_FORM}", "domain": "domain NAME KIND N [M]", "reads": "reads A B", "writes": "writes A B",
          "halts": "halts A", "logs": "logs A", "depth": "depth N",
          "states": "states N", "end": "end"}
 CHOICES = {"step": "may step H [N]", "run": "may run H", "tick": "may tick H"}
@@ -36,16 +36,18 @@ class Question:
     """Judges the lines of a question, with those of its policy."""
 
     def __init__(self, terms):
-        self.terms, self.policy = terms, Policy(terms)
+        self.terms, self.policy, self.choices = terms, Policy(terms), {}
 
     def line(self, words, number):
         """Judges a line; whether the question ends here."""
         if words[0] in ("domain", "reads", "writes", "halts", "logs"):
             self.policy.line(words, number)
         elif words[0] == "may":
-            self.choice(words)
-        elif words[0] in ("never", "ever", "count"):
-            self.atoms(words)
+            self.choice(words, number)
+        elif words[0] in ("never", "ever", "must", "count"):
+            self.atoms(words[1:], words)
+        elif words[0] == "after":
+            self.must_after(words)
         elif words[0] in ("depth", "states"):
             count_words(words, 2, 2, FORMS[words[0]])
             if decimal_of(words[1]) == 0 and words[0] == "states":
@@ -64,7 +66,7 @@ class Question:
                            "a schedule stands behind a line `end` of the question")
         return unknown("UnknownQuestion", word, FORMS, "a question")
 
-    def choice(self, words):
+    def choice(self, words, number):
         word = words[1] if words[1:] else end_of(words)
         if word not in CHOICES:
             raise Refused("UnknownEvent", word, "step, run or tick", "a choice has steps of one hart" if word == "round" else
@@ -73,12 +75,25 @@ class Question:
         hart(words[2], self.terms)
         if words[3:]:
             times(words[3])
+        choice = word, int(words[2]), int(words[3]) if words[3:] else 1
+        if choice in self.choices:
+            raise Refused("Taken", word, "another choice than those of the lines before",
+                          f"line {self.choices[choice]} has the same")
+        self.choices[choice] = number
 
-    def atoms(self, words):
-        """The atoms behind the first word, from left to right."""
+    def must_after(self, words):
+        """The atoms between `after` and `must`, and those behind."""
+        at = next((at for at, word in enumerate(words) if word == "must"), None)
+        self.atoms(words[1:at], words, must=at and words[at])
+        if at is None:
+            raise Refused("WrongWords", end_of(words), FORMS["after"], "there is no `must`")
+        self.atoms(words[at + 1:], words)
+
+    def atoms(self, those, words, must=None):
+        """Atoms of a line, from left to right, with the `must` behind them where there is one."""
         group = []
-        for word in [*words[1:], None]:
-            if word is not None and word not in ("and", "or"):
+        for word in [*those, must]:
+            if word is not None and word not in ("and", "or", "must"):
                 group.append(word)
                 continue
             self.atom(group, word or end_of(words))
