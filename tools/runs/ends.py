@@ -1,6 +1,7 @@
 """How each program stands in the last state, in a line."""
 ENDINGS = ("_start", "_exit")  # where a program's last breakpoint is: examples/lib/start.s, and libc.c
 ABORTED = 128 + 6
+CALL = 4  # bytes of a system call: the pc of a process that waits for a message is behind it
 
 
 def signed(word):
@@ -62,5 +63,5 @@ def ends(programs, state):
     for process in sorted(state.processes):
         told = standing(programs, state, process)
         if not told.startswith("ended"):
-            told += f"; at {programs.place(process, state.pc(process))}"
+            told += f"; at {programs.place(process, state.pc(process) - CALL * (state.processes[process][4] == 'waiting'))}"
         yield process, told
