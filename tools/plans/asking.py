@@ -121,9 +121,9 @@ class Asking:
         return plan
 
     def warn(self):
-        for one, atom, why in warnings(self.plan):
+        for one, sentence in warnings(self.plan):
             say(f"{self.path}, line {one.at}: {one.said}")
-            say(f"    warning: this says nothing: `{atom}` can't be, since {why}")
+            say(f"    warning: {sentence}")
 
     def lines_of(self, option, ending):
         """Writes what tools/listing-of makes of the plan by an option."""

@@ -18,28 +18,54 @@ MASK = 0xffffffff
 
 
 class Atom:
-    """An atom: its line for `explore`, and its words in the plan."""
+    """An atom: its line for `explore`, and its words in the plan; of a comparison that is true or false in every state also
+    which of the two, and why."""
 
-    def __init__(self, told, words):
-        self.told, self.words = told, words
+    def __init__(self, told, words, is_true=None, why=""):
+        self.told, self.words, self.is_true, self.why = told, words, is_true, why
 
 
 class Term:
-    """A term: its words for `explore`, how deep terms stand in one another there, and its value where it is a number."""
+    """A term: its words for `explore`, how deep terms stand in one another there, its value where it is a number, and the
+    largest that it can have."""
 
-    def __init__(self, told, depth=1, value=None, narrow=""):
-        self.told, self.depth, self.value, self.narrow = told, depth, value, narrow
+    def __init__(self, told, depth=1, value=None, narrow="", most=MASK):
+        self.told, self.depth, self.value, self.narrow, self.most = told, depth, value, narrow, most
+
+    @property
+    def least(self):
+        return self.value or 0
 
 
 def number(value):
-    return Term(f"number {value & MASK:08x}", value=value & MASK)
+    return Term(f"number {value & MASK:08x}", value=value & MASK, most=value & MASK)
+
+
+def always(word, one, two):
+    """Whether a comparison without a sign is true in every state (True), or false (False); None where that can't be seen."""
+    if word == "same":
+        return False if one.least > two.most or two.least > one.most else None
+    if word == "below":
+        return True if one.most < two.least else False if one.least >= two.most else None
+    if word == "most":
+        return True if one.most <= two.least else False if one.least > two.most else None
+    return None
+
+
+def why_always(left, right):
+    """The reason, of the side that is no number."""
+    side, other, name = (left, right, "left") if left.value is None else (right, left, "right")
+    sign = f": {side.narrow} is a number of less than four bytes, which has no sign here" if side.narrow and other.least > MASK // 2 \
+        else ""
+    return f"its {name} side is from 0 to {side.most:#x}{sign}"
 
 
 def joined(operator, one, two):
     """Two terms as one."""
     if one.value is not None and two.value is not None:
         return number({"+": one.value + two.value, "-": one.value - two.value, "&": one.value & two.value}[operator])
-    return Term(f"{OPERATORS[operator]} {one.told} {two.told}", 1 + max(one.depth, two.depth), narrow=one.narrow or two.narrow)
+    most = {"+": min(one.most + two.most, MASK), "-": MASK, "&": min(one.most, two.most)}[operator]
+    return Term(f"{OPERATORS[operator]} {one.told} {two.told}", 1 + max(one.depth, two.depth), None, one.narrow or two.narrow, most)
 
 
 class Line:
@@ -123,7 +149,9 @@ class Line:
         narrow = left.narrow or right.narrow
         need(word != "less" or not narrow, f"{narrow} is a signed number of less than four bytes, which has no sign here")
         one, two = (right, left) if changed else (left, right)
-        made = Atom(f"{word} {one.told} {two.told}", self.tokens[begin:self.at])
+        is_true = None if left.value is not None and right.value is not None else always(word, one, two)
+        made = Atom(f"{word} {one.told} {two.told}", self.tokens[begin:self.at], None if is_true is None else is_true != is_negated,
+                    why_always(left, right))
         return ("not", made) if is_negated else made
 
     def stop(self):

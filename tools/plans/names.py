@@ -90,7 +90,8 @@ def of_page(page, offset, size, signed, name):
     need(size in WIDTHS, f"{name} has {size} bytes: a number has 1, 2 or 4")
     need(offset + size <= PAGE, f"{name} stands behind the end of the page")
     need(offset % size == 0, f"{name} stands at {offset:03x}, which is no multiple of {size}")
-    return Term(f"{WIDTHS[size]} {page} {offset:03x}", narrow=name if signed and size < 4 else "")
+    return Term(f"{WIDTHS[size]} {page} {offset:03x}", narrow=name if signed and size < 4 else "",
+                most=(1 << 8 * size) - 1)
 
 
 def of_program(files, made, path):

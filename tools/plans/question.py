@@ -1,12 +1,12 @@
 """What a plan asks of all runs of its system, as lines for `explore`: names are replaced by numbers."""
 import struct
 
-from plans import names
+from plans import elf, names
 from plans.expression import Line, Term, line_of
 from plans.listing import remark
 from plans.policy import named_lines
 from plans.words import AREA, PAGE, TOP, Wrong, need, number, page_address
-from run_page.symbols import FUNCTION, entries_of
+from run_page.symbols import FUNCTION, NOTHING, entries_of
 
 PROPERTIES = ("never", "ever", "must", "after", "count")
 ASKING = ("may", *PROPERTIES, "depth", "states")
@@ -148,12 +148,18 @@ def place_of_pc(plan, words):
 
 
 def function(path, name):
-    """The first and the last instruction of a function of an ELF file."""
+    """The first and the last instruction of a function of an ELF file. A symbol of assembler has no length, and goes on to
+    the next one."""
+    code = [segment for segment in elf.read_program(path)[1] if segment.executable]
     try:
-        found = {(value, length) for value, length, form, told in entries_of(path.read_bytes())
-                 if form == FUNCTION and told == name}
+        entries = [(value, length, form) for value, length, form, told in entries_of(path.read_bytes()) if told == name]
+        begins = [value for value, _, form, _ in entries_of(path.read_bytes()) if form in (FUNCTION, NOTHING)]
     except (ValueError, IndexError, struct.error):
         raise Wrong(f"{path} is no ELF file that can be read")
+    found = {(value, length) for value, length, form in entries if form == FUNCTION}
+    ends = [*begins, *(one.end() for one in code)]
+    found |= {(value, min(end for end in ends if end > value) - value) for value, _, form in entries
+              if form == NOTHING and any(one.address <= value < one.end() for one in code)}
     need(found, f"{path} has no function {name}: one that the compiler put into others has no place of its own")
     need(len(found) == 1, f"{path} has {len(found)} functions {name}")
     (value, length), = found

@@ -1,4 +1,5 @@
-"""Lines `never` and `after` of a plan about what no program can come to, so that they say nothing."""
+"""Lines of a plan's question that say nothing: a `never` or an `after` about what no program can do, and comparisons that are
+true in every state, or in none."""
 from plans.question import place_of_pc
 from plans.reach import EBREAK, JALR, LOAD, STORE, Code, field, is_instruction
 
@@ -6,15 +7,18 @@ INVOKE, LOADCAP, STORECAP = 0, 1, 2
 
 
 def warnings(plan):
-    """The lines of a plan's question that say nothing, each with the atom that can't hold, and why it can't."""
+    """The lines of a plan's question that say nothing, each with a sentence that says why."""
     codes = {}
     for one in plan.question:
+        for _, atom in (pair for group in [*one.first, *one.groups] for pair in group):
+            if atom.is_true is not None:
+                yield one, f"`{' '.join(atom.words)}` is {'always' if atom.is_true else 'never'} true, since {atom.why}"
         about = {"never": one.groups, "after": one.first}.get(one.kind(), ())
         for negated, atom in (pair for group in about for pair in group):
             why = None if negated or atom.words[0] not in CAUSES or not atom.told.startswith(atom.words[0]) else \
                 cause(plan, atom.words, codes)
             if why:
-                yield one, " ".join(atom.words), why
+                yield one, f"this says nothing: `{' '.join(atom.words)}` can't be, since {why}"
 
 
 def cause(plan, words, codes):
