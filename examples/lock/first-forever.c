@@ -1,0 +1,2 @@
+#define ME 0
+#include "forever.h"

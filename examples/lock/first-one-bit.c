@@ -1,0 +1,3 @@
+#define ME 0
+#define ONE_BIT
+#include "forever.h"

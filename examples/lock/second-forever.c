@@ -1,0 +1,2 @@
+#define ME 1
+#include "forever.h"
