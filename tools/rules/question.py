@@ -7,9 +7,9 @@ from rules.words import Refused, decimal_of, end_of, hexadecimal_of
 
 ATOMS_FORM = "ATOM [and ATOM ..] [or ATOM ..]"
 FORMS = {"may": "may step H [N], may run H, may tick H", "never": f"never {ATOMS_FORM}", "ever": f"ever {ATOMS_FORM}",
-         "must": f"must {ATOMS_FORM}", "after": f"after {ATOMS_FORM} must {ATOMS_FORM}", "count": f"count {ATOMS_FORM}", "domain": "domain NAME KIND N [M]", "reads": "reads A B", "writes": "writes A B",
-         "halts": "halts A", "logs": "logs A", "depth": "depth N",
-         "states": "states N", "end": "end"}
+         "must": f"must {ATOMS_FORM}", "after": f"after {ATOMS_FORM} must {ATOMS_FORM}", "count": f"count {ATOMS_FORM}",
+         "domain": "domain NAME KIND N [M]", "reads": "reads A B", "writes": "writes A B", "halts": "halts A",
+         "logs": "logs A", "depth": "depth N", "states": "states N", "end": "end"}
 CHOICES = {"step": "may step H [N]", "run": "may run H", "tick": "may tick H"}
 # Each atom with its form, and with the least and the largest number of its words.
 ATOMS = {"stuck": ("stuck", 1, 1), "halted": ("halted", 1, 1), "crossing": ("crossing", 1, 1),
