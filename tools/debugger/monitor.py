@@ -15,7 +15,7 @@ monitor queues          harts, ready queues, and who sleeps on whom
 monitor messages        the last ten messages, with faults that were heard
 monitor why             who waits for whom, and why the last fault came
 monitor walk ADDRESS    how the selected process gets to an address
-monitor found           what the answer of `explore` says whose run this is
+monitor found           with --found: what the answer of `explore` says, and where its choices and its loop begin
 monitor process [NAME]  breakpoints count for this process alone; with `all` for each"""
 
 

@@ -15,6 +15,12 @@ MOST_SHOWN = 40  # lines of a run that are told
 CUT = "sed '/^end *$/q'"  # a listing without its schedule
 SETUP = "sed '1,/^end *$/d'"  # what sets the system up, behind a question
 FOUND = "sed -n '/^step /p; /^tick /p'"  # the schedule of an answer
+# What is said where the line fails, and where it holds and the number of states isn't there.
+FAILED = {"found": "to a state where it fails, and no fewer",
+          "lost": "to a state from which it can't come to that, and no fewer",
+          "avoided": "to a loop of {}; it has every choice of the question, and that never comes in it"}
+HOLDS_TOO = {"ever": "holds: it can come to that from each state",
+             **dict.fromkeys(("must", "after"), "holds: it comes whenever every choice is made again and again")}
 
 
 def graver(one, other):
@@ -205,7 +211,7 @@ def verdict(kind, number, last, count):
     failing = int(last[1]) if word in FAILED else None
     if failing == number:
         leads = times(facts["depth"], "choice") + (" leads" if facts["depth"] == "1" else " lead")
-        return f"doesn't hold: {leads} {FAILED[word].format(facts.get('loop'))}"
+        return f"doesn't hold: {leads} {FAILED[word].format(times(facts.get('loop', 0), 'choice'))}"
     if kind == "count":
         return counted(count)
     if word == "found":
@@ -221,14 +227,6 @@ def verdict(kind, number, last, count):
                 "ended the search")
     return {"never": f"holds in all {states}", "ever": f"holds: it can come to that from each of the {states}"}.get(
         kind, HOLDS_TOO["must"])
-
-
-# What is said where the line fails, and where it holds and the number of states isn't there.
-FAILED = {"found": "to a state where it fails, and no fewer",
-          "lost": "to a state from which it can't come to that, and no fewer",
-          "avoided": "to a loop of {} that has every choice of the question and can be repeated forever without it"}
-HOLDS_TOO = {"ever": "holds: it can come to that from each state",
-             **dict.fromkeys(("must", "after"), "holds: it comes whenever every choice is made again and again")}
 
 
 def counted(words):

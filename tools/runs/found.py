@@ -123,7 +123,7 @@ def counts_before(lines, depth, loop):
 
 def choices_of(answer, name):
     """The word of an answer, the number of its line, how many choices it tells, how many more are a loop, and its lines."""
-    lines = [line for line in answer.splitlines() if line.strip() and not line.startswith(("count ", "must "))]
+    lines = [line for line in answer.splitlines() if line.strip() and not line.startswith("count ")]
     told = ANSWER.fullmatch(lines[0] if lines else "")
     if not told or (told[1] == "avoided") != (told[4] is not None):
         raise NoRun(f"{name} tells no run: it {f'says {lines[0][:200]}' if lines else 'is empty'}")
