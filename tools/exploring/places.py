@@ -8,7 +8,7 @@ import socket
 import subprocess
 import tempfile
 
-from debugger.places import Process, Trouble, compile_places, place_of_state
+from debugger.places import UNPROVED, Process, Trouble, compile_places, place_of_state
 from exploring.question import Wrong
 from exploring.quiet import MOST, is_quiet
 
@@ -32,7 +32,7 @@ class Places:
     def begin(self, text):
         self.child = subprocess.Popen(
             [self.program, "trace"], stdin=subprocess.DEVNULL, stdout=subprocess.DEVNULL,
-            env={**os.environ, "LD_PRELOAD": f"{self.room.name}/places.so", "COYOTOS_PLACES": f"{self.room.name}/line"})
+            env={**os.environ, **UNPROVED, "LD_PRELOAD": f"{self.room.name}/places.so", "COYOTOS_PLACES": f"{self.room.name}/line"})
         self.first = Process(self, 0)
         self.first.socket.settimeout(WAIT)
         self.first.feed(text)
