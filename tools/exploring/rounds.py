@@ -30,20 +30,24 @@ class Rounds:
         return path[::-1], self.loop(end[0], knots[end[0]])
 
     def ways(self, first, goal):
-        """Breadth first, each state by whether it has to come from there: the pair before it, and the line between. Where it
-        has to come, only states without it follow."""
+        """Breadth first, and by the order of choices, each state by whether it has to come from there: the pair before it, and
+        the line between. Where it has to come, only states without it follow. Pairs that the same choices lead to go on
+        together."""
         before = {(0, False): None} if first is not None else {}
         if (first is None or 0 in first) and 0 not in goal:
             before[0, True] = None
-        left = deque(before)
+        left = deque([list(before)] if before else [])
         while left:
-            node = left.popleft()
-            for line, state in self.edges[node[0]]:
-                has_to = (node[1] or state in first) and state not in goal
-                for new in [] if node[1] else [(state, False)], [(state, True)] if has_to else []:
-                    fresh = [one for one in new if one not in before]
-                    before.update((one, (node, line)) for one in fresh)
-                    left.extend(fresh)
+            pairs = left.popleft()
+            for line, state in self.edges[pairs[0][0]]:
+                fresh = []
+                for pair in pairs:
+                    has_to = (pair[1] or state in first) and state not in goal
+                    new = [(state, False)] * (not pair[1]) + [(state, True)] * has_to
+                    fresh += [one for one in new if one not in before]
+                    before.update((one, (pair, line)) for one in new if one not in before)
+                if fresh:
+                    left.append(fresh)
         return before
 
     # -- components
