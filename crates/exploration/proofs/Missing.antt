@@ -19,7 +19,7 @@ use Rattle.questions.specs.declared.asks.Asks.TheVariants.{Never, Ever, Must, Mu
 use Rattle.questions.specs.Question.{QuestionValue, choices_of, first_holds, holds, is_ever, is_must, is_must_after}
 use Rattle.questions.specs.Asking.{asking, is_want, property_at}
 use Rattle.questions.proofs.Numbers.{asking-is}
-use Rattle.exploration.specs.Explored.{AllCanCome, AllMustCome, AvoidedAt, Avoids, CanCome, IsAskedFrom, IsMet, LostAt, MustCome, come_to, next_of, system_of, want_by, wanted, wants_of}
+use Rattle.exploration.specs.Explored.{AllCanCome, AllMustCome, AvoidedAt, Avoids, CanCome, IsAskedFrom, IsMet, LostAt, MustCome, come_to, next_state, system_of, want_by, wanted, wants_of}
 use Rattle.exploration.proofs.Runs.{after-is, after-on}
 use Rattle.exploration.proofs.Wants.{ever-is, must-is, must_after-is, want-earlier, want-named, want-there}
 
@@ -131,8 +131,8 @@ module _ (question : QuestionValue) (policy : PolicyValue) (same : State → Sta
       parts = e.parts;
       choices = e.choices;
       asked = asked (come_to question policy s e.stem) (ap first (sym (after-is question policy same s s e.stem)) ∙ e.begins);
-      lasso = subst (λ t. IsLasso (next_of question) (λ u. holds question policy u n) (length (choices_of question)) t e.rest cycle) (after-is question policy same s s e.stem) e.lasso;
-      evades = λ most. subst (λ t. Evades (next_of question) (λ u. holds question policy u n) (length (choices_of question)) t most) (after-is question policy same s s e.stem) (e.evades most);
+      lasso = subst (λ t. IsLasso (next_state question) (λ u. holds question policy u n) (length (choices_of question)) t e.rest cycle) (after-is question policy same s s e.stem) e.lasso;
+      evades = λ most. subst (λ t. Evades (next_state question) (λ u. holds question policy u n) (length (choices_of question)) t most) (after-is question policy same s s e.stem) (e.evades most);
     }
 
     evades : ((t : State) → IsAskedFrom question policy s n t → first t ≡ true) → (path cycle : List ℕ) → Avoids question policy s n path cycle → IsEvasion g.next (g.test n) g.choices first s path cycle
@@ -142,8 +142,8 @@ module _ (question : QuestionValue) (policy : PolicyValue) (same : State → Sta
       parts = a.parts;
       choices = a.choices;
       begins = ap first (after-is question policy same s s a.stem) ∙ begins (come_to question policy s a.stem) a.asked;
-      lasso = subst (λ t. IsLasso (next_of question) (λ u. holds question policy u n) (length (choices_of question)) t a.rest cycle) (sym (after-is question policy same s s a.stem)) a.lasso;
-      evades = λ most. subst (λ t. Evades (next_of question) (λ u. holds question policy u n) (length (choices_of question)) t most) (sym (after-is question policy same s s a.stem)) (a.evades most);
+      lasso = subst (λ t. IsLasso (next_state question) (λ u. holds question policy u n) (length (choices_of question)) t a.rest cycle) (sym (after-is question policy same s s a.stem)) a.lasso;
+      evades = λ most. subst (λ t. Evades (next_state question) (λ u. holds question policy u n) (length (choices_of question)) t most) (sym (after-is question policy same s s a.stem)) (a.evades most);
     }
 
   pub avoided-at : (states : List State) (most : ℕ) (a : Avoidance) → IsFirstMissed g states most (wants_of question) (Avoided a) → AvoidedAt question policy s most (wanted question policy s a.want) a.path.items a.cycle.items

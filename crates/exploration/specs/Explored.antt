@@ -23,15 +23,15 @@ use Rattle.questions.specs.Question.{PropertyValue, QuestionValue, choices_of, f
 use Rattle.questions.specs.Asking.{asking, is_want, property_at}
 
 -- where a choice leads, by its number
-abbrev pub next_of : QuestionValue → State → ℕ → State
-next_of question t i = after_choice (watch_for question.properties) t (choice_at (choices_of question) i)
+abbrev pub next_state : QuestionValue → State → ℕ → State
+next_state question t i = after_choice (watch_for question.properties) t (choice_at (choices_of question) i)
 
 -- what is searched for a question: the states of the abstract machine from this one on, where `same` compares two
 abbrev pub system_of : QuestionValue → PolicyValue → (State → State → Bool) → State → System State
 system_of question policy same s = record {
   start = s;
   choices = length (choices_of question);
-  next = next_of question;
+  next = next_state question;
   same = same;
   violated = first_failing question policy;
   tests = length question.properties;
@@ -118,7 +118,7 @@ module _ (question : QuestionValue) (policy : PolicyValue) (s : State) where
   -- whatever so many rounds of choices from a state on are, they pass one in which all atoms of property `n` hold; the state
   -- itself counts
   abbrev pub MustCome : ℕ → ℕ → State → Type 0
-  MustCome rounds n t = MustWithin (next_of question) (λ u. holds question policy u n) (length (choices_of question)) t rounds
+  MustCome rounds n t = MustWithin (next_state question) (λ u. holds question policy u n) (length (choices_of question)) t rounds
 
   -- the atoms of each `must` come within so many rounds: from the start on, or, whatever the choices, from each state on in
   -- which its first atoms hold
@@ -168,8 +168,8 @@ module _ (question : QuestionValue) (policy : PolicyValue) (s : State) where
     pub parts : path ≡ stem ++ rest
     pub choices : AreOf stem
     pub asked : IsAskedFrom n (come_to stem)
-    pub lasso : IsLasso (next_of question) (λ u. holds question policy u n) (length (choices_of question)) (come_to stem) rest cycle
-    pub evades : (most : ℕ) → Evades (next_of question) (λ u. holds question policy u n) (length (choices_of question)) (come_to stem) most
+    pub lasso : IsLasso (next_state question) (λ u. holds question policy u n) (length (choices_of question)) (come_to stem) rest cycle
+    pub evades : (most : ℕ) → Evades (next_state question) (λ u. holds question policy u n) (length (choices_of question)) (come_to stem) most
 
   -- property `n` is the first of those that ask what comes that isn't met, and a `must`: this avoids its atoms, and nothing
   -- does whose path is shorter, or as long and earlier

@@ -13,7 +13,7 @@ use Rattle.questions.specs.Choice.{AreChoices}
 use Rattle.questions.specs.Question.{QuestionValue, choices_of}
 use Rattle.interleavings.specs.Laws.{EachHartRuns, OnlyRuns}
 use Rattle.interleavings.specs.Rounds.{AlwaysFairLaw, AlwaysStepwiseLaw, EvasionStepwiseLaw, FairStepwiseLaw, LassoStepwiseLaw, MustStepwiseLaw, SeesFor, steps_chosen}
-use Rattle.exploration.specs.Explored.{next_of}
+use Rattle.exploration.specs.Explored.{next_state}
 use Rattle.interleavings.proofs.Paths.{AsRuns, as-runs}
 use Rattle.interleavings.proofs.Rounds.{Runs, always-run, both, count, counted-steps, lasso-run, leads, more, must-run, watch, width}
 
@@ -64,7 +64,7 @@ module _ (question : QuestionValue) (each : EachHartRuns question) (only : OnlyR
     evasion : IsEvasion (after_run (more question)) goal (count question) first s runs again
 
   evading : (goal first : State → Bool) (s : State) (path cycle : List ℕ)
-      → IsEvasion (next_of question) goal (width question) first s path cycle
+      → IsEvasion (next_state question) goal (width question) first s path cycle
       → EvadingRuns goal first s path cycle
   evading goal first s path cycle is =
       let turns = is.lasso in
@@ -76,7 +76,7 @@ module _ (question : QuestionValue) (each : EachHartRuns question) (only : OnlyR
       let t = after (after_run (more question)) s stem.runs in
       let lasso : Turns goal t rest.runs again.runs =
       subst (λ (r : State). Turns goal r rest.runs again.runs) there
-      (lasso-run question each goal (after (next_of question) s is.stem) is.rest cycle
+      (lasso-run question each goal (after (next_state question) s is.stem) is.rest cycle
       rest.runs again.runs rest.chosen again.chosen rest.of again.of turns) in
       record {
         runs = stem.runs ++ rest.runs;
@@ -99,17 +99,17 @@ module _ (question : QuestionValue) (each : EachHartRuns question) (only : OnlyR
   -- the steps of the cycle that are counted
   cycle-steps : (s : State) (path cycle gs hs : List ℕ) → Runs question path gs
       → Runs question cycle hs
-      → steps_chosen question (after (next_of question) s path) cycle
+      → steps_chosen question (after (next_state question) s path) cycle
       ≡ steps_of_runs (more question) (after (after_run (more question)) s gs) hs
   cycle-steps s path cycle gs hs first second =
-      counted-steps question (after (next_of question) s path) cycle hs second
+      counted-steps question (after (next_state question) s path) cycle hs second
       ∙ ap (λ (t : State). steps_of_runs (more question) t hs) (leads question s path gs first)
 
   lasso-steps : LassoLaw → FoundLaw → (goal : State → Bool) (s : State) (path cycle : List ℕ)
       → SeesFor question goal
-      → IsLasso (next_of question) goal (width question) s path cycle
+      → IsLasso (next_state question) goal (width question) s path cycle
       → IsLasso after_step goal (count question) s (steps_chosen question s path)
-      (steps_chosen question (after (next_of question) s path) cycle)
+      (steps_chosen question (after (next_state question) s path) cycle)
   lasso-steps law found goal s path cycle sees is =
       let round = is.round in
       let gs = ran path is.choices in
@@ -125,9 +125,9 @@ module _ (question : QuestionValue) (each : EachHartRuns question) (only : OnlyR
 
   evasion-steps : EvasionLaw → FoundLaw
       → (goal first : State → Bool) (s : State) (path cycle : List ℕ) → SeesFor question goal
-      → IsEvasion (next_of question) goal (width question) first s path cycle
+      → IsEvasion (next_state question) goal (width question) first s path cycle
       → IsEvasion after_step goal (count question) first s (steps_chosen question s path)
-      (steps_chosen question (after (next_of question) s path) cycle)
+      (steps_chosen question (after (next_state question) s path) cycle)
   evasion-steps law found goal first s path cycle sees is =
       let runs = evading goal first s path cycle is in
       subst₂ (λ (p c : List ℕ). IsEvasion after_step goal (count question) first s p c)

@@ -15,7 +15,7 @@ use Rattle.questions.specs.Choice.{choice_at, counted_choice, counted_path}
 use Rattle.questions.specs.Question.{QuestionValue, choices_of, watch_for}
 use Rattle.interleavings.specs.Laws.{EachHartRuns}
 use Rattle.interleavings.specs.Rounds.{AlwaysChoose, MustChoose, RunsOnce, steps_chosen, steps_of_choice}
-use Rattle.exploration.specs.Explored.{next_of}
+use Rattle.exploration.specs.Explored.{next_state}
 use Rattle.interleavings.proofs.Paths.{Chosen, as-choices, chosen-of, chosen-one, runs-one}
 
 module _ (question : QuestionValue) where
@@ -37,28 +37,28 @@ module _ (question : QuestionValue) where
   -- ---- choices that run these harts
 
   one : (s : State) (i h : ℕ) → choice_at (choices_of question) i ≡ Run h
-      → next_of question s i ≡ after_run more s h
+      → next_state question s i ≡ after_run more s h
   one s i h is = chosen-one watch (choices_of question) s i h is
 
   -- lead where the runs do
   pub leads : (s : State) (path harts : List ℕ) → Runs path harts
-      → after (next_of question) s path ≡ after (after_run more) s harts
+      → after (next_state question) s path ≡ after (after_run more) s harts
   leads s [] [] all = refl
   leads s [] (h ∷ harts) all = absurd all
   leads s (i ∷ path) [] all = absurd all
   leads s (i ∷ path) (h ∷ harts) all =
-      ap (λ (t : State). after (next_of question) t path) (one s i h all.0.1)
+      ap (λ (t : State). after (next_state question) t path) (one s i h all.0.1)
       ∙ leads (after_run more s h) path harts all.1
 
   -- pass what the runs do
   pub same-passes : (goal : State → Bool) (s : State) (path harts : List ℕ) → Runs path harts
-      → passes (next_of question) goal s path ≡ passes (after_run more) goal s harts
+      → passes (next_state question) goal s path ≡ passes (after_run more) goal s harts
   same-passes goal s [] [] all = refl
   same-passes goal s [] (h ∷ harts) all = absurd all
   same-passes goal s (i ∷ path) [] all = absurd all
   same-passes goal s (i ∷ path) (h ∷ harts) all =
       ap (λ (b : Bool). goal s || b)
-      (ap (λ (t : State). passes (next_of question) goal t path) (one s i h all.0.1)
+      (ap (λ (t : State). passes (next_state question) goal t path) (one s i h all.0.1)
       ∙ same-passes goal (after_run more s h) path harts all.1)
 
   -- one list behind the other
@@ -206,7 +206,7 @@ module _ (question : QuestionValue) where
 
     pub lasso-run : (goal : State → Bool) (s : State) (path cycle gs hs : List ℕ) → Runs path gs
         → Runs cycle hs → AreHarts count gs → AreHarts count hs
-        → IsLasso (next_of question) goal width s path cycle
+        → IsLasso (next_state question) goal width s path cycle
         → IsLasso (after_run more) goal count s gs hs
     lasso-run goal s path cycle gs hs first second harts more_harts is =
         let there = leads s path gs first in
@@ -214,7 +214,7 @@ module _ (question : QuestionValue) where
           choices = All-from_recursion (λ h. h < count) gs harts;
           round = round-run cycle hs second more_harts is.round;
           back = sym (leads (after (after_run more) s gs) cycle hs second)
-              ∙ (ap (λ (t : State). after (next_of question) t cycle) (sym there)
+              ∙ (ap (λ (t : State). after (next_state question) t cycle) (sym there)
               ∙ (is.back ∙ there));
           never = sym
               (same-passes goal s (path ++ cycle) (gs ++ hs) (both path cycle gs hs first second))
@@ -230,7 +230,7 @@ module _ (question : QuestionValue) where
   counted-cons : (s : State) (i : ℕ) (path : List ℕ)
       → counted_path watch (choices_of question) s (i ∷ path) ≡ counted_choice watch s
       (choice_at (choices_of question) i) ∷ counted_path watch (choices_of question)
-      (next_of question s i) path
+      (next_state question s i) path
   unfolding counted_path
   counted-cons s i path = refl
 

@@ -11,7 +11,7 @@ use Rattle.questions.specs.declared.choice.Choice.{Choice}
 use Rattle.questions.specs.declared.choice.Choice.TheVariants.{Steps, Run, Tick}
 use Rattle.questions.specs.Choice.{choice_at, counted_path}
 use Rattle.questions.specs.Question.{QuestionValue, choices_of, watch_for}
-use Rattle.exploration.specs.Explored.{next_of}
+use Rattle.exploration.specs.Explored.{next_state}
 use Rattle.interleavings.specs.Laws.{EachHartRuns, OnlyRuns}
 
 -- no two of these choices are equal
@@ -34,12 +34,12 @@ SeesFor question test = SeesOnly (watch_for question.properties) test
 module _ (question : QuestionValue) (goal : State → Bool) where
   -- whatever so many rounds of the question's choices are, they pass a goal
   abbrev pub MustChoose : State → ℕ → Type 0
-  MustChoose s rounds = MustWithin (next_of question) goal (length (choices_of question)) s rounds
+  MustChoose s rounds = MustWithin (next_state question) goal (length (choices_of question)) s rounds
 
   -- wherever choices lead to a first state, so many rounds from it do
   abbrev pub AlwaysChoose : (State → Bool) → State → ℕ → Type 0
   AlwaysChoose first s rounds =
-      AlwaysComes (next_of question) goal (length (choices_of question)) first s rounds
+      AlwaysComes (next_state question) goal (length (choices_of question)) first s rounds
 
   -- whatever so many rounds of the harts' steps are, they do
   abbrev pub MustStep : State → ℕ → Type 0
@@ -100,15 +100,15 @@ abbrev pub LassoStepwiseLaw : Type 0
 LassoStepwiseLaw = (question : QuestionValue) (goal : State → Bool) (s : State)
     (path cycle : List ℕ)
     → EachHartRuns question → OnlyRuns question → SeesFor question goal
-    → IsLasso (next_of question) goal (length (choices_of question)) s path cycle
+    → IsLasso (next_state question) goal (length (choices_of question)) s path cycle
     → IsLasso after_step goal question.sizes.harts s (steps_chosen question s path)
-    (steps_chosen question (after (next_of question) s path) cycle)
+    (steps_chosen question (after (next_state question) s path) cycle)
 
 -- So is an evasion.
 abbrev pub EvasionStepwiseLaw : Type 0
 EvasionStepwiseLaw = (question : QuestionValue) (goal first : State → Bool) (s : State)
     (path cycle : List ℕ)
     → EachHartRuns question → OnlyRuns question → SeesFor question goal
-    → IsEvasion (next_of question) goal (length (choices_of question)) first s path cycle
+    → IsEvasion (next_state question) goal (length (choices_of question)) first s path cycle
     → IsEvasion after_step goal question.sizes.harts first s (steps_chosen question s path)
-    (steps_chosen question (after (next_of question) s path) cycle)
+    (steps_chosen question (after (next_state question) s path) cycle)

@@ -16,7 +16,8 @@ use Rattle.questions.specs.declared.choice.Choice.TheVariants.{Steps, Run, Tick}
 use Rattle.questions.specs.Choice.{IsChoiceOf, is_among}
 use Rattle.questions.specs.Question.{IsPropertyOf, QuestionValue, property_of, property_with, with_choice, with_depth, with_property, with_states}
 use Rattle.listing_read.specs.declared.object_fault.QuestionFault.{QuestionFault}
-use Rattle.listing_read.specs.declared.object_fault.QuestionFault.TheVariants.{LineTooLong, BadByte, UnknownQuestion, UnknownEvent, WrongWords, Taken, OfPolicy}
+use Rattle.listing_read.specs.declared.object_fault.QuestionFault.TheVariants.{LineTooLong, BadByte, UnknownQuestion, UnknownEvent, WrongWords, OfPolicy}
+use Rattle.listing_read.specs.declared.object_fault.PolicyFault.TheVariants.{Taken}
 use Rattle.question_lines.specs.declared.fault.Untaken.{Untaken}
 use Rattle.question_lines.specs.declared.fault.Untaken.TheVariants.{Refused, OutOfMemory}
 use Rattle.question_lines.specs.declared.said.Next.{Next}
@@ -140,7 +141,7 @@ question_line sizes n line = do
 
 -- what a line says, or its fault where a line above it states the same choice
 abbrev pub new_said : List Choice → Said → Result Said QuestionFault
-new_said choices (May choice) = if is_among choices choice then Err Taken else Ok (May choice)
+new_said choices (May choice) = if is_among choices choice then Err (OfPolicy Taken) else Ok (May choice)
 new_said choices said = Ok said
 
 -- what line `n` of a question says

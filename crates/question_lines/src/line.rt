@@ -17,7 +17,7 @@ use crate::phrase::Phrase;
 use crate::said::{Next, Said};
 use coy_io::LINE_LIMIT;
 use coy_text::{is_skipped, is_visible, word, word_count, words_from};
-use listing_read::QuestionFault;
+use listing_read::{PolicyFault, QuestionFault};
 use object_store::Sizes;
 use questions::{Asks, Choice, Property, Question};
 use separation_lines::read_policy;
@@ -111,7 +111,7 @@ fn state_choice(choice: Choice, question: &mut Question) -> Result<Next, Untaken
     ensures before { OnErr result (question.new ≡ question.old) }
 {
     if question.has_choice(choice) {
-        return Err(Untaken::Refused(QuestionFault::Taken));
+        return Err(Untaken::Refused(QuestionFault::OfPolicy(PolicyFault::Taken)));
     }
     match question.may(choice) {
         Ok(()) => Ok(Next::Question),
