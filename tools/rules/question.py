@@ -86,18 +86,19 @@ class Question:
         at = next((at for at, word in enumerate(words) if word == "must"), None)
         self.atoms(words[1:at], words, must=at and words[at])
         if at is None:
-            raise Refused("WrongWords", end_of(words), FORMS["after"], "there is no `must`")
+            raise Refused("UnknownAtom", end_of(words), FORMS["after"], "there is no `must`")
         self.atoms(words[at + 1:], words)
 
     def atoms(self, those, words, must=None):
         """Atoms of a line, from left to right, with the `must` behind them where there is one."""
         group = []
-        for word in [*those, must]:
-            if word is not None and word not in ("and", "or", "must"):
+        for word in those:
+            if word in ("and", "or"):
+                self.atom(group, word)
+                group = []
+            else:
                 group.append(word)
-                continue
-            self.atom(group, word or end_of(words))
-            group = []
+        self.atom(group, must or end_of(words))
 
     def atom(self, words, behind):
         """An atom by its words, and what stands behind them."""
