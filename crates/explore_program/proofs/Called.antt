@@ -33,10 +33,10 @@ use Rattle.explore_program.specs.declared.words.Wanted.TheVariants.{Help, Explor
 use Rattle.explore_program.specs.Posed.{HasPosed, IfPosed, Posed, posed, posed_at, posed_behind, posed_by}
 use Rattle.explore_program.specs.Program.{asked_by, explore, is_early}
 use Rattle.explore_program.specs.Stated.{PastEnd, RefusedAt, Stated, States, first_asked, stated}
-use Rattle.explore_program.specs.Theorem.{AnswersInput, Holds, IsViolated, Judges, OneOutputLaw, TellsFlushed, TellsInput}
-use Rattle.explore_program.specs.Told.{Answers, HoldsAlways, Stepwise, Tells, ended_output, exit_of, explore_course, stated_output}
+use Rattle.explore_program.specs.Theorem.{AnswersInput, AreAlike, Holds, IsViolated, Judges, OneOutputLaw, OneToldLaw, TellsFlushed, TellsInput}
+use Rattle.explore_program.specs.Told.{Answers, HoldsAlways, Stepwise, Tells, ended_output, exit_of, explore_course, stated_output, told_by}
 use Rattle.explore_program.proofs.Setting.{nothing_told}
-use Rattle.explore_program.proofs.Verdicts.{done-holds, exactly-done, same-told, told-violated}
+use Rattle.explore_program.proofs.Verdicts.{done-holds, exactly-done, told-alike, told-violated}
 
 -- ---- the listing
 
@@ -327,36 +327,46 @@ form-after told words _ (Err fault) f = record { usage = λ bad. cc; no_form = �
 
 -- ---- one output
 
--- what the program writes of the bytes depends on what is told of their question alone, where they ask one
-pub same-out : (words : List (List ℕ)) (bytes : List ℕ) (a b : Output) → ((p : Posed) → posed bytes ≡ Some p → a ≡ b) → out (explore a) words bytes ≡ out (explore b) words bytes
-same-out words bytes a b same = by (asked_by words)
+-- what the program writes of the bytes is alike where what is told of their question is, if they ask one
+pub alike-out : (words : List (List ℕ)) (bytes : List ℕ) (a b : Output) → ((p : Posed) → posed bytes ≡ Some p → AreAlike a b)
+    → AreAlike (out (explore a) words bytes) (out (explore b) words bytes)
+alike-out words bytes a b alike = by (asked_by words)
   where
-    ended : (asked : Asked) (s : State) (ending : Ending) → ((p : Posed) → posed_at asked s ending ≡ Some p → a ≡ b) → ended_output a ending ≡ ended_output b ending
-    ended asked s AtEnd same = same (record { asked = asked; state = s }) refl
-    ended asked s (AtFault line fault) same = refl
-    ended asked s AtLimit same = refl
+    ended : (asked : Asked) (s : State) (ending : Ending) → ((p : Posed) → posed_at asked s ending ≡ Some p → AreAlike a b)
+        → AreAlike (ended_output a ending) (ended_output b ending)
+    ended asked s AtEnd alike = alike (record { asked = asked; state = s }) refl
+    ended asked s (AtFault line fault) alike = inl refl
+    ended asked s AtLimit alike = inl refl
 
-    of-stated : (s : State) (harts : ℕ) (all : Stated) → ((p : Posed) → posed_by s harts all ≡ Some p → a ≡ b) → stated_output a harts all ≡ stated_output b harts all
-    of-stated s harts (States asked last rest) same =
-        let all : Scheduled = scheduled harts last rest in ended asked (run_state s all.events) all.ending same
-    of-stated s harts (RefusedAt line fault) same = refl
-    of-stated s harts PastEnd same = refl
+    of-stated : (s : State) (harts : ℕ) (all : Stated) → ((p : Posed) → posed_by s harts all ≡ Some p → AreAlike a b)
+        → AreAlike (stated_output a harts all) (stated_output b harts all)
+    of-stated s harts (States asked last rest) alike =
+        let all : Scheduled = scheduled harts last rest in ended asked (run_state s all.events) all.ending alike
+    of-stated s harts (RefusedAt line fault) alike = inl refl
+    of-stated s harts PastEnd alike = inl refl
 
-    of-listed : (listed : Listed) → ((p : Posed) → posed_behind listed ≡ Some p → a ≡ b) → listed_course (explore_course a) listed ≡ listed_course (explore_course b) listed
-    of-listed (Good listing last rest) same = ap ends_in (of-stated (booted listing) listing.sizes.harts (stated (first_asked listing.sizes) last rest) same)
-    of-listed (Refused line fault) same = refl
-    of-listed Past same = refl
+    of-listed : (listed : Listed) → ((p : Posed) → posed_behind listed ≡ Some p → AreAlike a b)
+        → AreAlike (course_output (listed_course (explore_course a) listed)) (course_output (listed_course (explore_course b) listed))
+    of-listed (Good listing last rest) alike = of-stated (booted listing) listing.sizes.harts (stated (first_asked listing.sizes) last rest) alike
+    of-listed (Refused line fault) alike = inl refl
+    of-listed Past alike = inl refl
 
-    by : (wanted : Option Wanted) → course_output (asked_course (explore a) wanted (parts_of bytes)) ≡ course_output (asked_course (explore b) wanted (parts_of bytes))
-    by (Some Explore) = ap course_output (of-listed (listing_of Header 1 (parts_of bytes)) same)
-    by (Some Help) = refl
-    by None = refl
+    by : (wanted : Option Wanted) → AreAlike (course_output (asked_course (explore a) wanted (parts_of bytes))) (course_output (asked_course (explore b) wanted (parts_of bytes)))
+    by (Some Explore) = of-listed (listing_of Header 1 (parts_of bytes)) alike
+    by (Some Help) = inl refl
+    by None = inl refl
+
+-- of one question the same is told, but for a cycle
+pub one_told : OneAnswerLaw → OneToldLaw
+one_told one asked s a b x y = one asked.question asked.policy s x.answer y.answer x.searched y.searched
 
 -- all that answers what the bytes ask is told alike
 pub one_output : OneAnswerLaw → OneOutputLaw
 one_output one words bytes a b first second =
-    same-out words bytes a b
+    alike-out words bytes a b
     (λ p is.
     let x = asked-at (λ asked s. Answers asked s a) (posed bytes) p is first in
     let y = asked-at (λ asked s. Answers asked s b) (posed bytes) p is second in
-    x.is ∙ same-told p.asked p.state x.answer y.answer (one p.asked.question p.asked.policy p.state x.answer y.answer x.searched y.searched) ∙ sym y.is)
+    let same = one_told one p.asked p.state a b x y in
+    subst (λ (o : Output). AreAlike o b) (sym x.is)
+    (subst (λ (o : Output). AreAlike (told_by p.asked p.state x.answer) o) (sym y.is) (told-alike p.asked p.state x.answer y.answer same)))

@@ -1,3 +1,5 @@
+mod Cycles
+mod Rounds
 mod Schedules
 mod Stating
 mod Verdicts

@@ -1,5 +1,5 @@
 -- What is told of choices is read as a schedule: its events are those of the choices.
-use Rattle.std.proofs.Common.{◌≡◌, ◌∙◌, ℕ, zero, suc, ◌+◌, ◌<◌, ◌≤◌, ◌==◌, Bool, true, false, if◌then◌else◌, List, [], ◌∷◌, ◌++◌, length, map, drop, Option, None, Some, Result, Ok, Err, IsErr, decimal, refl, sym, ap, subst, arith, append-nil, append_assoc}
+use Rattle.std.proofs.Common.{◌≡◌, ◌∙◌, ℕ, zero, suc, ◌+◌, ◌<◌, ◌≤◌, ◌==◌, Bool, true, false, if◌then◌else◌, List, [], ◌∷◌, ◌++◌, length, map, take, drop, Option, None, Some, Result, Ok, Err, IsErr, decimal, refl, sym, ap, ap₂, subst, arith, append-nil, append_assoc}
 use Rattle.std.specs.Prelude.{codes, flat_map, nat_le, replicate, slice_index_or}
 use Rattle.std.specs.List.{All}
 use Rattle.std.proofs.lemmas.Bool.{and_parts, eqb-true, leb-true}
@@ -8,7 +8,8 @@ use Rattle.std.proofs.KnownBytes.{Appends-nil, Appends-trans}
 use Rattle.coy_io.specs.Pieces.{AppendsSome}
 use Rattle.coy_io.specs.Written.{Wrote}
 use Rattle.coy_io.proofs.Texts.{Written, behind, caused, cut, cut_before, cut_behind, failed, same}
-use Rattle.std.proofs.lemmas.List.Elements.{All-cons, All-head, All-map, All-nil, All-tail, All-weaker}
+use Rattle.std.proofs.lemmas.Grind.{flat_map-append}
+use Rattle.std.proofs.lemmas.List.Elements.{All-append, All-cons, All-drop, All-head, All-map, All-nil, All-tail, All-take, All-weaker}
 use Rattle.coy_io.specs.Lines.{line_feed, whole_lines}
 use Rattle.coy_io.proofs.LineLaws.{short_part, whole_lines-line_in_front}
 use Rattle.machine_state.specs.declared.event.Event.{Event}
@@ -25,13 +26,20 @@ use Rattle.schedule_replay.specs.Scheduled.{AtEnd, Scheduled, preceded, schedule
 use Rattle.schedule_replay.proofs.Scheduled.{scheduled-asked, scheduled-end}
 use Rattle.questions.specs.declared.choice.Choice.{Choice}
 use Rattle.questions.specs.declared.choice.Choice.TheVariants.{Steps, Run, Tick as TimerTick}
-use Rattle.questions.specs.Choice.{IsChoiceOf, counted_events}
+use Rattle.questions.specs.Choice.{IsChoiceOf, counted_events, counted_path}
+use Rattle.questions.specs.Question.{choices_of, watch_for}
+use Rattle.breadth_first.specs.declared.answer.Avoided.{Avoided as Avoidance}
 use Rattle.breadth_first.specs.declared.answer.Explored.{Explored}
+use Rattle.breadth_first.specs.declared.answer.Explored.TheVariants as answers
+use Rattle.breadth_first.specs.declared.answer.Missed.TheVariants.{Lost, Avoided}
+use Rattle.kernel_core.specs.Run.{run_state}
 use Rattle.kernel_core.specs.State.{State}
+use Rattle.exploration.specs.Explored.{Avoids, Says, come_to, wanted}
 use Rattle.exploration.specs.Laws.{ShownLaw}
-use Rattle.exploration.specs.Shown.{shown_of}
+use Rattle.exploration.specs.Shown.{shown_of, told_path}
 use Rattle.explore_program.specs.declared.asked.Asked.{Asked}
-use Rattle.explore_program.specs.Told.{IsSchedule}
+use Rattle.explore_program.specs.Told.{IsSchedule, LeadsBack, LeadsTo}
+use Rattle.explore_program.proofs.Cycles.{avoids-back, counted-front, counted-behind}
 use Rattle.explore_program.specs.explored_text.Schedule.{are_one, as_one, joined, joined_from, line_of_choice, next_line, schedule_of}
 use Rattle.explore_program.specs.explored_text.Text.{choices_text, last_text, text_before}
 
@@ -136,23 +144,95 @@ lines-read law harts n (line ∷ lines) few all =
     ∙ scheduled-asked harts n (n + 1) (event_line line) (Some line) (whole_lines [] (events_text lines)) (law harts line few here) refl
     ∙ ap (preceded (line_events harts line)) (lines-read law harts (n + 1) lines few (All-tail (IsTimed harts) line lines all))
 
+schedule-events : (harts : ℕ) (choices : List Choice) → flat_map (line_events harts) (schedule_of choices) ≡ flat_map counted_events choices
+schedule-events harts choices = all-events harts (map line_of_choice choices) ∙ lines-events harts choices
+
+schedule-range : (harts : ℕ) (choices : List Choice) → All (IsChoiceOf harts) choices → All (IsTimed harts) (schedule_of choices)
+schedule-range harts choices all =
+    all-range harts (map line_of_choice choices) (All-map (IsTimed harts) line_of_choice choices (All-weaker (IsChoiceOf harts) (λ choice. IsTimed harts (line_of_choice choice)) (choice-range harts) choices all))
+
+-- what lines of these events are read as
+abbrev read_as : List Event → Scheduled
+read_as events = record { events = events; ending = AtEnd }
+
 -- the text of choices is read as a schedule of their events
-pub choices-read : EventsAreRead → (harts n : ℕ) (choices : List Choice) → harts ≤ 8 → All (IsChoiceOf harts) choices
-    → scheduled harts n (whole_lines [] (choices_text choices)) ≡ record { events = flat_map counted_events choices; ending = AtEnd }
+choices-read : EventsAreRead → (harts n : ℕ) (choices : List Choice) → harts ≤ 8 → All (IsChoiceOf harts) choices
+    → scheduled harts n (whole_lines [] (choices_text choices)) ≡ read_as (flat_map counted_events choices)
 unfolding choices_text
 choices-read law harts n choices few all =
-    lines-read law harts n (schedule_of choices) few
-    (all-range harts (map line_of_choice choices) (All-map (IsTimed harts) line_of_choice choices (All-weaker (IsChoiceOf harts) (λ choice. IsTimed harts (line_of_choice choice)) (choice-range harts) choices all)))
-    ∙ ap (λ (es : List Event). let s : Scheduled = record { events = es; ending = AtEnd } in s) (all-events harts (map line_of_choice choices) ∙ lines-events harts choices)
+    lines-read law harts n (schedule_of choices) few (schedule-range harts choices all) ∙ ap read_as (schedule-events harts choices)
 
--- so the choices of an answer are told as a schedule that leads to its state
-pub leads-to : EventsAreRead → (asked : Asked) (s : State) (answer : Explored) → asked.question.sizes.harts ≤ 8 → (shown : List Choice) → shown ≡ shown_of asked.question s answer
-    → All (IsChoiceOf asked.question.sizes.harts) shown → ShownLaw → IsSchedule asked s answer
-leads-to law asked s answer few shown is range leads = record {
-  events = flat_map counted_events (shown_of asked.question s answer);
-  read = λ n. choices-read law asked.question.sizes.harts n (shown_of asked.question s answer) few (subst (All (IsChoiceOf asked.question.sizes.harts)) is range);
-  leads = leads asked.question asked.policy s answer;
-}
+-- and so are two, one behind the other
+both-read : EventsAreRead → (harts n : ℕ) (front behind : List Choice) → harts ≤ 8 → All (IsChoiceOf harts) front → All (IsChoiceOf harts) behind
+    → scheduled harts n (whole_lines [] (choices_text front ++ choices_text behind)) ≡ read_as (flat_map counted_events front ++ flat_map counted_events behind)
+unfolding choices_text
+both-read law harts n front behind few all more =
+    ap (λ (text : List ℕ). scheduled harts n (whole_lines [] text)) (sym (flat_map-append event_text (schedule_of front) (schedule_of behind)))
+    ∙ lines-read law harts n (schedule_of front ++ schedule_of behind) few
+    (All-append (IsTimed harts) (schedule_of front) (schedule_of behind) (schedule-range harts front all) (schedule-range harts behind more))
+    ∙ ap read_as (flat_map-append (line_events harts) (schedule_of front) (schedule_of behind)
+    ∙ ap₂ (λ (first second : List Event). first ++ second) (schedule-events harts front) (schedule-events harts behind))
+
+module _ (law : EventsAreRead) (asked : Asked) (s : State) (few : asked.question.sizes.harts ≤ 8) (leads : ShownLaw) where
+  abbrev AreInRange : List Choice → Type 0
+  AreInRange choices = All (IsChoiceOf asked.question.sizes.harts) choices
+
+  state-told : (answer : Explored) → AreInRange (shown_of asked.question s answer)
+      → LeadsTo asked.question.sizes.harts (choices_text (shown_of asked.question s answer)) s (come_to asked.question asked.policy s (told_path answer))
+  state-told answer range = record {
+    events = flat_map counted_events (shown_of asked.question s answer);
+    read = λ n. choices-read law asked.question.sizes.harts n (shown_of asked.question s answer) few range;
+    leads = leads asked.question asked.policy s answer;
+  }
+
+  -- choices that avoid something lead to a state of the cycle, and from there back to it
+  module _ (avoided : Avoidance) (n : ℕ) (avoids : Avoids asked.question asked.policy s n avoided.path.items avoided.cycle.items) where
+    abbrev shown : List Choice
+    shown = counted_path (watch_for asked.question.properties) (choices_of asked.question) s (avoided.path.items ++ avoided.cycle.items)
+
+    abbrev depth : ℕ
+    depth = length avoided.path.items
+
+    abbrev end : State
+    end = come_to asked.question asked.policy s avoided.path.items
+
+    cycle-told : AreInRange shown → LeadsBack asked.question.sizes.harts (choices_text (take depth shown)) (choices_text (drop depth shown)) s end
+    cycle-told range =
+        let harts = asked.question.sizes.harts in
+        let watch = watch_for asked.question.properties in
+        let choices = choices_of asked.question in
+        let front = All-take (IsChoiceOf harts) depth shown range in
+        let behind = All-drop (IsChoiceOf harts) depth shown range in
+        record {
+          to = record {
+            events = flat_map counted_events (take depth shown);
+            read = λ n. choices-read law harts n (take depth shown) few front;
+            leads =
+                ap (λ (all : List Choice). run_state s (flat_map counted_events all)) (counted-front watch choices s avoided.path.items avoided.cycle.items)
+                ∙ leads asked.question asked.policy s (answers.Found 0 avoided.path);
+          };
+          back = record {
+            events = flat_map counted_events (drop depth shown);
+            read = λ n. choices-read law harts n (drop depth shown) few behind;
+            leads =
+                ap (λ (all : List Choice). run_state end (flat_map counted_events all)) (counted-behind watch choices s avoided.path.items avoided.cycle.items)
+                ∙ leads asked.question asked.policy end (answers.Found 0 avoided.cycle)
+                ∙ avoids-back asked.question asked.policy s n avoided.path.items avoided.cycle.items avoids;
+          };
+          both = λ n. both-read law harts n (take depth shown) (drop depth shown) few front behind;
+        }
+
+  -- so the choices of an answer are told as a schedule that leads to its state, or to a cycle and round it
+  told-read : (answer : Explored) → Says asked.question asked.policy s answer → AreInRange (shown_of asked.question s answer) → IsSchedule asked s answer
+  told-read (answers.Found n path) says range = state-told (answers.Found n path) range
+  told-read (answers.Closed size counts None) says range = state-told (answers.Closed size counts None) range
+  told-read (answers.Closed size counts (Some (Lost lost))) says range = state-told (answers.Closed size counts (Some (Lost lost))) range
+  told-read (answers.Closed size counts (Some (Avoided avoided))) says range =
+      cycle-told avoided (wanted asked.question asked.policy s avoided.want) says.1.avoids range
+  told-read (answers.Open size counts) says range = state-told (answers.Open size counts) range
+
+  pub leads-to : (answer : Explored) → Says asked.question asked.policy s answer → (choices : List Choice) → choices ≡ shown_of asked.question s answer → AreInRange choices → IsSchedule asked s answer
+  leads-to answer says choices is range = told-read answer says (subst AreInRange is range)
 
 -- ---- lines as they are written
 

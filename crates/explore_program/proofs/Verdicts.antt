@@ -1,36 +1,38 @@
 -- What the exit of an answer tells, and that what is told is told alike by all that answers.
-use Rattle.std.proofs.Common.{◌≡◌, ◌≢◌, ◌↔◌, ◌++◌, ◌∙◌, ◌≤◌, ℕ, List, [], length, Option, Some, None, Result, Ok, Err, true, refl, sym, ap, ap₂, codes}
-use Rattle.std.specs.Prelude.{slice_index}
+use Rattle.std.proofs.Common.{◌≡◌, ◌≢◌, ◌↔◌, ◌++◌, ◌∙◌, ◌≤◌, ℕ, ◌*◌, List, [], length, Option, Some, None, Result, Ok, Err, inl, inr, true, refl, sym, ap, ap₂, subst, codes}
 use Rattle.coy_io.specs.Written.{Wrote}
 use Rattle.kernel_core.specs.State.{State}
-use Rattle.breadth_first.specs.Told.{LostValue, Told, TellsFound, TellsClosed, TellsOpen, told}
+use Rattle.breadth_first.specs.Told.{MissedTold, Told, TellsFound, TellsClosed, TellsOpen, TellsLost, TellsAvoided, told}
 use Rattle.breadth_first.specs.declared.answer.Explored.{Explored}
 use Rattle.breadth_first.specs.declared.answer.Explored.TheVariants as answers
+use Rattle.breadth_first.specs.declared.answer.Missed.TheVariants.{Lost, Avoided}
 use Rattle.breadth_first.specs.declared.answer.Size.{Size}
 use Rattle.questions.specs.declared.choice.Choice.{Choice}
 use Rattle.questions.specs.Choice.{counted_path}
-use Rattle.questions.specs.Question.{choices_of, is_ever, watch_for}
-use Rattle.exploration.specs.Shown.{shown_of, told_path}
-use Rattle.questions.specs.Asking.{asking, property_at}
-use Rattle.exploration.specs.Explored.{IsExact, IsSafe, NoneFailsWithin, Says}
+use Rattle.questions.specs.Question.{PropertyValue, choices_of, watch_for}
+use Rattle.exploration.specs.Shown.{shown_of}
+use Rattle.questions.specs.Asking.{property_at}
+use Rattle.exploration.specs.Explored.{AllMustCome, IsExact, IsSafe, NoneFailsWithin, Says, come_to}
 use Rattle.interleavings.specs.Laws.{EachHartRuns}
+use Rattle.interleavings.specs.Rounds.{RunsOnce}
 use Rattle.quiet_runs.specs.Laws.{AreHarts}
 use Rattle.quiet_runs.specs.Runs.{after_steps}
-use Rattle.explore_program.specs.explored_text.Text.{counts_text, explored_text, led_to, size_text}
+use Rattle.explore_program.specs.explored_text.Text.{avoided_text, counts_text, explored_text, led_to, size_text, want_line}
 use Rattle.courses.specs.Ending.{Ends, Output}
 use Rattle.courses.specs.Exit.{is_finished}
 use Rattle.courses.proofs.Lasts.{finished-given}
 use Rattle.courses.specs.declared.exit.Exit.{Exit}
 use Rattle.courses.specs.declared.exit.Exit.TheVariants.{Done, Violated, Open}
 use Rattle.explore_program.specs.declared.asked.Asked.{Asked}
-use Rattle.explore_program.specs.Theorem.{Holds, IsViolated}
-use Rattle.explore_program.specs.Told.{StepwiseWithin, exit_of, told_by, written_exit}
+use Rattle.explore_program.specs.Theorem.{AreAlike, Holds, IsViolated}
+use Rattle.explore_program.specs.Told.{AllMustStep, StepwiseWithin, exit_of, told_by, written_exit}
+use Rattle.explore_program.proofs.Cycles.{counted-front, counted-behind}
 
 -- an answer ends a call that did all
 pub answer-finished : (answer : Explored) → is_finished (exit_of answer) ≡ true
 answer-finished (answers.Found n path) = refl
 answer-finished (answers.Closed size counts None) = refl
-answer-finished (answers.Closed size counts (Some lost)) = refl
+answer-finished (answers.Closed size counts (Some missed)) = refl
 answer-finished (answers.Open size counts) = refl
 
 module _ (asked : Asked) (s : State) where
@@ -40,31 +42,35 @@ module _ (asked : Asked) (s : State) where
   -- where it ends as done, all holds
   pub done-holds : (answer : Explored) → Exact answer → exit_of answer ≡ Done → Holds asked s
   done-holds (answers.Found n path) exact done = cc
-  done-holds (answers.Closed size counts None) exact done = record { never = exact.0; ever = exact.1 }
-  done-holds (answers.Closed size counts (Some lost)) exact done = cc
+  done-holds (answers.Closed size counts None) exact done = record { never = exact.0; ever = exact.1; must = (size.states, exact.2) }
+  done-holds (answers.Closed size counts (Some missed)) exact done = cc
   done-holds (answers.Open size counts) exact done = cc
 
   -- where it tells of a state, not all holds
   pub told-violated : (answer : Explored) → Exact answer → exit_of answer ≡ Violated → IsViolated asked s
   told-violated (answers.Found n path) exact told holds = exact holds.never
   told-violated (answers.Closed size counts None) exact told holds = cc
-  told-violated (answers.Closed size counts (Some lost)) exact told holds = exact holds.ever
+  told-violated (answers.Closed size counts (Some (Lost lost))) exact told holds = exact holds.ever
+  told-violated (answers.Closed size counts (Some (Avoided avoided))) exact told holds = exact holds.must.0 holds.must.1
   told-violated (answers.Open size counts) exact told holds = cc
 
   -- and but for a limit it ends as done exactly where all holds
   pub exactly-done : (answer : Explored) → Exact answer → exit_of answer ≢ Open → (exit_of answer ≡ Done) ↔ Holds asked s
   exactly-done (answers.Found n path) exact limit = (λ bad. cc, λ holds. absurd (exact holds.never))
-  exactly-done (answers.Closed size counts None) exact limit = (λ done. record { never = exact.0; ever = exact.1 }, λ holds. refl)
-  exactly-done (answers.Closed size counts (Some lost)) exact limit = (λ bad. cc, λ holds. absurd (exact holds.ever))
+  exactly-done (answers.Closed size counts None) exact limit = (λ done. record { never = exact.0; ever = exact.1; must = (size.states, exact.2) }, λ holds. refl)
+  exactly-done (answers.Closed size counts (Some (Lost lost))) exact limit = (λ bad. cc, λ holds. absurd (exact holds.ever))
+  exactly-done (answers.Closed size counts (Some (Avoided avoided))) exact limit = (λ bad. cc, λ holds. absurd (exact holds.must.0 holds.must.1))
   exactly-done (answers.Open size counts) exact limit = absurd (limit refl)
 
-  -- where a limit ended the search, what is so of choices is so of steps
+  -- what is so of choices is so of steps
   pub stepwise-within : (answer : Explored) → Says asked.question asked.policy s answer
       → ((depth : ℕ) → EachHartRuns asked.question → NoneFailsWithin asked.question asked.policy s depth → (harts : List ℕ) → AreHarts asked.question.sizes.harts harts → length harts ≤ depth
-      → IsSafe asked.question asked.policy (after_steps s harts)) → StepwiseWithin asked s answer
-  stepwise-within (answers.Found n path) says law = tt
-  stepwise-within (answers.Closed size counts lost) says law = tt
-  stepwise-within (answers.Open size counts) says law = λ runs. law size.depth runs says.0
+      → IsSafe asked.question asked.policy (after_steps s harts))
+      → ((rounds : ℕ) → AllMustCome asked.question asked.policy s rounds → RunsOnce asked.question → AllMustStep asked s (rounds * 4097)) → StepwiseWithin asked s answer
+  stepwise-within (answers.Found n path) says law rounds_law = tt
+  stepwise-within (answers.Closed size counts None) says law rounds_law = rounds_law size.states says.2
+  stepwise-within (answers.Closed size counts (Some missed)) says law rounds_law = tt
+  stepwise-within (answers.Open size counts) says law rounds_law = λ runs. law size.depth runs says.0
 
 -- a text that was written, or not, ends a call
 pub ends-written : {T E : Type 0} (old new : Option (List ℕ)) (faults faults' : ℕ) (written : Result T E) (exit : Exit) (text : List ℕ) → is_finished exit ≡ true
@@ -86,64 +92,86 @@ ends-written old new faults faults' (Err fault) exit text finished w = record {
 
 -- ---- by what is told of an answer
 
--- the choices that are told, by their numbers
-abbrev lost_by : Option LostValue → List ℕ
-lost_by None = []
-lost_by (Some lost) = lost.path
+-- the cycle that is told, by the numbers of its choices
+abbrev cycle_of : Explored → List ℕ
+cycle_of (answers.Found n path) = []
+cycle_of (answers.Closed size counts None) = []
+cycle_of (answers.Closed size counts (Some (Lost lost))) = []
+cycle_of (answers.Closed size counts (Some (Avoided avoided))) = avoided.cycle.items
+cycle_of (answers.Open size counts) = []
 
-abbrev path_by : Told → List ℕ
-path_by (TellsFound n path) = path
-path_by (TellsClosed size counts lost) = lost_by lost
-path_by (TellsOpen size counts) = []
+module _ (asked : Asked) (s : State) where
+  abbrev properties : List PropertyValue
+  properties = asked.question.properties
 
-path-told : (answer : Explored) → told_path answer ≡ path_by (told answer)
-path-told (answers.Found n path) = refl
-path-told (answers.Closed size counts None) = refl
-path-told (answers.Closed size counts (Some lost)) = refl
-path-told (answers.Open size counts) = refl
+  -- choices with their steps counted, from a state on
+  abbrev counted_from : State → List ℕ → List Choice
+  counted_from t path = counted_path (watch_for asked.question.properties) (choices_of asked.question) t path
 
-module _ (asked : Asked) where
-  abbrev closed_by : List Choice → Size → Option LostValue → List ℕ
-  closed_by shown size None = size_text (codes "holds") size
-  closed_by shown size (Some lost) =
-      led_to (codes "lost") (property_at asked.question.properties (slice_index (asking is_ever asked.question.properties) lost.ever)).line lost.path shown
+  abbrev missed_by : MissedTold → List ℕ → List ℕ
+  missed_by (TellsLost want path) cycle = led_to (codes "lost") (want_line properties want) path (counted_from s path)
+  missed_by (TellsAvoided want path) cycle =
+      avoided_text (want_line properties want) (counted_from s path) (counted_from (come_to asked.question asked.policy s path) cycle)
 
-  abbrev text_by : List Choice → Told → List ℕ
-  text_by shown (TellsFound n path) = led_to (codes "found") (property_at asked.question.properties n).line path shown
-  text_by shown (TellsClosed size counts lost) = counts_text asked.question.properties counts ++ closed_by shown size lost
-  text_by shown (TellsOpen size counts) = counts_text asked.question.properties counts ++ size_text (codes "open") size
+  abbrev closed_by : Size → Option MissedTold → List ℕ → List ℕ
+  closed_by size None cycle = size_text (codes "holds") size
+  closed_by size (Some missed) cycle = missed_by missed cycle
+
+  abbrev text_by : Told → List ℕ → List ℕ
+  text_by (TellsFound n path) cycle = led_to (codes "found") (property_at properties n).line path (counted_from s path)
+  text_by (TellsClosed size counts missed) cycle = counts_text properties counts ++ closed_by size missed cycle
+  text_by (TellsOpen size counts) cycle = counts_text properties counts ++ size_text (codes "open") size
 
   abbrev exit_by : Told → Exit
   exit_by (TellsFound n path) = Violated
   exit_by (TellsClosed size counts None) = Done
-  exit_by (TellsClosed size counts (Some lost)) = Violated
+  exit_by (TellsClosed size counts (Some missed)) = Violated
   exit_by (TellsOpen size counts) = Open
 
-  abbrev output_by : List Choice → Told → Output
-  output_by shown all = record { text = text_by shown all; exit = exit_by all }
+  abbrev output_by : Told → List ℕ → Output
+  output_by all cycle = record { text = text_by all cycle; exit = exit_by all }
 
-  text-told : (shown : List Choice) (answer : Explored) → explored_text asked.question.properties shown answer ≡ text_by shown (told answer)
+  text-told : (answer : Explored) → explored_text properties (shown_of asked.question s answer) answer ≡ text_by (told answer) (cycle_of answer)
   unfolding explored_text
-  text-told shown (answers.Found n path) = refl
-  text-told shown (answers.Closed size counts None) = refl
-  text-told shown (answers.Closed size counts (Some lost)) = refl
-  text-told shown (answers.Open size counts) = refl
+  text-told (answers.Found n path) = refl
+  text-told (answers.Closed size counts None) = refl
+  text-told (answers.Closed size counts (Some (Lost lost))) = refl
+  text-told (answers.Closed size counts (Some (Avoided avoided))) =
+      ap₂ (λ (path cycle : List Choice). counts_text properties counts.items ++ avoided_text (want_line properties avoided.want) path cycle)
+      (counted-front (watch_for properties) (choices_of asked.question) s avoided.path.items avoided.cycle.items)
+      (counted-behind (watch_for properties) (choices_of asked.question) s avoided.path.items avoided.cycle.items)
+  text-told (answers.Open size counts) = refl
 
   exit-told : (answer : Explored) → exit_of answer ≡ exit_by (told answer)
   exit-told (answers.Found n path) = refl
   exit-told (answers.Closed size counts None) = refl
-  exit-told (answers.Closed size counts (Some lost)) = refl
+  exit-told (answers.Closed size counts (Some missed)) = refl
   exit-told (answers.Open size counts) = refl
 
-  module _ (s : State) where
-    abbrev shown_by : Told → List Choice
-    shown_by all = counted_path (watch_for asked.question.properties) (choices_of asked.question) s (path_by all)
+  output-told : (answer : Explored) → told_by asked s answer ≡ output_by (told answer) (cycle_of answer)
+  output-told answer = ap₂ (λ (text : List ℕ) (exit : Exit). record { text = text; exit = exit }) (text-told answer) (exit-told answer)
 
-    output-told : (answer : Explored) → told_by asked s answer ≡ output_by (shown_by (told answer)) (told answer)
-    output-told answer =
-        ap₂ (λ (text : List ℕ) (exit : Exit). record { text = text; exit = exit }) (text-told (shown_of asked.question s answer) answer) (exit-told answer)
-        ∙ ap (λ path. output_by (counted_path (watch_for asked.question.properties) (choices_of asked.question) s path) (told answer)) (path-told answer)
+  -- whatever the cycles, the outputs are alike
+  alike-by : (all : Told) (cycle other : List ℕ) → AreAlike (output_by all cycle) (output_by all other)
+  alike-by (TellsFound n path) cycle other = inl refl
+  alike-by (TellsClosed size counts None) cycle other = inl refl
+  alike-by (TellsClosed size counts (Some (TellsLost want path))) cycle other = inl refl
+  alike-by (TellsClosed size counts (Some (TellsAvoided want path))) cycle other =
+      let end : State = come_to asked.question asked.policy s path in
+      inr (record {
+        counts = counts_text properties counts;
+        line = want_line properties want;
+        path = counted_from s path;
+        cycle = counted_from end cycle;
+        other_cycle = counted_from end other;
+        first = refl;
+        second = refl;
+      })
+  alike-by (TellsOpen size counts) cycle other = inl refl
 
-    -- answers of which the same is told are told alike
-    pub same-told : (a b : Explored) → told a ≡ told b → told_by asked s a ≡ told_by asked s b
-    same-told a b same = output-told a ∙ ap (λ all. output_by (shown_by all) all) same ∙ sym (output-told b)
+  -- answers of which the same is told are told alike
+  pub told-alike : (a b : Explored) → told a ≡ told b → AreAlike (told_by asked s a) (told_by asked s b)
+  told-alike a b same =
+      let second : told_by asked s b ≡ output_by (told a) (cycle_of b) = output-told b ∙ ap (λ all. output_by all (cycle_of b)) (sym same) in
+      subst (λ (o : Output). AreAlike o (told_by asked s b)) (sym (output-told a))
+      (subst (λ (o : Output). AreAlike (output_by (told a) (cycle_of a)) o) (sym second) (alike-by (told a) (cycle_of a) (cycle_of b)))

@@ -1,7 +1,9 @@
 -- The theorem of the program: what is so of the abstract machine, by what a call told (this project's own).
-use Rattle.std.specs.Prelude.{◌≡◌, ◌≢◌, ◌↔◌, ◌⊎◌, ℕ, true, List, Option, Some, IfSome}
+use Rattle.std.specs.Prelude.{◌≡◌, ◌≢◌, ◌↔◌, ◌⊎◌, ◌++◌, ℕ, true, List, Option, Some, IfSome}
 use Rattle.kernel_core.specs.State.{State}
-use Rattle.exploration.specs.Explored.{AllCanCome, NoneFails}
+use Rattle.breadth_first.specs.Told.{told as told_of}
+use Rattle.questions.specs.declared.choice.Choice.{Choice}
+use Rattle.exploration.specs.Explored.{AllCanCome, AllMustCome, NoneFails}
 use Rattle.courses.specs.Ending.{IsGiven, Output}
 use Rattle.courses.specs.Exit.{is_finished}
 use Rattle.courses.specs.Program.{out}
@@ -11,15 +13,17 @@ use Rattle.explore_program.specs.declared.asked.Asked.{Asked}
 use Rattle.explore_program.specs.declared.words.Wanted.TheVariants.{Explore}
 use Rattle.explore_program.specs.Posed.{HasPosed, IfPosed, posed}
 use Rattle.explore_program.specs.Program.{asked_by, explore}
+use Rattle.explore_program.specs.explored_text.Text.{avoided_text}
 use Rattle.explore_program.specs.Told.{Answers, HoldsAlways, Stepwise, Tells}
 
 -- ---- what holds
 
 -- all is as the question says: whatever the choices, no `never` fails in the state behind them, and the atoms of each `ever` can
--- come to hold behind them
+-- come to hold behind them; and there is a number of rounds within which those of each `must` come, whatever the rounds are
 pub record Holds (asked : Asked) (s : State) : Type 0 where
   pub never : NoneFails asked.question asked.policy s
   pub ever : AllCanCome asked.question asked.policy s
+  pub must : (rounds : ℕ) × AllMustCome asked.question asked.policy s rounds
 
 -- it is not
 abbrev pub IsViolated : Asked → State → Type 0
@@ -57,9 +61,32 @@ pub record Judges (words : List (List ℕ)) (held : Option (List ℕ)) (exit : E
 
 -- ---- one output
 
+-- what is told where a `must` can be avoided: counts, the line of the property, the choices that lead to a cycle, and its own
+abbrev pub avoided_output : List ℕ → ℕ → List Choice → List Choice → Output
+avoided_output counts line path cycle = record { text = counts ++ avoided_text line path cycle; exit = Violated }
+
+-- two outputs tell that the same `must` can be avoided, with the same counts and the same path, each by a cycle of its own
+pub record DifferByCycle (told other : Output) : Type 0 where
+  pub counts : List ℕ
+  pub line : ℕ
+  pub path : List Choice
+  pub cycle : List Choice
+  pub other_cycle : List Choice
+  pub first : told ≡ avoided_output counts line path cycle
+  pub second : other ≡ avoided_output counts line path other_cycle
+
+-- they are the same, but for a cycle
+abbrev pub AreAlike : Output → Output → Type 0
+AreAlike told other = (told ≡ other) ⊎ DifferByCycle told other
+
 -- Whatever answers the question of an input is told alike: what the program writes and how it ends are one function of its words
--- and the bytes.
+-- and the bytes, but for the cycle by which a `must` can be avoided.
 abbrev pub OneOutputLaw : Type 0
 OneOutputLaw = (words : List (List ℕ)) (bytes : List ℕ) (told other : Output)
     → IfPosed (λ asked s. Answers asked s told) (posed bytes) → IfPosed (λ asked s. Answers asked s other) (posed bytes)
-    → out (explore told) words bytes ≡ out (explore other) words bytes
+    → AreAlike (out (explore told) words bytes) (out (explore other) words bytes)
+
+-- Of one question the same is always told, but for a cycle: which property, which counts, and which path.
+abbrev pub OneToldLaw : Type 0
+OneToldLaw = (asked : Asked) (s : State) (one other : Output) (a : Answers asked s one) (b : Answers asked s other)
+    → told_of a.answer ≡ told_of b.answer

@@ -1,7 +1,7 @@
 -- What is told of a question, and what the program writes with it (this project's own).
 --
 -- No definition goes through the states: what is told is that of an answer of the search, which `Answers` says.
-use Rattle.std.specs.Prelude.{◌≡◌, ◌≢◌, ◌<◌, ◌≤◌, ℕ, true, List, [], length, Some, None, Result, Ok, Err, ⊤}
+use Rattle.std.specs.Prelude.{◌≡◌, ◌≢◌, ◌<◌, ◌≤◌, ℕ, ◌*◌, true, List, [], ◌++◌, length, take, drop, Some, None, Result, Ok, Err, ⊤}
 use Rattle.std.specs.List.{All}
 use Rattle.machine_state.specs.Machine.{hart_in}
 use Rattle.machine_state.specs.declared.event.Event.{Event}
@@ -9,12 +9,14 @@ use Rattle.kernel_core.specs.Run.{run_state}
 use Rattle.kernel_core.specs.State.{State}
 use Rattle.breadth_first.specs.declared.answer.Explored.{Explored}
 use Rattle.breadth_first.specs.declared.answer.Explored.TheVariants as answers
-use Rattle.exploration.specs.Explored.{AsksEver, IsExact, IsSafe, Says, come_to}
+use Rattle.breadth_first.specs.declared.answer.Missed.TheVariants.{Avoided}
+use Rattle.exploration.specs.Explored.{AsksEver, AsksMust, AsksMustAfter, IsExact, IsSafe, Says, come_to}
 use Rattle.questions.specs.declared.choice.Choice.{Choice}
-use Rattle.questions.specs.Question.{holds}
+use Rattle.questions.specs.Question.{first_holds, holds}
 use Rattle.exploration.specs.Laws.{IsAnswerTo}
 use Rattle.exploration.specs.Shown.{shown_of, told_path}
 use Rattle.interleavings.specs.Laws.{EachHartRuns, OnlyRuns}
+use Rattle.interleavings.specs.Rounds.{AlwaysStep, MustStep, RunsOnce}
 use Rattle.quiet_runs.specs.Laws.{AreHarts, CanCome}
 use Rattle.quiet_runs.specs.Runs.{after_steps}
 use Rattle.explore_program.specs.explored_text.Text.{choices_text, explored_text}
@@ -36,7 +38,7 @@ use Rattle.explore_program.specs.Stated.{Stated, States, RefusedAt, PastEnd, fir
 abbrev pub exit_of : Explored → Exit
 exit_of (answers.Found n path) = Violated
 exit_of (answers.Closed size counts None) = Done
-exit_of (answers.Closed size counts (Some lost)) = Violated
+exit_of (answers.Closed size counts (Some missed)) = Violated
 exit_of (answers.Open size counts) = Open
 
 -- how it ends once its text was written, or could not be
@@ -44,7 +46,7 @@ abbrev pub written_exit : {T E : Type 0} → Exit → Result T E → Exit
 written_exit exit (Ok done) = exit
 written_exit exit (Err fault) = WriteFault
 
--- what is told of a question by an answer, where these choices lead to the state that it tells
+-- what is told of a question by an answer, where these choices lead to the state that it tells, or show what isn't met
 abbrev pub told_with : Asked → List Choice → Explored → Output
 told_with asked shown answer = record {
   text = explored_text asked.question.properties shown answer;
@@ -71,16 +73,31 @@ CanComeStepwise asked s = EachHartRuns asked.question → OnlyRuns asked.questio
     → (n : ℕ) → AsksEver asked.question n → (harts : List ℕ) → AreHarts asked.question.sizes.harts harts
     → CanCome asked.question.sizes.harts (λ t. holds asked.question asked.policy t n) (after_steps s harts)
 
--- both
+-- the atoms of each `must` come within so many rounds of the harts' steps: from the start on, or, whatever the steps, from each
+-- state on in which its first atoms hold
+pub record AllMustStep (asked : Asked) (s : State) (rounds : ℕ) : Type 0 where
+  pub must : (n : ℕ) → AsksMust asked.question n → MustStep asked.question (λ t. holds asked.question asked.policy t n) s rounds
+  pub after : (n : ℕ) → AsksMustAfter asked.question n
+      → AlwaysStep asked.question (λ t. holds asked.question asked.policy t n) (λ t. first_holds asked.question asked.policy t n) s rounds
+
+-- where each hart can be run, and nothing else and nothing twice can be chosen: there is such a number of rounds
+abbrev pub MustComeStepwise : Asked → State → Type 0
+MustComeStepwise asked s = RunsOnce asked.question → (rounds : ℕ) × AllMustStep asked s rounds
+
+-- all of it
 pub record Stepwise (asked : Asked) (s : State) : Type 0 where
   pub never : HoldsStepwise asked s
   pub ever : CanComeStepwise asked s
+  pub must : MustComeStepwise asked s
 
--- where a limit ended the search, and each hart can be run: no `never` fails after as many steps as choices were gone through
+-- where a limit ended the search, and each hart can be run: no `never` fails after as many steps as choices were gone through.
+-- Where it told that all holds, and each hart can be run, but nothing else or twice: what must come does so within 4,097 rounds
+-- of steps for each state that was seen.
 abbrev pub StepwiseWithin : Asked → State → Explored → Type 0
 StepwiseWithin asked s (answers.Open size counts) = EachHartRuns asked.question
     → (harts : List ℕ) → AreHarts asked.question.sizes.harts harts → length harts ≤ size.depth
     → IsSafe asked.question asked.policy (after_steps s harts)
+StepwiseWithin asked s (answers.Closed size counts None) = RunsOnce asked.question → AllMustStep asked s (size.states * 4097)
 StepwiseWithin asked s _ = ⊤
 
 -- a text is read as a schedule, on a machine with so many harts, and its events lead from one state to another
@@ -89,8 +106,21 @@ pub record LeadsTo (harts : ℕ) (text : List ℕ) (s t : State) : Type 0 where
   pub read : (n : ℕ) → scheduled harts n (whole_lines [] text) ≡ record { events = events; ending = AtEnd }
   pub leads : run_state s events ≡ t
 
--- the text of the choices that an answer tells is read as a schedule that leads to the state that it tells
+-- Two texts are read as schedules: the first leads from one state to another, and the second from there back to it. The second
+-- behind the first is read as one schedule, of the events of both.
+pub record LeadsBack (harts : ℕ) (front behind : List ℕ) (s t : State) : Type 0 where
+  pub to : LeadsTo harts front s t
+  pub back : LeadsTo harts behind t t
+  pub both : (n : ℕ) → scheduled harts n (whole_lines [] (front ++ behind)) ≡ record { events = to.events ++ back.events; ending = AtEnd }
+
+-- The text of the choices that an answer tells is read as a schedule that leads to the state that it tells. Where it tells of a
+-- cycle, so are that of the choices before it, which leads to a state of the cycle, and that of the cycle's, which leads from
+-- there back to it.
 abbrev pub IsSchedule : Asked → State → Explored → Type 0
+IsSchedule asked s (answers.Closed size counts (Some (Avoided avoided))) =
+    let shown = shown_of asked.question s (answers.Closed size counts (Some (Avoided avoided))) in
+    LeadsBack asked.question.sizes.harts (choices_text (take (length avoided.path.items) shown))
+    (choices_text (drop (length avoided.path.items) shown)) s (come_to asked.question asked.policy s avoided.path.items)
 IsSchedule asked s answer =
     LeadsTo asked.question.sizes.harts (choices_text (shown_of asked.question s answer)) s
     (come_to asked.question asked.policy s (told_path answer))

@@ -2,8 +2,8 @@
 ghost use Rattle.std.specs.Prelude.{◌≡◌, ◌≢◌};
 ghost use Rattle.object_store.specs.Store.{sizes_of};
 ghost use Rattle.machine_state.specs.State.{state_of};
-ghost use Rattle.questions.specs.Asking.{asking};
-ghost use Rattle.questions.specs.Question.{is_count, is_ever};
+ghost use Rattle.questions.specs.Asking.{asking, is_want};
+ghost use Rattle.questions.specs.Question.{is_count};
 ghost use Rattle.courses.specs.Ending.{EndsIn};
 ghost use Rattle.explore_program.specs.Told.{Answers, Tells, exit_of, told_with, written_exit};
 
@@ -14,10 +14,13 @@ use courses::Exit;
 use coy_io::{Sink, WriteFault};
 use exploration::explored_laws;
 use exploration::machine_space::{Answered, explore_machine};
-use interleavings::{ever_stepwise_law, never_stepwise_law, within_stepwise_law};
+use interleavings::{
+    ever_stepwise_law, first_sees_only_law, must_stepwise_law, never_stepwise_law, sees_only_law,
+    within_stepwise_law,
+};
 use machine_state::Machine;
 use map_cache::MapCache;
-use questions::{Asks, asking};
+use questions::{Asks, asking, wanting};
 use statement_text::migrated_is_read;
 use std::alloc::Global;
 use std::sync::ledger::Ledger;
@@ -41,10 +44,13 @@ pub(crate) fn answer<K: Sink, W: Watcher, L: Ledger>(
     never_stepwise_law();
     within_stepwise_law();
     ever_stepwise_law();
+    sees_only_law();
+    first_sees_only_law();
+    must_stepwise_law();
     migrated_is_read();
     // Sizes that are read tell how many harts there are at most.
     let _sizes = machine.objects().sizes();
-    let Ok(evers) = asking(alloc, asked.question.properties(), Asks::Ever) else {
+    let Ok(wants) = wanting(alloc, asked.question.properties()) else {
         return Exit::OutOfMemory;
     };
     let Ok(counted) = asking(alloc, asked.question.properties(), Asks::Count) else {
@@ -61,7 +67,7 @@ pub(crate) fn answer<K: Sink, W: Watcher, L: Ledger>(
         Ok(answered) => tell(
             asked,
             &answered,
-            evers.as_slice(),
+            wants.as_slice(),
             counted.as_slice(),
             output,
         ),
@@ -69,16 +75,16 @@ pub(crate) fn answer<K: Sink, W: Watcher, L: Ledger>(
     }
 }
 
-/// Tells an answer, for which no memory is taken. `evers` and `counted` are the numbers of the properties that say `ever` and
-/// `count`.
+/// Tells an answer, for which no memory is taken. `wants` and `counted` are the numbers of the properties that ask what comes,
+/// and of those that say `count`.
 fn tell<K: Sink>(
     asked: &Asked,
     answered: &Answered,
-    evers: &[usize],
+    wants: &[usize],
     counted: &[usize],
     output: &mut K,
 ) -> Exit
-    requires evers { evers.now ≡ asking is_ever asked.now.question.properties }
+    requires wants { wants.now ≡ asking is_want asked.now.question.properties }
     requires counted { counted.now ≡ asking is_count asked.now.question.properties }
     ensures ends { EndsIn K.taken K.faults output.old output.new result
         (told_with asked.now answered.now.shown.items answered.now.explored) }
@@ -88,7 +94,7 @@ fn tell<K: Sink>(
     let written = put_explored(
         properties,
         answered.shown.as_slice(),
-        evers,
+        wants,
         counted,
         &answered.explored,
         output,
@@ -112,8 +118,10 @@ fn exit_of(explored: &Explored) -> Exit
 {
     match explored {
         Explored::Found { .. } => Exit::Violated,
-        Explored::Closed { lost: None, .. } => Exit::Done,
-        Explored::Closed { lost: Some(_), .. } => Exit::Violated,
+        Explored::Closed { missed: None, .. } => Exit::Done,
+        Explored::Closed {
+            missed: Some(_), ..
+        } => Exit::Violated,
         Explored::Open { .. } => Exit::Open,
     }
 }

@@ -1,11 +1,13 @@
-//! The law of outputs, as a clause.
-ghost use Rattle.explore_program.specs.Theorem.{OneOutputLaw};
+//! The laws of outputs, as clauses.
+ghost use Rattle.explore_program.specs.Theorem.{OneOutputLaw, OneToldLaw};
 
 use exploration::explored_laws;
 
-/// What is told of a question is told alike by all that answers it. It does nothing: its contract is the law.
+/// What is told of a question is told alike by all that answers it, but for the cycle by which a `must` can be avoided. It does
+/// nothing: its contract is the laws.
 pub fn output_laws()
     ensures one { OneOutputLaw }
+    ensures told { OneToldLaw }
 {
     explored_laws();
 }

@@ -1,15 +1,16 @@
--- What is told of an exploration: whether all properties hold, or the choices that lead to a state in which one doesn't.
--- (Own.)
-use Rattle.std.specs.Prelude.{ℕ, List, [], ◌++◌, length, codes, decimal, slice_index, slice_index_or, if◌then◌else◌, Option, Some, None}
+-- What is told of an exploration: whether all properties hold, or the choices that lead to a state in which one doesn't, or to
+-- a cycle that avoids what must come. (Own.)
+use Rattle.std.specs.Prelude.{ℕ, List, [], ◌++◌, length, take, drop, codes, decimal, slice_index, slice_index_or, if◌then◌else◌, Option, Some, None}
 use Rattle.breadth_first.specs.declared.answer.Count.{Count}
 use Rattle.breadth_first.specs.declared.answer.Explored.{Explored}
 use Rattle.breadth_first.specs.declared.answer.Explored.TheVariants.{Found, Closed, Open}
-use Rattle.breadth_first.specs.declared.answer.Lost.{Lost}
+use Rattle.breadth_first.specs.declared.answer.Missed.{Missed}
+use Rattle.breadth_first.specs.declared.answer.Missed.TheVariants.{Lost, Avoided}
 use Rattle.breadth_first.specs.declared.answer.Size.{Size}
 use Rattle.listing_read.specs.declared.schedule.Timed.{Timed}
 use Rattle.questions.specs.declared.choice.Choice.{Choice}
-use Rattle.questions.specs.Question.{PropertyValue, is_count, is_ever}
-use Rattle.questions.specs.Asking.{asking, property_at}
+use Rattle.questions.specs.Question.{PropertyValue, is_count}
+use Rattle.questions.specs.Asking.{asking, is_want, property_at}
 use Rattle.run_text.specs.Each.{each_below}
 use Rattle.statement_text.specs.Text.{event_text, events_text}
 use Rattle.explore_program.specs.explored_text.Schedule.{are_one, schedule_of}
@@ -35,6 +36,11 @@ text_before (Some line) next = if are_one line next then [] else event_text line
 -- the line of a word, the line of a property and how many choices lead to a state
 unfoldable pub led_text : List ℕ → ℕ → ℕ → List ℕ
 led_text word line depth = word ++ codes " " ++ decimal line ++ codes " depth=" ++ decimal depth ++ codes "\n"
+
+-- the line of a property that can be avoided, how many choices lead to a state of a cycle, and how many the cycle has
+unfoldable pub avoided_line : ℕ → ℕ → ℕ → List ℕ
+avoided_line line depth loop =
+    codes "avoided " ++ decimal line ++ codes " depth=" ++ decimal depth ++ codes " loop=" ++ decimal loop ++ codes "\n"
 
 -- how far an exploration came
 unfoldable pub size_text : List ℕ → Size → List ℕ
@@ -68,14 +74,28 @@ counts_text properties counts = each_below (counted_text properties counts) (len
 unfoldable pub led_to : List ℕ → ℕ → List ℕ → List Choice → List ℕ
 led_to word line path shown = led_text word line (length path) ++ choices_text shown
 
--- what is told where all states were seen: that all holds, or a state from which nothing leads to one with all atoms
-abbrev pub closed_text : List PropertyValue → List Choice → Size → Option Lost → List ℕ
-closed_text properties shown size None = size_text (codes "holds") size
-closed_text properties shown size (Some lost) =
-    led_to (codes "lost") (property_at properties (slice_index (asking is_ever properties) lost.ever)).line lost.path.items shown
+-- a property that can be avoided, the choices that lead to a state of a cycle, and those of the cycle
+unfoldable pub avoided_text : ℕ → List Choice → List Choice → List ℕ
+avoided_text line path cycle = avoided_line line (length path) (length cycle) ++ (choices_text path ++ choices_text cycle)
 
--- what is told of an exploration, where these are the choices that lead to the state that it tells
+-- the line of the property that is this one of those that ask what comes
+abbrev pub want_line : List PropertyValue → ℕ → ℕ
+want_line properties want = (property_at properties (slice_index (asking is_want properties) want)).line
+
+-- what is told of a property that isn't met: the choices to a state from which nothing leads to its atoms; or those to a cycle
+-- that avoids them, and those of the cycle, which stand behind them
+abbrev pub missed_text : List PropertyValue → List Choice → Missed → List ℕ
+missed_text properties shown (Lost lost) = led_to (codes "lost") (want_line properties lost.want) lost.path.items shown
+missed_text properties shown (Avoided avoided) =
+    avoided_text (want_line properties avoided.want) (take (length avoided.path.items) shown) (drop (length avoided.path.items) shown)
+
+-- what is told where all states were seen: that all holds, or what isn't met
+abbrev pub closed_text : List PropertyValue → List Choice → Size → Option Missed → List ℕ
+closed_text properties shown size None = size_text (codes "holds") size
+closed_text properties shown size (Some missed) = missed_text properties shown missed
+
+-- what is told of an exploration, where these are the choices that lead to the state that it tells, or show what isn't met
 unfoldable pub explored_text : List PropertyValue → List Choice → Explored → List ℕ
 explored_text properties shown (Found n path) = led_to (codes "found") (property_at properties n).line path.items shown
-explored_text properties shown (Closed size counts lost) = counts_text properties counts.items ++ closed_text properties shown size lost
+explored_text properties shown (Closed size counts missed) = counts_text properties counts.items ++ closed_text properties shown size missed
 explored_text properties shown (Open size counts) = counts_text properties counts.items ++ size_text (codes "open") size

@@ -1,7 +1,7 @@
 //! How far an exploration came, and which property it is about.
 ghost use Rattle.std.specs.Prelude.{◌≡◌, ◌≤◌, [], length};
 ghost use Rattle.coy_io.specs.Written.{WroteTo};
-ghost use Rattle.explore_program.specs.explored_text.Text.{led_text, size_text};
+ghost use Rattle.explore_program.specs.explored_text.Text.{avoided_line, led_text, size_text};
 
 use breadth_first::Size;
 use coy_io::{Sink, WriteFault, put_bytes};
@@ -60,5 +60,34 @@ fn push_led(word: &str, number: u32, depth: usize, line: &mut LineBuf)
     line.push_dec(number as u64);
     line.push_word(" depth=");
     line.push_dec(depth as u64);
+    line.push_word("\n");
+}
+
+/// Writes the line of a property that can be avoided, how many choices lead to a cycle, and how many that has.
+pub(crate) fn put_avoided_line<K: Sink>(
+    number: u32,
+    depth: usize,
+    loops: usize,
+    output: &mut K,
+) -> Result<(), WriteFault>
+    ensures { WroteTo K.taken K.faults output.old output.new result
+        (avoided_line number depth loops) }
+{
+    let mut line = LineBuf::new();
+    push_avoided(number, depth, loops, &mut line);
+    put_bytes(line.as_bytes(), output)
+}
+
+#[tactic(auto, unfolding(crate::specs::explored_text::Text::avoided_line), using(coy_text::proofs::NumeralLaws::length_decimal))]
+fn push_avoided(number: u32, depth: usize, loops: usize, line: &mut LineBuf)
+    requires { line.old ≡ [] }
+    ensures { line.new ≡ avoided_line number depth loops }
+{
+    line.push_word("avoided ");
+    line.push_dec(number as u64);
+    line.push_word(" depth=");
+    line.push_dec(depth as u64);
+    line.push_word(" loop=");
+    line.push_dec(loops as u64);
     line.push_word("\n");
 }

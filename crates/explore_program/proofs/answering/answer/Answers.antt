@@ -1,22 +1,35 @@
-use Rattle.std.proofs.Common.{◌≤◌, List, refl, ap, subst, arith}
+use Rattle.std.proofs.Common.{◌≤◌, ◌*◌, List, refl, ap, subst, arith}
+use Rattle.object_store.specs.Ranges.{IsStore}
 use Rattle.object_store.specs.declared.sizes.Sizes.{Sizes}
 use Rattle.machine_state.specs.State.{state_of}
 use Rattle.courses.specs.Ending.{EndsIn}
 use Rattle.questions.specs.declared.choice.Choice.{Choice}
 use Rattle.explore_program.specs.Told.{told_by, told_with}
+use Rattle.explore_program.proofs.Rounds.{must-steps}
 use Rattle.explore_program.proofs.Schedules.{leads-to}
 use Rattle.explore_program.proofs.Setting.{nothing_told}
 use Rattle.explore_program.proofs.Verdicts.{answer-finished, done-holds, stepwise-within}
 use Rattle.explore_program.proofs.answering.answer.Goals as goal
 
-pub returns-in-Ok-clause-tells : goal.returns-in-Ok-clause-tells
-returns-in-Ok-clause-tells g c =
+-- there is no memory for the numbers of the properties
+pub returns-in_default-clause-tells : goal.returns-in_default-clause-tells
+returns-in_default-clause-tells g c = record { told = nothing_told; finished = refl; answers = λ read memory. absurd (memory refl); so = λ memory. absurd (memory refl) }
+
+pub returns-in_default-asking-clause-tells : goal.returns-in_default-asking-clause-tells
+returns-in_default-asking-clause-tells g c = record { told = nothing_told; finished = refl; answers = λ read memory. absurd (memory refl); so = λ memory. absurd (memory refl) }
+
+-- the machine was explored
+pub returns-in-Ok-explore_machine-clause-tells : goal.returns-in-Ok-explore_machine-clause-tells
+returns-in-Ok-explore_machine-clause-tells g c =
     let asked = c.args.asked.now in
     let s = state_of c.args.machine in
     let laws = c.explored_laws.ensures in
-    let searched = c.in-Ok.ensures.answer in
-    let answer = c.in-Ok.answered.explored in
-    let few : asked.question.sizes.harts ≤ 8 = omega (arith, ap (λ (sizes : Sizes). sizes.harts) c.requires, c.sizes.ensures.sized.sized.most_harts) in
+    let searched = c.in-Ok-explore_machine.ensures.answer in
+    let answer = c.in-Ok-explore_machine.answered.explored in
+    let stored = subst IsStore c.objects.ensures c.sizes-sizes.ensures.sized in
+    let few : asked.question.sizes.harts ≤ 8 = omega (arith, ap (λ (sizes : Sizes). sizes.harts) c.requires, stored.sized.most_harts) in
+    let says = laws.says asked.question asked.policy s answer searched in
+    let rounds = must-steps c.must_stepwise_law.ensures.here c.must_stepwise_law.ensures.always c.sees_only_law.ensures c.first_sees_only_law.ensures asked s in
     let exact = laws.exact asked.question asked.policy s answer searched in
     record {
       told = told_by asked s answer;
@@ -24,7 +37,7 @@ returns-in-Ok-clause-tells g c =
       answers = λ read memory. record {
         answer = answer;
         searched = searched;
-        says = laws.says asked.question asked.policy s answer searched;
+        says = says;
         exact = exact;
         always = λ done choices. laws.every_event asked.question asked.policy s choices (done-holds asked s answer exact done).never;
         stepwise = λ done.
@@ -32,15 +45,17 @@ returns-in-Ok-clause-tells g c =
             record {
               never = λ runs. c.never_stepwise_law.ensures asked.question asked.policy s runs all.never;
               ever = λ runs only. c.ever_stepwise_law.ensures asked.question asked.policy s runs only all.ever;
+              must = λ runs. (all.must.0 * 4097, rounds all.must.0 all.must.1 runs);
             };
-        within = stepwise-within asked s answer (laws.says asked.question asked.policy s answer searched) (c.within_stepwise_law.ensures asked.question asked.policy s);
-        schedule = leads-to c.migrated_is_read.ensures.events asked s answer few c.in-Ok.answered.shown.items c.in-Ok.ensures.shown c.in-Ok.ensures.range laws.shown;
+        within = stepwise-within asked s answer says (c.within_stepwise_law.ensures asked.question asked.policy s) rounds;
+        schedule = leads-to c.migrated_is_read.ensures.events asked s few laws.shown answer says c.in-Ok-explore_machine.answered.shown.items c.in-Ok-explore_machine.ensures.shown c.in-Ok-explore_machine.ensures.range;
         is = refl;
       };
       so = λ memory.
           subst (λ (shown : List Choice). EndsIn g.K.Sink.taken g.K.Sink.faults c.args.output.now c.tell.new.output c.tell.result (told_with asked shown answer))
-          c.in-Ok.ensures.shown c.tell.ensures.ends;
+          c.in-Ok-explore_machine.ensures.shown c.tell.ensures.ends;
     }
 
-pub returns-in-Err-clause-tells : goal.returns-in-Err-clause-tells
-returns-in-Err-clause-tells g c = record { told = nothing_told; finished = refl; answers = λ read memory. absurd (memory refl); so = λ memory. absurd (memory refl) }
+-- or could not be
+pub returns-clause-tells : goal.returns-clause-tells
+returns-clause-tells g c = record { told = nothing_told; finished = refl; answers = λ read memory. absurd (memory refl); so = λ memory. absurd (memory refl) }
