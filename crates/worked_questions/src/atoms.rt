@@ -5,7 +5,7 @@ ghost use Rattle.steps.specs.Permit.{permit_for};
 use crate::starts::{barred, machine_of};
 use kernel_core::{Event, Machine, event};
 use question_lines::read_question;
-use questions::{Question, holds};
+use questions::{Question, first_holds, holds};
 use separation_policy::{Closure, Policy};
 use std::alloc::Global;
 use std::marker::Brand;
@@ -139,6 +139,16 @@ const STUCK: &str = "\
 y |stuck|
 y |faulted 4 MalformedSyscall|";
 
+/// Whether one of the groups in front of `must` holds of the first machine, whether one of those behind it does, and the line.
+const SIDES: &str = "\
+ny |must running 0|
+nn |must stuck|
+yn |after running 0 must stuck|
+ny |after stuck must running 0|
+yy |after stuck or running 0 and not stuck must halted or not crossing|
+nn |after running 0 and stuck must halted or stuck|
+ny |never running 0|";
+
 /// Asks whether the atoms of each row hold.
 fn check_rows<L: Ledger>(
     rt: &impl Abort,
@@ -172,6 +182,32 @@ fn check_row<L: Ledger>(
     assert!(rt; holds == (wanted == "y"), "{row}");
 }
 
+/// Asks whether what stands on each side of a row's `must` holds.
+fn check_sides<L: Ledger>(
+    rt: &impl Abort,
+    alloc: Global,
+    machine: &Machine<Plain>,
+    policy: &mut Policy,
+    row: &str,
+    fetches: &mut Steps<L>,
+) {
+    let (wanted, line) = barred(rt, row);
+    let mut question = Question::new(alloc, machine.objects().sizes());
+    let read = read_question(alloc, line.as_bytes(), 1, &mut question, policy);
+    assert!(rt; read.is_ok(), "{row}");
+    assert!(rt; question.properties().len() == 1, "{row}");
+    let closure = Closure::new(alloc, policy).expect(rt, row);
+    let first = first_holds(&question, policy, &closure, false, machine, 0, fetches);
+    let goal = holds(&question, policy, &closure, false, machine, 0, fetches);
+    let met = match (first, goal) {
+        (false, false) => "nn",
+        (false, true) => "ny",
+        (true, false) => "yn",
+        (true, true) => "yy",
+    };
+    assert!(rt; met == wanted, "{row}: {met}");
+}
+
 /// Lets the hart make so many steps.
 fn step<L: Ledger>(machine: &mut Machine<Plain>, times: u8, fetches: &mut Steps<L>) {
     for _ in 0..times {
@@ -189,6 +225,9 @@ fn check_all<L: Ledger>(rt: &impl Abort, alloc: Global, permit: Permit)
     step(&mut machine, 4, &mut fetches);
     let mut policy = Policy::new(alloc, machine.objects().sizes()).expect(rt, MACHINE);
     check_rows(rt, alloc, &machine, &mut policy, ATOMS, &mut fetches);
+    for row in SIDES.lines() {
+        check_sides(rt, alloc, &machine, &mut policy, row, &mut fetches);
+    }
     let mut question = Question::new(alloc, machine.objects().sizes());
     let apart = read_question(alloc, b"domain a process 0", 1, &mut question, &mut policy);
     assert!(rt; apart.is_ok(), "domain");

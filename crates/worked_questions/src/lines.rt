@@ -4,7 +4,7 @@ use crate::starts::barred;
 use listing_read::PolicyFault;
 use object_store::Sizes;
 use question_lines::{Next, QuestionFault, Untaken, read_question};
-use questions::Question;
+use questions::{Asks, Group, Question};
 use separation_policy::Policy;
 use std::alloc::Global;
 use std::process::Abort;
@@ -31,6 +31,11 @@ question |may step 1|
 question |may step 1 1000000|
 question |may tick 0|
 question |may run 1|
+question |may run 0|
+Taken |may run 0|
+Taken |may step 1 1|
+question |may step 1 2|
+Taken |may tick 0|
 UnknownEvent |may|
 UnknownEvent |may round 1|
 WrongWords |may step|
@@ -163,6 +168,29 @@ WrongWords |never same pc 0 pc 0 and same or stuck|
 question |never same plus plus plus plus plus plus plus plus plus plus plus plus plus plus plus pc 0 pc 0 pc 0 pc 0 pc 0 pc 0 pc 0 pc 0 pc 0 pc 0 pc 0 pc 0 pc 0 pc 0 pc 0 pc 0 pc 0|
 BadTerm |never same plus plus plus plus plus plus plus plus plus plus plus plus plus plus plus plus x|
 BadTerm |never same pc 0 plus plus plus plus plus plus plus plus plus plus plus plus plus plus plus plus|
+question |must stuck|
+question |must not stuck and halted or crossing|
+UnknownAtom |must|
+UnknownAtom |must stuck or|
+UnknownAtom |must halt and running 3|
+WrongWords |must stuck must halted|
+NoObject |must running 3 or halt|
+question |after stuck must halted|
+question |after running 0 and not stuck or sleeps 1 must receiving 0 or halted|
+UnknownAtom |after|
+UnknownAtom |after stuck|
+UnknownAtom |after must stuck|
+UnknownAtom |after stuck must|
+UnknownAtom |after stuck and must halted|
+UnknownAtom |after stuck must or halted|
+UnknownAtom |after halt must stuck 0|
+WrongWords |after stuck 0 must halt|
+WrongWords |after stuck must stuck 0|
+WrongWords |after stuck must halted must halted|
+NoObject |after running 3 must x|
+NoObject |after stuck must running 3 or x|
+BadTerm |after same 0 pc 0 must x|
+UnknownQuestion |After stuck must halted|
 question |domain a process 0 1|
 Taken |domain b process 1|
 BadName |domain A page 0|
@@ -179,6 +207,18 @@ question |logs a|
 NoDomain |logs b|
 WrongWords |end 1|
 schedule |end|";
+
+/// What a line asks, how many atoms each of the groups has in front of its `must`, how many each of the others, and the line in
+/// bars.
+const MADE: &str = "\
+never - 1 |never stuck|
+ever - 21 |ever stuck and halted or crossing|
+count - 112 |count stuck or halted or not running 0 and crossing|
+must - 1 |must stuck|
+must - 12 |must not crossing or halted and running 0|
+after 1 1 |after stuck must halted|
+after 12 31 |after stuck or running 0 and not sleeps 1 must halted and stuck and running 1 or receiving 0|
+after 2 1 |after same pc 0 number 4 and stuck must below byte 0 fff age page 0|";
 
 /// The name of what a line came to.
 fn name_of(answer: Result<Next, Untaken>) -> &'static str {
@@ -240,5 +280,55 @@ fn the_first_fault_of_a_line_is_told(rt: HostRuntime) -> Result<(), Fail> {
     }
     assert_eq!(rt; question.depth(), Some(0));
     assert_eq!(rt; question.states(), Some(1));
+    Ok(())
+}
+
+/// The word for what a property asks.
+fn asks_name(asks: Asks) -> &'static str {
+    match asks {
+        Asks::Never => "never",
+        Asks::Ever => "ever",
+        Asks::Must => "must",
+        Asks::MustAfter => "after",
+        Asks::Count => "count",
+    }
+}
+
+/// Tells each group by how many atoms it has, or that there are none.
+fn told(rt: &impl Abort, alloc: Global, row: &str, groups: &[Group]) -> String {
+    let mut text = String::new(alloc);
+    if groups.is_empty() {
+        text.push('-').expect(rt, row);
+    }
+    for group in groups {
+        text = format!(in alloc; "{text}{}", group.atoms().len()).expect(rt, row);
+    }
+    text
+}
+
+/// Reads a row's line, and tells the property that it makes.
+fn check_made(rt: &impl Abort, alloc: Global, row: &str) {
+    let (wanted, line) = barred(rt, row);
+    let mut question = Question::new(alloc, SIZES);
+    let mut policy = Policy::new(alloc, SIZES).expect(rt, row);
+    let read = read_question(alloc, line.as_bytes(), 7, &mut question, &mut policy);
+    assert!(rt; read.is_ok() && question.properties().len() == 1, "{row}");
+    for property in question.properties() {
+        let first = told(rt, alloc, row, property.first());
+        let groups = told(rt, alloc, row, property.groups());
+        let made = format!(in alloc; "{} {first} {groups}", asks_name(property.asks()));
+        let made = made.expect(rt, row);
+        assert!(rt;
+            made.as_str() == wanted && property.line() == 7,
+            "{row}: {made}"
+        );
+    }
+}
+
+#[test]
+fn a_line_makes_the_property_that_it_says(rt: HostRuntime) -> Result<(), Fail> {
+    for row in MADE.lines() {
+        check_made(&rt, rt.alloc(), row);
+    }
     Ok(())
 }
