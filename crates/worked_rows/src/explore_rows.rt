@@ -196,6 +196,76 @@ ever halted
 =>
 lost 8 depth=0
 ==
+10 none: one choice leads to a cycle of two
+coyotos 1
+machine 1 1 0 1 1 0
+code 0 000 addi x1 x0 5
+code 0 004 jal x0 -4
+slot 0 0 page:0@12/0
+process 0 0 gpt:0@16/0 schedule:3 null run
+end
+may step 0
+must faulted 0
+=>
+avoided 9 depth=1 loop=2
+step 0 1
+step 0 2
+==
+10 none: both choices lead from the start back to it
+coyotos 1
+machine 1 2 0 0 1 0
+end
+must halted
+=>
+avoided 4 depth=0 loop=2
+step 0 1
+tick 0
+==
+10 none: what must come doesn't behind what must come before
+coyotos 1
+machine 1 1 0 1 1 0
+code 0 000 addi x1 x0 5
+code 0 004 ebreak
+slot 0 0 page:0@12/0
+process 0 0 gpt:0@16/0 schedule:3 null run
+end
+may step 0
+count faulted 0
+must faulted 0
+after pc 0 4 must halted
+=>
+count 9 states=1 depth=2
+avoided 11 depth=2 loop=1
+step 0 2
+step 0 1
+==
+10 none: what must come does, and then what can't
+coyotos 1
+machine 1 1 0 1 1 0
+code 0 000 addi x1 x0 5
+code 0 004 ebreak
+slot 0 0 page:0@12/0
+process 0 0 gpt:0@16/0 schedule:3 null run
+end
+may step 0
+must faulted 0
+ever reg 0 1 0
+=>
+lost 10 depth=1
+step 0 1
+==
+0 none: no round of steps and ticks goes without the fault
+coyotos 1
+machine 1 1 0 1 1 0
+code 0 000 addi x1 x0 5
+code 0 004 ebreak
+slot 0 0 page:0@12/0
+process 0 0 gpt:0@16/0 schedule:3 null run
+end
+must faulted 0
+=>
+holds states=4 tried=8 depth=2
+==
 10 none: the policy doesn't hold
 coyotos 1
 machine 1 1 0 1 1 0
