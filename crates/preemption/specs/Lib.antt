@@ -1,0 +1,4 @@
+pub mod Places
+pub mod Wide
+pub mod Begun
+pub mod Laws

@@ -1,0 +1,38 @@
+-- A machine with a hart for each process, beside one with fewer. (Own.)
+use Rattle.std.specs.Prelude.{◌≡◌, ℕ, ◌<◌, ◌≤◌, length}
+use Rattle.cap_format.specs.declared.kind.CapKind.TheVariants.{Schedule}
+use Rattle.process_objects.specs.declared.state.State.TheVariants.{Running}
+use Rattle.object_store.specs.Store.{Store}
+use Rattle.schedules.specs.Queues.{QueuesValue, priorities}
+use Rattle.schedules.specs.Standing.{IsQueues}
+use Rattle.machine_state.specs.State.{State, IsOnHart, process, schedule_slot}
+use Rattle.preemption.specs.Places.{Thins}
+
+-- the same objects, for another number of harts
+abbrev pub with_harts : Store → ℕ → Store
+with_harts s harts = record { harts = harts; items = s.items; contents = s.contents }
+
+-- the same objects in a machine with `many` harts, whose processes stand in these queues
+abbrev pub widened : ℕ → State → QueuesValue → State
+widened many s queues =
+    record { store = with_harts s.store many; queues = queues; halted = s.halted }
+
+-- State `w` of a machine with `many` harts has the objects of state `s` of one with `few`, and the
+-- same processes in its queues, but for those that have a hart in the wide machine alone.
+pub record Spread (few many : ℕ) (s w : State) : Type 0 where
+  pub same : w ≡ widened many s w.queues
+  pub places : Thins few s.queues w.queues
+
+-- the process has a schedule, of a priority that there is
+pub record HasSchedule (s : State) (p : ℕ) : Type 0 where
+  pub kind : (schedule_slot s p).kind ≡ Schedule
+  pub priority : (schedule_slot s p).object < priorities
+
+-- A state of a machine with `many` harts, no fewer than it has processes. Each process that is on
+-- a hart runs, and has a schedule.
+pub record IsForEach (many : ℕ) (s : State) : Type 0 where
+  pub queues : IsQueues s.queues
+  pub harts : length s.queues.harts ≡ many
+  pub each : length s.queues.sleepers ≤ many
+  pub running : (p : ℕ) → IsOnHart s.queues p → (process s p).state ≡ Running
+  pub scheduled : (p : ℕ) → IsOnHart s.queues p → HasSchedule s p
