@@ -22,11 +22,11 @@ use Rattle.courses.specs.Program.{HasForm, asked_course, bytes_for, reads_for, s
 use Rattle.courses.specs.Sure.{WritesSure}
 use Rattle.courses.proofs.Endings.{completes}
 use Rattle.courses.specs.declared.exit.Exit.{Exit}
-use Rattle.courses.specs.declared.exit.Exit.TheVariants.{Done, Crossings, ReadFault, Usage, WriteFault}
+use Rattle.courses.specs.declared.exit.Exit.TheVariants.{Done, Crossings, OutOfMemory, ReadFault, Usage, WriteFault}
 use Rattle.courses.proofs.Bytes.{on_listed}
 use Rattle.separation_program.specs.Judged.{HasJudged, Judged, ended_output, judged, judged_at, judged_behind, judged_by, separation_course, stated_output}
 use Rattle.separation_program.specs.Program.{FetchesFor, Judges, asked_by, is_early_for, separation}
-use Rattle.separation_program.specs.Slots.{input_slots}
+use Rattle.separation_program.specs.Slots.{LacksFor, input_slots}
 use Rattle.separation_program.specs.declared.words.Asked.{Asked}
 use Rattle.separation_program.specs.Stated.{PastEnd, RefusedAt, Stated, States, stated}
 use Rattle.separation_program.specs.Theorem.{IsAffirmed, IsAsked, IsDenied, IsExact, TellsOf}
@@ -220,10 +220,11 @@ sure-words words aim is held held' taken taken' w = subst (λ a. WritesSure held
 
 -- and so is how many slots are read
 pub fetches-words : (words : List (List ℕ)) (aim : Aim) → asked_by words ≡ Some (Judge aim) → (held : Option (List ℕ)) (f g : ℕ) (exit : Exit)
-    → IfSome held (λ bytes. Fetches f g exit (input_slots aim bytes)) → FetchesFor words held f g exit
-fetches-words words aim asked held f g exit fetched = record {
+    → IfSome held (λ bytes. Fetches f g exit (input_slots aim bytes)) → (exit ≡ OutOfMemory → IfSome held (λ bytes. LacksFor aim bytes f g)) → FetchesFor words held f g exit
+fetches-words words aim asked held f g exit fetched wanting = record {
   counted = λ other also. subst (λ a. IfSome held (λ bytes. Fetches f g exit (input_slots a bytes))) (aims-same words aim other asked also) fetched;
   unread = λ none. let bad : true ≡ false = sym (ap (reads_for separation) asked) ∙ none in cc;
+  wanting = λ other also lacks. subst (λ a. IfSome held (λ bytes. LacksFor a bytes f g)) (aims-same words aim other asked also) (wanting lacks);
 }
 
 -- where no fault ended a call, it wrote the whole text, or memory was wanting

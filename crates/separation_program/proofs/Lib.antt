@@ -4,6 +4,7 @@ mod Needing
 mod Concluding
 mod Judges
 mod Slots
+mod Lacking
 pub mod Called
 mod Related
 mod Written

@@ -33,7 +33,7 @@ use Rattle.courses.specs.declared.exit.Exit.{Exit}
 use Rattle.courses.specs.declared.exit.Exit.TheVariants as exits
 use Rattle.courses.proofs.Bytes.{on_listed}
 use Rattle.courses.proofs.Rests.{run-ends}
-use Rattle.separation_program.specs.Slots.{ended_slots, input_slots, judged_slots, judging_slots, listed_slots, stated_slots, walked}
+use Rattle.separation_program.specs.Slots.{LacksBehind, LacksJudging, ended_slots, input_slots, judged_slots, judging_slots, listed_slots, stated_slots, walked}
 use Rattle.separation_program.specs.Stated.{AreStated, Stated, StatesRest, stated}
 use Rattle.separation_program.specs.declared.words.Aim.{Aim}
 use Rattle.separation_program.proofs.Judges.{on_stated}
@@ -100,6 +100,19 @@ module _ {T : Type 0} (t : Translator T) (m n : MachineValue T) (slots : PolicyV
             (subst (λ es. Fetches f h exit (ended_slots count slots policy s es AtEnd)) a.0
             (fetched-behind f g h exit _ _ ran.counted (subst (λ state. Fetches g h exit (slots policy state)) ran.state last)))
 
+    -- and so were all lines where memory is wanting behind them
+    pub lacks-ended : (aim : Aim) (h : ℕ) (counts : Counts) → replay_exit answer ≡ Ok counts → LacksJudging aim policy (state_of n) g h
+        → OnParts (ahead lines held) (λ parts. LacksBehind count aim policy s (sched parts) f h)
+    lacks-ended aim h counts given last = on_all (ahead lines held) _ _ (λ parts a. of_all (sched parts) a) (accords-at (answers.Ended counts) (run-ends counts answer given))
+      where
+        of_all : (all : Scheduled) → Accords (run_answer s) (answers.Ended counts) events all → LacksBehind count aim policy s all f h
+        of_all all a = record {
+          ended = ended-at _ _ all.ending a.1;
+          judging = subst (λ es. LacksJudging aim policy (run_state s es) (f + count (run_touches s es)) h) a.0
+              (subst (λ x. LacksJudging aim policy (run_state s events) x h) ran.counted
+              (subst (λ state. LacksJudging aim policy state g h) ran.state last));
+        }
+
     -- the slots of these events were read, and they are all of them
     all-read : (exit : Exit) → Fetches f g exit (count (run_touches s events))
     all-read exit = let counted = ran.counted in record { whole = λ given. omega (arith, counted); most = omega (arith, counted) }
@@ -145,20 +158,27 @@ slots-unstated count slots taken sink_faults first policy s harts old new held h
 
 -- ---- from the lines to the bytes
 
+-- what is so of the lines behind a listing is so of the lines of the input
+pub listed-behind : (P : State → ℕ → Stated → Type 0) (Q : Listed → Type 0)
+    → ((listing : ListingValue) (last : ℕ) (rest : List Part) → P (booted listing) listing.sizes.harts (stated (first_policy listing.sizes) last rest) → Q (Good listing last rest))
+    → (listing : ListingValue) (last : ℕ) (s : State) (harts : ℕ) (policy : PolicyValue) → s ≡ booted listing → harts ≡ listing.sizes.harts → policy ≡ first_policy listing.sizes
+    → (held mid : Option (List ℕ)) (first middle : Reader) → middle.number ≡ last → first ≡ new_reader
+    → IsListed Header (first.number + 1) (ahead first held) listing middle.number (ahead middle mid)
+    → OnParts (ahead middle mid) (λ parts. P s harts (stated policy last parts)) → IfSome held (λ bytes. Q (listing_of Header 1 (parts_of bytes)))
+listed-behind P Q good listing last s harts policy state sizes start held mid first middle number starts listed is =
+    on_listed held (ahead middle mid) listing last Q
+    (subst (λ n. IsListed Header 1 (ahead new_reader held) listing n (ahead middle mid)) number
+    (subst (λ r. IsListed Header (r.number + 1) (ahead r held) listing middle.number (ahead middle mid)) starts listed))
+    (on_all (ahead middle mid) _ _ (λ parts here. good listing last parts (rw (state, sizes, start) at here)) is)
+
 -- what was read of the lines behind a listing, was read of the input
 pub slots-behind : (aim : Aim) (listing : ListingValue) (last : ℕ) (s : State) (harts : ℕ) (policy : PolicyValue) → s ≡ booted listing → harts ≡ listing.sizes.harts → policy ≡ first_policy listing.sizes
     → (held mid : Option (List ℕ)) (first middle : Reader) → middle.number ≡ last → first ≡ new_reader
     → IsListed Header (first.number + 1) (ahead first held) listing middle.number (ahead middle mid) → (f h : ℕ) (exit : Exit)
     → OnParts (ahead middle mid) (λ parts. Fetches f h exit (stated_slots walked (judged_slots aim) s harts (stated policy last parts))) → IfSome held (λ bytes. Fetches f h exit (input_slots aim bytes))
 slots-behind aim listing last s harts policy state sizes start held mid first middle number starts listed f h exit is =
-    on_listed held (ahead middle mid) listing last (λ listed. Fetches f h exit (listed_slots walked (judged_slots aim) listed))
-    (subst (λ n. IsListed Header 1 (ahead new_reader held) listing n (ahead middle mid)) number
-    (subst (λ r. IsListed Header (r.number + 1) (ahead r held) listing middle.number (ahead middle mid)) starts listed))
-    (on_behind (ahead middle mid) is)
-  where
-    on_behind : (left : Option (List Part)) → OnParts left (λ parts. Fetches f h exit (stated_slots walked (judged_slots aim) s harts (stated policy last parts)))
-        → OnParts left (λ parts. Fetches f h exit (stated_slots walked (judged_slots aim) (booted listing) listing.sizes.harts (stated (first_policy listing.sizes) last parts)))
-    on_behind left is = rw (state, sizes, start) at is
+    listed-behind (λ s harts all. Fetches f h exit (stated_slots walked (judged_slots aim) s harts all)) (λ listed. Fetches f h exit (listed_slots walked (judged_slots aim) listed)) (λ listing last rest read. read)
+    listing last s harts policy state sizes start held mid first middle number starts listed is
 
 -- a course that comes to these slots and to nothing else
 abbrev pub slots_course : Aim → Behind

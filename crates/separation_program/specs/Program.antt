@@ -6,9 +6,9 @@ use Rattle.courses.specs.Listed.{lines_course}
 use Rattle.courses.specs.Program.{Program, reads_for}
 use Rattle.courses.specs.Ending.{Fetches, IsGiven}
 use Rattle.courses.specs.declared.exit.Exit.{Exit}
-use Rattle.courses.specs.declared.exit.Exit.TheVariants.{Done, Crossings}
+use Rattle.courses.specs.declared.exit.Exit.TheVariants.{Done, Crossings, OutOfMemory}
 use Rattle.separation_program.specs.Judged.{HasJudged, judged, separation_course}
-use Rattle.separation_program.specs.Slots.{input_slots}
+use Rattle.separation_program.specs.Slots.{input_slots, LacksFor}
 use Rattle.separation_program.specs.Text.{told_for}
 use Rattle.separation_program.specs.Theorem.{CanHold, HoldsIn, IsBarred, IsExact, IsSeparated, IsSupplied, IsViolated}
 use Rattle.separation_program.specs.declared.words.Asked.{Asked}
@@ -75,8 +75,10 @@ pub record Judges (words : List (List ℕ)) (held : Option (List ℕ)) (exit : E
   pub enough : asked_by words ≡ Some (Judge Least) → IsGiven exit → IfSome held (λ bytes. IsExact CanHold exit (judged bytes))
 
 -- how many slots of GPTs are read: those of the input where it is judged, fewer where a fault or want of memory ended the call,
--- and none where the input isn't read
+-- and none where the input isn't read; where memory was wanting, those of the schedule and of whole passages, or none
 pub record FetchesFor (words : List (List ℕ)) (held : Option (List ℕ)) (fetches fetches' : ℕ) (exit : Exit) : Type 0 where
   pub counted : (aim : Aim) → asked_by words ≡ Some (Judge aim)
       → IfSome held (λ bytes. Fetches fetches fetches' exit (input_slots aim bytes))
   pub unread : reads_for separation (asked_by words) ≡ false → fetches' ≡ fetches
+  pub wanting : (aim : Aim) → asked_by words ≡ Some (Judge aim) → exit ≡ OutOfMemory
+      → IfSome held (λ bytes. LacksFor aim bytes fetches fetches')

@@ -11,7 +11,7 @@ ghost use Rattle.courses.specs.Stopped.{stop_exit};
 ghost use Rattle.courses.specs.Taken.{TakesLines, TakesListing};
 ghost use Rattle.courses.specs.declared.exit.Exit.TheVariants.{PolicyRefused};
 ghost use Rattle.separation_program.specs.Judged.{HasJudged, judged, judged_by, separation_course, stated_output};
-ghost use Rattle.separation_program.specs.Slots.{input_slots, judged_slots, stated_slots};
+ghost use Rattle.separation_program.specs.Slots.{input_slots, judged_slots, stated_slots, LacksFor, LacksStated};
 ghost use Rattle.separation_program.specs.Stated.{stated};
 ghost use Rattle.separation_program.specs.Text.{told_for};
 ghost use Rattle.separation_program.specs.Theorem.{TellsOf};
@@ -35,7 +35,7 @@ use walk_engine::Plain;
 /// Reads a listing, the lines of a policy and, behind its line `end`, a schedule, which sets the system up: it is run without
 /// a word, each access walked afresh. Tells of the state behind it what is to be found: that the policy holds, or every
 /// crossing; or the least lines with which it would, or every crossing that no line allows.
-#[tactic(auto, using(crate::proofs::Slots::slots_wanting))]
+#[tactic(auto, using(crate::proofs::Slots::slots_wanting, crate::proofs::Lacking::lacks_none))]
 pub(crate) fn separate<S: Source, K: Sink, L: Ledger>(
     alloc: Global,
     aim: Aim,
@@ -54,6 +54,8 @@ pub(crate) fn separate<S: Source, K: Sink, L: Ledger>(
     // How many slots are read.
     ensures fetched { IfSome (S.held input.old) (λ bytes.
         Fetches fetches.old fetches.new result (input_slots aim bytes)) }
+    ensures wanting { result ≡ Exit.OutOfMemory → IfSome (S.held input.old) (λ bytes.
+        LacksFor aim bytes fetches.old fetches.new) }
 {
     let mut lines = LineReader::new();
     let listing = match read_head(alloc, &mut lines, input, output) {
@@ -103,6 +105,10 @@ fn judge_lines<T: PageTranslator, S: Source, K: Sink, L: Ledger>(
         OnParts (ahead lines.old (S.held input.old)) (λ parts. Fetches fetches.old fetches.new result
         (stated_slots (λ touches. spent T.cost T.after T.without (T.kept m.translator) touches) (judged_slots aim)
         (state_of m) m.objects.harts (stated policy.old lines.old.number parts))) }
+    ensures wanting { let m = machine.old in result ≡ Exit.OutOfMemory →
+        OnParts (ahead lines.old (S.held input.old)) (λ parts.
+        LacksStated (λ touches. spent T.cost T.after T.without (T.kept m.translator) touches) aim
+        (state_of m) m.objects.harts (stated policy.old lines.old.number parts) fetches.old fetches.new) }
 {
     let stop = read_policies(lines, input, policy);
     match policy_exit(stop) {

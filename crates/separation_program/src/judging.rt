@@ -4,6 +4,7 @@ ghost use Rattle.coy_io.specs.Reader.{TellsEnd, ahead};
 ghost use Rattle.kernel_core.specs.Outcome.{spent};
 ghost use Rattle.kernel_core.specs.State.{state_of};
 ghost use Rattle.separation_policy.specs.Closure.{IsClosure};
+ghost use Rattle.policy_lines.specs.Passages.{ReadsWhole};
 ghost use Rattle.policy_lines.specs.Permission.{channels_of};
 ghost use Rattle.policy_lines.specs.Unused.{unused_in};
 ghost use Rattle.schedule_replay.specs.Scheduled.{OnParts, scheduled};
@@ -12,7 +13,7 @@ ghost use Rattle.courses.specs.Ending.{EndsIn, Fetches};
 ghost use Rattle.courses.specs.Exit.{is_finished};
 ghost use Rattle.courses.specs.Taken.{TakesLines};
 ghost use Rattle.separation_program.specs.Judged.{HasJudged, judged_of, judging};
-ghost use Rattle.separation_program.specs.Slots.{gpts_of, judged_slots, judging_slots};
+ghost use Rattle.separation_program.specs.Slots.{gpts_of, judged_slots, judging_slots, LacksBehind, LacksJudging};
 ghost use Rattle.separation_program.specs.Text.{separated_by, told, told_for};
 ghost use Rattle.separation_program.specs.Theorem.{TellsOf};
 
@@ -59,6 +60,10 @@ pub(crate) fn judge<T: PageTranslator, S: Source, K: Sink, L: Ledger>(
         OnParts (ahead lines.old (S.held input.old)) (λ parts. Fetches fetches.old fetches.new result
         (judging_slots (λ touches. spent T.cost T.after T.without (T.kept m.translator) touches) (judged_slots aim)
         policy.old (state_of m) (scheduled m.objects.harts lines.old.number parts))) }
+    ensures wanting { let m = machine.old in result ≡ Exit.OutOfMemory →
+        OnParts (ahead lines.old (S.held input.old)) (λ parts.
+        LacksBehind (λ touches. spent T.cost T.after T.without (T.kept m.translator) touches) aim policy.old
+        (state_of m) (scheduled m.objects.harts lines.old.number parts) fetches.old fetches.new) }
     ensures same { aim ≡ Aim.Holds → policy.new ≡ policy.old }
 {
     let replayed = replay(machine, lines, input, Mode::Silent, output, fetches);
@@ -84,6 +89,8 @@ fn tell_for<T: Translator, K: Sink, L: Ledger>(
     ensures tells { TellsOf aim result policy.old (state_of machine.now) }
     ensures fetched { let all = judged_slots aim policy.old (state_of machine.now) in
         Fetches fetches.old fetches.new result all }
+    ensures wanting { result ≡ Exit.OutOfMemory →
+        LacksJudging aim policy.old (state_of machine.now) fetches.old fetches.new }
 {
     match aim {
         Aim::Holds => tell(alloc, machine, policy, output, fetches),
@@ -106,6 +113,8 @@ fn tell<T: Translator, K: Sink, L: Ledger>(
     ensures tells { TellsOf Aim.Holds result policy.old (state_of machine.now) }
     ensures fetched { let all = judged_slots Aim.Holds policy.old (state_of machine.now) in
         Fetches fetches.old fetches.new result all }
+    ensures wanting { result ≡ Exit.OutOfMemory →
+        LacksJudging Aim.Holds policy.old (state_of machine.now) fetches.old fetches.new }
 {
     let Ok(found) = crossings(alloc, machine, policy, fetches) else {
         return Exit::OutOfMemory;
@@ -134,6 +143,8 @@ fn tell_held<T: Translator, K: Sink, L: Ledger>(
     ensures crossed { result ≢ Exit.Crossings }
     ensures fetched { let all = 16 * gpts_of (state_of machine.now) * length (channels_of policy.old) in
         Fetches fetches.old fetches.new result all }
+    ensures wanting { let all = length (channels_of policy.old) in result ≡ Exit.OutOfMemory →
+        ReadsWhole (16 * gpts_of (state_of machine.now)) all fetches.old fetches.new }
 {
     let Ok(spare) = unused(alloc, machine, policy, fetches) else {
         return Exit::OutOfMemory;

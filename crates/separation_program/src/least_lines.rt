@@ -5,7 +5,7 @@ ghost use Rattle.kernel_core.specs.State.{state_of};
 ghost use Rattle.separation_policy.specs.Making.{bare_policy};
 ghost use Rattle.policy_lines.specs.Needed.{needed_value};
 ghost use Rattle.courses.specs.Ending.{EndsIn, Fetches};
-ghost use Rattle.separation_program.specs.Slots.{judged_slots};
+ghost use Rattle.separation_program.specs.Slots.{judged_slots, LacksJudging};
 ghost use Rattle.separation_program.specs.Text.{lines_text, told_least, told_needed};
 ghost use Rattle.separation_program.specs.Theorem.{TellsOf};
 
@@ -38,6 +38,8 @@ pub(crate) fn tell_least<T: Translator, K: Sink, L: Ledger>(
     ensures tells { TellsOf Aim.Least result policy.old (state_of machine.now) }
     ensures fetched { let all = judged_slots Aim.Least policy.old (state_of machine.now) in
         Fetches fetches.old fetches.new result all }
+    ensures wanting { result ≡ Exit.OutOfMemory →
+        LacksJudging Aim.Least policy.old (state_of machine.now) fetches.old fetches.new }
 {
     integrity();
     noninterference();

@@ -2,12 +2,13 @@ use Rattle.std.proofs.Common.{◌∙◌, ap, refl, sym}
 use Rattle.kernel_core.specs.State.{state_of}
 use Rattle.courses.specs.Stopped.{replay_exit}
 use Rattle.courses.proofs.Concluding.{concludes-open}
+use Rattle.courses.proofs.Lacking.{concludes-memory, replay-memory}
 use Rattle.courses.proofs.Rests.{run-ends}
 use Rattle.separation_program.specs.Slots.{judged_slots}
 use Rattle.separation_program.specs.Theorem.{TellsOf}
 use Rattle.separation_program.proofs.Concluding.{judge-ended, judge-stopped, judged-run, no_write, unfinished}
 use Rattle.separation_program.proofs.Judges.{from-start}
-use Rattle.separation_program.proofs.Slots.{slots-ended, slots-stopped}
+use Rattle.separation_program.proofs.Slots.{lacks-ended, slots-ended, slots-stopped}
 use Rattle.separation_program.proofs.judging.judge.Goals as goal
 
 pub returns-in-Ok-clause-course : goal.returns-in-Ok-clause-course
@@ -54,3 +55,17 @@ returns-in-Err-clause-fetched g c =
     slots-stopped g.T.Translator c.args.machine.now c.replay-replayed.new.machine (judged_slots c.args.aim) c.args.policy.now c.args.machine.now.objects.harts
     c.args.lines.now c.replay-replayed.new.lines _ _ e.replays.events _ _ c.replay-replayed.result e.replays.ran e.replays.follows g.K.Sink.taken g.K.Sink.faults _ _ _ c.in-Err.exit c.replay-replayed.result refl
     (no_write (state_of c.args.machine.now) _ _ e.replays.events c.replay-replayed.result e.replays.text) given c.conclude.ensures
+
+-- ---- where memory is wanting
+
+pub returns-in-Ok-clause-wanting : goal.returns-in-Ok-clause-wanting
+returns-in-Ok-clause-wanting g c = λ lacks.
+    let e = c.replay-replayed.ensures in
+    let given = sym c.counts_or_exit.ensures ∙ c.in-Ok.is in
+    lacks-ended g.T.Translator c.args.machine.now c.replay-replayed.new.machine (judged_slots c.args.aim) c.args.policy.now c.args.machine.now.objects.harts
+    c.args.lines.now c.replay-replayed.new.lines _ _ e.replays.events _ _ c.replay-replayed.result e.replays.ran e.replays.follows c.args.aim _ c.in-Ok._counts given (c.tell_for.ensures.wanting lacks)
+
+pub returns-in-Err-clause-wanting : goal.returns-in-Err-clause-wanting
+returns-in-Err-clause-wanting g c = λ lacks.
+    absurd (concludes-memory g.K.Sink.taken g.K.Sink.faults _ _ _ c.in-Err.exit
+    (replay-memory c.replay-replayed.result c.in-Err.exit (sym c.counts_or_exit.ensures ∙ c.in-Err.is)) c.conclude.ensures lacks)

@@ -1,8 +1,12 @@
 use Rattle.std.proofs.Common.{◌∙◌, ◌*◌, sym, subst, ap, arith, map}
 use Rattle.kernel_core.specs.State.{state_of}
 use Rattle.courses.specs.Ending.{Ends, Fetches, Output}
+use Rattle.policy_lines.proofs.Passing.{reads-none}
+use Rattle.courses.proofs.Lacking.{ends-memory}
 use Rattle.separation_check.specs.Crossings.{meant_crossing}
-use Rattle.separation_program.specs.Slots.{gpts_of}
+use Rattle.separation_program.specs.Slots.{LacksJudging, gpts_of}
+use Rattle.separation_program.specs.declared.words.Aim.TheVariants.{Holds}
+use Rattle.separation_program.proofs.Lacking.{lacks-held}
 use Rattle.separation_program.proofs.Verdicts.{none-found, passed-some, some-found, told-none, told-some}
 use Rattle.separation_program.proofs.judging.tell.Goals as goal
 
@@ -39,3 +43,20 @@ returns-clause-tells g c =
       affirmed = λ is. record { holds = c.in-Ok.ensures.exactly.0 none; integrity = c.in-Ok.ensures.integrity none; noninterference = c.in-Ok.ensures.noninterference none };
       denied = λ is. absurd (c.tell_held.ensures.crossed is);
     }
+
+-- ---- where memory is wanting
+
+pub returns-in_default-clause-wanting : goal.returns-in_default-clause-wanting
+returns-in_default-clause-wanting g c = λ lacks.
+    subst (LacksJudging Holds c.args.policy.now (state_of c.args.machine.now) c.args.fetches.now) (sym c.in_default.ensures.err) (reads-none _ _ _)
+
+-- that something crosses is told with no memory
+pub returns-then-not-is_empty-clause-wanting : goal.returns-then-not-is_empty-clause-wanting
+returns-then-not-is_empty-clause-wanting g c = λ lacks. absurd (ends-memory g.K.Sink.taken g.K.Sink.faults _ _ _ _ (λ bad. cc) c.tell_crossings.ensures lacks)
+
+pub returns-clause-wanting : goal.returns-clause-wanting
+returns-clause-wanting g c = λ lacks.
+    let items = c.as_slice-crossing.result.now in
+    let means = ap (map meant_crossing) c.as_slice-crossing.ensures.value ∙ c.in-Ok.ensures.means in
+    let none = none-found items (sym c.is_empty.ensures ∙ c.if-not-is_empty.false) in
+    lacks-held c.args.policy.now (state_of c.args.machine.now) items means none _ _ _ c.in-Ok.ensures.counted (c.tell_held.ensures.wanting lacks)

@@ -2,6 +2,8 @@ use Rattle.std.proofs.Common.{subst}
 use Rattle.kernel_core.specs.State.{state_of}
 use Rattle.policy_lines.specs.Needed.{needed_value}
 use Rattle.courses.specs.Ending.{Ends, Output}
+use Rattle.courses.proofs.Lacking.{ends-memory}
+use Rattle.separation_program.proofs.Lacking.{needed-memory}
 use Rattle.separation_program.proofs.Needing.{tells-needed, told-found}
 use Rattle.separation_program.proofs.Slots.{exact-read}
 use Rattle.separation_program.proofs.least_lines.tell_least.Goals as goal
@@ -18,3 +20,11 @@ returns-clause-tells g c =
 
 pub returns-clause-fetched : goal.returns-clause-fetched
 returns-clause-fetched g c = exact-read _ _ c.tell_needed.result _ c.in-Ok.ensures.counted
+
+pub returns-clause-wanting : goal.returns-clause-wanting
+returns-clause-wanting g c = λ lacks.
+    absurd (ends-memory g.K.Sink.taken g.K.Sink.faults _ _ _ _ (needed-memory c.least.new.policy (needed_value c.in-Ok.needed)) c.tell_needed.ensures lacks)
+
+-- memory was wanting to find them
+pub returns-in_default-clause-wanting : goal.returns-in_default-clause-wanting
+returns-in_default-clause-wanting g c = λ lacks. c.in_default.ensures.err

@@ -35,7 +35,7 @@ returns-in-Some-Judge-clause-sure g c = λ failed.
 pub returns-in-Some-Judge-clause-fetches : goal.returns-in-Some-Judge-clause-fetches
 returns-in-Some-Judge-clause-fetches g c =
     let asked : asked_by (map string_bytes c.args.words.now) ≡ Some (Judge c.in-Some-Judge.aim) = sym c.read_words.ensures ∙ c.in-Some-Judge.is ∙ ap Some c.in-Some-Judge.field-0-is in
-    fetches-words (map string_bytes c.args.words.now) c.in-Some-Judge.aim asked _ _ _ c.separate.result c.separate.ensures.fetched
+    fetches-words (map string_bytes c.args.words.now) c.in-Some-Judge.aim asked _ _ _ c.separate.result c.separate.ensures.fetched c.separate.ensures.wanting
 
 pub returns-in-Some-Judge-clause-form : goal.returns-in-Some-Judge-clause-form
 returns-in-Some-Judge-clause-form g c =
