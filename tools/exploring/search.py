@@ -5,6 +5,19 @@ import time
 from exploring.state import State
 
 SECONDS = 10  # between two lines that say how far it is
+MOST_TIMES = 1_000_000  # steps that one line of a schedule may ask for
+
+
+def joined(lines):
+    """The lines of a schedule, where neighbours that are steps of one hart are one."""
+    told = []
+    for line in lines:
+        word, hart, *times = line.split()
+        if told and word == "step" and told[-1][:2] == [word, hart] and told[-1][2] + int(times[0]) <= MOST_TIMES:
+            told[-1][2] += int(times[0])
+        else:
+            told.append([word, hart, *map(int, times)])
+    return [" ".join(map(str, line)) for line in told]
 
 
 class Search:
@@ -72,7 +85,7 @@ class Search:
 
     def led(self, word, line, state):
         path = self.places.path(state)
-        return [f"{word} {line} depth={len(path)}", *path]
+        return [f"{word} {line} depth={len(path)}", *joined(path)]
 
     def counts(self):
         for line in self.question.asking("count"):

@@ -23,33 +23,33 @@ class Found:
     """An answer with the input that it is about: the listing of the run, and what the answer says."""
 
     def __init__(self, text, text_name, answer, answer_name, turns=1):
-        self.word, self.number, choices, self.loop = choices_of(answer, answer_name)
+        self.word, self.number, self.depth, self.loop, lines = choices_of(answer, answer_name)
         self.head, question, self.setup = parts_of(text, text_name)
-        self.depth = len(choices) - self.loop
-        self.choices = choices[:self.depth] + choices[self.depth:] * turns
+        self.before = len(lines) - self.loop  # lines in front of a loop, of which each choice has a line
+        self.lines = lines[:self.before] + lines[self.before:] * turns
         self.policy = [line.split() for line in question if line.split()[:1] and line.split()[0] in ASKING[6:11]]
         self.line, self.plan = asked(text, self.number) if question else ("", "")
 
     @property
     def listing(self):
-        return "".join(f"{line}\n" for line in [*self.head, *self.setup, *self.choices])
+        return "".join(f"{line}\n" for line in [*self.head, *self.setup, *self.lines])
 
     def events(self):
-        """How many events come before the first choice, and behind each."""
+        """How many events come before the first choice, and up to the end of each line of the choices."""
         harts = next(int(line.split()[1]) for line in self.head if line.split()[:1] == ["machine"])
         found = [sum(events_of(line, harts) for line in self.setup)]
-        for line in self.choices:
+        for line in self.lines:
             found.append(found[-1] + events_of(line, harts))
         return found
 
     def loop_begins(self):
         """The event with which the loop begins; None where there is none."""
-        return self.events()[self.depth] if self.loop else None
+        return self.events()[self.before] if self.loop else None
 
     def sentence(self):
         """What the answer says, for a person; with the line of the question in the plan's words, where the input has it."""
         said = self.plan or self.line
-        choices = self.loop or len(self.choices)
+        choices = self.loop or self.depth
         return FORMS[self.word].format(self.number, f": {said}" if said else "",
                                        "choice leads" if choices == 1 else f"{choices} choices lead")
 
@@ -87,14 +87,20 @@ def parts_of(text, name):
     return lines[:head], lines[head:behind], lines[behind + 1:]
 
 
+def can_be(lines, depth, loop):
+    """Whether lines can be those of so many choices. Neighbours that are steps of one hart are one line, so a line is that of
+    one choice or of more, and each has an event. Each choice of a loop, and in front of one, has a line."""
+    return len(lines) == depth + loop if loop else len(lines) <= depth <= sum(events_of(line, 1) for line in lines)
+
+
 def choices_of(answer, name):
-    """The word of an answer, the number of its line, its choices, and how many of them, the last ones, are a loop."""
+    """The word of an answer, the number of its line, how many choices it tells, how many more are a loop, and its lines."""
     lines = [line for line in answer.splitlines() if line.strip() and not line.startswith(("count ", "must "))]
     told = ANSWER.fullmatch(lines[0] if lines else "")
     if not told or (told[1] == "avoided") != (told[4] is not None):
         raise NoRun(f"{name} tells no run: it {f'says {lines[0][:200]}' if lines else 'is empty'}")
-    loop = int(told[4] or 0)
-    if len(lines) - 1 != int(told[3]) + loop or not all(map(CHOICE.fullmatch, lines[1:])):
-        raise NoRun(f"{name} is cut, or no answer of `explore`: {told[0]} has {int(told[3]) + loop} lines of a schedule behind "
-                    "it")
-    return told[1], int(told[2]), lines[1:], loop
+    depth, loop, lines = int(told[3]), int(told[4] or 0), lines[1:]
+    if not all(map(CHOICE.fullmatch, lines)) or not can_be(lines, depth, loop):
+        raise NoRun(f"{name} is cut, or no answer of `explore`: {told[0]} has a schedule of {depth + loop} "
+                    f"choice{'' if depth + loop == 1 else 's'} behind it")
+    return told[1], int(told[2]), depth, loop, lines

@@ -119,7 +119,8 @@ def table_of(program, found):
     if not found.line:
         return [], []
     values, rows = Values(found), []
-    events = found.events()[-MOST_STATES - 1:]
+    lines = found.events()
+    events = range(lines[0], lines[-1] + 1)[-MOST_STATES - 1:]
     for event, state in zip(events, states(program, found.listing, events)):
         row = values.of(state)
         if not rows or rows[-1][1:] != row:

@@ -1,3 +1,4 @@
+mod Schedules
 mod Stating
 mod Verdicts
 mod Setting

@@ -9,16 +9,17 @@ use Rattle.kernel_core.specs.Run.{run_state}
 use Rattle.kernel_core.specs.State.{State}
 use Rattle.breadth_first.specs.declared.answer.Explored.{Explored}
 use Rattle.breadth_first.specs.declared.answer.Explored.TheVariants as answers
-use Rattle.exploration.specs.Explored.{AsksEver, IsExact, IsSafe, Says}
+use Rattle.exploration.specs.Explored.{AsksEver, IsExact, IsSafe, Says, come_to}
 use Rattle.questions.specs.declared.choice.Choice.{Choice}
 use Rattle.questions.specs.Question.{holds}
 use Rattle.exploration.specs.Laws.{IsAnswerTo}
-use Rattle.exploration.specs.Shown.{shown_of}
+use Rattle.exploration.specs.Shown.{shown_of, told_path}
 use Rattle.interleavings.specs.Laws.{EachHartRuns, OnlyRuns}
 use Rattle.quiet_runs.specs.Laws.{AreHarts, CanCome}
 use Rattle.quiet_runs.specs.Runs.{after_steps}
-use Rattle.explore_program.specs.explored_text.Text.{explored_text}
+use Rattle.explore_program.specs.explored_text.Text.{choices_text, explored_text}
 use Rattle.schedule_replay.specs.Scheduled.{Ending, AtEnd, AtFault, AtLimit, scheduled}
+use Rattle.coy_io.specs.Lines.{whole_lines}
 use Rattle.courses.specs.Course.{ends_in}
 use Rattle.courses.specs.Ending.{Output, told_end}
 use Rattle.courses.specs.Exit.{is_finished}
@@ -82,8 +83,20 @@ StepwiseWithin asked s (answers.Open size counts) = EachHartRuns asked.question
     → IsSafe asked.question asked.policy (after_steps s harts)
 StepwiseWithin asked s _ = ⊤
 
+-- a text is read as a schedule, on a machine with so many harts, and its events lead from one state to another
+pub record LeadsTo (harts : ℕ) (text : List ℕ) (s t : State) : Type 0 where
+  pub events : List Event
+  pub read : (n : ℕ) → scheduled harts n (whole_lines [] text) ≡ record { events = events; ending = AtEnd }
+  pub leads : run_state s events ≡ t
+
+-- the text of the choices that an answer tells is read as a schedule that leads to the state that it tells
+abbrev pub IsSchedule : Asked → State → Explored → Type 0
+IsSchedule asked s answer =
+    LeadsTo asked.question.sizes.harts (choices_text (shown_of asked.question s answer)) s
+    (come_to asked.question asked.policy s (told_path answer))
+
 -- What is told of a question asked of this state is that of an answer of the search. All that the answer says is so, of the
--- abstract machine, and it is yes exactly where the question's is.
+-- abstract machine, and it is yes exactly where the question's is; and the choices that are told are a schedule that leads there.
 pub record Answers (asked : Asked) (s : State) (told : Output) : Type 0 where
   pub answer : Explored
   pub searched : IsAnswerTo asked.question asked.policy s answer
@@ -92,6 +105,7 @@ pub record Answers (asked : Asked) (s : State) (told : Output) : Type 0 where
   pub always : exit_of answer ≡ Done → HoldsAlways asked s
   pub stepwise : exit_of answer ≡ Done → Stepwise asked s
   pub within : StepwiseWithin asked s answer
+  pub schedule : IsSchedule asked s answer
   pub is : told ≡ told_by asked s answer
 
 -- Of an output this is so, and where a call comes to tell one, it answers: the call may end for want of memory, or since reading

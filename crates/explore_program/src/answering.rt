@@ -2,6 +2,8 @@
 ghost use Rattle.std.specs.Prelude.{◌≡◌, ◌≢◌};
 ghost use Rattle.object_store.specs.Store.{sizes_of};
 ghost use Rattle.machine_state.specs.State.{state_of};
+ghost use Rattle.questions.specs.Asking.{asking};
+ghost use Rattle.questions.specs.Question.{is_count, is_ever};
 ghost use Rattle.courses.specs.Ending.{EndsIn};
 ghost use Rattle.explore_program.specs.Told.{Answers, Tells, exit_of, told_with, written_exit};
 
@@ -16,6 +18,7 @@ use interleavings::{ever_stepwise_law, never_stepwise_law, within_stepwise_law};
 use machine_state::Machine;
 use map_cache::MapCache;
 use questions::{Asks, asking};
+use statement_text::migrated_is_read;
 use std::alloc::Global;
 use std::sync::ledger::Ledger;
 use steps::Steps;
@@ -38,6 +41,15 @@ pub(crate) fn answer<K: Sink, W: Watcher, L: Ledger>(
     never_stepwise_law();
     within_stepwise_law();
     ever_stepwise_law();
+    migrated_is_read();
+    // Sizes that are read tell how many harts there are at most.
+    let _sizes = machine.objects().sizes();
+    let Ok(evers) = asking(alloc, asked.question.properties(), Asks::Ever) else {
+        return Exit::OutOfMemory;
+    };
+    let Ok(counted) = asking(alloc, asked.question.properties(), Asks::Count) else {
+        return Exit::OutOfMemory;
+    };
     match explore_machine(
         alloc,
         machine,
@@ -46,29 +58,38 @@ pub(crate) fn answer<K: Sink, W: Watcher, L: Ledger>(
         watcher,
         fetches,
     ) {
-        Ok(answered) => tell(alloc, asked, &answered, output),
+        Ok(answered) => tell(
+            asked,
+            &answered,
+            evers.as_slice(),
+            counted.as_slice(),
+            output,
+        ),
         Err(_) => Exit::OutOfMemory,
     }
 }
 
-/// Tells an answer.
-fn tell<K: Sink>(alloc: Global, asked: &Asked, answered: &Answered, output: &mut K) -> Exit
-    ensures ends { result ≢ Exit.OutOfMemory → EndsIn K.taken K.faults output.old output.new result
+/// Tells an answer, for which no memory is taken. `evers` and `counted` are the numbers of the properties that say `ever` and
+/// `count`.
+fn tell<K: Sink>(
+    asked: &Asked,
+    answered: &Answered,
+    evers: &[usize],
+    counted: &[usize],
+    output: &mut K,
+) -> Exit
+    requires evers { evers.now ≡ asking is_ever asked.now.question.properties }
+    requires counted { counted.now ≡ asking is_count asked.now.question.properties }
+    ensures ends { EndsIn K.taken K.faults output.old output.new result
         (told_with asked.now answered.now.shown.items answered.now.explored) }
-    ensures unwritten { result ≡ Exit.OutOfMemory → output.new ≡ output.old }
+    ensures memory { result ≢ Exit.OutOfMemory }
 {
     let properties = asked.question.properties();
-    let Ok(evers) = asking(alloc, properties, Asks::Ever) else {
-        return Exit::OutOfMemory;
-    };
-    let Ok(counted) = asking(alloc, properties, Asks::Count) else {
-        return Exit::OutOfMemory;
-    };
     let written = put_explored(
         properties,
         answered.shown.as_slice(),
-        evers.as_slice(),
-        counted.as_slice(),
+        evers,
+        counted,
         &answered.explored,
         output,
     );

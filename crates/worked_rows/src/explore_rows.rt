@@ -107,8 +107,7 @@ count halted
 never faulted 0 Breakpoint
 =>
 found 9 depth=2
-step 0 1
-step 0 1
+step 0 2
 ==
 10 none: the first line of two that fail together
 coyotos 1
@@ -824,8 +823,7 @@ may run 0
 never faulted 0
 =>
 found 13 depth=2
-step 0 2
-step 0 1
+step 0 3
 ==
 0 none: the page of the code is given away in between
 coyotos 1
@@ -972,9 +970,7 @@ may run 0
 never faulted 0
 =>
 found 13 depth=3
-step 0 4097
-step 0 1903
-step 0 1
+step 0 6001
 ==
 0 none: a loop without end
 coyotos 1
@@ -1031,10 +1027,7 @@ may tick 0
 never faulted 1
 =>
 found 16 depth=4
-step 0 2
-step 0 1
-step 0 1
-step 0 1
+step 0 5
 ==
 0 --help
 =>

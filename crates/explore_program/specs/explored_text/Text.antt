@@ -1,32 +1,34 @@
 -- What is told of an exploration: whether all properties hold, or the choices that lead to a state in which one doesn't.
 -- (Own.)
-use Rattle.std.specs.Prelude.{ℕ, List, [], ◌++◌, length, flat_map, codes, decimal, slice_index, slice_index_or, Option, Some, None}
+use Rattle.std.specs.Prelude.{ℕ, List, [], ◌++◌, length, codes, decimal, slice_index, slice_index_or, if◌then◌else◌, Option, Some, None}
 use Rattle.breadth_first.specs.declared.answer.Count.{Count}
 use Rattle.breadth_first.specs.declared.answer.Explored.{Explored}
 use Rattle.breadth_first.specs.declared.answer.Explored.TheVariants.{Found, Closed, Open}
 use Rattle.breadth_first.specs.declared.answer.Lost.{Lost}
 use Rattle.breadth_first.specs.declared.answer.Size.{Size}
+use Rattle.listing_read.specs.declared.schedule.Timed.{Timed}
 use Rattle.questions.specs.declared.choice.Choice.{Choice}
-use Rattle.questions.specs.declared.choice.Choice.TheVariants.{Steps, Run, Tick}
 use Rattle.questions.specs.Question.{PropertyValue, is_count, is_ever}
 use Rattle.questions.specs.Asking.{asking, property_at}
 use Rattle.run_text.specs.Each.{each_below}
+use Rattle.statement_text.specs.Text.{event_text, events_text}
+use Rattle.explore_program.specs.explored_text.Schedule.{are_one, schedule_of}
 
--- ---- choices, as the lines of a schedule
+-- ---- choices
 
--- so many steps of a hart
-unfoldable pub steps_text : ℕ → ℕ → List ℕ
-steps_text hart times = codes "step " ++ decimal hart ++ codes " " ++ decimal times ++ codes "\n"
+-- choices whose steps are counted, as the lines of a schedule
+unfoldable pub choices_text : List Choice → List ℕ
+choices_text choices = events_text (schedule_of choices)
 
--- a choice whose steps are counted; a run of which they aren't is its first step
-unfoldable pub choice_text : Choice → List ℕ
-choice_text (Steps hart times) = steps_text hart times
-choice_text (Run hart) = steps_text hart 1
-choice_text (Tick hart) = codes "tick " ++ decimal hart ++ codes "\n"
+-- the text of a line, if there is one
+abbrev pub last_text : Option Timed → List ℕ
+last_text None = []
+last_text (Some line) = event_text line
 
--- a list of them
-abbrev pub choices_text : List Choice → List ℕ
-choices_text choices = flat_map choice_text choices
+-- and where the next line isn't one with it
+abbrev pub text_before : Option Timed → Timed → List ℕ
+text_before None next = []
+text_before (Some line) next = if are_one line next then [] else event_text line
 
 -- ---- lines
 

@@ -1,63 +1,119 @@
 //! Choices, as the lines of a schedule.
-ghost use Rattle.std.specs.Prelude.{◌≡◌, ◌≤◌, ◌<◌, [], length, slice_index_or};
+ghost use Rattle.std.specs.Prelude.{◌≡◌, ◌<◌, true, length, map, slice_index_or};
 ghost use Rattle.coy_io.specs.Written.{WroteTo};
-ghost use Rattle.explore_program.specs.explored_text.Text.{choice_text, choices_text, steps_text};
+ghost use Rattle.statement_text.specs.Text.{event_text};
+ghost use Rattle.explore_program.specs.explored_text.Schedule.{are_one, as_one, line_of_choice, next_line};
+ghost use Rattle.explore_program.specs.explored_text.Text.{choices_text, last_text, text_before};
 
 use coy_io::{Sink, WriteFault, put_bytes};
 use coy_text::LineBuf;
+use listing_read::Timed;
 use questions::Choice;
+use statement_text::write_event;
 
-/// Writes choices whose steps are counted.
+/// Writes choices whose steps are counted: neighbours that are steps of one hart are one line.
 pub(crate) fn put_choices<K: Sink>(choices: &[Choice], output: &mut K) -> Result<(), WriteFault>
     ensures { WroteTo K.taken K.faults output.old output.new result (choices_text choices.now) }
 {
+    let mut line = None;
     'each: for place in 0..choices.len() {
-        put_choice(choice_in(choices, place), output)?;
+        let next = line_at(choices, place);
+        put_before(line, next, output)?;
+        line = Some(with_next(line, next));
     }
-    Ok(())
+    put_last(line, output)
 }
 
-/// The choice at a place of a list.
-fn choice_in(choices: &[Choice], place: usize) -> Choice
+/// The line of the choice at a place of a list.
+fn line_at(choices: &[Choice], place: usize) -> Timed
     requires { place < length choices.now }
-    ensures { result ≡ slice_index_or choices.now place result }
+    ensures { result ≡ slice_index_or (map line_of_choice choices.now) place result }
 {
-    choices[place]
+    line_of_choice(choices[place])
 }
 
-/// Writes a choice.
-fn put_choice<K: Sink>(choice: Choice, output: &mut K) -> Result<(), WriteFault>
-    ensures { WroteTo K.taken K.faults output.old output.new result (choice_text choice) }
-{
-    let mut line = LineBuf::new();
-    push_choice(choice, &mut line);
-    put_bytes(line.as_bytes(), output)
-}
-
-#[tactic(auto, unfolding(crate::specs::explored_text::Text::choice_text), using(coy_text::proofs::NumeralLaws::length_decimal))]
-fn push_choice(choice: Choice, line: &mut LineBuf)
-    requires { line.old ≡ [] }
-    ensures { line.new ≡ choice_text choice }
+/// The line of a choice whose steps are counted; of a run of which they aren't, that of its first step.
+fn line_of_choice(choice: Choice) -> Timed
+    ensures { result ≡ line_of_choice choice }
 {
     match choice {
-        Choice::Steps { hart, times } => push_steps(hart, times, line),
-        Choice::Run { hart } => push_steps(hart, 1, line),
-        Choice::Tick { hart } => {
-            line.push_word("tick ");
-            line.push_dec(hart as u64);
-            line.push_word("\n");
-        }
+        Choice::Steps { hart, times } => Timed::Step { hart, times },
+        Choice::Run { hart } => Timed::Step { hart, times: 1 },
+        Choice::Tick { hart } => Timed::Tick { hart },
     }
 }
 
-#[tactic(auto, unfolding(crate::specs::explored_text::Text::steps_text), using(coy_text::proofs::NumeralLaws::length_decimal))]
-fn push_steps(hart: u8, times: u32, line: &mut LineBuf)
-    requires { line.old ≡ [] }
-    ensures { line.new ≡ steps_text hart times }
+/// Writes a line, if there is one, unless the next line is one with it.
+fn put_before<K: Sink>(line: Option<Timed>, next: Timed, output: &mut K) -> Result<(), WriteFault>
+    ensures { WroteTo K.taken K.faults output.old output.new result (text_before line next) }
 {
-    line.push_word("step ");
-    line.push_dec(hart as u64);
-    line.push_word(" ");
-    line.push_dec(times as u64);
-    line.push_word("\n");
+    let Some(last) = line else {
+        return Ok(());
+    };
+    if are_one(last, next) {
+        return Ok(());
+    }
+    put_line(last, output)
+}
+
+/// The line that is to be written next: the next one, with the one before if they are one.
+fn with_next(line: Option<Timed>, next: Timed) -> Timed
+    ensures { result ≡ next_line line next }
+{
+    let Some(last) = line else {
+        return next;
+    };
+    if are_one(last, next) {
+        return as_one(last, next);
+    }
+    next
+}
+
+/// Whether both are steps of one hart, and together no more than one line may ask for.
+fn are_one(line: Timed, next: Timed) -> bool
+    ensures { result ≡ are_one line next }
+{
+    match (line, next) {
+        (
+            Timed::Step { hart, times },
+            Timed::Step {
+                hart: other,
+                times: more,
+            },
+        ) => hart == other && u64::from(times) + u64::from(more) <= 1_000_000,
+        _ => false,
+    }
+}
+
+/// The steps of both.
+fn as_one(line: Timed, next: Timed) -> Timed
+    requires { are_one line next ≡ true }
+    ensures { result ≡ as_one line next }
+{
+    match (line, next) {
+        (Timed::Step { hart, times }, Timed::Step { times: more, .. }) => Timed::Step {
+            hart,
+            times: times + more,
+        },
+        _ => line,
+    }
+}
+
+/// Writes the line that is left.
+fn put_last<K: Sink>(line: Option<Timed>, output: &mut K) -> Result<(), WriteFault>
+    ensures { WroteTo K.taken K.faults output.old output.new result (last_text line) }
+{
+    match line {
+        Some(last) => put_line(last, output),
+        None => Ok(()),
+    }
+}
+
+/// Writes a line.
+fn put_line<K: Sink>(line: Timed, output: &mut K) -> Result<(), WriteFault>
+    ensures { WroteTo K.taken K.faults output.old output.new result (event_text line) }
+{
+    let mut text = LineBuf::new();
+    write_event(line, &mut text);
+    put_bytes(text.as_bytes(), output)
 }

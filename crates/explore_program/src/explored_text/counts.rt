@@ -18,7 +18,8 @@ pub(crate) fn put_counts<K: Sink>(
     output: &mut K,
 ) -> Result<(), WriteFault>
     requires { counted.now ≡ asking is_count properties.now }
-    ensures { WroteTo K.taken K.faults output.old output.new result (counts_text properties.now counts.now) }
+    ensures { WroteTo K.taken K.faults output.old output.new result
+        (counts_text properties.now counts.now) }
 {
     'each: for i in 0..counts.len() {
         put_counted(properties, counted, counts, i, output)?;
@@ -36,7 +37,8 @@ fn put_counted<K: Sink>(
 ) -> Result<(), WriteFault>
     requires counted { counted.now ≡ asking is_count properties.now }
     requires there { i < length counts.now }
-    ensures { WroteTo K.taken K.faults output.old output.new result (counted_text properties.now counts.now i) }
+    ensures { WroteTo K.taken K.faults output.old output.new result
+        (counted_text properties.now counts.now i) }
 {
     let mut line = LineBuf::new();
     push_count(

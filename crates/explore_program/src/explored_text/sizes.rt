@@ -41,7 +41,8 @@ pub(crate) fn put_led<K: Sink>(
     output: &mut K,
 ) -> Result<(), WriteFault>
     requires { length word.now ≤ 20 }
-    ensures { WroteTo K.taken K.faults output.old output.new result (led_text word.now number depth) }
+    ensures { WroteTo K.taken K.faults output.old output.new result
+        (led_text word.now number depth) }
 {
     let mut line = LineBuf::new();
     push_led(word, number, depth, &mut line);

@@ -10,7 +10,7 @@ use Rattle.explore_program.proofs.Verdicts.{answer-finished, ends-written}
 use Rattle.explore_program.proofs.answering.tell.Goals as goal
 
 pub returns-clause-ends : goal.returns-clause-ends
-returns-clause-ends g c = λ other.
+returns-clause-ends g c =
     let asked = c.args.asked.now in
     let answered = c.args.answered.now in
     let written = c.put_explored-written.result in

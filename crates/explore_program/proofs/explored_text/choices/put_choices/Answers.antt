@@ -1,19 +1,25 @@
-use Rattle.std.proofs.Common.{refl}
-use Rattle.std.proofs.KnownBytes.{Appends-nil}
-use Rattle.coy_io.proofs.Texts.{member_more, member_stops, members_done}
-use Rattle.explore_program.specs.explored_text.Text.{choice_text}
+use Rattle.std.proofs.Common.{◌≤◌, ◌<◌, ◌+◌, length, map, Some, sym, subst, arith}
+use Rattle.std.proofs.lemmas.List.{length-map}
+use Rattle.explore_program.specs.explored_text.Schedule.{line_of_choice}
+use Rattle.explore_program.proofs.Schedules.{IsPut, put-none, put-more, put-stops, put-last}
 use Rattle.explore_program.proofs.explored_text.choices.put_choices.Goals as goal
 
 pub each-init : goal.each-init
-each-init g c = record { bytes = Appends-nil _; quiet = refl }
+each-init g c = put-none (g.K.Sink.taken c.args.output.now) (g.K.Sink.faults c.args.output.now) c.args.choices.now
 
 pub each-preserved : goal.each-preserved
 each-preserved g c =
-    member_more choice_text c.args.choices.now c.args.choices.now c.each.place _ refl c.each-test.true c.choice_in.ensures _ _ _ _ _ _ c.each.invariant _ c.in_ok-put_choice.ensures
+    let inside : c.each.place < length (map line_of_choice c.args.choices.now) = omega (arith, c.each-test.true, length-map c.args.choices.now line_of_choice) in
+    subst (λ t. IsPut (g.K.Sink.taken c.args.output.now) (g.K.Sink.taken c.put_before.new.output) (g.K.Sink.faults c.args.output.now) (g.K.Sink.faults c.put_before.new.output) c.args.choices.now (c.each.place + 1) (Some t))
+    (sym c.with_next.ensures)
+    (put-more c.args.choices.now c.each.place c.each.line _ _ _ _ _ _ c.each.invariant c.line_at-next.result inside c.line_at-next.ensures _ c.in_ok-put_before.ensures)
 
-pub returns-in_err-put_choice : goal.returns-in_err-put_choice
-returns-in_err-put_choice g c =
-    member_stops choice_text c.args.choices.now c.args.choices.now c.each.place _ refl c.each-test.true c.choice_in.ensures _ _ _ _ _ _ c.each.invariant _ _ c.from_residual.ensures.0 c.in_err-put_choice.ensures
+pub returns-in_err-put_before : goal.returns-in_err-put_before
+returns-in_err-put_before g c =
+    let inside : c.each.place < length (map line_of_choice c.args.choices.now) = omega (arith, c.each-test.true, length-map c.args.choices.now line_of_choice) in
+    put-stops c.args.choices.now c.each.place c.each.line _ _ _ _ _ _ c.each.invariant c.line_at-next.result inside c.line_at-next.ensures _ _ c.from_residual.ensures.0 c.in_err-put_before.ensures
 
 pub returns : goal.returns
-returns g c = members_done choice_text c.args.choices.now c.args.choices.now _ c.each.place _ _ _ _ refl c.each-test.false c.each.auto.place-end c.each.invariant
+returns g c =
+    let past : length (map line_of_choice c.args.choices.now) ≤ c.each.place = omega (arith, c.each-test.false, length-map c.args.choices.now line_of_choice) in
+    put-last c.args.choices.now c.each.place c.each.line _ _ _ _ _ _ c.each.invariant _ past c.put_last.ensures

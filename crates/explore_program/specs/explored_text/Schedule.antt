@@ -1,0 +1,47 @@
+-- Choices as a schedule: neighbours that are steps of one hart are one line of it. (Own.)
+use Rattle.std.specs.Prelude.{◌+◌, ◌==◌, ◌&&◌, nat_le, Bool, false, if◌then◌else◌, List, [], ◌∷◌, map, Option, None, Some}
+use Rattle.listing_read.specs.declared.schedule.Timed.{Timed}
+use Rattle.listing_read.specs.declared.schedule.Timed.TheVariants.{Step, Tick, Round}
+use Rattle.questions.specs.declared.choice.Choice.{Choice}
+use Rattle.questions.specs.declared.choice.Choice.TheVariants.{Steps, Run, Tick as TimerTick}
+
+-- what the line of a choice asks for whose steps are counted; a run of which they aren't is its first step
+abbrev pub line_of_choice : Choice → Timed
+line_of_choice (Steps hart times) = Step hart times
+line_of_choice (Run hart) = Step hart 1
+line_of_choice (TimerTick hart) = Tick hart
+
+-- both are steps of one hart, and together no more than one line may ask for
+abbrev pub are_one : Timed → Timed → Bool
+are_one (Step hart times) (Step other more) = (hart == other) && nat_le (times + more) 1000000
+are_one (Step hart times) (Tick other) = false
+are_one (Step hart times) (Round more) = false
+are_one (Tick hart) next = false
+are_one (Round times) next = false
+
+-- the steps of both, where they are one
+abbrev pub as_one : Timed → Timed → Timed
+as_one (Step hart times) (Step other more) = Step hart (times + more)
+as_one (Step hart times) (Tick other) = Step hart times
+as_one (Step hart times) (Round more) = Step hart times
+as_one (Tick hart) next = Tick hart
+as_one (Round times) next = Round times
+
+-- the lines from one on, which takes in those behind it as long as they are one with it
+unfoldable pub joined_from : Timed → List Timed → List Timed
+joined_from line [] = line ∷ []
+joined_from line (next ∷ rest) = if are_one line next then joined_from (as_one line next) rest else line ∷ joined_from next rest
+
+-- so with all lines
+abbrev pub joined : List Timed → List Timed
+joined [] = []
+joined (line ∷ rest) = joined_from line rest
+
+-- the schedule of choices whose steps are counted
+abbrev pub schedule_of : List Choice → List Timed
+schedule_of choices = joined (map line_of_choice choices)
+
+-- the line to which the next one leads, where a line may stand before it
+abbrev pub next_line : Option Timed → Timed → Timed
+next_line None next = next
+next_line (Some line) next = if are_one line next then as_one line next else next
