@@ -1,8 +1,0 @@
-use Rattle.coyotos.proofs.counted.Goals as goal
-
-pub returns-clause-answers : goal.returns-clause-answers
-returns-clause-answers g c = record {
-  written = c.coyotos.ensures.answers.output;
-  sure = λ failed. (c.coyotos.ensures.sure failed).writes;
-  causes = c.coyotos.ensures.causes;
-}
