@@ -1,18 +1,18 @@
 //! What a program reads and writes.
-ghost use Rattle.std.specs.Prelude.{◌≡◌, [], IfSome};
+ghost use Rattle.std.specs.Prelude.{◌≡◌, [], IfOk};
 ghost use Rattle.std.specs.Io.Buffered.{writer_buffer, writer_inner};
 
 use crate::noting::{Noted, Noting};
 use coy_io::{ReadSource, WriteSink};
-use std::alloc::Global;
+use std::alloc::{AllocError, Global};
 use std::io::{BufWriter, Write};
 
 /// A program's input, and its output behind a buffer. The errors of both are noted.
 #[derive(Drop)]
 pub struct Streams<'a, R: Drop, W: Write + Drop> {
     pub input: ReadSource<Noting<'a, R>>,
-    /// `None` where there was no memory for the buffer.
-    pub output: Option<WriteSink<BufWriter<Noting<'a, W>>>>,
+    /// An error where there was no memory for the buffer.
+    pub output: Result<WriteSink<BufWriter<Noting<'a, W>>>, AllocError>,
     pub noted: &'a Noted,
 }
 
@@ -22,13 +22,13 @@ impl<'a, R: Drop, W: Write + Drop> Streams<'a, R, W> {
     pub fn new(alloc: Global, reader: R, writer: W, noted: &'a Noted) -> Streams<'a, R, W>
         ensures reader { result.input.reader.stream ≡ reader }
         ensures unread { result.input.faults ≡ 0 }
-        ensures writer { IfSome result.output (λ sink. (writer_inner sink.writer).stream ≡ writer) }
-        ensures buffer { IfSome result.output (λ sink. writer_buffer sink.writer ≡ []) }
-        ensures unwritten { IfSome result.output (λ sink. sink.faults ≡ 0) }
+        ensures writer { IfOk result.output (λ sink. (writer_inner sink.writer).stream ≡ writer) }
+        ensures buffer { IfOk result.output (λ sink. writer_buffer sink.writer ≡ []) }
+        ensures unwritten { IfOk result.output (λ sink. sink.faults ≡ 0) }
     {
         let output = match BufWriter::new(alloc, noted.writer(writer)) {
-            Ok(writer) => Some(WriteSink::new(writer)),
-            Err(_) => None,
+            Ok(writer) => Ok(WriteSink::new(writer)),
+            Err(_) => Err(AllocError),
         };
         Streams {
             input: ReadSource::new(noted.reader(reader)),

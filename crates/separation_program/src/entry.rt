@@ -53,15 +53,15 @@ fn run_words<'a, R: Read + Drop, W: Write + Drop, L: Ledger>(
         CallsFlushed (left_in R.remaining) read_faults (got_by W.contents)
         old.input new.input sink sink' result words) }
 {
-    let Some(words) = words_of(alloc, args) else {
+    let Ok(words) = words_of(alloc, args) else {
         return Exit::OutOfMemory;
     };
     match &mut streams.output {
-        Some(output) => {
+        Ok(output) => {
             let words = words.as_slice();
             run_and_flush::<_, _, L>(alloc, words, &mut streams.input, output, permit)
         }
-        None => Exit::OutOfMemory,
+        Err(_) => Exit::OutOfMemory,
     }
 }
 
