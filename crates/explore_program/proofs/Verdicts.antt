@@ -12,8 +12,8 @@ use Rattle.questions.specs.Choice.{counted_path}
 use Rattle.questions.specs.Question.{PropertyValue, choices_of, watch_for}
 use Rattle.exploration.specs.Shown.{shown_of}
 use Rattle.questions.specs.Asking.{property_at}
-use Rattle.exploration.specs.Explored.{AllMustCome, IsExact, IsSafe, NoneFailsWithin, Says, come_to}
-use Rattle.interleavings.specs.Laws.{EachHartRuns}
+use Rattle.exploration.specs.Explored.{AllMustCome, Avoids, IsExact, IsSafe, NoneFailsWithin, Says, come_to, wanted}
+use Rattle.interleavings.specs.Laws.{EachHartRuns, OnlyRuns}
 use Rattle.interleavings.specs.Rounds.{RunsOnce}
 use Rattle.quiet_runs.specs.Laws.{AreHarts}
 use Rattle.quiet_runs.specs.Runs.{after_steps}
@@ -25,7 +25,7 @@ use Rattle.courses.specs.declared.exit.Exit.{Exit}
 use Rattle.courses.specs.declared.exit.Exit.TheVariants.{Done, Violated, Open}
 use Rattle.explore_program.specs.declared.asked.Asked.{Asked}
 use Rattle.explore_program.specs.Theorem.{AreAlike, Holds, IsViolated}
-use Rattle.explore_program.specs.Told.{AllMustStep, StepwiseWithin, exit_of, told_by, written_exit}
+use Rattle.explore_program.specs.Told.{AllMustStep, AvoidsByStep, StepwiseWithin, exit_of, told_by, written_exit}
 use Rattle.explore_program.proofs.Cycles.{counted-front, counted-behind}
 
 -- an answer ends a call that did all
@@ -66,11 +66,14 @@ module _ (asked : Asked) (s : State) where
   pub stepwise-within : (answer : Explored) → Says asked.question asked.policy s answer
       → ((depth : ℕ) → EachHartRuns asked.question → NoneFailsWithin asked.question asked.policy s depth → (harts : List ℕ) → AreHarts asked.question.sizes.harts harts → length harts ≤ depth
       → IsSafe asked.question asked.policy (after_steps s harts))
-      → ((rounds : ℕ) → AllMustCome asked.question asked.policy s rounds → RunsOnce asked.question → AllMustStep asked s (rounds * 4097)) → StepwiseWithin asked s answer
-  stepwise-within (answers.Found n path) says law rounds_law = tt
-  stepwise-within (answers.Closed size counts None) says law rounds_law = rounds_law size.states says.2
-  stepwise-within (answers.Closed size counts (Some missed)) says law rounds_law = tt
-  stepwise-within (answers.Open size counts) says law rounds_law = λ runs. law size.depth runs says.0
+      → ((rounds : ℕ) → AllMustCome asked.question asked.policy s rounds → RunsOnce asked.question → AllMustStep asked s (rounds * 4097))
+      → ((n : ℕ) (path cycle : List ℕ) → Avoids asked.question asked.policy s n path cycle → EachHartRuns asked.question → OnlyRuns asked.question → AvoidsByStep asked s n path cycle) → StepwiseWithin asked s answer
+  stepwise-within (answers.Found n path) says law rounds_law avoided_law = tt
+  stepwise-within (answers.Closed size counts None) says law rounds_law avoided_law = rounds_law size.states says.2
+  stepwise-within (answers.Closed size counts (Some (Lost lost))) says law rounds_law avoided_law = tt
+  stepwise-within (answers.Closed size counts (Some (Avoided a))) says law rounds_law avoided_law =
+      avoided_law (wanted asked.question asked.policy s a.want) a.path.items a.cycle.items says.1.avoids
+  stepwise-within (answers.Open size counts) says law rounds_law avoided_law = λ runs. law size.depth runs says.0
 
 -- a text that was written, or not, ends a call
 pub ends-written : {T E : Type 0} (old new : Option (List ℕ)) (faults faults' : ℕ) (written : Result T E) (exit : Exit) (text : List ℕ) → is_finished exit ≡ true

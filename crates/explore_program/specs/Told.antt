@@ -1,7 +1,7 @@
 -- What is told of a question, and what the program writes with it (this project's own).
 --
 -- No definition goes through the states: what is told is that of an answer of the search, which `Answers` says.
-use Rattle.std.specs.Prelude.{◌≡◌, ◌≢◌, ◌<◌, ◌≤◌, ℕ, ◌*◌, true, List, [], ◌++◌, length, take, drop, Some, None, Result, Ok, Err, ⊤}
+use Rattle.std.specs.Prelude.{◌≡◌, ◌≢◌, ◌<◌, ◌≤◌, ℕ, ◌*◌, Bool, true, List, [], ◌++◌, length, take, drop, Some, None, Result, Ok, Err, ⊤}
 use Rattle.std.specs.List.{All}
 use Rattle.machine_state.specs.Machine.{hart_in}
 use Rattle.machine_state.specs.declared.event.Event.{Event}
@@ -10,15 +10,16 @@ use Rattle.kernel_core.specs.State.{State}
 use Rattle.breadth_first.specs.declared.answer.Explored.{Explored}
 use Rattle.breadth_first.specs.declared.answer.Explored.TheVariants as answers
 use Rattle.breadth_first.specs.declared.answer.Missed.TheVariants.{Avoided}
-use Rattle.exploration.specs.Explored.{AsksEver, AsksMust, AsksMustAfter, IsExact, IsSafe, Says, come_to}
+use Rattle.exploration.specs.Explored.{AsksEver, AsksMust, AsksMustAfter, IsAskedFrom, IsExact, IsSafe, Says, come_to, next_state, wanted}
+use Rattle.fair_rounds.specs.Rounds.{IsEvasion, after as led_by}
 use Rattle.questions.specs.declared.choice.Choice.{Choice}
 use Rattle.questions.specs.Question.{first_holds, holds}
 use Rattle.exploration.specs.Laws.{IsAnswerTo}
 use Rattle.exploration.specs.Shown.{shown_of, told_path}
 use Rattle.interleavings.specs.Laws.{EachHartRuns, OnlyRuns}
-use Rattle.interleavings.specs.Rounds.{AlwaysStep, MustStep, RunsOnce}
+use Rattle.interleavings.specs.Rounds.{AlwaysStep, MustStep, RunsOnce, steps_chosen}
 use Rattle.quiet_runs.specs.Laws.{AreHarts, CanCome}
-use Rattle.quiet_runs.specs.Runs.{after_steps}
+use Rattle.quiet_runs.specs.Runs.{after_step, after_steps}
 use Rattle.explore_program.specs.explored_text.Text.{choices_text, explored_text}
 use Rattle.schedule_replay.specs.Scheduled.{Ending, AtEnd, AtFault, AtLimit, scheduled}
 use Rattle.coy_io.specs.Lines.{whole_lines}
@@ -90,14 +91,26 @@ pub record Stepwise (asked : Asked) (s : State) : Type 0 where
   pub ever : CanComeStepwise asked s
   pub must : MustComeStepwise asked s
 
--- where a limit ended the search, and each hart can be run: no `never` fails after as many steps as choices were gone through.
+-- The steps of these choices avoid what property `n` asks for, as the choices do: those of the path go by a state from which it
+-- asks for its atoms, on to one to which those of the cycle lead back, and each hart steps among these; from the first of the two
+-- states on, the atoms hold in none that is passed.
+pub record AvoidsByStep (asked : Asked) (s : State) (n : ℕ) (path cycle : List ℕ) : Type 0 where
+  pub first : State → Bool
+  pub asks : (t : State) → first t ≡ true → IsAskedFrom asked.question asked.policy s n t
+  pub evasion : IsEvasion after_step (λ t. holds asked.question asked.policy t n) asked.question.sizes.harts first s
+      (steps_chosen asked.question s path) (steps_chosen asked.question (led_by (next_state asked.question) s path) cycle)
+
+-- Where a limit ended the search, and each hart can be run: no `never` fails after as many steps as choices were gone through.
 -- Where it told that all holds, and each hart can be run, but nothing else or twice: what must come does so within 4,097 rounds
--- of steps for each state that was seen.
+-- of steps for each state that was seen. Where it told how a `must` is avoided, and nothing but runs of each hart can be chosen:
+-- the steps of these runs avoid it, too.
 abbrev pub StepwiseWithin : Asked → State → Explored → Type 0
 StepwiseWithin asked s (answers.Open size counts) = EachHartRuns asked.question
     → (harts : List ℕ) → AreHarts asked.question.sizes.harts harts → length harts ≤ size.depth
     → IsSafe asked.question asked.policy (after_steps s harts)
 StepwiseWithin asked s (answers.Closed size counts None) = RunsOnce asked.question → AllMustStep asked s (size.states * 4097)
+StepwiseWithin asked s (answers.Closed size counts (Some (Avoided a))) = EachHartRuns asked.question → OnlyRuns asked.question
+    → AvoidsByStep asked s (wanted asked.question asked.policy s a.want) a.path.items a.cycle.items
 StepwiseWithin asked s _ = ⊤
 
 -- a text is read as a schedule, on a machine with so many harts, and its events lead from one state to another

@@ -15,8 +15,8 @@ use coy_io::{Sink, WriteFault};
 use exploration::explored_laws;
 use exploration::machine_space::{Answered, explore_machine};
 use interleavings::{
-    ever_stepwise_law, first_sees_only_law, must_stepwise_law, never_stepwise_law, sees_only_law,
-    within_stepwise_law,
+    ever_stepwise_law, first_sees_only_law, lasso_stepwise_law, must_stepwise_law,
+    never_stepwise_law, sees_only_law, within_stepwise_law,
 };
 use machine_state::Machine;
 use map_cache::MapCache;
@@ -47,6 +47,7 @@ pub(crate) fn answer<K: Sink, W: Watcher, L: Ledger>(
     sees_only_law();
     first_sees_only_law();
     must_stepwise_law();
+    lasso_stepwise_law();
     migrated_is_read();
     // Sizes that are read tell how many harts there are at most.
     let _sizes = machine.objects().sizes();
@@ -120,7 +121,8 @@ fn exit_of(explored: &Explored) -> Exit
         Explored::Found { .. } => Exit::Violated,
         Explored::Closed { missed: None, .. } => Exit::Done,
         Explored::Closed {
-            missed: Some(_), ..
+            missed: Some(_),
+            ..
         } => Exit::Violated,
         Explored::Open { .. } => Exit::Open,
     }
