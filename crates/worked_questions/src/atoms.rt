@@ -191,14 +191,15 @@ fn check_sides<L: Ledger>(
     row: &str,
     fetches: &mut Steps<L>,
 ) {
-    let (wanted, line) = barred(rt, row);
+    let (wanted, sides) = barred(rt, row);
     let mut question = Question::new(alloc, machine.objects().sizes());
+    let line = format!(in alloc; "{sides}").expect(rt, row);
     let read = read_question(alloc, line.as_bytes(), 1, &mut question, policy);
     assert!(rt; read.is_ok(), "{row}");
     assert!(rt; question.properties().len() == 1, "{row}");
     let closure = Closure::new(alloc, policy).expect(rt, row);
-    let first = first_holds(&question, policy, &closure, false, machine, 0, fetches);
     let goal = holds(&question, policy, &closure, false, machine, 0, fetches);
+    let first = first_holds(&question, policy, &closure, false, machine, 0, fetches);
     let met = match (first, goal) {
         (false, false) => "nn",
         (false, true) => "ny",
