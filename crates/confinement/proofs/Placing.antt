@@ -89,8 +89,8 @@ module _ (cut : Cut) (side : CutSide) where
   others-without p [] own = refl
   others-without p (x ∷ xs) own = by (x == p) refl (others-without p xs own)
     where
-      by : (b : Bool) → (x == p) ≡ b → others_in cut side xs ≡ others_in cut side (without p xs) → others_in cut side (x ∷ xs) ≡ others_in cut side (if b then xs else x ∷ without p xs)
-      by true e rest = others-first x xs (ap (λ (n : ℕ). side_of cut Process n) (eqb-true x p e) ∙ own)
+      by : (b : Bool) → (x == p) ≡ b → others_in cut side xs ≡ others_in cut side (without p xs) → others_in cut side (x ∷ xs) ≡ others_in cut side (if b then without p xs else x ∷ without p xs)
+      by true e rest = others-first x xs (ap (λ (n : ℕ). side_of cut Process n) (eqb-true x p e) ∙ own) ∙ rest
       by false e rest = ap (λ (ys : List ℕ). cond (not (same_side (side_of cut Process x) side)) (x ∷ ys) ys) rest
 
   -- he is no other on a hart

@@ -42,8 +42,8 @@ module _ (cut : Cut) where
   all_without side p [] all = tt
   all_without side p (x ∷ xs) all = by (x == p) (all_without side p xs all.1)
     where
-      by : (b : Bool) → AllOn cut side (without p xs) → AllOn cut side (if b then xs else x ∷ without p xs)
-      by true rest = all.1
+      by : (b : Bool) → AllOn cut side (without p xs) → AllOn cut side (if b then without p xs else x ∷ without p xs)
+      by true rest = rest
       by false rest = (all.0, rest)
 
   -- and with one more of it at the end
@@ -79,7 +79,7 @@ module _ (cut : Cut) (side : CutSide) where
   without-other p b [] own other all = refl
   without-other p b (x ∷ xs) own other all = by (x == p) refl (without-other p b xs own other all.1)
     where
-      by : (same : Bool) → (x == p) ≡ same → xs ≡ without p xs → x ∷ xs ≡ (if same then xs else x ∷ without p xs)
+      by : (same : Bool) → (x == p) ≡ same → xs ≡ without p xs → x ∷ xs ≡ (if same then without p xs else x ∷ without p xs)
       by true e rest = absurd (other (sym all.0 ∙ (ap (λ n. side_of cut Process n) (eqb-true x p e) ∙ own)))
       by false e rest = ap (λ (ys : List ℕ). x ∷ ys) rest
 

@@ -22,8 +22,8 @@ among_without p kind n [] here = here
 among_without p kind n (x ∷ xs) here = by (x == p) (λ later. among_without p kind n xs later) here
   where
     by : (b : Bool) → (IsAmong kind n (process_names (without p xs)) → IsAmong kind n (process_names xs))
-        → IsAmong kind n (process_names (if b then xs else x ∷ without p xs)) → IsAmong kind n (process_names (x ∷ xs))
-    by true more among = inr among
+        → IsAmong kind n (process_names (if b then without p xs else x ∷ without p xs)) → IsAmong kind n (process_names (x ∷ xs))
+    by true more among = inr (more among)
     by false more (inl first) = inl first
     by false more (inr later) = inr (more later)
 

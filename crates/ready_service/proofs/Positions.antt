@@ -37,9 +37,9 @@ first-without : (p q n : ℕ) (xs : List ℕ) → q ≢ p → IsAmongFirst p n x
 first-without p q zero xs other here = absurd here
 first-without p q (suc n) [] other here = absurd here
 first-without p q (suc n) (x ∷ xs) other (inl here) =
-    cond_both (x == q) xs (x ∷ without q xs) (IsAmongFirst p (suc n)) (λ e. absurd (other (sym (eqb-true x q e) ∙ here))) (λ e. inl here)
+    cond_both (x == q) (without q xs) (x ∷ without q xs) (IsAmongFirst p (suc n)) (λ e. absurd (other (sym (eqb-true x q e) ∙ here))) (λ e. inl here)
 first-without p q (suc n) (x ∷ xs) other (inr later) =
-    cond_both (x == q) xs (x ∷ without q xs) (IsAmongFirst p (suc n)) (λ e. first-suc p n xs later) (λ e. inr (first-without p q n xs other later))
+    cond_both (x == q) (without q xs) (x ∷ without q xs) (IsAmongFirst p (suc n)) (λ e. first-suc p n (without q xs) (first-without p q n xs other later)) (λ e. inr (first-without p q n xs other later))
 
 -- the first goes, who is another
 first-rest : (p n : ℕ) (xs : List ℕ) → first_of xs ≢ Some p → IsAmongFirst p n xs → IsAmongFirst p (n - 1) (rest_of xs)

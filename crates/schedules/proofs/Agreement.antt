@@ -43,10 +43,10 @@ agrees-placed r p y q within but same more =
     (λ x other. let zero : ◌≡◌ {A = ℕ} (cond (p == x) (places_due y.state) 0) 0 = none-at p x (places_due y.state) other in omega (arith, zero, more x))
 
 -- one that left stands nowhere, and the others where they stood
-pub agrees-left : (processes : List ProcessValue) (q : QueuesValue) (p : ℕ) → IsQueues q → Agrees (runs processes q) → AgreesBut p (runs processes (left q p))
-agrees-left processes q p queues agrees = record {
+pub agrees-left : (processes : List ProcessValue) (q : QueuesValue) (p : ℕ) → Agrees (runs processes q) → AgreesBut p (runs processes (left q p))
+agrees-left processes q p agrees = record {
   sizes = agrees.sizes ∙ sym (length-map q.sleepers (without p));
-  nowhere = standing-left q p (queues.once p);
+  nowhere = standing-left q p;
   each = λ x h other. standing-left_other q p x (λ e. other (sym e)) ∙ agrees.each x h;
 }
 

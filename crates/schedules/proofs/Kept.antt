@@ -59,7 +59,7 @@ kept_left q p queues = record {
 }
   where
     least : (x : ℕ) → ((eqb p x ≡ true) × (p ≡ x)) ⊎ ((eqb p x ≡ false) × (p ≢ x)) → standing (left q p) x ≤ standing q x
-    least x (inl (t, same)) = let gone = standing-left q p (queues.once p) in let here : standing (left q p) x ≡ 0 = rw (← same) gone in omega (arith, here)
+    least x (inl (t, same)) = let gone = standing-left q p in let here : standing (left q p) x ≡ 0 = rw (← same) gone in omega (arith, here)
     least x (inr (t, other)) = let same = standing-left_other q p x other in omega (arith, same)
 
     fewer : (x : ℕ) → ((eqb p x ≡ true) × (p ≡ x)) ⊎ ((eqb p x ≡ false) × (p ≢ x)) → standing (left q p) x ≤ 1

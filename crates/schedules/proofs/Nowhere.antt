@@ -12,7 +12,7 @@ without_absent : (p : ℕ) (xs : List ℕ) → times_in p xs ≡ 0 → without p
 without_absent p [] none = refl
 without_absent p (x ∷ xs) none = on (x == p) none (λ rest. without_absent p xs rest)
   where
-    on : (b : Bool) → cond b 1 0 + times_in p xs ≡ 0 → (times_in p xs ≡ 0 → without p xs ≡ xs) → (if b then xs else x ∷ without p xs) ≡ x ∷ xs
+    on : (b : Bool) → cond b 1 0 + times_in p xs ≡ 0 → (times_in p xs ≡ 0 → without p xs ≡ xs) → (if b then without p xs else x ∷ without p xs) ≡ x ∷ xs
     on true e rest = absurd (omega (arith, e))
     on false e rest = ap (λ l. x ∷ l) (rest (omega (arith, e)))
 

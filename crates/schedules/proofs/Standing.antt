@@ -1,5 +1,5 @@
 -- What each change of the queues makes of the number of places where a process stands.
-use Rattle.std.proofs.Common.{◌≡◌, ◌≢◌, ℕ, ◌+◌, ◌<◌, ◌≤◌, ◌==◌, Bool, true, false, ◌||◌, List, [], ◌∷◌, ◌++◌, map, slice_set, slice_index_or, length, refl, ap, arith, cond, Option, Some, None, IfSome}
+use Rattle.std.proofs.Common.{◌≡◌, ◌≢◌, ℕ, ◌+◌, ◌<◌, ◌==◌, Bool, true, false, ◌||◌, List, [], ◌∷◌, ◌++◌, map, slice_set, slice_index_or, length, refl, ap, arith, cond, Option, Some, None, IfSome}
 use Rattle.std.specs.List.{sum_by}
 use Rattle.std.specs.Bool.{if◌then◌else◌}
 use Rattle.std.proofs.lemmas.List.Sums.{sum_by-set, sum_by-cons}
@@ -38,31 +38,30 @@ standing-asleep q p on x within =
     omega (arith, put, push)
 
 -- taken out, the process is there no more
-times_in-without : (p : ℕ) (xs : List ℕ) → times_in p xs ≤ 1 → times_in p (without p xs) ≡ 0
-times_in-without p [] h = refl
-times_in-without p (x ∷ xs) h = on (x == p) refl h (λ g. times_in-without p xs g)
+times_in-without : (p : ℕ) (xs : List ℕ) → times_in p (without p xs) ≡ 0
+times_in-without p [] = refl
+times_in-without p (x ∷ xs) = on (x == p) refl (times_in-without p xs)
   where
-    on : (b : Bool) → (x == p) ≡ b → cond b 1 0 + times_in p xs ≤ 1 → (times_in p xs ≤ 1 → times_in p (without p xs) ≡ 0) → times_in p (if b then xs else x ∷ without p xs) ≡ 0
-    on true e h rest = omega (arith, h)
-    on false e h rest = rw (e, rest (omega (arith, h))) refl
+    on : (b : Bool) → (x == p) ≡ b → times_in p (without p xs) ≡ 0 → times_in p (if b then without p xs else x ∷ without p xs) ≡ 0
+    on true e rest = rest
+    on false e rest = rw (e, rest) refl
 
 -- another stays as often as it was
 times_in-without_other : (p x : ℕ) (xs : List ℕ) → p ≢ x → times_in x (without p xs) ≡ times_in x xs
 times_in-without_other p x [] h = refl
 times_in-without_other p x (y ∷ ys) h = on (y == p) refl (times_in-without_other p x ys h)
   where
-    on : (b : Bool) → (y == p) ≡ b → times_in x (without p ys) ≡ times_in x ys → times_in x (if b then ys else y ∷ without p ys) ≡ cond (y == x) 1 0 + times_in x ys
-    on true e rest = grind (arith, nat_tests, e)
+    on : (b : Bool) → (y == p) ≡ b → times_in x (without p ys) ≡ times_in x ys → times_in x (if b then without p ys else y ∷ without p ys) ≡ cond (y == x) 1 0 + times_in x ys
+    on true e rest = grind (arith, nat_tests, e, rest)
     on false e rest = ap (λ n. cond (y == x) 1 0 + n) rest
 
 -- a sum over lists from each of which the process was taken
-sum-without : (p : ℕ) (lists : List (List ℕ)) → sum_by (times_in p) lists ≤ 1 → sum_by (times_in p) (map (without p) lists) ≡ 0
-sum-without p [] h = refl
-sum-without p (xs ∷ lists) h =
-    let all = sum_by-cons (times_in p) xs lists in
+sum-without : (p : ℕ) (lists : List (List ℕ)) → sum_by (times_in p) (map (without p) lists) ≡ 0
+sum-without p [] = refl
+sum-without p (xs ∷ lists) =
     let after = sum_by-cons (times_in p) (without p xs) (map (without p) lists) in
-    let first = times_in-without p xs (omega (arith, h, all)) in
-    let rest = sum-without p lists (omega (arith, h, all)) in
+    let first = times_in-without p xs in
+    let rest = sum-without p lists in
     omega (arith, after, first, rest)
 
 sum-without_other : (p x : ℕ) (lists : List (List ℕ)) → p ≢ x → sum_by (times_in x) (map (without p) lists) ≡ sum_by (times_in x) lists
@@ -108,10 +107,10 @@ harts-without_other p x (hart ∷ harts) h =
     omega (arith, all, after, first, rest)
 
 -- a process that left stands nowhere
-pub standing-left : (q : QueuesValue) (p : ℕ) → standing q p ≤ 1 → standing (left q p) p ≡ 0
-standing-left q p once =
-    let ready = sum-without p q.ready (omega (arith, once)) in
-    let sleepers = sum-without p q.sleepers (omega (arith, once)) in
+pub standing-left : (q : QueuesValue) (p : ℕ) → standing (left q p) p ≡ 0
+standing-left q p =
+    let ready = sum-without p q.ready in
+    let sleepers = sum-without p q.sleepers in
     let harts = harts-without p q.harts in
     omega (arith, ready, sleepers, harts)
 

@@ -40,10 +40,10 @@ abbrev pub rest_of : List ℕ → List ℕ
 rest_of [] = []
 rest_of (x ∷ xs) = xs
 
--- a list without the process, where it stands there at most once
+-- a list without the process, wherever it stands there
 abbrev pub without : ℕ → List ℕ → List ℕ
 without p [] = []
-without p (x ∷ xs) = if x == p then xs else x ∷ without p xs
+without p (x ∷ xs) = if x == p then without p xs else x ∷ without p xs
 
 -- a hart without the process
 abbrev pub hart_without : ℕ → Option ℕ → Option ℕ

@@ -1,5 +1,4 @@
-ghost use Rattle.std.specs.Prelude.{◌≡◌, ◌==◌, ◌<◌, ◌≤◌, ◌++◌, ◌∷◌, [], length, slice_get, slice_index, IfSome};
-ghost use Rattle.std.specs.List.{position};
+ghost use Rattle.std.specs.Prelude.{◌≡◌, ◌==◌, ◌<◌, ◌≤◌, ◌++◌, ◌∷◌, [], length, slice_get, slice_index};
 ghost use Rattle.schedules.specs.Queues.{without, first_of, rest_of, stands_in};
 
 use arrayvec::ArrayVec;
@@ -97,23 +96,10 @@ impl ProcessList {
         Some(self.list.remove(0))
     }
 
-    /// Takes the process out, where it stands here.
-    #[tactic(auto, using(crate::proofs::Removed::removed_Some, crate::proofs::Removed::removed_None))]
+    /// Takes the process out, wherever it stands here.
     pub fn remove(&mut self, process: u16)
         ensures { self.new ≡ without process self.old }
     {
-        if let Some(place) = self.place_of(process) {
-            self.list.remove(place);
-        }
-    }
-
-    fn place_of(&self, process: u16) -> Option<usize>
-        ensures value { result ≡ position (λ x. x == process) self.now }
-        ensures there { IfSome result (λ place. place < length self.now) }
-    {
-        self.list
-            .as_slice()
-            .iter()
-            .position(|other| *other == process)
+        self.list.retain(|other| *other != process);
     }
 }
