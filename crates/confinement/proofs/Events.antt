@@ -112,7 +112,7 @@ module _ (cut : Cut) (side : CutSide) where
   on_side = record {
     holds = λ s. HoldsFor cut side (system_of s);
     by = λ p. side_of cut Process p ≡ side;
-    over = λ e. side_of cut Endpoint e ≡ side;
+    heard = λ s e q. (side_of cut Endpoint e ≡ side) × (side_of cut Process q ≡ side);
     awaited = λ q. side_of cut Process q ≡ side;
     word = λ number. Unit {0};
     regs = λ registers. Unit {0};
@@ -156,8 +156,7 @@ module _ (cut : Cut) (side : CutSide) where
     asked = λ s p inv holds own e. tt;
     kernel = λ s c cap holds may e. called-own s c (Kernel cap) holds may e;
     busy = λ s c q holds may e. called-own s c (Busy q) holds may e;
-    open_by = λ s c e q holds may is. (called-own s c (Open e q) holds may is).1;
-    open_over = λ s c e q holds may is. (called-own s c (Open e q) holds may is).0;
+    opens = λ s c e q holds may is. called-own s c (Open e q) holds may is;
     sent_at = λ s p inv f holds own asks e. tt;
     sent_handled = λ s p inv f holds own asks e. subst (StringFaultOwn cut side) e (side-own cut side p own s Load (spans inv.at inv.length) holds).fault;
     refusal = λ code. tt;
@@ -194,13 +193,13 @@ module _ (cut : Cut) (side : CutSide) where
     waits = λ s p q holds own other. acts-wait_on cut side p own (s tt) q other holds;
     listens = λ s p inv holds own asks. acts-listen cut side p own (s tt) inv holds;
     sends = λ s p inv holds own asks. acts-same cut side (system_of (s tt)) holds;
-    receives = λ s q inv holds own asks. acts-same cut side (system_of (s tt)) holds;
-    delivers = λ s p e q inv holds own over other asks.
+    receives = λ s e q inv holds heard asks. acts-same cut side (system_of (s tt)) holds;
+    delivers = λ s p e q inv holds own heard asks.
         let accept = accept_in (s tt) q in
-        let to = side-own cut side q other (s tt) Put (spans accept.at (min inv.length accept.bound)) holds in
+        let to = side-own cut side q heard.1 (s tt) Put (spans accept.at (min inv.length accept.bound)) holds in
         let from = (sent_side (s tt) p inv).pieces in
         let onto = (received_side (s tt) q inv.length).pieces in
-        acts-delivered_part cut side p own e q over other inv (s tt) from onto (to.pieces refl) holds;
+        acts-delivered_part cut side p own e q heard.0 heard.1 inv (s tt) from onto (to.pieces refl) holds;
     memory = λ s p inv cap holds own asks may memory. leaves-memory_op cut side p own (s tt) inv cap may holds;
     control = λ s p inv cap holds own asks may. leaves-control_op cut side p own (s tt) inv cap may holds;
   }

@@ -55,7 +55,7 @@ module _ (cut : Cut) (f : Overlay cut) (start : System) (run : Run cut start.sto
   of_right = record {
     holds = λ s. Has s;
     by = λ p. side_of cut Process p ≡ Right;
-    over = λ e. side_of cut Endpoint e ≡ Right;
+    heard = λ s e q. (side_of cut Endpoint e ≡ Right) × (side_of cut Process q ≡ Right);
     awaited = λ q. Unit {0};
     word = λ number. Unit {0};
     regs = λ registers. Unit {0};
@@ -130,8 +130,7 @@ module _ (cut : Cut) (f : Overlay cut) (start : System) (run : Run cut start.sto
     asked = λ s p inv h own e. tt;
     kernel = λ s c cap h may e. called-right s h.other c (Kernel cap) h.both may e;
     busy = λ s c q h may e. tt;
-    open_by = λ s c e q h may is. (called-right s h.other c (Open e q) h.both may is).1;
-    open_over = λ s c e q h may is. (called-right s h.other c (Open e q) h.both may is).0;
+    opens = λ s c e q h may is. called-right s h.other c (Open e q) h.both may is;
     sent_at = λ s p inv fault h own asks e. tt;
     sent_handled = λ s p inv fault h own asks e. let string = string-here s h.other p inv h.both own in subst (StringFaultOwn cut Right) e string.may;
     refusal = λ code. tt;
@@ -186,8 +185,8 @@ module _ (cut : Cut) (f : Overlay cut) (start : System) (run : Run cut start.sto
     waits = λ s p q b own other. alike-wait_on cut f start p own (s true) (s false) b q;
     listens = λ s p inv b own asks. alike-listen cut f start p own (s true) (s false) b inv;
     sends = λ s p inv b own asks. record { records = (string-here (s true) (s false) p inv b own).records; state = b };
-    receives = λ s q inv b own asks. record { records = (same-received cut f start q own (s true) (s false) b inv.length).records; state = b };
-    delivers = λ s p e q inv b own over other asks. alike-delivery (s true) (s false) p e q inv b own over other;
+    receives = λ s e q inv b heard asks. record { records = (same-received cut f start q heard.1 (s true) (s false) b inv.length).records; state = b };
+    delivers = λ s p e q inv b own heard asks. alike-delivery (s true) (s false) p e q inv b own heard.0 heard.1;
     memory = λ s p inv cap b own asks may memory. alike-memory_op cut f start p own (s true) (s false) b inv cap may memory;
     control = λ s p inv cap b own asks may. alike-control_op cut f start p own (s true) (s false) b inv cap may;
   }

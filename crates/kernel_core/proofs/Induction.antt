@@ -241,17 +241,17 @@ module _ (I : Type 0) (n : Notions) (m : Together I n) (y : Origins n) (r : Read
 
       -- ---- messages
 
-      by_fault-made : (e q : ℕ) → n.over e → n.by q → (f : Option StringFault) → (sent_side (s m.first) p inv).fault ≡ f → m.makes s (λ i. sent_by_fault (s i) p e q inv (sent_side (s i) p inv).pieces f)
-      by_fault-made e q over other (Some f) is = z.faults s p f.why.code f.address f.why.handler k own (y.sent_at (s m.first) p inv f (holds s k) own asks is) (y.sent_handled (s m.first) p inv f (holds s k) own asks is)
-      by_fault-made e q over other None is =
+      by_fault-made : (e q : ℕ) → n.heard (s m.first) e q → (f : Option StringFault) → (sent_side (s m.first) p inv).fault ≡ f → m.makes s (λ i. sent_by_fault (s i) p e q inv (sent_side (s i) p inv).pieces f)
+      by_fault-made e q heard (Some f) is = z.faults s p f.why.code f.address f.why.handler k own (y.sent_at (s m.first) p inv f (holds s k) own asks is) (y.sent_handled (s m.first) p inv f (holds s k) own asks is)
+      by_fault-made e q heard None is =
           x.behind s (λ i. side_outcome (s i) (received_side (s i) q inv.length)) (λ i. delivered (s i) p e q inv (sent_side (s i) p inv).pieces (received_side (s i) q inv.length).pieces)
-          (z.receives s q inv k other asks) (z.delivers s p e q inv k own over other asks)
+          (z.receives s e q inv k heard asks) (z.delivers s p e q inv k own heard asks)
 
-      send_open-made : (e q : ℕ) → n.over e → n.by q → m.makes s (λ i. send_open (s i) p e q inv)
+      send_open-made : (e q : ℕ) → n.heard (s m.first) e q → m.makes s (λ i. send_open (s i) p e q inv)
       unfolding send_open
-      send_open-made e q over other =
+      send_open-made e q heard =
           x.behind s (λ i. side_outcome (s i) (sent_side (s i) p inv)) (λ i. sent_by_fault (s i) p e q inv (sent_side (s i) p inv).pieces (sent_side (s i) p inv).fault) (z.sends s p inv k own asks)
-          (reading s (λ f i. sent_by_fault (s i) p e q inv (sent_side (s i) p inv).pieces f) (λ i. (sent_side (s i) p inv).fault) (r.faulted s p inv k own asks) (by_fault-made e q over other (sent_side (s m.first) p inv).fault refl))
+          (reading s (λ f i. sent_by_fault (s i) p e q inv (sent_side (s i) p inv).pieces f) (λ i. (sent_side (s i) p inv).fault) (r.faulted s p inv k own asks) (by_fault-made e q heard (sent_side (s m.first) p inv).fault refl))
 
       -- ---- invocations
 
@@ -269,7 +269,7 @@ module _ (I : Type 0) (n : Notions) (m : Together I n) (y : Origins n) (r : Read
       sent_to-made c may Dead e = refused-made InvalidCap
       sent_to-made c may (Busy q) e = either inv.nonblocking s _ _ (refused-made WouldBlock) (z.waits s p q k own (y.busy (s m.first) c q (holds s k) may e))
       sent_to-made c may (Open e q) is =
-          let sent = send_open-made e q (y.open_over (s m.first) c e q (holds s k) may is) (y.open_by (s m.first) c e q (holds s k) may is) in
+          let sent = send_open-made e q (y.opens (s m.first) c e q (holds s k) may is) in
           reading s (λ f i. if is_whole f && inv.receive then followed (send_open (s i) p e q inv) (listen (send_open (s i) p e q inv).state p inv) else send_open (s i) p e q inv)
           (λ i. (sent_side (s i) p inv).fault) (r.faulted s p inv k own asks) (received-made (λ i. send_open (s i) p e q inv) (is_whole (sent_side (s m.first) p inv).fault && inv.receive) sent)
 
@@ -392,8 +392,7 @@ wants_nothing-origins = record {
   asked = λ s p inv h own e. tt;
   kernel = λ s c cap h may e. tt;
   busy = λ s c q h may e. tt;
-  open_by = λ s c e q h may is. tt;
-  open_over = λ s c e q h may is. tt;
+  opens = λ s c e q h may is. tt;
   sent_at = λ s p inv f h own asks e. tt;
   sent_handled = λ s p inv f h own asks e. tt;
   refusal = λ code. tt;

@@ -44,13 +44,13 @@ use Rattle.kernel_core.specs.KernelOperation.{kind_table, memory_op, control_op}
 use Rattle.kernel_core.specs.Event.{instruction}
 use Rattle.kernel_core.specs.Run.{run_of}
 
--- what a law wants of a state, of a process that takes part in an event, of an endpoint through which one does, of a process
--- that is busy and waited for, and of what the process that performs it reads: numbers, registers, capabilities, the handler of
--- a fault, replies, effects, invocations
+-- what a law wants of a state, of the process that performs an event, of an endpoint and of the process that receives through
+-- it in a state, of a process that is busy and waited for, and of what the process that performs an event reads: numbers,
+-- registers, capabilities, the handler of a fault, replies, effects, invocations
 pub record Notions : Type 1 where
   pub holds : State → Type 0
   pub by : ℕ → Type 0
-  pub over : ℕ → Type 0
+  pub heard : State → ℕ → ℕ → Type 0
   pub awaited : ℕ → Type 0
   pub word : ℕ → Type 0
   pub regs : List ℕ → Type 0
@@ -65,7 +65,7 @@ abbrev pub wants_nothing : Notions
 wants_nothing = record {
   holds = λ s. Unit {0};
   by = λ p. Unit {0};
-  over = λ e. Unit {0};
+  heard = λ s e q. Unit {0};
   awaited = λ q. Unit {0};
   word = λ number. Unit {0};
   regs = λ registers. Unit {0};
@@ -116,8 +116,7 @@ pub record Origins (n : Notions) : Type 0 where
       → n.asks inv
   pub kernel : (s : State) (c cap : Capability) → n.holds s → n.has c → callee s.store c ≡ Kernel cap → n.has cap
   pub busy : (s : State) (c : Capability) (q : ℕ) → n.holds s → n.has c → callee s.store c ≡ Busy q → n.awaited q
-  pub open_by : (s : State) (c : Capability) (e q : ℕ) → n.holds s → n.has c → callee s.store c ≡ Open e q → n.by q
-  pub open_over : (s : State) (c : Capability) (e q : ℕ) → n.holds s → n.has c → callee s.store c ≡ Open e q → n.over e
+  pub opens : (s : State) (c : Capability) (e q : ℕ) → n.holds s → n.has c → callee s.store c ≡ Open e q → n.heard s e q
   pub sent_at : (s : State) (p : ℕ) (inv : InvocationValue) (f : StringFault) → n.holds s → n.by p → n.asks inv
       → (sent_side s p inv).fault ≡ Some f → n.word f.address
   pub sent_handled : (s : State) (p : ℕ) (inv : InvocationValue) (f : StringFault) → n.holds s → n.by p → n.asks inv
@@ -180,10 +179,10 @@ pub record Cases (I : Type 0) (n : Notions) (m : Together I n) : Type 0 where
       → m.makes s (λ i. listen (s i) p inv)
   pub sends : (s : I → State) (p : ℕ) (inv : InvocationValue) → m.kept s → n.by p → n.asks inv
       → m.makes s (λ i. side_outcome (s i) (sent_side (s i) p inv))
-  pub receives : (s : I → State) (q : ℕ) (inv : InvocationValue) → m.kept s → n.by q → n.asks inv
+  pub receives : (s : I → State) (e q : ℕ) (inv : InvocationValue) → m.kept s → n.heard (s m.first) e q → n.asks inv
       → m.makes s (λ i. side_outcome (s i) (received_side (s i) q inv.length))
-  pub delivers : (s : I → State) (p e q : ℕ) (inv : InvocationValue) → m.kept s → n.by p → n.over e → n.by q → n.asks inv
-      → m.makes s (λ i. delivered (s i) p e q inv (sent_side (s i) p inv).pieces (received_side (s i) q inv.length).pieces)
+  pub delivers : (s : I → State) (p e q : ℕ) (inv : InvocationValue) → m.kept s → n.by p → n.heard (s m.first) e q
+      → n.asks inv → m.makes s (λ i. delivered (s i) p e q inv (sent_side (s i) p inv).pieces (received_side (s i) q inv.length).pieces)
   pub memory : (s : I → State) (p : ℕ) (inv : InvocationValue) (cap : Capability) → m.kept s → n.by p → n.asks inv
       → n.has cap → is_memory cap.kind ≡ true → m.makes s (λ i. memory_op (s i) p inv cap)
   pub control : (s : I → State) (p : ℕ) (inv : InvocationValue) (cap : Capability) → m.kept s → n.by p → n.asks inv

@@ -156,8 +156,8 @@ cases = record {
   waits = λ s p q k own other. wait-follows (s tt) p q;
   listens = λ s p inv k own asks. listen-follows (s tt) p inv;
   sends = λ s p inv k own asks. side-follows (s tt) p Load (spans inv.at inv.length);
-  receives = λ s q inv k own asks. let accept = accept_in (s tt) q in side-follows (s tt) q Put (spans accept.at (min inv.length accept.bound));
-  delivers = λ s p e q inv k own over other asks. delivered-follows (s tt) p e q inv (sent_side (s tt) p inv).pieces (received_side (s tt) q inv.length).pieces;
+  receives = λ s e q inv k heard asks. let accept = accept_in (s tt) q in side-follows (s tt) q Put (spans accept.at (min inv.length accept.bound));
+  delivers = λ s p e q inv k own heard asks. delivered-follows (s tt) p e q inv (sent_side (s tt) p inv).pieces (received_side (s tt) q inv.length).pieces;
   memory = λ s p inv cap k own asks may memory. memory-follows (s tt) p inv cap;
   control = λ s p inv cap k own asks may. control-follows (s tt) p inv cap;
 }

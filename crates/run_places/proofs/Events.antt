@@ -205,8 +205,8 @@ cases = record {
   waits = λ s p q k own other. wait-keeps (s tt) p q;
   listens = λ s p inv k own asks. listen-keeps (s tt) p inv;
   sends = λ s p inv k own asks has. has;
-  receives = λ s q inv k own asks has. has;
-  delivers = λ s p e q inv k own over other asks. delivered-keeps (s tt) p e q inv (sent_side (s tt) p inv).pieces (received_side (s tt) q inv.length).pieces;
+  receives = λ s e q inv k heard asks has. has;
+  delivers = λ s p e q inv k own heard asks. delivered-keeps (s tt) p e q inv (sent_side (s tt) p inv).pieces (received_side (s tt) q inv.length).pieces;
   memory = λ s p inv cap k own asks may memory. memory_op-keeps (s tt) p inv cap;
   control = λ s p inv cap k own asks may. control_op-keeps (s tt) p inv cap;
 }

@@ -121,8 +121,8 @@ module _ (cut : Cut) (on : CutSide) (alone : cut.weakly on ≡ false) where
     waits = λ s p q m own other. alike-wait_on cut on p own (s true) (s false) m q other;
     listens = λ s p inv m own asks. alike-listen cut on p own (s true) (s false) m inv;
     sends = λ s p inv m own asks. record { records = (string-here (s true) (s false) p inv m own).records; state = m };
-    receives = λ s q inv m own asks. record { records = (same-received cut on alone q own (s true) (s false) m inv.length).records; state = m };
-    delivers = λ s p e q inv m own over other asks. alike-delivery (s true) (s false) p e q inv m own over other;
+    receives = λ s e q inv m heard asks. record { records = (same-received cut on alone q heard.1 (s true) (s false) m inv.length).records; state = m };
+    delivers = λ s p e q inv m own heard asks. alike-delivery (s true) (s false) p e q inv m own heard.0 heard.1;
     memory = λ s p inv cap m own asks may memory. alike-memory_op cut on alone p own (s true) (s false) m inv cap may;
     control = λ s p inv cap m own asks may. alike-control_op cut on alone p own (s true) (s false) m inv cap may;
   }
