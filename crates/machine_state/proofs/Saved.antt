@@ -6,16 +6,21 @@ use Rattle.std.proofs.lemmas.Bool.{eq-eqb}
 use Rattle.std.proofs.lemmas.List.{drop_more, drop_all, get_or-map}
 use Rattle.std.proofs.lemmas.List.Elements.{All-push}
 use Rattle.std.proofs.lemmas.List.Sums.{sum_by-drop_more}
+use Rattle.cap_format.specs.Capability.{Capability}
+use Rattle.cap_format.specs.declared.item.Item.{Item}
+use Rattle.cap_format.specs.declared.item.Item.TheVariants.{Header}
 use Rattle.cap_format.specs.declared.kind.CapKind.{CapKind}
 use Rattle.cap_format.specs.declared.kind.CapKind.TheVariants.{Process}
 use Rattle.cap_format.specs.Kind.{number_of}
-use Rattle.object_store.specs.Store.{Store, size_of}
+use Rattle.object_store.specs.Store.{Store, Items, size_of}
 use Rattle.object_store.specs.Object.{ObjectName, object_at, with_object, IsEven}
 use Rattle.object_store.specs.Saved.{saved_of, restored, AreThere, slots_copied}
 use Rattle.object_store.proofs.Lists.{map-map, map-same}
 use Rattle.object_store.proofs.Same.{object_at_with_object, object_at_with_object_here}
+use Rattle.walk_meaning.specs.declared.kind.Kind.{Kind}
 use Rattle.machine_state.specs.declared.places.Place.{Place}
-use Rattle.machine_state.specs.Past.{PastValue, name_at, names_in, saved_at, saved_in, same_kind, used, slots_back, next_place, IsOwnPlace, IsPlaced, Holds}
+use Rattle.machine_state.specs.Outcome.{kept_after}
+use Rattle.machine_state.specs.Past.{PastValue, name_at, names_in, saved_at, saved_in, same_kind, used, slots_back, touches_back, next_place, IsOwnPlace, IsPlaced, Holds}
 
 -- a place by its parts
 abbrev pub place_of : CapKind → ℕ → ℕ → Place
@@ -123,3 +128,13 @@ restored_end copies places i o past = ap (λ rest. restored (map (saved_at copie
 -- and none is read
 pub slots_end : (places : List Place) (i : ℕ) → length places ≤ i → slots_back (drop i places) ≡ 0
 slots_end places i past = ap slots_back (drop_all i places past)
+
+-- what a translator keeps after the next of the rest and all behind it, and after none
+module _ {K : Type 0} (cost : K → Items → Capability → ℕ → Kind → ℕ) (after : K → Items → Capability → ℕ → Kind → K) (without : K → Item → K) (k : K) where
+  pub kept_next : (places : List Place) (i : ℕ) (d : Place) → i < length places
+      → kept_after cost after without k (touches_back (drop i places))
+          ≡ kept_after cost after without (without k (Header (get_or places i d).kind (get_or places i d).number)) (touches_back (drop (i + 1) places))
+  kept_next places i d within = ap (λ rest. kept_after cost after without k (touches_back rest)) (drop_more places i d within)
+
+  pub kept_end : (places : List Place) (i : ℕ) → length places ≤ i → kept_after cost after without k (touches_back (drop i places)) ≡ k
+  kept_end places i past = ap (λ rest. kept_after cost after without k (touches_back rest)) (drop_all i places past)

@@ -4,6 +4,7 @@ use Rattle.std.specs.Prelude.{◌≡◌, ℕ, ◌+◌, ◌<◌, ◌==◌, cond, 
 use Rattle.std.specs.List.{All, sum_by}
 use Rattle.cap_format.specs.declared.kind.CapKind.{CapKind}
 use Rattle.cap_format.specs.declared.kind.CapKind.TheVariants.{Process}
+use Rattle.cap_format.specs.declared.item.Item.TheVariants.{Header}
 use Rattle.cap_format.specs.Kind.{number_of}
 use Rattle.object_store.specs.declared.sizes.Sizes.{Sizes}
 use Rattle.object_store.specs.Store.{Store, size_of, sizes_of}
@@ -11,6 +12,8 @@ use Rattle.object_store.specs.Object.{ObjectName, object_name, object_at}
 use Rattle.object_store.specs.Saved.{Saved, slots_copied}
 use Rattle.schedules.specs.Queues.{QueuesValue}
 use Rattle.machine_state.specs.declared.places.Place.{Place}
+use Rattle.machine_state.specs.Outcome.{Touch}
+use Rattle.machine_state.specs.Outcome.Touch.{Changed}
 
 -- the objects that hold the copies, which object is copied where, the queues, and whether the machine was halted
 pub record PastValue : Type 0 where
@@ -47,6 +50,14 @@ used kind (p ∷ ps) = same_kind p.kind kind + used kind ps
 -- how many slots of GPTs are read to put all copies back
 abbrev pub slots_back : List Place → ℕ
 slots_back places = sum_by (λ p. slots_copied p.kind) places
+
+-- what a translator is told of a copy that is put back: the header of its object changes
+abbrev pub touch_back : Place → Touch
+touch_back p = Changed (Header p.kind p.number)
+
+-- and of copies, one after the other
+abbrev pub touches_back : List Place → List Touch
+touches_back places = map touch_back places
 
 -- where the next copy goes: that of a process to its own number, and any other behind those of its kind
 abbrev pub next_place : CapKind → ℕ → List Place → ℕ

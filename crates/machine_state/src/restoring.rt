@@ -6,11 +6,13 @@ ghost use Rattle.object_store.specs.Meaning.{map_of};
 ghost use Rattle.object_store.specs.Object.{object_at, with_object};
 ghost use Rattle.object_store.specs.Saved.{restored, AreThere, slots_copied};
 ghost use Rattle.machine_state.specs.Machine.{IsMachine};
-ghost use Rattle.machine_state.specs.Past.{names_in, saved_in, slots_back};
+ghost use Rattle.machine_state.specs.Outcome.{kept_after};
+ghost use Rattle.machine_state.specs.Past.{names_in, saved_in, slots_back, touches_back};
 
 use crate::machine::Machine;
 use crate::past::Past;
 use crate::places::Place;
+use cap_format::Item;
 use object_store::Objects;
 use std::sync::ledger::Ledger;
 use steps::Steps;
@@ -27,6 +29,9 @@ impl<T: Translator> Machine<T> {
         ensures queues { self.new.queues ≡ past.now.queues }
         ensures halted { self.new.halted ≡ past.now.halted }
         ensures counted { fetches.new ≡ fetches.old + slots_back past.now.places }
+        ensures kept { let kept = T.kept self.old.translator in
+            let touches = touches_back past.now.places in
+            T.kept self.new.translator ≡ kept_after T.cost T.after T.without kept touches }
     {
         put_back(&mut self.objects, &mut self.translator, past, fetches);
         self.queues.copy_from(&past.queues);
@@ -42,6 +47,9 @@ impl<T: Translator> Machine<T> {
         ensures queues { self.new.queues ≡ self.old.queues }
         ensures halted { self.new.halted ≡ self.old.halted }
         ensures counted { fetches.new ≡ fetches.old + slots_back past.now.places }
+        ensures kept { let kept = T.kept self.old.translator in
+            let touches = touches_back past.now.places in
+            T.kept self.new.translator ≡ kept_after T.cost T.after T.without kept touches }
     {
         put_back(&mut self.objects, &mut self.translator, past, fetches);
     }
@@ -60,6 +68,8 @@ fn put_back<T: Translator, L: Ledger>(
     ensures coherent { T.coherent translator.new (map_of objects.new.items) }
     ensures harts { T.harts translator.new ≡ T.harts translator.old }
     ensures counted { fetches.new ≡ fetches.old + slots_back past.now.places }
+    ensures kept { let touches = touches_back past.now.places in
+        T.kept translator.new ≡ kept_after T.cost T.after T.without (T.kept translator.old) touches }
 {
     let places = past.places.as_slice();
     'each: for i in 0..places.len() {
@@ -84,6 +94,8 @@ fn put_one<T: Translator, L: Ledger>(
     ensures coherent { T.coherent translator.new (map_of objects.new.items) }
     ensures harts { T.harts translator.new ≡ T.harts translator.old }
     ensures counted { fetches.new ≡ fetches.old + slots_copied place.kind }
+    ensures kept { T.kept translator.new ≡
+        T.without (T.kept translator.old) (Item.Header place.kind place.number) }
 {
     let item = objects.copy_object(place.kind, place.number, &past.copies, place.place, fetches);
     translator.invalidate(item);
