@@ -64,6 +64,10 @@ impl Translator for Plain {
 
     ghost spared = { λ k o c a kind kept. kept };
 
+    ghost purged = { λ k item kept. kept };
+
+    ghost less = { λ a b. ⊤ };
+
     fn translate<L: Ledger>(
         &mut self,
         objects: &Objects,
@@ -96,4 +100,12 @@ impl Translator for Plain {
     ghost carries = { λ t o p none coherent. tt };
 
     ghost starts = { λ t o fresh. tt };
+
+    ghost less_same = { λ a. tt };
+
+    ghost less_then = { λ a b c first second. tt };
+
+    ghost spared_less = { λ k o c a kind kept. tt };
+
+    ghost purged_less = { λ k item kept. tt };
 }

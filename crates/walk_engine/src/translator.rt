@@ -57,6 +57,12 @@ pub trait Translator: Drop {
     /// What a data access on one hart makes of another hart's cache.
     ghost spared: { Kept → Items → Capability → ℕ → Kind → Cache → Cache };
 
+    /// What a change of an item makes of a hart's cache.
+    ghost purged: { Kept → Item → Cache → Cache };
+
+    /// One cache holds no more than another: all that it holds is held by the other, too.
+    ghost less: { Cache → Cache → Type 0 };
+
     /// The page and the offset of the place that a fresh walk reaches, or its fault. It stays coherent.
     fn translate<L: Ledger>(
         &mut self,
@@ -128,12 +134,13 @@ pub trait Translator: Drop {
             let c = meaning objects.now.items space in
             IfSome result (λ hit. (k : ℕ) → k ≢ hart → cache self.new k ≡ spared (kept self.old) o c address kind (cache self.old k)) };
 
-    /// Tells that this item alone may have changed.
+    /// Tells that this item alone may have changed. It is told for no hart: no cache gains by it.
     fn invalidate(&mut self, item: Item)
         ensures coherent { (o p : Items)
             → DifferIn item o p → coherent self.old o → coherent self.new p }
         ensures harts { harts self.new ≡ harts self.old }
-        ensures without { kept self.new ≡ without (kept self.old) item };
+        ensures without { kept self.new ≡ without (kept self.old) item }
+        ensures purged { (k : ℕ) → cache self.new k ≡ purged (kept self.old) item (cache self.old k) };
 
     /// Coherence carries over between maps that differ in no item. `DifferInNone` is equality, so this
     /// holds of every coherence.
@@ -141,4 +148,17 @@ pub trait Translator: Drop {
 
     /// One that is fresh is coherent with all objects.
     ghost starts: { (t : Self) (o : Items) → fresh t → coherent t o };
+
+    /// A cache holds no more than itself.
+    ghost less_same: { (a : Cache) → less a a };
+
+    /// One that holds no more than a second, which holds no more than a third, holds no more than that.
+    ghost less_then: { (a b c : Cache) → less a b → less b c → less a c };
+
+    /// No hart's cache gains by a data access on another hart.
+    ghost spared_less: { (k : Kept) (o : Items) (c : Capability) (a : ℕ) (kind : Kind) (entries : Cache)
+        → less (spared k o c a kind entries) entries };
+
+    /// No hart's cache gains by a change of an item.
+    ghost purged_less: { (k : Kept) (item : Item) (entries : Cache) → less (purged k item entries) entries };
 }
