@@ -1,5 +1,5 @@
 -- What a taken record leaves, what is left when an item has none, and forgetting everything.
-use Rattle.std.proofs.Common.{◌≡◌, ℕ, ◌<◌, ◌≤◌, ◌^◌, Bool, true, false, not, ◌&&◌, ◌||◌, ◌==◌, nat_lt, if◌then◌else◌, List, [], length, Option, Some, None, is_some, refl, sym, ap, ◌∙◌, arith}
+use Rattle.std.proofs.Common.{◌≡◌, ℕ, ◌<◌, ◌≤◌, ◌^◌, Bool, true, false, not, ◌&&◌, ◌||◌, ◌==◌, nat_lt, if◌then◌else◌, List, [], filter, length, Option, Some, None, is_some, refl, sym, ap, ◌∙◌, arith}
 use Rattle.std.specs.Prelude.{slice_get}
 use Rattle.std.specs.List.{list_any}
 use Rattle.std.specs.FinSet.{items}
@@ -14,14 +14,14 @@ use Rattle.sv32_tables.specs.History.{Clears}
 use Rattle.tlb_model.specs.declared.entry.Entry.{Entry}
 use Rattle.tlb_model.specs.Tlb.{without_block}
 use Rattle.tlb_model.specs.Laws.{DropLaw}
-use Rattle.depend_table.specs.Depend.{Depend, Takes, depend, has, same, same_block, same_item}
-use Rattle.depend_table.proofs.Members.{same_item_tells, same_itself, same_tells}
+use Rattle.depend_table.specs.Depend.{Depend, Takes, depend, has, same, same_item}
+use Rattle.depend_table.proofs.Members.{same_item_tells, same_tells}
 use Rattle.walk_meaning.specs.declared.noted.Noted.{Noted}
 use Rattle.map_cache.specs.declared.key.Key.{Key}
 use Rattle.map_cache.specs.Key.{root_key, same_space}
-use Rattle.map_cache.specs.Kept.{KeptValue, added, fits, is_on, kept_without, nothing}
+use Rattle.map_cache.specs.Kept.{KeptValue, added, fits, is_on, kept_without, nothing, tlb_without}
 use Rattle.map_cache.specs.Cache.{CacheValue, IsCache, cache_of, kept_of, leaf_for, leaf_in, notes_of, root_at, space_at, tlb_at}
-use Rattle.map_cache.specs.Effects.{Forgets, IsBlank, Keeps, Remembers, hits, leaf_left}
+use Rattle.map_cache.specs.Effects.{Forgets, IsBlank, Keeps, Remembers, hits, leaf_left, takes_out}
 use Rattle.depend_table.proofs.Notes.{any-items, notes_of-kept}
 use Rattle.map_cache.proofs.Codes.{space_coding}
 use Rattle.map_cache.proofs.Keyed.{root_at-some}
@@ -30,15 +30,12 @@ use Rattle.map_cache.proofs.Coherence.{coherent-clear}
 use Rattle.map_cache.proofs.Economy.{fits-alone}
 use Rattle.map_cache.proofs.Installing.{Made}
 use Rattle.map_cache.proofs.Blank.{blank-bare, starts}
+use Rattle.map_cache.proofs.Purged.{item_itself, left-kept, left-none, left-taken}
 use Rattle.depend_table.proofs.Coded.{one_key, key_itself, key_tells}
 use Rattle.depend_table.proofs.Records.{adds-taken, any-added, any_has}
 use Rattle.depend_table.proofs.Tests.{both, number_itself, same_numbers, same_tests}
 
 -- ---- one record
-
--- an item passes the test with itself
-item_itself : (d : Depend) → same_item d.item d.item ≡ true
-item_itself d = (both (same_item d.item d.item) ((d.root == d.root) && same_block d.block d.block) (same_itself d)).0
 
 module _ (t : PoolValue) (keys : List Key) (tlbs : List (List Entry)) (ds : List Depend) (cache : IsCache t keys tlbs ds) where
   -- a record is taken, its block cleared and dropped
@@ -52,6 +49,7 @@ module _ (t : PoolValue) (keys : List Key) (tlbs : List (List Entry)) (ds : List
       leaves = leaves;
       records = λ e. records e (same d e) refl;
       coherent = λ o coherent. coherent-clear t keys tlbs ds u to new d o takes clears uses coherent;
+      tlbs = λ hart. ap (λ (es : List Entry). filter (λ e. not (list_any (takes_out e.root e.page d.item) new)) es) (drops hart) ∙ left-taken ds new d takes (tlb_at tlbs hart);
       harts = harts;
     };
   }
@@ -112,6 +110,7 @@ forgets-more v w x item first second = record {
   leaves = λ s p low. second.leaves s p low ∙ first.leaves s p low;
   records = λ d. second.records d ∙ first.records d;
   coherent = λ o coherent. second.coherent o (first.coherent o coherent);
+  tlbs = λ hart. second.tlbs hart ∙ first.tlbs hart;
   harts = second.harts ∙ first.harts;
 }
 
@@ -163,6 +162,11 @@ forgotten v w item forgets none = λ i. record {
         ∙ test (list_any (hits v.keys s p item) v.records) (leaf_for v s p)
         ∙ ap (λ (b : Bool). is_some (leaf_for v s p) && not b) (sym (any-items space_coding (space_at v.keys) (is_on s p item) v.records))
     held s p false is = refl
+
+-- and what a hart holds is what the change leaves
+pub purged : (v w : CacheValue) (item : Item) → IsCache v.tables v.keys v.tlbs v.records → Forgets v w item → ((root : ℕ) (block : BlockValue) → has w.records (depend item root block) ≡ false)
+    → (hart : ℕ) → tlb_at w.tlbs hart ≡ tlb_without (kept_of v) item (tlb_at v.tlbs hart)
+purged v w item cache forgets none hart = sym (left-none w item none hart) ∙ (forgets.tlbs hart ∙ left-kept v cache item hart)
 
 -- ---- everything
 

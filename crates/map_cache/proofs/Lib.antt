@@ -6,6 +6,7 @@ pub mod Coherence
 pub mod Economy
 mod Installing
 pub mod Blank
+mod Purged
 mod Forgotten
 pub mod Accesses
 pub mod Listed

@@ -1,5 +1,5 @@
 -- What the parts of a cache's calls leave.
-use Rattle.std.specs.Prelude.{ℕ, ◌≡◌, ◌≢◌, ◌<◌, ◌*◌, ◌/◌, ◌^◌, Bool, true, false, not, ◌&&◌, ◌==◌, if◌then◌else◌, List, [], length, slice_get, Option, Some, None}
+use Rattle.std.specs.Prelude.{ℕ, ◌≡◌, ◌≢◌, ◌<◌, ◌*◌, ◌/◌, ◌^◌, Bool, true, false, not, ◌&&◌, ◌==◌, if◌then◌else◌, List, [], length, filter, slice_get, Option, Some, None}
 use Rattle.std.specs.List.{AllByRecursion as Each, list_any}
 use Rattle.cap_format.specs.Capability.{Capability}
 use Rattle.cap_format.specs.declared.item.Item.{Item}
@@ -14,6 +14,7 @@ use Rattle.walk_meaning.specs.declared.noted.Noted.{Noted}
 use Rattle.walk_meaning.specs.Trail.{trail}
 use Rattle.sv32_tables.specs.declared.leaf.Leaf.{Leaf}
 use Rattle.sv32_tables.specs.Pool.{IsPlace, IsRoot, leaf_at}
+use Rattle.tlb_model.specs.declared.entry.Entry.{Entry}
 use Rattle.tlb_model.specs.Tlb.{look}
 use Rattle.depend_table.specs.Depend.{Depend, depend, has, same_item}
 use Rattle.map_cache.specs.declared.key.Key.{Key}
@@ -121,12 +122,21 @@ leaf_left v item space page = if list_any (hits v.keys space page item) v.record
 abbrev pub is_left : CacheValue → Item → Depend → Bool
 is_left v item d = not (same_item d.item item) && has v.records d
 
+-- whether a record is for this root and this item, and its block has the page
+abbrev pub takes_out : ℕ → ℕ → Item → Depend → Bool
+takes_out root page item d = same_item d.item item && ((root == d.root) && holds d.block page)
+
+-- the entries of a hart once all records of an item are gone
+abbrev pub tlb_left : CacheValue → Item → ℕ → List Entry
+tlb_left v item hart = filter (λ entry. not (list_any (takes_out entry.root entry.page item) v.records)) (tlb_at v.tlbs hart)
+
 -- some records of an item are gone with their blocks, or none; what will be left is the same
 pub record Forgets (old new : CacheValue) (item : Item) : Type 0 where
   pub keys : new.keys ≡ old.keys
   pub leaves : (space : Capability) (page : ℕ) → page < 2 ^ 20 → leaf_left new item space page ≡ leaf_left old item space page
   pub records : (d : Depend) → is_left new item d ≡ is_left old item d
   pub coherent : StaysCoherent old new
+  pub tlbs : (hart : ℕ) → tlb_left new item hart ≡ tlb_left old item hart
   pub harts : length new.tlbs ≡ length old.tlbs
 
 -- whether a leaf lets an access of a data kind through

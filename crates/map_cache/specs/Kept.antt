@@ -1,6 +1,6 @@
 -- What a mapping cache keeps, what that spares, and what a change takes out of it (this project's own). A space is a
 -- capability with its count.
-use Rattle.std.specs.Prelude.{ℕ, Bool, true, false, not, ◌&&◌, ◌||◌, ◌==◌, nat_le, if◌then◌else◌, ◌/◌, List, [], length, Result, Ok, Err}
+use Rattle.std.specs.Prelude.{ℕ, Bool, true, false, not, ◌≡◌, ◌&&◌, ◌||◌, ◌==◌, nat_le, if◌then◌else◌, ◌/◌, List, [], length, filter, Option, Some, None, Result, Ok, Err}
 use Rattle.std.specs.List.{list_any}
 use Rattle.std.specs.declared.cmp.Ordering.{Ordering}
 use Rattle.std.specs.FinSet.{FinSet, empty, items, len, retain}
@@ -15,11 +15,14 @@ use Rattle.walk_meaning.specs.declared.place.Place.{Place}
 use Rattle.walk_meaning.specs.declared.place.WalkFault.{WalkFault}
 use Rattle.walk_meaning.specs.Walk.{access}
 use Rattle.walk_meaning.specs.Trail.{slots, trail}
+use Rattle.sv32_tables.specs.declared.leaf.Leaf.{Leaf}
 use Rattle.tlb_model.specs.declared.entry.Entry.{Entry}
+use Rattle.tlb_model.specs.Tlb.{look}
 use Rattle.depend_table.specs.Depend.{same_item}
+use Rattle.depend_table.specs.Keyed.{frame_by}
 use Rattle.depend_table.specs.Notes.{Note as NoteFor, noted_by, order_by}
 use Rattle.map_cache.specs.declared.key.Key.{Key}
-use Rattle.map_cache.specs.Key.{code_of, region_key, root_key, same_space, with_key}
+use Rattle.map_cache.specs.Key.{code_of, key_code, region_key, root_key, same_space, with_key}
 
 -- ---- what is kept
 
@@ -114,3 +117,23 @@ kept_without k item = record {
   keys = k.keys;
   notes = retain k.notes (λ n. not (same_item n.item item));
 }
+
+-- whether this frame is found
+abbrev pub is_frame : ℕ → Option ℕ → Bool
+is_frame root None = false
+is_frame root (Some frame) = root == frame
+
+-- whether a note is for the space of this root and this item, and its block has the page
+abbrev pub is_under : List Key → ℕ → ℕ → Item → Note → Bool
+is_under keys root page item n =
+    same_item n.item item && (is_frame root (frame_by key_code keys (root_key n.key)) && holds n.block page)
+
+-- what a changed item leaves of a hart's cache: the entries whose page lies in no block noted for their root's space and the item
+abbrev pub tlb_without : KeptValue → Item → List Entry → List Entry
+tlb_without k item entries = filter (λ entry. not (list_any (is_under k.keys entry.root entry.page item) (items k.notes))) entries
+
+-- ---- less
+
+-- a hart's cache holds no more than another: each leaf that is found in it is found in the other
+abbrev pub HoldsLess : List Entry → List Entry → Type 0
+HoldsLess less more = (root page : ℕ) (leaf : Leaf) → look less root page ≡ Some leaf → look more root page ≡ Some leaf

@@ -5,3 +5,4 @@ pub mod Coherent
 pub mod Mappings
 pub mod Held
 pub mod Effects
+pub mod Less

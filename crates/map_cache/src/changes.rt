@@ -5,8 +5,8 @@ ghost use Rattle.guard_math.specs.Block.{BlockValue};
 ghost use Rattle.object_store.specs.Store.{Items};
 ghost use Rattle.object_store.specs.Differ.{DifferIn};
 ghost use Rattle.depend_table.specs.Depend.{depend, has};
-ghost use Rattle.map_cache.specs.Kept.{kept_without};
-ghost use Rattle.map_cache.specs.Cache.{kept_of};
+ghost use Rattle.map_cache.specs.Kept.{kept_without, tlb_without};
+ghost use Rattle.map_cache.specs.Cache.{kept_of, tlb_at};
 ghost use Rattle.map_cache.specs.Coherent.{IsCoherent};
 ghost use Rattle.map_cache.specs.Effects.{Forgets, IsKept, value_of};
 
@@ -25,6 +25,8 @@ impl Mappings {
             ≡ kept_without (kept_of (value_of self.old)) item }
         ensures coherent { (o p : Items) → DifferIn item o p
             → IsCoherent (value_of self.old) o → IsCoherent (value_of self.new) p }
+        ensures purged { (k : ℕ) → tlb_at self.new.tlbs.items k
+            ≡ tlb_without (kept_of (value_of self.old)) item (tlb_at self.old.tlbs.items k) }
         ensures harts { length self.new.tlbs.items ≡ length self.old.tlbs.items }
     {
         space_frame_law();

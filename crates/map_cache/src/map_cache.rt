@@ -9,7 +9,7 @@ ghost use Rattle.sv32_tables.specs.Pool.{IsRoot};
 ghost use Rattle.tlb_model.specs.Tlb.{look};
 ghost use Rattle.walk_meaning.specs.Walk.{access, is_data};
 ghost use Rattle.walk_engine.specs.Answer.{HandlerLives, hit_meaning, hit_of};
-ghost use Rattle.map_cache.specs.Kept.{cost_of, is_spared, kept_after, kept_without, nothing, tlb_after};
+ghost use Rattle.map_cache.specs.Kept.{cost_of, is_spared, kept_after, kept_without, nothing, tlb_after, tlb_without};
 ghost use Rattle.map_cache.specs.Cache.{IsBacked, kept_of, root_at, tlb_at};
 ghost use Rattle.map_cache.specs.Coherent.{IsCoherent};
 ghost use Rattle.map_cache.specs.Effects.{AnswersHeld, IsBlank, value_of};
@@ -135,12 +135,13 @@ impl MapCache {
 impl Translator for MapCache {
     ghost use Rattle.tlb_model.specs.declared.entry.Entry.{Entry};
     ghost use Rattle.std.specs.Prelude.{List};
-    ghost use Rattle.map_cache.specs.Kept.{KeptValue, cost_of, is_spared, kept_after, kept_without, tlb_after};
+    ghost use Rattle.map_cache.specs.Kept.{HoldsLess, KeptValue, cost_of, is_spared, kept_after, kept_without, tlb_after, tlb_without};
     ghost use Rattle.map_cache.specs.Cache.{kept_of, tlb_at};
     ghost use Rattle.map_cache.specs.Coherent.{IsCoherent};
     ghost use Rattle.map_cache.specs.Effects.{IsBlank};
     ghost use Rattle.std.proofs.Common.{ap, subst, sym, ◌∙◌};
     ghost use Rattle.std.proofs.lemmas.Option.{none-some};
+    ghost use Rattle.map_cache.specs.Less.{less-after, less-without};
     ghost use Rattle.std.specs.Prelude.{slice_get};
     ghost use Rattle.object_store.specs.Store.{Items};
     ghost use Rattle.sv32_tables.specs.declared.frame_use.FrameUse.TheVariants.{Root};
@@ -168,6 +169,10 @@ impl Translator for MapCache {
     ghost cache = { λ c hart. tlb_at c.tlbs hart };
 
     ghost spared = { λ k o c a kind entries. tlb_after k o c a kind entries };
+
+    ghost purged = { λ k item entries. tlb_without k item entries };
+
+    ghost less = { λ a b. HoldsLess a b };
 
     #[inline(always)]
     fn translate<L: Ledger>(
@@ -268,6 +273,8 @@ impl Translator for MapCache {
             → DifferIn item o p → IsCoherent self.old o → IsCoherent self.new p }
         ensures harts { length self.new.tlbs ≡ length self.old.tlbs }
         ensures without { kept_of self.new ≡ kept_without (kept_of self.old) item }
+        ensures purged { (k : ℕ) → tlb_at self.new.tlbs k
+            ≡ tlb_without (kept_of self.old) item (tlb_at self.old.tlbs k) }
     {
         self.mappings.forget_item(item);
     }
@@ -277,4 +284,12 @@ impl Translator for MapCache {
     // Where no frame is in use there is no leaf.
     ghost starts = { λ c o fresh root page leaf place at.
         absurd (none-some Root (sym (ap (λ us. slice_get us root) fresh.tables) ∙ place.made)) };
+
+    ghost less_same = { λ a root page leaf found. found };
+
+    ghost less_then = { λ a b c first second root page leaf found. second root page leaf (first root page leaf found) };
+
+    ghost spared_less = { λ k o c a kind entries. less-after k o c a kind entries };
+
+    ghost purged_less = { λ k item entries. less-without k item entries };
 }
