@@ -10,3 +10,4 @@ pub mod Saved
 pub mod Noted
 pub mod OnHart
 pub mod Taken
+pub mod Less

@@ -18,7 +18,7 @@ use Rattle.operations.specs.Change.{Change, PageIs, CapPageIs, SlotIs, HeaderIs,
 use Rattle.walk_meaning.specs.declared.kind.Kind.{Kind}
 use Rattle.machine_state.specs.Machine.{MachineValue, IsMachine}
 use Rattle.machine_state.specs.Came.{Leaves}
-use Rattle.machine_state.specs.Outcome.{spent, kept_after, spared_by, ChangesNone}
+use Rattle.machine_state.specs.Outcome.{spent, kept_after, spared_by}
 use Rattle.machine_state.specs.Outcome.Touch.{GptCall}
 use Rattle.machine_state.specs.Operation.{gpt_touches, change_touches}
 use Rattle.operations.specs.Memory.{is_gpt, is_granted, reads}
@@ -54,22 +54,18 @@ module _ {K : Type 0} (cost : K → Items → Capability → ℕ → Kind → �
       by true = refl
       by false = refl
 
--- what a translator says of accesses alone
-module _ {K C : Type 0} (after : K → Items → Capability → ℕ → Kind → K) (spared : K → Items → Capability → ℕ → Kind → C → C) where
-  -- where no item changes the cache of each hart stays
-  pub spared_changed : (k : K) (item : Option Item) (cache0 cache1 : C) → (item ≡ None → cache1 ≡ cache0) → ChangesNone (change_touches item) → cache1 ≡ spared_by after spared k (change_touches item) cache0
-  spared_changed k None cache0 cache1 same none = same refl
-  spared_changed k (Some item) cache0 cache1 same none = absurd (true≢false none)
-
-  -- an invocation of a GPT before leaves them too
-  pub spared_reads : (k : K) (kind : CapKind) (number : ℕ) (code : Code) (item : Option Item) (cache0 cache1 : C) → (item ≡ None → cache1 ≡ cache0)
-      → ChangesNone (gpt_touches kind number code ++ change_touches item) → cache1 ≡ spared_by after spared k (gpt_touches kind number code ++ change_touches item) cache0
-  spared_reads k kind number code item cache0 cache1 same = by (is_gpt kind)
+-- what a translator says of one access and of one change
+module _ {K C : Type 0} (after : K → Items → Capability → ℕ → Kind → K) (without : K → Item → K)
+    (spared : K → Items → Capability → ℕ → Kind → C → C) (purged : K → Item → C → C) where
+  -- an invocation of a GPT leaves the caches
+  pub spared_reads : (k : K) (kind : CapKind) (number : ℕ) (code : Code) (item : Option Item) (cache : C)
+      → spared_by after without spared purged k (gpt_touches kind number code ++ change_touches item) cache ≡ spared_by after without spared purged k (change_touches item) cache
+  spared_reads k kind number code item cache = by (is_gpt kind)
     where
-      by : (gpt : Bool) → ChangesNone ((if gpt then GptCall (number == 8 && is_granted code) ∷ [] else []) ++ change_touches item)
-          → cache1 ≡ spared_by after spared k ((if gpt then GptCall (number == 8 && is_granted code) ∷ [] else []) ++ change_touches item) cache0
-      by true none = spared_changed k item cache0 cache1 same none
-      by false none = spared_changed k item cache0 cache1 same none
+      by : (gpt : Bool) → spared_by after without spared purged k ((if gpt then GptCall (number == 8 && is_granted code) ∷ [] else []) ++ change_touches item) cache
+          ≡ spared_by after without spared purged k (change_touches item) cache
+      by true = refl
+      by false = refl
 
 -- no change is of the harts
 applied-harts : (w : System) (change : Change) → (applied Stored w change).store.harts ≡ w.store.harts

@@ -9,12 +9,12 @@ use Rattle.machine_state.specs.declared.observer.Observer.{Ghosts as Observer}
 use Rattle.machine_state.specs.Machine.{MachineValue}
 use Rattle.machine_state.specs.State.{state_of}
 use Rattle.machine_state.specs.Noted.{noted}
-use Rattle.machine_state.specs.Outcome.{Outcome, spent, kept_after, spared_by, ChangesNone}
+use Rattle.machine_state.specs.Outcome.{Outcome, spent, kept_after, spared_by}
 
 -- The outcome `o` came of a part of an event that process `p` performs, which found the machine `m`, an observer and this
 -- many slots fetched, and left `n`, `told` and `fetches`: its state, what the observer keeps of its records behind what it
--- kept before, as many slots more as its touches fetch by what the translator kept, and what it keeps after them. Where no
--- item changes, the caches of the harts on which the process is not are as accesses elsewhere leave them.
+-- kept before, as many slots more as its touches fetch by what the translator kept, and what it keeps after them. The
+-- caches of the harts on which the process is not are as touches elsewhere leave them.
 pub record Came {T S : Type 0} (t : Translator T) (w : Observer S) (p : ℕ) (o : Outcome)
     (m : MachineValue T) (told0 : S) (fetches0 : ℕ)
     (n : MachineValue T) (told : S) (fetches : ℕ) : Type 0 where
@@ -22,8 +22,8 @@ pub record Came {T S : Type 0} (t : Translator T) (w : Observer S) (p : ℕ) (o 
   pub records : w.told told ≡ w.told told0 ++ noted w.notes o.records
   pub counted : fetches ≡ fetches0 + spent t.cost t.after t.without (t.kept m.translator) o.touches
   pub keeps : t.kept n.translator ≡ kept_after t.cost t.after t.without (t.kept m.translator) o.touches
-  pub others : (k : ℕ) → hart_of m.queues k ≢ Some p → ChangesNone o.touches
-      → t.cache n.translator k ≡ spared_by t.after t.spared (t.kept m.translator) o.touches (t.cache m.translator k)
+  pub others : (k : ℕ) → hart_of m.queues k ≢ Some p
+      → t.cache n.translator k ≡ spared_by t.after t.without t.spared t.purged (t.kept m.translator) o.touches (t.cache m.translator k)
 
 -- The outcome `o` came of a part that asks the translator nothing.
 pub record CameUnasked {T S : Type 0} (w : Observer S) (o : Outcome)

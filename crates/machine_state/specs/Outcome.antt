@@ -99,10 +99,13 @@ is_change (Changed item) = true
 abbrev pub ChangesNone : List Touch → Type 0
 ChangesNone ts = list_any is_change ts ≡ false
 
--- what touches that change no item make of the cache of a hart that makes none of them, one after the other, by what a
--- translator says of one access
-module _ {K C : Type 0} (after : K → Items → Capability → ℕ → Kind → K) (spared : K → Items → Capability → ℕ → Kind → C → C) where
+-- what touches make of the cache of a hart that makes none of them, one after the other, by what a translator says of one access
+-- and of one change
+module _ {K C : Type 0} (after : K → Items → Capability → ℕ → Kind → K) (without : K → Item → K)
+    (spared : K → Items → Capability → ℕ → Kind → C → C) (purged : K → Item → C → C) where
   abbrev pub spared_by : K → List Touch → C → C
   spared_by k [] cache = cache
   spared_by k (DataAccess o space address kind ∷ ts) cache = spared_by (after k o space address kind) ts (spared k o space address kind cache)
-  spared_by k (touch ∷ ts) cache = spared_by k ts cache
+  spared_by k (CapAccess o space address kind ∷ ts) cache = spared_by k ts cache
+  spared_by k (GptCall reads ∷ ts) cache = spared_by k ts cache
+  spared_by k (Changed item ∷ ts) cache = spared_by (without k item) ts (purged k item cache)

@@ -1,5 +1,5 @@
 //! Operations of the kernel on endpoints, processes, schedules, ranges and discrims.
-ghost use Rattle.std.specs.Prelude.{◌≡◌, true, None, IfSome};
+ghost use Rattle.std.specs.Prelude.{◌≡◌, ℕ, true, None, IfSome};
 ghost use Rattle.cap_format.specs.Capability.{bare};
 ghost use Rattle.object_store.specs.Meaning.{is_live, meaning};
 ghost use Rattle.object_store.specs.Ahead.{IsBehind};
@@ -11,7 +11,7 @@ ghost use Rattle.operations.specs.Row.{reply_of};
 ghost use Rattle.operations.specs.Control.{control_operation};
 ghost use Rattle.control_caps.specs.Kinds.{is_control};
 ghost use Rattle.machine_state.specs.State.{state_of};
-ghost use Rattle.machine_state.specs.Outcome.{kept_after};
+ghost use Rattle.machine_state.specs.Outcome.{kept_after, spared_by};
 ghost use Rattle.machine_state.specs.Came.{Leaves};
 ghost use Rattle.machine_state.specs.Operation.{changed_by, changed_names, change_touches};
 
@@ -39,6 +39,11 @@ impl<T: Translator> Machine<T> {
             let touches = change_touches (item_in settled.answer.changes) in
             T.kept self.new.translator
             ≡ kept_after T.cost T.after T.without (T.kept self.old.translator) touches }
+        ensures caches { let asked = request_map bare request in
+            let settled = control_operation Meant (state_of self.old).store (bare cap) asked in
+            let touches = change_touches (item_in settled.answer.changes) in
+            (k : ℕ) → T.cache self.new.translator k
+            ≡ spared_by T.after T.without T.spared T.purged (T.kept self.old.translator) touches (T.cache self.old.translator k) }
         ensures same { let asked = request_map bare request in
             let settled = control_operation Meant (state_of self.old).store (bare cap) asked in
             item_in settled.answer.changes ≡ None → self.new.translator ≡ self.old.translator }

@@ -1,5 +1,5 @@
 //! Operations of the kernel on objects of the memory kinds.
-ghost use Rattle.std.specs.Prelude.{◌≡◌, ◌<◌, ◌+◌, [], ◌∷◌, true, None, IfSome};
+ghost use Rattle.std.specs.Prelude.{◌≡◌, ℕ, ◌<◌, ◌+◌, [], ◌∷◌, true, None, IfSome};
 ghost use Rattle.cap_format.specs.declared.kind.CapKind.TheVariants.{Process};
 ghost use Rattle.cap_format.specs.Kind.{is_memory};
 ghost use Rattle.cap_format.specs.Capability.{bare};
@@ -14,7 +14,7 @@ ghost use Rattle.operations.specs.Request.{request_map};
 ghost use Rattle.operations.specs.Row.{reply_of};
 ghost use Rattle.operations.specs.Memory.{memory_operation};
 ghost use Rattle.machine_state.specs.State.{state_of, process};
-ghost use Rattle.machine_state.specs.Outcome.{spent, kept_after};
+ghost use Rattle.machine_state.specs.Outcome.{spent, kept_after, spared_by};
 ghost use Rattle.machine_state.specs.Came.{Leaves};
 ghost use Rattle.machine_state.specs.Operation.{request_of, changed_by, change_touches, memory_touches};
 
@@ -68,6 +68,11 @@ impl<T: Translator> Machine<T> {
             let touches = memory_touches (bare cap) asked settled.code (item_in settled.answer.changes) in
             T.kept self.new.translator
             ≡ kept_after T.cost T.after T.without (T.kept self.old.translator) touches }
+        ensures caches { let asked = request_map bare request in
+            let settled = memory_operation (state_of self.old).store (bare cap) asked in
+            let touches = memory_touches (bare cap) asked settled.code (item_in settled.answer.changes) in
+            (k : ℕ) → T.cache self.new.translator k
+            ≡ spared_by T.after T.without T.spared T.purged (T.kept self.old.translator) touches (T.cache self.old.translator k) }
         ensures same { let asked = request_map bare request in
             let settled = memory_operation (state_of self.old).store (bare cap) asked in
             item_in settled.answer.changes ≡ None → self.new.translator ≡ self.old.translator }
@@ -89,6 +94,9 @@ pub(crate) fn tell_changed<T: Translator>(translator: &mut T, changed: Option<It
     ensures harts { T.harts translator.new ≡ T.harts translator.old }
     ensures kept { let kept = T.kept translator.old in
         T.kept translator.new ≡ kept_after T.cost T.after T.without kept (change_touches changed) }
+    ensures caches { let kept = T.kept translator.old in
+        (k : ℕ) → T.cache translator.new k
+        ≡ spared_by T.after T.without T.spared T.purged kept (change_touches changed) (T.cache translator.old k) }
     ensures same { changed ≡ None → translator.new ≡ translator.old }
 {
     match changed {

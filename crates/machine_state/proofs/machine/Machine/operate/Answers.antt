@@ -11,10 +11,10 @@ use Rattle.operations.specs.Row.{Settled}
 use Rattle.operations.specs.Request.{request_map, w1}
 use Rattle.operations.specs.Memory.{memory_operation, reads}
 use Rattle.machine_state.specs.Machine.{MachineValue}
-use Rattle.machine_state.specs.Outcome.{kept_after}
+use Rattle.machine_state.specs.Outcome.{kept_after, spared_by}
 use Rattle.machine_state.specs.Came.{Leaves}
 use Rattle.machine_state.specs.Operation.{change_touches}
-use Rattle.machine_state.proofs.Operated.{spent_reads, kept_reads, applied_harts, kept_memory, leaves_counts}
+use Rattle.machine_state.proofs.Operated.{spent_reads, kept_reads, spared_reads, applied_harts, kept_memory, leaves_counts}
 use Rattle.machine_state.proofs.machine.Machine.operate.Goals as goal
 
 pub invariant_of-self : goal.invariant_of-self
@@ -50,6 +50,17 @@ returns-clause-kept g c =
     (c.tell_changed.ensures.kept
     ∙ (ap (λ (changed : Option Item). kept_after g.T.Translator.cost g.T.Translator.after g.T.Translator.without (g.T.Translator.kept i.translator) (change_touches changed)) item
     ∙ sym same))
+
+pub returns-clause-caches : goal.returns-clause-caches
+returns-clause-caches g c =
+    let t = g.T.Translator in
+    let i = c.self.inside in
+    let settled : Settled = memory_operation (state_map i.objects) (bare c.args.cap) (request_map bare c.args.request) in
+    let item : c.invoke-reply.result.changed ≡ item_in settled.answer.changes = ap (λ (r : Reply). r.changed) c.invoke-reply.ensures.reply_means in
+    rw (← c.self.view_is) (λ k.
+    c.tell_changed.ensures.caches k
+    ∙ (ap (λ (changed : Option Item). spared_by t.after t.without t.spared t.purged (t.kept i.translator) (change_touches changed) (t.cache i.translator k)) item
+    ∙ sym (spared_reads t.after t.without t.spared t.purged (t.kept i.translator) c.args.cap.kind (w1 c.args.request) settled.code (item_in settled.answer.changes) (t.cache i.translator k))))
 
 pub returns-clause-leaves : goal.returns-clause-leaves
 returns-clause-leaves g c =
