@@ -29,7 +29,7 @@ use Rattle.shared_leaves.proofs.Dropped.{has-filter, holds-within, length-filter
 use Rattle.shared_leaves.proofs.Filed.{Made}
 use Rattle.shared_leaves.proofs.Invariant.{alone, leaf_made, root_made, standing}
 use Rattle.shared_leaves.proofs.Readings.{entry-map, link-map}
-use Rattle.shared_leaves.proofs.Taking.{own, frame_test, hit, unlike, item_itself, join, none_left, together, covered, lies_itself}
+use Rattle.shared_leaves.proofs.Taking.{own, frame_test, hit, unlike, item_itself, join, none_left, together, covered, lies_itself, nothing_left}
 use Rattle.depend_table.proofs.Coded.{frame_of-some, key_itself}
 use Rattle.depend_table.proofs.Notes.{noted-taken}
 use Rattle.depend_table.proofs.Records.{any_has, has_any}
@@ -228,5 +228,5 @@ module _ (t : SharedValue) (keys : List Key) (tlbs : List (List TlbEntry)) (ds :
             ∙ sym (ap (λ (xs : List Depend). length xs) is_new));
         most_records = let fewer = takes.count in let long = ap (λ (xs : List Depend). length xs) is_new in let most = length-filter_most (λ e. not (is_within d.root d.block e)) mid in omega (arith, fewer, long, most, cache.most_records);
       };
-      done = record { keys = refl; links = leaf_links; entries = leaf_entries; records = leaf_records; coherent = leaf_coherent; harts = harts };
+      done = record { keys = refl; links = leaf_links; entries = leaf_entries; records = leaf_records; coherent = leaf_coherent; tlbs = λ hart. nothing_left ds new d (tlb_at to hart) (tlb_at tlbs hart) there (dropped hart); harts = harts };
     }

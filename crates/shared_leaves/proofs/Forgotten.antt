@@ -1,5 +1,5 @@
 -- All records of an item are taken out, one after the other.
-use Rattle.std.proofs.Common.{◌≡◌, ℕ, ◌*◌, ◌<◌, Bool, true, false, not, ◌&&◌, nat_lt, if◌then◌else◌, List, Option, Some, None, is_some, refl, sym, ap, ◌∙◌, arith}
+use Rattle.std.proofs.Common.{◌≡◌, ℕ, ◌*◌, ◌<◌, Bool, true, false, not, ◌&&◌, nat_lt, if◌then◌else◌, List, [], Option, Some, None, is_some, refl, sym, ap, ◌∙◌, arith}
 use Rattle.std.specs.List.{list_any}
 use Rattle.std.specs.FinSet.{items}
 use Rattle.std.proofs.Math.Path.{fun_ext}
@@ -8,11 +8,13 @@ use Rattle.cap_format.specs.Capability.{Capability}
 use Rattle.cap_format.specs.declared.item.Item.{Item}
 use Rattle.guard_math.specs.Block.{BlockValue, holds}
 use Rattle.sv32_tables.specs.declared.leaf.Leaf.{Leaf as Entry}
+use Rattle.tlb_model.specs.declared.entry.Entry.{Entry as TlbEntry}
 use Rattle.depend_table.specs.Depend.{Depend, depend, has, lies_in, same_item}
 use Rattle.depend_table.proofs.Members.{same_item_tells}
+use Rattle.map_cache.specs.Cache.{tlb_at}
 use Rattle.shared_leaves.specs.declared.key.Key.{Key}
 use Rattle.shared_leaves.specs.Key.{is_leaf, root_key, same_key}
-use Rattle.shared_leaves.specs.Kept.{Note, covers_note, is_on, kept_without}
+use Rattle.shared_leaves.specs.Kept.{Note, covers_note, is_on, kept_without, tlb_without}
 use Rattle.shared_leaves.specs.Cache.{SharedCache, entry_for, kept_of, key_at, link_for, note_of, notes_of}
 use Rattle.shared_leaves.specs.Effects.{Forgets}
 use Rattle.shared_leaves.proofs.Taking.{none_left}
@@ -31,6 +33,7 @@ forgets-more v w x item first second = record {
   entries = λ k j low. second.entries k j low ∙ first.entries k j low;
   records = λ d. second.records d ∙ first.records d;
   coherent = λ o coherent. second.coherent o (first.coherent o coherent);
+  tlbs = λ hart. second.tlbs hart ∙ first.tlbs hart;
   harts = second.harts ∙ first.harts;
 }
 
@@ -110,3 +113,10 @@ module _ (v w : SharedCache) (item : Item) (forgets : Forgets v w item) (none : 
     held = fun_ext {f = λ k j. nat_lt j 1024 && is_some (entry_for w k j)} {g = λ k j. (nat_lt j 1024 && is_some (entry_for v k j)) && not (list_any (is_on k j item) (items (notes_of v.keys v.records)))} (λ k. fun_ext (λ j. held k j (nat_lt j 1024) refl)) i;
     notes = (ap (λ (ks : List Key). notes_of ks w.records) forgets.keys ∙ notes_of-kept key_coding (key_at v.keys) v.records w.records stays left_records) i;
   }
+
+  -- and what a hart holds is what the change leaves
+  pub purged : (hart : ℕ) → tlb_at w.tlbs hart ≡ tlb_without (kept_of v) item (tlb_at v.tlbs hart)
+  purged hart =
+      let nothing : List TlbEntry = [] in
+      sym (ap (λ (b : Bool). if b then nothing else tlb_at w.tlbs hart) (no_hits (λ d. same_item d.item item) (λ d is. is)))
+      ∙ (forgets.tlbs hart ∙ ap (λ (b : Bool). if b then nothing else tlb_at v.tlbs hart) (sym (any-items key_coding (key_at v.keys) (λ n. same_item n.item item) v.records)))

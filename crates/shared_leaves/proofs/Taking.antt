@@ -1,6 +1,7 @@
 -- What a record of an item that is taken out says of its frame.
-use Rattle.std.proofs.Common.{◌≡◌, ◌≢◌, ℕ, Bool, true, false, not, ◌&&◌, ◌||◌, ◌==◌, if◌then◌else◌, List, Option, Some, None, refl, sym, ap, ◌∙◌, arith}
+use Rattle.std.proofs.Common.{◌≡◌, ◌≢◌, ℕ, Bool, true, false, not, ◌&&◌, ◌||◌, ◌==◌, if◌then◌else◌, List, [], Option, Some, None, refl, sym, ap, ◌∙◌, arith}
 use Rattle.std.specs.Prelude.{slice_get}
+use Rattle.std.specs.List.{list_any}
 use Rattle.std.proofs.lemmas.Bool.Decides.{nat_tests}
 use Rattle.guard_math.specs.Block.{BlockValue, holds}
 use Rattle.sv32_tables.specs.declared.shared_use.SharedUse.{SharedUse}
@@ -15,6 +16,7 @@ use Rattle.shared_leaves.specs.Kept.{is_on}
 use Rattle.shared_leaves.specs.Cache.{IsCache, key_at, note_of}
 use Rattle.shared_leaves.proofs.Invariant.{leaf_keyed, standing, used}
 use Rattle.depend_table.proofs.Coded.{key_itself, key_tells, one_key}
+use Rattle.depend_table.proofs.Records.{has_any}
 use Rattle.depend_table.proofs.Tests.{both, number_itself, same_numbers, same_tests}
 use Rattle.shared_leaves.proofs.Codes.{key_coding}
 
@@ -45,6 +47,17 @@ not_false false is = absurd (cc)
 pub together : (a b : Bool) → a ≡ true → b ≡ true → (a && b) ≡ true
 together true b x y = y
 together false b x y = x
+
+-- what was dropped with a record is what will be left
+pub nothing_left : (ds new : List Depend) (d : Depend) (to es : List TlbEntry) → has ds d ≡ true → to ≡ []
+    → (if list_any (λ e. same_item e.item d.item) new then [] else to) ≡ (if list_any (λ e. same_item e.item d.item) ds then [] else es)
+nothing_left ds new d to es there dropped =
+    on (list_any (λ e. same_item e.item d.item) new) (list_any (λ e. same_item e.item d.item) ds) (has_any (λ e. same_item e.item d.item) ds d there (item_itself d)) dropped
+  where
+    on : (a b : Bool) → b ≡ true → to ≡ [] → (if a then [] else to) ≡ (if b then [] else es)
+    on a false is dropped = absurd (cc)
+    on true true is dropped = refl
+    on false true is dropped = dropped
 
 -- a record of the item is not left, nor is one that is covered
 pub gone : (a b c : Bool) → b ≡ true → (a && (not b && not c)) ≡ false

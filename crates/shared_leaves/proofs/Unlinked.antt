@@ -26,7 +26,7 @@ use Rattle.shared_leaves.specs.Effects.{Forgets, entry_left, is_left, link_left}
 use Rattle.shared_leaves.proofs.Filed.{Made}
 use Rattle.shared_leaves.proofs.Invariant.{alone, leaf_made, root_made}
 use Rattle.shared_leaves.proofs.Readings.{entry-map, link-map}
-use Rattle.shared_leaves.proofs.Taking.{frame_test, hit, unlike, rooted, item_itself, join, none_left, together, gone}
+use Rattle.shared_leaves.proofs.Taking.{frame_test, hit, unlike, rooted, item_itself, join, none_left, together, gone, nothing_left}
 use Rattle.depend_table.proofs.Coded.{frame_of-some}
 use Rattle.depend_table.proofs.Notes.{noted-taken}
 use Rattle.depend_table.proofs.Records.{adds-taken, any-added}
@@ -175,7 +175,7 @@ module _ (t : SharedValue) (keys : List Key) (tlbs : List (List TlbEntry)) (ds :
         noted = noted-taken key_coding (key_at keys) ds new d takes (λ e had same'. alone t keys tlbs ds cache d (cache.within d there) e (has-taken ds new d e takes had) same') cache.noted;
         most_records = let fewer = takes.count in omega (arith, fewer, cache.most_records);
       };
-      done = record { keys = refl; links = links; entries = entries; records = records; coherent = coherent; harts = harts };
+      done = record { keys = refl; links = links; entries = entries; records = records; coherent = coherent; tlbs = λ hart. nothing_left ds new d (tlb_at to hart) (tlb_at tlbs hart) there (dropped hart); harts = harts };
     }
       where
         was_linked : (r i f : ℕ) → IsSharedRoot t r → i < 1024 → (b : Bool) → (if b then None else link_at t r i) ≡ Some f → IsLeafTable t f

@@ -181,6 +181,10 @@ is_left v item d =
     has v.records d && (not (same_item d.item item)
     && not (is_leaf (key_at v.keys d.root) && list_any (λ e. covers_note item (note_of v.keys d) (note_of v.keys e)) v.records))
 
+-- the entries of a hart once all records of an item are gone
+abbrev pub tlb_left : SharedCache → Item → ℕ → List TlbEntry
+tlb_left v item hart = if list_any (λ d. same_item d.item item) v.records then [] else tlb_at v.tlbs hart
+
 -- some records of an item are gone with their blocks, or none; what will be left is the same
 pub record Forgets (old new : SharedCache) (item : Item) : Type 0 where
   pub keys : new.keys ≡ old.keys
@@ -188,4 +192,5 @@ pub record Forgets (old new : SharedCache) (item : Item) : Type 0 where
   pub entries : (k : Key) (j : ℕ) → j < 1024 → entry_left new item k j ≡ entry_left old item k j
   pub records : (d : Depend) → is_left new item d ≡ is_left old item d
   pub coherent : StaysCoherent old new
+  pub tlbs : (hart : ℕ) → tlb_left new item hart ≡ tlb_left old item hart
   pub harts : length new.tlbs ≡ length old.tlbs

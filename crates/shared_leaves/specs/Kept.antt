@@ -166,3 +166,7 @@ kept_without k item = record {
   held = λ x j. k.held x j && not (list_any (is_on x j item) (items k.notes));
   notes = retain k.notes (λ n. not (same_item n.item item) && not (is_leaf n.key && list_any (covers_note item n) (items k.notes)));
 }
+
+-- what a changed item leaves of a hart's cache: nothing, where anything is noted of the item
+abbrev pub tlb_without : SharedKept → Item → List Entry → List Entry
+tlb_without k item entries = if list_any (λ n. same_item n.item item) (items k.notes) then [] else entries

@@ -7,8 +7,9 @@ ghost use Rattle.object_store.specs.Differ.{DifferIn};
 ghost use Rattle.sv32_tables.specs.Shared.{IsSharedRoot, link_at};
 ghost use Rattle.sv32_tables.specs.SharedHistory.{SameEntries};
 ghost use Rattle.depend_table.specs.Depend.{depend, has};
+ghost use Rattle.map_cache.specs.Cache.{tlb_at};
 ghost use Rattle.shared_leaves.specs.Key.{is_leaf};
-ghost use Rattle.shared_leaves.specs.Kept.{kept_without};
+ghost use Rattle.shared_leaves.specs.Kept.{kept_without, tlb_without};
 ghost use Rattle.shared_leaves.specs.Cache.{key_at, kept_of};
 ghost use Rattle.shared_leaves.specs.Coherent.{IsCoherent};
 ghost use Rattle.shared_leaves.specs.Effects.{Forgets, IsKept, value_of};
@@ -29,6 +30,8 @@ impl LeafTables {
             ≡ kept_without (kept_of (value_of self.old)) item }
         ensures coherent { (o p : Items) → DifferIn item o p
             → IsCoherent (value_of self.old) o → IsCoherent (value_of self.new) p }
+        ensures purged { (k : ℕ) → tlb_at self.new.tlbs.items k
+            ≡ tlb_without (kept_of (value_of self.old)) item (tlb_at self.old.tlbs.items k) }
         ensures harts { length self.new.tlbs.items ≡ length self.old.tlbs.items }
     {
         'records: while self.clear_one(item) {}

@@ -12,7 +12,7 @@ ghost use Rattle.walk_meaning.specs.Walk.{access, is_data};
 ghost use Rattle.walk_engine.specs.Answer.{HandlerLives, hit_meaning, hit_of};
 ghost use Rattle.map_cache.specs.Cache.{tlb_at};
 ghost use Rattle.shared_leaves.specs.Key.{has_key, root_key};
-ghost use Rattle.shared_leaves.specs.Kept.{cost_of, is_held, is_spared, kept_after, kept_without, nothing, tlb_after};
+ghost use Rattle.shared_leaves.specs.Kept.{cost_of, is_held, is_spared, kept_after, kept_without, nothing, tlb_after, tlb_without};
 ghost use Rattle.shared_leaves.specs.Cache.{IsBacked, kept_of, leaf_in, root_at};
 ghost use Rattle.shared_leaves.specs.Coherent.{IsCoherent, IsFreshLeaf};
 ghost use Rattle.shared_leaves.specs.Effects.{AnswersHeld, IsBlank, value_of};
@@ -121,12 +121,17 @@ impl Translator for SharedLeaves {
     ghost use Rattle.tlb_model.specs.declared.entry.Entry.{Entry};
     ghost use Rattle.std.specs.Prelude.{List};
     ghost use Rattle.map_cache.specs.Cache.{tlb_at};
-    ghost use Rattle.shared_leaves.specs.Kept.{SharedKept, cost_of, is_spared, kept_after, kept_without, tlb_after};
+    ghost use Rattle.shared_leaves.specs.Kept.{SharedKept, cost_of, drops_harts, is_spared, kept_after, kept_without, tlb_after, tlb_without};
     ghost use Rattle.shared_leaves.specs.Cache.{kept_of};
     ghost use Rattle.shared_leaves.specs.Coherent.{IsCoherent};
     ghost use Rattle.shared_leaves.specs.Effects.{IsBlank};
     ghost use Rattle.std.proofs.Common.{ap, subst, sym, ◌∙◌};
     ghost use Rattle.std.proofs.lemmas.Option.{none-some};
+    ghost use Rattle.std.specs.List.{list_any};
+    ghost use Rattle.std.specs.FinSet.{items};
+    ghost use Rattle.depend_table.specs.Depend.{same_item};
+    ghost use Rattle.map_cache.specs.Kept.{HoldsLess};
+    ghost use Rattle.map_cache.specs.Less.{less-emptied};
     ghost use Rattle.std.specs.Prelude.{slice_get};
     ghost use Rattle.object_store.specs.Store.{Items};
     ghost use Rattle.sv32_tables.specs.declared.shared_use.SharedUse.TheVariants.{Leaf as Table, Root};
@@ -154,6 +159,10 @@ impl Translator for SharedLeaves {
     ghost cache = { λ c hart. tlb_at c.tlbs hart };
 
     ghost spared = { λ k o c a kind entries. tlb_after k o c a kind entries };
+
+    ghost purged = { λ k item entries. tlb_without k item entries };
+
+    ghost less = { λ a b. HoldsLess a b };
 
     fn translate<L: Ledger>(
         &mut self,
@@ -253,6 +262,8 @@ impl Translator for SharedLeaves {
             → DifferIn item o p → IsCoherent self.old o → IsCoherent self.new p }
         ensures harts { length self.new.tlbs ≡ length self.old.tlbs }
         ensures without { kept_of self.new ≡ kept_without (kept_of self.old) item }
+        ensures purged { (k : ℕ) → tlb_at self.new.tlbs k
+            ≡ tlb_without (kept_of self.old) item (tlb_at self.old.tlbs k) }
     {
         self.leaves.forget_item(item);
     }
@@ -266,4 +277,12 @@ impl Translator for SharedLeaves {
       links = λ root region frame made low at.
           absurd (none-some Root (sym (ap (λ us. slice_get us root) fresh.tables) ∙ made));
     } };
+
+    ghost less_same = { λ a root page leaf found. found };
+
+    ghost less_then = { λ a b c first second root page leaf found. second root page leaf (first root page leaf found) };
+
+    ghost spared_less = { λ k o c a kind entries. less-emptied (drops_harts k o c a kind) entries };
+
+    ghost purged_less = { λ k item entries. less-emptied (list_any (λ n. same_item n.item item) (items k.notes)) entries };
 }
