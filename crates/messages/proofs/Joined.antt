@@ -1,6 +1,5 @@
 -- Touches behind touches, and parts of events behind parts.
-use Rattle.std.proofs.Common.{◌≡◌, ◌≢◌, ℕ, inl, inr, ◌+◌, ◌||◌, Bool, true, false, true≢false, List, [], ◌∷◌, ◌++◌, Some, refl, sym, ap, subst, ◌∙◌, append_assoc, arith}
-use Rattle.std.specs.List.{list_any}
+use Rattle.std.proofs.Common.{◌≡◌, ◌≢◌, ℕ, inl, inr, ◌+◌, List, [], ◌∷◌, ◌++◌, Some, refl, sym, ap, subst, ◌∙◌, append_assoc, arith}
 use Rattle.cap_format.specs.Capability.{Capability}
 use Rattle.cap_format.specs.declared.kind.CapKind.{CapKind}
 use Rattle.cap_format.specs.declared.item.Item.{Item}
@@ -13,7 +12,7 @@ use Rattle.walk_engine.specs.declared.translator.Translator.{Ghosts as Translato
 use Rattle.machine_state.specs.declared.observer.Observer.{Ghosts as Observer}
 use Rattle.machine_state.specs.Machine.{MachineValue}
 use Rattle.machine_state.specs.Noted.{noted}
-use Rattle.machine_state.specs.Outcome.{Outcome, Touch, kept_at, spent, kept_after, spared_by, is_change, ChangesNone}
+use Rattle.machine_state.specs.Outcome.{Outcome, Touch, kept_at, spent, kept_after, spared_by}
 use Rattle.machine_state.specs.Outcome.Touch.{DataAccess, CapAccess, GptCall, Changed}
 use Rattle.machine_state.specs.Came.{Came, CameUnasked, Leaves}
 use Rattle.machine_state.proofs.Noted.{noted-append}
@@ -33,28 +32,21 @@ module _ {K : Type 0} (cost : K → Items → Capability → ℕ → Kind → �
       let rest = spent_append (kept_at cost after without k t) ts us in
       omega (arith, rest)
 
--- touches and those behind them change no item where none of all does
-pub changes_none-parts : (ts us : List Touch) → ChangesNone (ts ++ us) → ChangesNone ts × ChangesNone us
-changes_none-parts [] us none = (refl, none)
-changes_none-parts (t ∷ ts) us none = by (is_change t) none (λ rest. changes_none-parts ts us rest)
-  where
-    by : (b : Bool) → (b || list_any is_change (ts ++ us)) ≡ false → (ChangesNone (ts ++ us) → ChangesNone ts × ChangesNone us) → ((b || list_any is_change ts) ≡ false) × ChangesNone us
-    by true none rest = absurd (true≢false none)
-    by false none rest = rest none
-
--- what accesses elsewhere make of a cache is what the later make of what the earlier do
-pub spared_append : {K C : Type 0} (cost : K → Items → Capability → ℕ → Kind → ℕ) (after : K → Items → Capability → ℕ → Kind → K) (without : K → Item → K) (spared : K → Items → Capability → ℕ → Kind → C → C)
-    → (k : K) (ts us : List Touch) (cache : C) → ChangesNone ts
-    → spared_by after spared k (ts ++ us) cache ≡ spared_by after spared (kept_after cost after without k ts) us (spared_by after spared k ts cache)
-spared_append cost after without spared k [] us cache none = refl
-spared_append cost after without spared k (DataAccess o space address kind ∷ ts) us cache none = spared_append cost after without spared (after k o space address kind) ts us (spared k o space address kind cache) none
-spared_append cost after without spared k (CapAccess o space address kind ∷ ts) us cache none = spared_append cost after without spared k ts us cache none
-spared_append cost after without spared k (GptCall reads ∷ ts) us cache none = spared_append cost after without spared k ts us cache none
-spared_append cost after without spared k (Changed item ∷ ts) us cache none = absurd (true≢false none)
+-- what touches elsewhere make of a cache is what the later make of what the earlier do
+pub spared_append : {K C : Type 0} (cost : K → Items → Capability → ℕ → Kind → ℕ) (after : K → Items → Capability → ℕ → Kind → K) (without : K → Item → K)
+    (spared : K → Items → Capability → ℕ → Kind → C → C) (purged : K → Item → C → C) → (k : K) (ts us : List Touch) (cache : C)
+    → spared_by after without spared purged k (ts ++ us) cache
+    ≡ spared_by after without spared purged (kept_after cost after without k ts) us (spared_by after without spared purged k ts cache)
+spared_append cost after without spared purged k [] us cache = refl
+spared_append cost after without spared purged k (DataAccess o space address kind ∷ ts) us cache =
+    spared_append cost after without spared purged (after k o space address kind) ts us (spared k o space address kind cache)
+spared_append cost after without spared purged k (CapAccess o space address kind ∷ ts) us cache = spared_append cost after without spared purged k ts us cache
+spared_append cost after without spared purged k (GptCall reads ∷ ts) us cache = spared_append cost after without spared purged k ts us cache
+spared_append cost after without spared purged k (Changed item ∷ ts) us cache = spared_append cost after without spared purged (without k item) ts us (purged k item cache)
 
 -- what came of one part, and then of another from there, came of the two together
 pub came_followed : {T S : Type 0} (t : Translator T) (w : Observer S) (p : ℕ) (first second : Outcome) (m n o : MachineValue T) (told0 told1 told2 : S) (fetches0 fetches1 fetches2 : ℕ)
-    → ((k : ℕ) → hart_of m.queues k ≢ Some p → ChangesNone second.touches → t.cache o.translator k ≡ spared_by t.after t.spared (t.kept n.translator) second.touches (t.cache n.translator k))
+    → ((k : ℕ) → hart_of m.queues k ≢ Some p → t.cache o.translator k ≡ spared_by t.after t.without t.spared t.purged (t.kept n.translator) second.touches (t.cache n.translator k))
     → Came t w p first m told0 fetches0 n told1 fetches1 → Came t w p second n told1 fetches1 o told2 fetches2
     → Came t w p (followed first second) m told0 fetches0 o told2 fetches2
 came_followed t w p first second m n o told0 told1 told2 fetches0 fetches1 fetches2 spares one two =
@@ -73,12 +65,11 @@ came_followed t w p first second m n o told0 told1 told2 fetches0 fetches1 fetch
           let b = two.counted in
           omega (arith, sum, later, a, b);
       keeps = two.keeps ∙ (ap (λ j. kept_after t.cost t.after t.without j second.touches) one.keeps ∙ sym (kept_after_append t.cost t.after t.without k first.touches second.touches));
-      others = λ h elsewhere none.
-          let parts = changes_none-parts first.touches second.touches none in
-          spares h elsewhere parts.1
-          ∙ (ap (λ j. spared_by t.after t.spared j second.touches (t.cache n.translator h)) one.keeps
-          ∙ (ap (λ c. spared_by t.after t.spared (kept_after t.cost t.after t.without k first.touches) second.touches c) (one.others h elsewhere parts.0)
-          ∙ sym (spared_append t.cost t.after t.without t.spared k first.touches second.touches (t.cache m.translator h) parts.0)));
+      others = λ h elsewhere.
+          spares h elsewhere
+          ∙ (ap (λ j. spared_by t.after t.without t.spared t.purged j second.touches (t.cache n.translator h)) one.keeps
+          ∙ (ap (λ c. spared_by t.after t.without t.spared t.purged (kept_after t.cost t.after t.without k first.touches) second.touches c) (one.others h elsewhere)
+          ∙ sym (spared_append t.cost t.after t.without t.spared t.purged k first.touches second.touches (t.cache m.translator h))));
     }
 
 -- a part that asks the translator nothing fetches nothing
@@ -91,7 +82,7 @@ came_of_unasked t w p o m n told0 told fetches none came =
       records = came.records;
       counted = let nothing = ap (spent t.cost t.after t.without k) none in omega (arith, nothing);
       keeps = ap t.kept came.translator ∙ ap (kept_after t.cost t.after t.without k) (sym none);
-      others = λ h elsewhere unchanged. ap (λ x. t.cache x h) came.translator ∙ ap (λ ts. spared_by t.after t.spared k ts (t.cache m.translator h)) (sym none);
+      others = λ h elsewhere. ap (λ x. t.cache x h) came.translator ∙ ap (λ ts. spared_by t.after t.without t.spared t.purged k ts (t.cache m.translator h)) (sym none);
     }
 
 -- where the first part leaves the queues
@@ -100,7 +91,7 @@ pub came_followed_there : {T S : Type 0} (t : Translator T) (w : Observer S) (p 
     → Came t w p (followed first second) m told0 fetches0 o told2 fetches2
 came_followed_there t w p first second m n o told0 told1 told2 fetches0 fetches1 fetches2 queues one two =
     came_followed t w p first second m n o told0 told1 told2 fetches0 fetches1 fetches2
-    (λ k elsewhere none. two.others k (subst (λ (q : QueuesValue). hart_of q k ≢ Some p) (sym queues) elsewhere) none) one two
+    (λ k elsewhere. two.others k (subst (λ (q : QueuesValue). hart_of q k ≢ Some p) (sym queues) elsewhere)) one two
 
 -- ---- which objects change
 

@@ -40,7 +40,7 @@ module _ {T : Type 0} (t : Translator T) (notes : Record → List Record) (Elsew
     pub records_are : told ++ noted notes rest.records ≡ told0 ++ noted notes all.records
     pub counted : fetches + spent t.cost t.after t.without (t.kept n) rest.touches ≡ fetches0 + spent t.cost t.after t.without (t.kept m) all.touches
     pub kept : kept_after t.cost t.after t.without (t.kept n) rest.touches ≡ kept_after t.cost t.after t.without (t.kept m) all.touches
-    pub others : (h : ℕ) → Elsewhere h → spared_by t.after t.spared (t.kept n) rest.touches (t.cache n h) ≡ spared_by t.after t.spared (t.kept m) all.touches (t.cache m h)
+    pub others : (h : ℕ) → Elsewhere h → spared_by t.after t.without t.spared t.purged (t.kept n) rest.touches (t.cache n h) ≡ spared_by t.after t.without t.spared t.purged (t.kept m) all.touches (t.cache m h)
 
   -- after an access more, which reached
   pub on_way_more : (all : Side) (m : T) (told0 : List Record) (fetches0 : ℕ) (s : State) (q : ℕ) (kind : Kind) (span : Span) (rest : List Span) (hit : Hit) (pieces : List Piece) (n : T) (told : List Record) (fetches : ℕ) (n1 : T) (fetches1 : ℕ)
@@ -48,7 +48,7 @@ module _ {T : Type 0} (t : Translator T) (notes : Record → List Record) (Elsew
       → data_access s q span.address kind ≡ Ok hit
       → fetches1 ≡ fetches + spent_at t.cost t.after t.without (t.kept n) (data_touch s q span.address kind)
       → t.kept n1 ≡ kept_at t.cost t.after t.without (t.kept n) (data_touch s q span.address kind)
-      → ((h : ℕ) → Elsewhere h → t.cache n1 h ≡ spared_by t.after t.spared (t.kept n) (data_touch s q span.address kind ∷ []) (t.cache n h))
+      → ((h : ℕ) → Elsewhere h → t.cache n1 h ≡ spared_by t.after t.without t.spared t.purged (t.kept n) (data_touch s q span.address kind ∷ []) (t.cache n h))
       → IsOnWay all m told0 fetches0 (side s q kind rest) (pieces ++ piece_of hit span.size ∷ []) n1 (told ++ notes (reached q kind span.address hit)) fetches1
   on_way_more all m told0 fetches0 s q kind span rest hit pieces n told fetches n1 fetches1 way e counted kept spared =
       let is = side-cons s q kind span rest (Ok hit) e in
@@ -60,9 +60,9 @@ module _ {T : Type 0} (t : Translator T) (notes : Record → List Record) (Elsew
         counted = rw (kept, counted) (let sum = ap (λ (x : Side). spent t.cost t.after t.without (t.kept n) x.touches) is in let before = way.counted in omega (arith, sum, before));
         kept = rw kept (ap (λ (x : Side). kept_after t.cost t.after t.without (t.kept n) x.touches) (sym is) ∙ way.kept);
         others = λ h elsewhere.
-            ap (λ j. spared_by t.after t.spared j left.touches (t.cache n1 h)) kept
-            ∙ (ap (λ c. spared_by t.after t.spared (kept_at t.cost t.after t.without (t.kept n) (data_touch s q span.address kind)) left.touches c) (spared h elsewhere)
-            ∙ (ap (λ (x : Side). spared_by t.after t.spared (t.kept n) x.touches (t.cache n h)) (sym is) ∙ way.others h elsewhere));
+            ap (λ j. spared_by t.after t.without t.spared t.purged j left.touches (t.cache n1 h)) kept
+            ∙ (ap (λ c. spared_by t.after t.without t.spared t.purged (kept_at t.cost t.after t.without (t.kept n) (data_touch s q span.address kind)) left.touches c) (spared h elsewhere)
+            ∙ (ap (λ (x : Side). spared_by t.after t.without t.spared t.purged (t.kept n) x.touches (t.cache n h)) (sym is) ∙ way.others h elsewhere));
       }
 
   -- all of it was done: these pieces, and all else that comes of it
@@ -71,7 +71,7 @@ module _ {T : Type 0} (t : Translator T) (notes : Record → List Record) (Elsew
     pub records_are : told ≡ told0 ++ noted notes all.records
     pub counted : fetches ≡ fetches0 + spent t.cost t.after t.without (t.kept m) all.touches
     pub kept : t.kept n ≡ kept_after t.cost t.after t.without (t.kept m) all.touches
-    pub others : (h : ℕ) → Elsewhere h → t.cache n h ≡ spared_by t.after t.spared (t.kept m) all.touches (t.cache m h)
+    pub others : (h : ℕ) → Elsewhere h → t.cache n h ≡ spared_by t.after t.without t.spared t.purged (t.kept m) all.touches (t.cache m h)
 
   -- no span is left
   pub on_way_end : (all : Side) (m : T) (told0 : List Record) (fetches0 : ℕ) (s : State) (q : ℕ) (kind : Kind) (pieces : List Piece) (n : T) (told : List Record) (fetches : ℕ)
@@ -83,7 +83,7 @@ module _ {T : Type 0} (t : Translator T) (notes : Record → List Record) (Elsew
           records_are = sym (append-nil told) ∙ (ap (λ (x : Side). told ++ noted notes x.records) (sym is) ∙ way.records_are);
           counted = let none = ap (λ (x : Side). spent t.cost t.after t.without (t.kept n) x.touches) is in let sum = way.counted in omega (arith, none, sum);
           kept = ap (λ (x : Side). kept_after t.cost t.after t.without (t.kept n) x.touches) (sym is) ∙ way.kept;
-          others = λ h elsewhere. ap (λ (x : Side). spared_by t.after t.spared (t.kept n) x.touches (t.cache n h)) (sym is) ∙ way.others h elsewhere;
+          others = λ h elsewhere. ap (λ (x : Side). spared_by t.after t.without t.spared t.purged (t.kept n) x.touches (t.cache n h)) (sym is) ∙ way.others h elsewhere;
         },
         ap (λ (x : Side). x.fault) (sym is) ∙ way.fault_is,
       )
@@ -94,7 +94,7 @@ module _ {T : Type 0} (t : Translator T) (notes : Record → List Record) (Elsew
       → data_access s q span.address kind ≡ Err why
       → fetches1 ≡ fetches + spent_at t.cost t.after t.without (t.kept n) (data_touch s q span.address kind)
       → t.kept n1 ≡ kept_at t.cost t.after t.without (t.kept n) (data_touch s q span.address kind)
-      → ((h : ℕ) → Elsewhere h → t.cache n1 h ≡ spared_by t.after t.spared (t.kept n) (data_touch s q span.address kind ∷ []) (t.cache n h))
+      → ((h : ℕ) → Elsewhere h → t.cache n1 h ≡ spared_by t.after t.without t.spared t.purged (t.kept n) (data_touch s q span.address kind ∷ []) (t.cache n h))
       → HasCome all m told0 fetches0 pieces n1 told fetches1 × (Some (record { address = span.address; why = why }) ≡ all.fault)
   on_way_fault all m told0 fetches0 s q kind span rest why pieces n told fetches n1 fetches1 way e counted kept spared =
       let is = side-cons s q kind span rest (Err why) e in (
@@ -103,7 +103,7 @@ module _ {T : Type 0} (t : Translator T) (notes : Record → List Record) (Elsew
           records_are = sym (append-nil told) ∙ (ap (λ (x : Side). told ++ noted notes x.records) (sym is) ∙ way.records_are);
           counted = rw counted (let sum = ap (λ (x : Side). spent t.cost t.after t.without (t.kept n) x.touches) is in let before = way.counted in omega (arith, sum, before));
           kept = rw kept (ap (λ (x : Side). kept_after t.cost t.after t.without (t.kept n) x.touches) (sym is) ∙ way.kept);
-          others = λ h elsewhere. spared h elsewhere ∙ (ap (λ (x : Side). spared_by t.after t.spared (t.kept n) x.touches (t.cache n h)) (sym is) ∙ way.others h elsewhere);
+          others = λ h elsewhere. spared h elsewhere ∙ (ap (λ (x : Side). spared_by t.after t.without t.spared t.purged (t.kept n) x.touches (t.cache n h)) (sym is) ∙ way.others h elsewhere);
         },
         ap (λ (x : Side). x.fault) (sym is) ∙ way.fault_is,
       )
