@@ -1,5 +1,5 @@
 //! Operations on the kinds that are no memory kinds: a destruction is told, and the reply is written last.
-ghost use Rattle.std.specs.Prelude.{◌≡◌, ◌<◌, ◌++◌, [], ◌∷◌, true, None, IfSome};
+ghost use Rattle.std.specs.Prelude.{◌≡◌, ℕ, ◌<◌, ◌++◌, [], ◌∷◌, true, None, IfSome};
 ghost use Rattle.cap_format.specs.declared.kind.CapKind.TheVariants.{Process};
 ghost use Rattle.cap_format.specs.Capability.{bare};
 ghost use Rattle.object_store.specs.Store.{size_of};
@@ -15,7 +15,7 @@ ghost use Rattle.control_caps.specs.Kinds.{is_control};
 ghost use Rattle.machine_state.specs.State.{state_of};
 ghost use Rattle.machine_state.specs.Setters.{advance};
 ghost use Rattle.machine_state.specs.Operation.{changed_by, changed_names, change_touches};
-ghost use Rattle.machine_state.specs.Outcome.{process_name, kept_after};
+ghost use Rattle.machine_state.specs.Outcome.{process_name, kept_after, spared_by};
 ghost use Rattle.machine_state.specs.Came.{Came, Leaves};
 ghost use Rattle.machine_state.specs.Room.{HasRoom};
 ghost use Rattle.machine_state.specs.Noted.{noted};
@@ -79,6 +79,11 @@ fn do_and_reply<T: Translator>(
         let settled = control_operation Meant (state_of machine.old).store (bare cap) asked in
         let touches = change_touches (item_in settled.answer.changes) in
         T.kept machine.new.translator ≡ kept_after T.cost T.after T.without (T.kept machine.old.translator) touches }
+    ensures caches { let asked = request_map bare request in
+        let settled = control_operation Meant (state_of machine.old).store (bare cap) asked in
+        let touches = change_touches (item_in settled.answer.changes) in
+        (k : ℕ) → T.cache machine.new.translator k
+        ≡ spared_by T.after T.without T.spared T.purged (T.kept machine.old.translator) touches (T.cache machine.old.translator k) }
     ensures same { result ≡ None → machine.new.translator ≡ machine.old.translator }
     ensures leaves { let asked = request_map bare request in
         let settled = control_operation Meant (state_of machine.old).store (bare cap) asked in

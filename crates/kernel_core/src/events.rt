@@ -4,7 +4,7 @@ ghost use Rattle.cap_format.specs.declared.kind.CapKind.TheVariants.{Process};
 ghost use Rattle.object_store.specs.Store.{size_of, sizes_of};
 ghost use Rattle.schedules.specs.Queues.{hart_of};
 ghost use Rattle.machine_state.specs.State.{state_of, IsOnHart};
-ghost use Rattle.machine_state.specs.Outcome.{process_name, spent, kept_after, spared_by, ChangesNone};
+ghost use Rattle.machine_state.specs.Outcome.{process_name, spent, kept_after, spared_by};
 ghost use Rattle.machine_state.specs.Came.{Came, Leaves};
 ghost use Rattle.machine_state.specs.Room.{HasRoom, event_room};
 ghost use Rattle.machine_state.specs.Noted.{noted};
@@ -20,7 +20,8 @@ use steps::Steps;
 use walk_engine::{Hit, Translator};
 use walk_meaning::Kind;
 
-/// Performs one event, and tells what happened. Nothing happens to a machine that is halted.
+/// Performs one event, and tells what happened. Nothing happens to a machine that is halted. No hart's cache holds more than
+/// before but that of the hart that performs it.
 #[tactic(auto, using(machine_state::proofs::Changed::sizes_left))]
 pub fn event<T: Translator, L: Ledger>(
     machine: &mut Machine<T>,
@@ -38,8 +39,10 @@ pub fn event<T: Translator, L: Ledger>(
         T.kept machine.new.translator ≡ kept_after T.cost T.after T.without kept outcome.touches }
     ensures others { let outcome = event_of (state_of machine.old) e in
         let kept = T.kept machine.old.translator in
-        (k : ℕ) → k ≢ hart_in e → ChangesNone outcome.touches →
-        T.cache machine.new.translator k ≡ spared_by T.after T.spared kept outcome.touches (T.cache machine.old.translator k) }
+        (k : ℕ) → k ≢ hart_in e → T.cache machine.new.translator k
+        ≡ spared_by T.after T.without T.spared T.purged kept outcome.touches (T.cache machine.old.translator k) }
+    ensures less { (k : ℕ) → k ≢ hart_in e →
+        T.less (T.cache machine.new.translator k) (T.cache machine.old.translator k) }
     ensures leaves { let outcome = event_of (state_of machine.old) e in
         Leaves outcome.changed machine.old machine.new }
     ensures sizes { sizes_of machine.new.objects ≡ sizes_of machine.old.objects }
@@ -69,8 +72,10 @@ pub fn event_into<T: Translator, L: Ledger>(
         T.kept machine.new.translator ≡ kept_after T.cost T.after T.without kept outcome.touches }
     ensures others { let outcome = event_of (state_of machine.old) e in
         let kept = T.kept machine.old.translator in
-        (k : ℕ) → k ≢ hart_in e → ChangesNone outcome.touches →
-        T.cache machine.new.translator k ≡ spared_by T.after T.spared kept outcome.touches (T.cache machine.old.translator k) }
+        (k : ℕ) → k ≢ hart_in e → T.cache machine.new.translator k
+        ≡ spared_by T.after T.without T.spared T.purged kept outcome.touches (T.cache machine.old.translator k) }
+    ensures less { (k : ℕ) → k ≢ hart_in e →
+        T.less (T.cache machine.new.translator k) (T.cache machine.old.translator k) }
     ensures leaves { let outcome = event_of (state_of machine.old) e in
         Leaves outcome.changed machine.old machine.new }
     ensures sizes { sizes_of machine.new.objects ≡ sizes_of machine.old.objects }
@@ -101,8 +106,10 @@ pub fn event_for<T: Translator, O: Observer, L: Ledger>(
         T.kept machine.new.translator ≡ kept_after T.cost T.after T.without kept outcome.touches }
     ensures others { let outcome = event_of (state_of machine.old) e in
         let kept = T.kept machine.old.translator in
-        (k : ℕ) → k ≢ hart_in e → ChangesNone outcome.touches →
-        T.cache machine.new.translator k ≡ spared_by T.after T.spared kept outcome.touches (T.cache machine.old.translator k) }
+        (k : ℕ) → k ≢ hart_in e → T.cache machine.new.translator k
+        ≡ spared_by T.after T.without T.spared T.purged kept outcome.touches (T.cache machine.old.translator k) }
+    ensures less { (k : ℕ) → k ≢ hart_in e →
+        T.less (T.cache machine.new.translator k) (T.cache machine.old.translator k) }
     ensures leaves { let outcome = event_of (state_of machine.old) e in
         Leaves outcome.changed machine.old machine.new }
 {

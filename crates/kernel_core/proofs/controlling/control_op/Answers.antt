@@ -9,7 +9,7 @@ use Rattle.operations.specs.Control.{control_operation}
 use Rattle.machine_state.specs.State.{State, state_of, process}
 use Rattle.machine_state.specs.Setters.{advance}
 use Rattle.machine_state.specs.Operation.{request_of}
-use Rattle.machine_state.proofs.Operated.{spent_changed, spared_changed}
+use Rattle.machine_state.proofs.Operated.{spent_changed}
 use Rattle.kernel_core.proofs.Destroyed.{header_tells}
 use Rattle.kernel_core.proofs.controlling.control_op.Goals as goal
 
@@ -28,5 +28,5 @@ returns-clause-came g c =
       records = search rules;
       counted = search rules;
       keeps = search rules;
-      others = λ k elsewhere none. spared_changed g.T.Translator.after g.T.Translator.spared (g.T.Translator.kept c.args.machine.now.translator) (item after (request_of (process after c.args.p) c.args.inv.now)) _ _ (λ no. ap (λ x. g.T.Translator.cache x k) (c.do_and_reply-changed.ensures.same (c.do_and_reply-changed.ensures.changed ∙ (same ∙ no)) ∙ c.advance.ensures.translator)) none;
+      others = search rules;
     }

@@ -23,7 +23,7 @@ returns-then-receive-clause-came g c =
     let both : true ≡ sent.delivers && c.args.inv.now.receive = sym (ap (λ b. b && c.args.inv.now.receive) delivers ∙ receives) in
     subst All both
     (came_followed t g.O.Observer c.args.p sent.outcome (next sent.outcome.state) m n c.listen.new.machine c.args.observer.now c.send-delivered.new.observer c.listen.new._observer c.args.fetches.now c.send-delivered.new.fetches c.listen.new._fetches
-    (λ k elsewhere none. ap (λ x. t.cache x k) c.listen.ensures.translator)
+    (λ k elsewhere. ap (λ x. t.cache x k) c.listen.ensures.translator)
     c.send-delivered.ensures.came (subst Comes (ap next c.send-delivered.ensures.came.state) c.listen.ensures.came))
 
 pub returns-then-receive-clause-leaves : goal.returns-then-receive-clause-leaves

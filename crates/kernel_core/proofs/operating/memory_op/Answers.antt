@@ -24,5 +24,5 @@ returns-clause-came g c =
       records = search rules;
       counted = search rules;
       keeps = search rules;
-      others = λ k elsewhere none. spared_reads t.after t.spared (t.kept m.translator) _ _ _ _ _ _ (λ no. ap (λ x. t.cache x k) (c.reply.ensures.translator ∙ (c.operate-reply.ensures.same (same ∙ no) ∙ c.advance.ensures.translator))) none;
+      others = search rules;
     }
