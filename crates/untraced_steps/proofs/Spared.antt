@@ -4,6 +4,7 @@ use Rattle.std.specs.List.{list_any}
 use Rattle.std.proofs.Math.Seq.{take-add}
 use Rattle.std.proofs.lemmas.Bool.{true≢false}
 use Rattle.cap_format.specs.Capability.{Capability}
+use Rattle.cap_format.specs.declared.item.Item.{Item}
 use Rattle.object_store.specs.Store.{Items}
 use Rattle.walk_meaning.specs.declared.kind.Kind.{Kind}
 use Rattle.machine_state.specs.declared.event.Event.{Event}
@@ -14,7 +15,7 @@ use Rattle.machine_state.specs.State.{State, state_of}
 use Rattle.kernel_core.specs.Event.{event_of}
 use Rattle.kernel_core.specs.Run.{run_state, run_touches}
 use Rattle.kernel_core.proofs.Ran.{run_touches-append}
-use Rattle.untraced_steps.specs.Spared.{IsIdleIn, Elsewhere, spared_in, IsSpared, SparesOthers}
+use Rattle.untraced_steps.specs.Spared.{IsIdleIn, Elsewhere, spared_in, IsSpared, SparesOthers, GainsNothing}
 use Rattle.untraced_steps.proofs.Ran.{take-next, touches-behind}
 
 -- ---- events and touches in front of others
@@ -45,7 +46,8 @@ none-back (t ∷ ts) second none = none-back ts second (neither (is_change t) (l
 
 -- ---- what is left of a cache
 
-module _ {K C : Type 0} (after : K → Items → Capability → ℕ → Kind → K) (spared : K → Items → Capability → ℕ → Kind → C → C) where
+module _ {K C : Type 0} (after : K → Items → Capability → ℕ → Kind → K) (without : K → Item → K)
+    (spared : K → Items → Capability → ℕ → Kind → C → C) (purged : K → Item → C → C) where
   spared_in-append : (first second : List (Elsewhere K)) (cache : C) → spared_in spared (first ++ second) cache ≡ spared_in spared second (spared_in spared first cache)
   spared_in-append [] second cache = refl
   spared_in-append (x ∷ xs) second cache = spared_in-append xs second (spared x.kept x.items x.space x.address x.kind cache)
@@ -59,19 +61,19 @@ module _ {K C : Type 0} (after : K → Items → Capability → ℕ → Kind →
   accesses_in k (GptCall reads ∷ ts) = accesses_in k ts
   accesses_in k (Changed item ∷ ts) = accesses_in k ts
 
-  spared_by-in : (k : K) (ts : List Touch) (cache : C) → spared_by after spared k ts cache ≡ spared_in spared (accesses_in k ts) cache
+  spared_by-in : (k : K) (ts : List Touch) (cache : C) → ChangesNone ts → spared_by after without spared purged k ts cache ≡ spared_in spared (accesses_in k ts) cache
   unfolding accesses_in
-  spared_by-in k [] cache = refl
-  spared_by-in k (DataAccess o space address kind ∷ ts) cache = spared_by-in (after k o space address kind) ts (spared k o space address kind cache)
-  spared_by-in k (CapAccess o space address kind ∷ ts) cache = spared_by-in k ts cache
-  spared_by-in k (GptCall reads ∷ ts) cache = spared_by-in k ts cache
-  spared_by-in k (Changed item ∷ ts) cache = spared_by-in k ts cache
+  spared_by-in k [] cache none = refl
+  spared_by-in k (DataAccess o space address kind ∷ ts) cache none = spared_by-in (after k o space address kind) ts (spared k o space address kind cache) none
+  spared_by-in k (CapAccess o space address kind ∷ ts) cache none = spared_by-in k ts cache none
+  spared_by-in k (GptCall reads ∷ ts) cache none = spared_by-in k ts cache none
+  spared_by-in k (Changed item ∷ ts) cache none = absurd (true≢false none)
 
   -- and touches behind them
-  pub spared-more : (a b d : C) (k : K) (ts : List Touch) → IsSpared spared a b → d ≡ spared_by after spared k ts b → IsSpared spared a d
-  spared-more a b d k ts is more = record {
+  pub spared-more : (a b d : C) (k : K) (ts : List Touch) → IsSpared spared a b → ChangesNone ts → d ≡ spared_by after without spared purged k ts b → IsSpared spared a d
+  spared-more a b d k ts is none more = record {
     accesses = is.accesses ++ accesses_in k ts;
-    left = more ∙ (spared_by-in k ts b ∙ (ap (spared_in spared (accesses_in k ts)) is.left ∙ sym (spared_in-append is.accesses (accesses_in k ts) a)));
+    left = more ∙ (spared_by-in k ts b none ∙ (ap (spared_in spared (accesses_in k ts)) is.left ∙ sym (spared_in-append is.accesses (accesses_in k ts) a)));
   }
 
   module _ {T : Type 0} (kept : T → K) (cache : T → ℕ → C) where
@@ -85,7 +87,7 @@ module _ {K C : Type 0} (after : K → Items → Capability → ℕ → Kind →
         → SparesOthers cache spared (take done all) m n
         → ((hart : ℕ) → hart ≢ hart_in e → cache n1.translator hart ≡ cache n.translator hart)
         → state_of n1 ≡ run_state (state_of m) (take (done + ahead) all)
-        → ((hart : ℕ) → hart ≢ hart_in e → ChangesNone (event_of (state_of n1) e).touches → cache n2.translator hart ≡ spared_by after spared (kept n1.translator) (event_of (state_of n1) e).touches (cache n1.translator hart))
+        → ((hart : ℕ) → hart ≢ hart_in e → cache n2.translator hart ≡ spared_by after without spared purged (kept n1.translator) (event_of (state_of n1) e).touches (cache n1.translator hart))
         → SparesOthers cache spared (take (done + ahead + 1) all) m n2
     spares-next all done ahead e rest m n n1 n2 within is before caches at performed =
         let s : State = state_of m in
@@ -109,6 +111,24 @@ module _ {K C : Type 0} (after : K → Items → Capability → ℕ → Kind →
               let none_first = none-front (run_touches s first) (run_touches (run_state s first) (take ahead (drop done all))) (subst ChangesNone split none_ran) in
               let none_event = none-back (run_touches s ran) touched none_all in
               spared-more (cache m.translator hart) (cache n.translator hart) (cache n2.translator hart) (kept n1.translator) touched
-              (before.each hart first_idle none_first)
-              (performed hart other none_event ∙ ap (spared_by after spared (kept n1.translator) touched) (caches hart other));
+              (before.each hart first_idle none_first) none_event
+              (performed hart other ∙ ap (spared_by after without spared purged (kept n1.translator) touched) (caches hart other));
         }
+
+-- ---- no cache gains
+
+module _ {T C : Type 0} (cache : T → ℕ → C) (less : C → C → Type 0) (less_then : (a b c : C) → less a b → less b c → less a c) where
+  -- some events in front of one, of which the machine knows that the caches of other harts stay, and one that is performed
+  pub gains-next : (all : List Event) (done ahead : ℕ) (e : Event) (rest : List Event) (m n n1 n2 : MachineValue T)
+      → done + ahead < length all → drop (done + ahead) all ≡ e ∷ rest
+      → GainsNothing cache less (take done all) m n
+      → ((hart : ℕ) → hart ≢ hart_in e → cache n1.translator hart ≡ cache n.translator hart)
+      → ((hart : ℕ) → hart ≢ hart_in e → less (cache n2.translator hart) (cache n1.translator hart))
+      → GainsNothing cache less (take (done + ahead + 1) all) m n2
+  gains-next all done ahead e rest m n n1 n2 within is before caches performed = λ hart idle.
+      let in_front : take (done + ahead) all ≡ take done all ++ take ahead (drop done all) = take-add done ahead all in
+      let all_idle = subst (IsIdleIn hart) (take-next all (done + ahead) e rest within is) idle in
+      let first_idle = idle-front hart (take done all) (take ahead (drop done all)) (subst (IsIdleIn hart) in_front (idle-front hart (take (done + ahead) all) (e ∷ []) all_idle)) in
+      let other = idle-last hart (take (done + ahead) all) e all_idle in
+      less_then (cache n2.translator hart) (cache n.translator hart) (cache m.translator hart)
+      (subst (λ (c : C). less (cache n2.translator hart) c) (caches hart other) (performed hart other)) (before hart first_idle)

@@ -33,6 +33,10 @@ module _ {K C : Type 0} (spared : K → Items → Capability → ℕ → Kind �
     pub accesses : List (Elsewhere K)
     pub left : after ≡ spared_in accesses before
 
+-- The cache of each hart that performs none of these events holds no more than before.
+abbrev pub GainsNothing : {T C : Type 0} → (T → ℕ → C) → (C → C → Type 0) → List Event → MachineValue T → MachineValue T → Type 0
+GainsNothing cache less events m n = (hart : ℕ) → IsIdleIn hart events → less (cache n.translator hart) (cache m.translator hart)
+
 -- Where these events of the machine `m`, which became `n`, change no item, the cache of each hart that performs none of them is
 -- what accesses on other harts leave of it.
 pub record SparesOthers {T K C : Type 0} (cache : T → ℕ → C) (spared : K → Items → Capability → ℕ → Kind → C → C) (events : List Event) (m n : MachineValue T) : Type 0 where

@@ -2,10 +2,10 @@
 ghost use Rattle.std.specs.Prelude.{◌≡◌, ◌≢◌, ◌<◌, ◌≤◌, ◌-◌, ◌^◌, ◌∷◌, ℕ, [], length, take, drop};
 ghost use Rattle.machine_state.specs.declared.event.Event.TheVariants.{Step};
 ghost use Rattle.machine_state.specs.State.{state_of};
-ghost use Rattle.machine_state.specs.Outcome.{spared_by, ChangesNone};
+ghost use Rattle.machine_state.specs.Outcome.{spared_by};
 ghost use Rattle.kernel_core.specs.Event.{event_of};
 ghost use Rattle.untraced_steps.specs.HartSteps.{OfHarts, steps_left};
-ghost use Rattle.untraced_steps.specs.Spared.{SparesOthers};
+ghost use Rattle.untraced_steps.specs.Spared.{SparesOthers, GainsNothing};
 ghost use Rattle.untraced_steps.specs.Untraced.{CameUntraced, RanUntraced, TellsNothing};
 
 use crate::code::run_kept;
@@ -16,8 +16,8 @@ use std::sync::ledger::Ledger;
 use steps::Steps;
 
 /// Performs a step of a hart, and then the steps that are left. It stops early behind a step that is told of, and answers
-/// how many it performed. What the last of them told is left in the list. Where no item changes, accesses alone change the
-/// caches of the harts that perform none of these steps.
+/// how many it performed. What the last of them told is left in the list. The caches of the harts
+/// that perform none of these steps hold no more than before; where no item changes, accesses alone change them.
 ///
 /// It is not inlined, so that its loop has the registers of the processor to itself.
 #[inline(never)]
@@ -39,6 +39,8 @@ pub fn run_untraced<T: PageTranslator, L: Ledger>(
         TellsNothing (state_of machine.old) (take (result - 1) all) }
     ensures others { let all = Step hart ∷ steps_left left.old in
         SparesOthers T.cache T.spared (take result all) machine.old machine.new }
+    ensures less { let all = Step hart ∷ steps_left left.old in
+        GainsNothing T.cache T.less (take result all) machine.old machine.new }
     ensures behind { let all = Step hart ∷ steps_left left.old in
         steps_left left.new ≡ drop result all }
 {
@@ -96,9 +98,10 @@ fn step_untraced<T: PageTranslator, L: Ledger>(
         machine.old fetches.old machine.new observer.new.records fetches.new }
     ensures others { let outcome = event_of (state_of machine.old) (Step hart) in
         let kept = T.kept machine.old.translator in
-        (k : ℕ) → k ≢ hart → ChangesNone outcome.touches →
-        T.cache machine.new.translator k
-        ≡ spared_by T.after T.spared kept outcome.touches (T.cache machine.old.translator k) }
+        (k : ℕ) → k ≢ hart → T.cache machine.new.translator k
+        ≡ spared_by T.after T.without T.spared T.purged kept outcome.touches (T.cache machine.old.translator k) }
+    ensures less { (k : ℕ) → k ≢ hart →
+        T.less (T.cache machine.new.translator k) (T.cache machine.old.translator k) }
 {
     event_for(machine, Event::Step(hart), observer, fetches);
 }

@@ -7,7 +7,7 @@ use Rattle.kernel_core.specs.Run.{run_records}
 use Rattle.untraced_steps.specs.HartSteps.{OfHarts, steps_left}
 use Rattle.untraced_steps.specs.Untraced.{RanUntraced}
 use Rattle.untraced_steps.proofs.Ran.{drop-next, harts-behind, left-behind, ran-ahead, ran-next, ran-none}
-use Rattle.untraced_steps.proofs.Spared.{spares-none, spares-next}
+use Rattle.untraced_steps.proofs.Spared.{spares-none, spares-next, gains-next}
 use Rattle.untraced_steps.proofs.running.run_untraced.Goals as goal
 
 pub steps-init : goal.steps-init
@@ -15,7 +15,8 @@ steps-init g c =
     let t = g.T.Translator in
     record {
       ran = ran-none t.kept t.cost t.after t.without c.args.machine.now c.args.fetches.now;
-      others = spares-none t.after t.spared t.kept t.cache c.args.machine.now;
+      less = λ hart idle. g.met.T.Translator.less_same _;
+      others = spares-none t.after t.without t.spared t.purged t.kept t.cache c.args.machine.now;
       none = c.clear.ensures;
       rest = refl;
       size = omega arith;
@@ -132,7 +133,8 @@ steps-preserved g c =
     let harts = next.harts in
     record {
       ran = subst (λ (told : List Record). RanUntraced t.kept t.cost t.after t.without (take (c.steps.done + ahead + 1) all) c.args.machine.now c.args.fetches.now c.step_untraced.new.machine told c.step_untraced.new.fetches) none next;
-      others = spares-next t.after t.spared t.kept t.cache all c.steps.done ahead (Step c.steps.next) _ _ _ _ _ within at.rest i.others e.caches at.ran.state c.step_untraced.ensures.others;
+      less = gains-next t.cache t.less g.met.T.Translator.less_then all c.steps.done ahead (Step c.steps.next) _ _ _ _ _ within at.rest i.less e.caches c.step_untraced.ensures.less;
+      others = spares-next t.after t.without t.spared t.purged t.kept t.cache all c.steps.done ahead (Step c.steps.next) _ _ _ _ _ within at.rest i.others e.caches at.ran.state c.step_untraced.ensures.others;
       none = none;
       rest = drop-next all (c.steps.done + ahead) (Step c.steps.next) _ within at.rest ∙ split;
       size = omega (arith, size, more, shorter);
@@ -150,7 +152,7 @@ returns-then-not-plain-clause-others g c =
     let e = c.run_ahead-done.ensures in
     let most = e.most in
     let at = ran-ahead t.kept t.cost t.after t.without all c.steps.done more c.steps.next _ _ _ _ _ _ c.steps.fetches i.ran i.rest (e.ran c.steps.fetches) e.behind in
-    spares-next t.after t.spared t.kept t.cache all c.steps.done more (Step c.steps.next) _ _ _ _ _ (omega (arith, size, most)) at.rest i.others e.caches at.ran.state c.step_untraced.ensures.others
+    spares-next t.after t.without t.spared t.purged t.kept t.cache all c.steps.done more (Step c.steps.next) _ _ _ _ _ (omega (arith, size, most)) at.rest i.others e.caches at.ran.state c.step_untraced.ensures.others
 
 pub returns-in-None-clause-others : goal.returns-in-None-clause-others
 returns-in-None-clause-others g c =
@@ -162,4 +164,28 @@ returns-in-None-clause-others g c =
     let e = c.run_ahead-done.ensures in
     let most = e.most in
     let at = ran-ahead t.kept t.cost t.after t.without all c.steps.done more c.steps.next _ _ _ _ _ _ c.steps.fetches i.ran i.rest (e.ran c.steps.fetches) e.behind in
-    spares-next t.after t.spared t.kept t.cache all c.steps.done more (Step c.steps.next) _ _ _ _ _ (omega (arith, size, most)) at.rest i.others e.caches at.ran.state c.step_untraced.ensures.others
+    spares-next t.after t.without t.spared t.purged t.kept t.cache all c.steps.done more (Step c.steps.next) _ _ _ _ _ (omega (arith, size, most)) at.rest i.others e.caches at.ran.state c.step_untraced.ensures.others
+
+pub returns-then-not-plain-clause-less : goal.returns-then-not-plain-clause-less
+returns-then-not-plain-clause-less g c =
+    let t = g.T.Translator in
+    let i = c.steps.invariant in
+    let size = i.size in
+    let all = Step c.args.hart ∷ steps_left c.args.left.now in
+    let more = c.run_ahead-done.result in
+    let e = c.run_ahead-done.ensures in
+    let most = e.most in
+    let at = ran-ahead t.kept t.cost t.after t.without all c.steps.done more c.steps.next _ _ _ _ _ _ c.steps.fetches i.ran i.rest (e.ran c.steps.fetches) e.behind in
+    gains-next t.cache t.less g.met.T.Translator.less_then all c.steps.done more (Step c.steps.next) _ _ _ _ _ (omega (arith, size, most)) at.rest i.less e.caches c.step_untraced.ensures.less
+
+pub returns-in-None-clause-less : goal.returns-in-None-clause-less
+returns-in-None-clause-less g c =
+    let t = g.T.Translator in
+    let i = c.steps.invariant in
+    let size = i.size in
+    let all = Step c.args.hart ∷ steps_left c.args.left.now in
+    let more = c.run_ahead-done.result in
+    let e = c.run_ahead-done.ensures in
+    let most = e.most in
+    let at = ran-ahead t.kept t.cost t.after t.without all c.steps.done more c.steps.next _ _ _ _ _ _ c.steps.fetches i.ran i.rest (e.ran c.steps.fetches) e.behind in
+    gains-next t.cache t.less g.met.T.Translator.less_then all c.steps.done more (Step c.steps.next) _ _ _ _ _ (omega (arith, size, most)) at.rest i.less e.caches c.step_untraced.ensures.less
