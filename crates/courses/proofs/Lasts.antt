@@ -12,7 +12,7 @@ use Rattle.courses.specs.Course.{ComesTo, HasEntries, ends_in}
 use Rattle.courses.specs.Ending.{AwaitsMore, Output, Ends, HasCauses, IsGiven, told_end}
 use Rattle.courses.specs.Exit.{is_finished, status_of}
 use Rattle.courses.specs.declared.exit.Exit.{Exit}
-use Rattle.courses.specs.declared.exit.Exit.TheVariants.{Crossings, Done, ListingRefused, Open, OutOfMemory, PolicyRefused, ReadFault, TooLong, Usage, Violated, WriteFault}
+use Rattle.courses.specs.declared.exit.Exit.TheVariants.{Crossings, Done, ListingRefused, Open, OutOfMemory, PolicyRefused, QuestionRefused, ReadFault, TooLong, Usage, Violated, WriteFault}
 
 -- exits with other numbers are others
 pub exits-differ : (a b : Exit) → (status_of a ≡ status_of b → ⊥) → a ≡ b → ⊥
@@ -29,6 +29,7 @@ finished-given _ done = cc
 -- and lines of which all was done end nothing
 pub finished-awaits : (e : Exit) → is_finished e ≡ true → AwaitsMore e
 finished-awaits (PolicyRefused line fault) done = cc
+finished-awaits (QuestionRefused line fault) done = cc
 finished-awaits _ done = done
 
 pub finished-form : (e : Exit) → is_finished e ≡ true → e ≢ Usage

@@ -5,6 +5,7 @@ use Rattle.coy_io.specs.Causes.{Rose}
 use Rattle.coy_io.specs.Pieces.{AppendsSome}
 use Rattle.image_binary.specs.declared.fault.ImageWord.TheVariants.{Cut}
 use Rattle.listing_read.specs.declared.object_fault.PolicyFault.TheVariants.{NoEnd}
+use Rattle.listing_read.specs.declared.object_fault.QuestionFault.TheVariants as questions
 use Rattle.courses.specs.Names.{fault_name, schedule_fault_name, image_word_name, cut_fault_name, policy_fault_name, question_fault_name}
 use Rattle.courses.specs.Exit.{is_finished}
 use Rattle.courses.specs.declared.exit.Exit.{Exit}
@@ -43,9 +44,10 @@ end_line _ = []
 abbrev pub told_end : Exit → Output
 told_end exit = record { text = end_line exit; exit = exit }
 
--- lines behind a listing end nothing: all was done with them, or their policy lacks its end
+-- lines behind a listing end nothing: all was done with them, or their policy or question lacks its end
 abbrev pub AwaitsMore : Exit → Type 0
 AwaitsMore (PolicyRefused line fault) = fault ≡ NoEnd
+AwaitsMore (QuestionRefused line fault) = fault ≡ questions.NoEnd
 AwaitsMore exit = is_finished exit ≡ true
 
 -- so many lines end nothing: those behind the listing don't, or the listing is not over and lacks the line behind them all; or

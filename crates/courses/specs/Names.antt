@@ -61,6 +61,8 @@ question_fault_name questions.BadRegister = codes "BadRegister"
 question_fault_name questions.BadOffset = codes "BadOffset"
 question_fault_name questions.BadLimit = codes "BadLimit"
 question_fault_name questions.BadTerm = codes "BadTerm"
+question_fault_name questions.Taken = codes "Taken"
+question_fault_name questions.NoEnd = codes "NoEnd"
 question_fault_name (questions.OfPolicy fault) = policy_fault_name fault
 
 -- a fault of a listing

@@ -205,6 +205,8 @@ fn question_fault_name(fault: QuestionFault) -> &'static str
         QuestionFault::BadOffset => "BadOffset",
         QuestionFault::BadLimit => "BadLimit",
         QuestionFault::BadTerm => "BadTerm",
+        QuestionFault::Taken => "Taken",
+        QuestionFault::NoEnd => "NoEnd",
         QuestionFault::OfPolicy(fault) => policy_fault_name(fault),
     }
 }

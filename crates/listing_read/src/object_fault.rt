@@ -139,6 +139,10 @@ pub enum QuestionFault {
     BadLimit,
     /// There is no term where one has to stand, or it stands in 16 others.
     BadTerm,
+    /// Another line of the question says the same choice.
+    Taken,
+    /// The input ends before the line `end` of the question.
+    NoEnd,
     /// What is wrong with a line of the policy.
     OfPolicy(PolicyFault),
 }

@@ -249,6 +249,8 @@ fn fault_name(fault: QuestionFault) -> &'static str {
         QuestionFault::BadOffset => "BadOffset",
         QuestionFault::BadLimit => "BadLimit",
         QuestionFault::BadTerm => "BadTerm",
+        QuestionFault::Taken => "Taken",
+        QuestionFault::NoEnd => "NoEnd",
         QuestionFault::OfPolicy(PolicyFault::WrongWords) => "WrongWords",
         QuestionFault::OfPolicy(PolicyFault::BadName) => "BadName",
         QuestionFault::OfPolicy(PolicyFault::Taken) => "Taken",
