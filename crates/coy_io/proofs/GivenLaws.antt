@@ -81,3 +81,11 @@ GivesLines-taken reader held held' given ended u gives =
     let now = ap (λ b. prepend_known reader.rest (if b then Some [] else held')) ended in
     let consumed = subst (λ new. Consumes (prepend_known [] held) new gives.bytes) now gives.consumed in
     (gives.bytes ++ reader.rest, taken held held' gives.bytes reader.rest consumed, AreLines-unfinished gives.bytes reader.rest given gives.lines u)
+
+-- what a reader that was new gave before these bytes, which it or its source still had, are the whole lines of the bytes before
+pub GivesLines-before : (last : List ℕ) (held held' : Option (List ℕ)) (given : List Part)
+    → GivesLines (bytes_ahead new_reader held) (prepend_known last held') given
+    → (bytes : List ℕ) × Consumes held held' (bytes ++ last) × (whole_lines [] bytes ≡ given)
+GivesLines-before last held held' given gives =
+    let whole = AreLines-unfinished gives.bytes [] given gives.lines refl in
+    (gives.bytes, taken held held' gives.bytes last gives.consumed, ap (whole_lines []) (sym (append-nil gives.bytes)) ∙ whole)

@@ -1,15 +1,16 @@
 -- What a call of `next` does to the lines to come, where the bytes to come are known and where not.
 use Rattle.std.proofs.Common.{arith, ◌≡◌, ℕ, ◌+◌, ◌-◌, List, [], ◌∷◌, ◌++◌, length, take, drop, Option, Some, None, Ok, Err, Bool, true, false, refl, sym, ap, subst, ◌∙◌, append_assoc, append-nil, if◌then◌else◌}
-use Rattle.std.specs.Prelude.{◌==◌}
+use Rattle.std.specs.Prelude.{◌==◌, ◌≤◌, OnSome}
 use Rattle.std.specs.Option.{option_map}
 use Rattle.std.specs.Io.KnownBytes.{Keeps, Consumes, IsAtEnd, prepend_known}
 use Rattle.std.proofs.Math.Seq.{take-length, drop-length}
+use Rattle.coy_io.specs.Limits.{window_limit}
 use Rattle.coy_io.specs.declared.lines.LineFault.{LineFault}
 use Rattle.coy_io.specs.declared.lines.LineFault.TheVariants.{ReadFault, LineTooLong, TooLong}
 use Rattle.coy_io.specs.Lines.{Line, parts}
-use Rattle.coy_io.specs.Reader.{Reader, bytes_ahead, ahead, line_feed_of, giving, finished, Advances, IsDone, IsLine, IsNext}
+use Rattle.coy_io.specs.Reader.{Reader, bytes_ahead, ahead, line_feed_of, giving, finished, last_taken, Advances, GivesNear, IsDone, IsLine, IsNext}
 use Rattle.coy_io.specs.Found.{HasLine, HasFront, IsFound}
-use Rattle.std.proofs.lemmas.List.{length-take-le}
+use Rattle.std.proofs.lemmas.List.{length-take-le, take-append-drop}
 use Rattle.coy_io.proofs.FirstLine.{unfinished_front}
 use Rattle.coy_io.proofs.Parts.{line_split, parts-line, parts-long, parts-past, parts-end}
 
@@ -59,6 +60,37 @@ pub Consumes-line : (reader : Reader) (held held' : Option (List ℕ)) (window :
     → let new = giving n (n + 1) (record reader { rest = window }) in Consumes (bytes_ahead reader held) (bytes_ahead new held') (new.line ++ line_feed_of new.ended)
 Consumes-line reader held held' window n ended moved found =
     rw ended (consumes_line held held' reader.rest window reader.room n moved found)
+
+-- the bytes of what was found and those behind it are those of the window
+gives_near : (reader new : Reader) (held held' : Option (List ℕ)) (window : List ℕ) → window ≡ last_taken new → Moved reader.rest held window held'
+    → length window ≤ window_limit → GivesNear reader new held held'
+gives_near reader new held held' window all moved near = record {
+  kept = subst (λ w. Moved reader.rest held w held') all moved;
+  near = subst (λ w. length w ≤ window_limit) all near;
+}
+
+-- the line that the search found stood in the window, with all that was taken behind it
+pub GivesNear-line : (reader : Reader) (held held' : Option (List ℕ)) (window : List ℕ) (n : ℕ) → reader.ended ≡ false
+    → Moved reader.rest held window held' → HasLine n window reader.room → length window ≤ window_limit
+    → GivesNear reader (giving n (n + 1) (record reader { rest = window })) held held'
+GivesNear-line reader held held' window n ended moved found near =
+    gives_near reader (giving n (n + 1) (record reader { rest = window })) held held' window
+    (rw ended (line_split window n found.place found.whole)) moved near
+
+near_end : (test : Bool) (reader : Reader) (held held' : Option (List ℕ)) (window : List ℕ)
+    → Moved reader.rest held window held' → length window ≤ window_limit
+    → let now = record reader { rest = window } in
+    OnSome (if test then None else Some (length window))
+    (GivesNear reader (record (if test then now else giving (length window) (length window) now) { ended = true }) held held')
+near_end true reader held held' window moved near = tt
+near_end false reader held held' window moved near =
+    gives_near reader _ held held' window (sym (take-append-drop (length window) window)) moved near
+
+-- and so did the last line
+pub GivesNear-end : (reader : Reader) (held held' : Option (List ℕ)) (window : List ℕ)
+    → Moved reader.rest held window held' → length window ≤ window_limit
+    → OnSome (if length window == 0 then None else Some (length window)) (GivesNear reader (finished (record reader { rest = window })) held held')
+GivesNear-end reader held held' window moved near = near_end (length window == 0) reader held held' window moved near
 
 next_fault : (fault : LineFault) (held held' : Option (List ℕ)) (rest window line : List ℕ) (room : ℕ) → Moved rest held window held'
     → IsFound (Err fault) window room held'

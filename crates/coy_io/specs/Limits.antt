@@ -5,6 +5,10 @@ use Rattle.std.specs.Prelude.{ℕ}
 abbrev pub line_limit : ℕ
 line_limit = 512
 
+-- the most bytes that a reader holds of what it took
+abbrev pub window_limit : ℕ
+window_limit = 4096
+
 -- the most bytes of an input that are read: 16 MiB
 abbrev pub input_limit : ℕ
 input_limit = 16777216

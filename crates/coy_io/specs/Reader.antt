@@ -2,7 +2,7 @@
 use Rattle.std.specs.Prelude.{◌≡◌, ℕ, ◌+◌, ◌-◌, ◌≤◌, ◌==◌, List, [], ◌∷◌, ◌++◌, length, take, drop, Bool, true, false, ⊤, Option, Some, None, Result, Ok, Err, if◌then◌else◌}
 use Rattle.std.specs.Option.{option_map}
 use Rattle.std.specs.Io.KnownBytes.{Keeps, Consumes, IsAtEnd, prepend_known}
-use Rattle.coy_io.specs.Limits.{line_limit, input_limit}
+use Rattle.coy_io.specs.Limits.{line_limit, input_limit, window_limit}
 use Rattle.coy_io.specs.declared.lines.LineFault.{LineFault}
 use Rattle.coy_io.specs.declared.lines.LineFault.TheVariants.{ReadFault, LineTooLong, TooLong}
 use Rattle.coy_io.specs.Lines.{Part, Line, LongLine, PastLimit, line_feed, IsUnfinished, parts, whole_lines}
@@ -98,6 +98,16 @@ IsNext (Err TooLong) line old new = Begins old PastLimit
 abbrev pub line_feed_of : Bool → List ℕ
 line_feed_of true = []
 line_feed_of false = line_feed
+
+-- the line given last, with its line feed, and the bytes that were taken and not given yet
+abbrev pub last_taken : Reader → List ℕ
+last_taken reader = reader.line ++ (line_feed_of reader.ended ++ reader.rest)
+
+-- a line was given as soon as it was there: no byte that was to come is lost but the line's, and it and the bytes taken
+-- behind it stood in the room that a reader has
+pub record GivesNear (old new : Reader) (held held' : Option (List ℕ)) : Type 0 where
+  pub kept : Keeps (prepend_known old.rest held) (prepend_known (last_taken new) held')
+  pub near : length (last_taken new) ≤ window_limit
 
 -- what each answer says of the bytes: a line goes with its line feed, and otherwise none is lost
 abbrev pub IsSpent : Result (Option ℕ) LineFault → Reader → Option (List ℕ) → Option (List ℕ) → Type 0

@@ -5,7 +5,7 @@ ghost use Rattle.coy_io.specs.Limits.{line_limit, input_limit};
 ghost use Rattle.coy_io.specs.Causes.{Rose};
 ghost use Rattle.coy_io.specs.Pieces.{CountsIn};
 ghost use Rattle.coy_io.specs.Lines.{line_len, IsFront};
-ghost use Rattle.coy_io.specs.Reader.{Reader, new_reader, taken_by, bytes_ahead, ahead, IsLine, IsNext, IsSpent, IsLeft, TellsEnd, lines_in, ends_by, read_faults_in, giving, finished};
+ghost use Rattle.coy_io.specs.Reader.{Reader, new_reader, taken_by, bytes_ahead, ahead, GivesNear, IsLine, IsNext, IsSpent, IsLeft, TellsEnd, lines_in, ends_by, read_faults_in, giving, finished};
 
 use crate::last_line::LastLine;
 use crate::search::find_line;
@@ -114,6 +114,8 @@ impl LineReader {
         ensures bytes { let old = bytes_ahead self.old (S.held source.old) in
             let new = bytes_ahead self.new (S.held source.new) in IsSpent result self.new old new }
         ensures line { IfOk result (λ given. IfSome given (λ n. IsLine n self.new.line)) }
+        ensures near { IfOk result (λ given. OnSome given
+            (GivesNear self.old self.new (S.held source.old) (S.held source.new))) }
         ensures shorter { IfOk result (λ given. OnSome given (self.new.room < self.old.room)) }
         ensures number { self.new.number ≡ self.old.number + lines_in result }
         ensures failed { self.new.failed ≡ is_err result }

@@ -1,8 +1,9 @@
 //! The search for the end of a line, through a window into a source.
-ghost use Rattle.std.specs.Prelude.{◌≡◌, ◌≢◌, ◌<◌, ◌≤◌, length, Err};
+ghost use Rattle.std.specs.Prelude.{◌≡◌, ◌≢◌, ◌<◌, ◌≤◌, length, Err, OnOk};
 ghost use Rattle.std.specs.Io.KnownBytes.{Keeps, prepend_known};
 ghost use Rattle.coy_io.specs.Causes.{Rose};
 ghost use Rattle.coy_io.specs.Pieces.{CountsIn};
+ghost use Rattle.coy_io.specs.Limits.{window_limit};
 ghost use Rattle.coy_io.specs.Lines.{line_len};
 ghost use Rattle.coy_io.specs.Found.{IsFound, idle_in};
 
@@ -23,6 +24,7 @@ pub(crate) fn find_line<S: Source>(
     ensures counts { CountsIn S.given S.calls S.idle source.old source.new
         (length window.old) (length window.new) 0 (idle_in result) }
     ensures found { IsFound result window.new room (S.held source.new) }
+    ensures bound { OnOk result (length window.new ≤ window_limit) }
     ensures ahead { Keeps (prepend_known window.old (S.held source.old))
         (prepend_known window.new (S.held source.new)) }
     ensures untouched { line_len window.old < length window.old → source.new ≡ source.old }

@@ -1,4 +1,4 @@
-use Rattle.coy_io.proofs.Nexts.{IsDone-ended, IsLine-found, Advances-line, Consumes-line, IsNext-fault, IsNext-end}
+use Rattle.coy_io.proofs.Nexts.{IsDone-ended, IsLine-found, Advances-line, Consumes-line, IsNext-fault, IsNext-end, GivesNear-line, GivesNear-end}
 use Rattle.coy_io.specs.contracts.lines.LineReader.{the_view}
 use Rattle.coy_io.proofs.lines.LineReader.next.Goals as goal
 
@@ -21,6 +21,16 @@ pub returns-in-Ok-Some-clause-line : goal.returns-in-Ok-Some-clause-line
 returns-in-Ok-Some-clause-line g c =
     let e = rw c.in-Ok-Some.field-0-is at c.in-Ok-Some.ensures in
     rw (c.give.ensures.given, c.give.ensures.len) (IsLine-found _ _ _ e.found)
+
+pub returns-in-Ok-Some-clause-near : goal.returns-in-Ok-Some-clause-near
+returns-in-Ok-Some-clause-near g c =
+    let e = rw c.in-Ok-Some.field-0-is at c.in-Ok-Some.ensures in
+    rw (c.give.ensures.given, ← c.self.view_is) (GivesNear-line (the_view c.self.inside) _ _ _ _ c.if-self.false e.ahead e.found e.bound)
+
+pub returns-in-Ok-None-clause-near : goal.returns-in-Ok-None-clause-near
+returns-in-Ok-None-clause-near g c =
+    let e = rw c.in-Ok-None.field-0-is at c.in-Ok-None.ensures in
+    rw (c.finish.ensures.given, c.finish.ensures.finished, ← c.self.view_is) (GivesNear-end (the_view c.self.inside) _ _ _ e.ahead e.bound)
 
 pub returns-in-Ok-None-clause-next : goal.returns-in-Ok-None-clause-next
 returns-in-Ok-None-clause-next g c =
