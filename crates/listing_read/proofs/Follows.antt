@@ -1,9 +1,10 @@
 -- The listing while it is read: what the lines given and any others make is what those others make behind these statements.
 use Rattle.std.proofs.Common.{ℕ, ◌≡◌, ◌+◌, refl, sym, ap, ◌∙◌, append_assoc, append-nil, length-append, List, [], ◌∷◌, ◌++◌, length, Option, Some, None, Result, Ok, Err, false, subst, arith}
 use Rattle.std.specs.List.{All}
+use Rattle.std.specs.Io.KnownBytes.{Keeps, prepend_known}
 use Rattle.std.proofs.lemmas.List.Elements.{All-append, All-cons, All-nil}
 use Rattle.coy_io.specs.Lines.{Part, Line}
-use Rattle.coy_io.specs.Reader.{Reader, Advances, GivesLines, bytes_ahead, ahead}
+use Rattle.coy_io.specs.Reader.{Reader, Advances, GivesLines, bytes_ahead, ahead, last_taken}
 use Rattle.coy_io.proofs.GivenLaws.{Advances-nil, Advances-trans, GivesLines-nil, GivesLines-trans, GivesLines-kept}
 use Rattle.object_store.specs.Ranges.{IsWithinLimits}
 use Rattle.object_store.specs.declared.sizes.Sizes.{Sizes}
@@ -18,7 +19,7 @@ use Rattle.listing_read.specs.declared.place.Said.TheVariants.{Nothing, Opens, C
 use Rattle.listing_read.specs.declared.statement.Statement.{Statement}
 use Rattle.listing_read.specs.Statement.{IsStatement, IsTyped, ListingValue}
 use Rattle.listing_read.specs.Listing.{Listed, Good, Refused, Past, with_front, place_behind, place_with, listed_by, judged, listing_of, fault_at_end, IsListed, IsCause, IsSaid}
-use Rattle.listing_read.specs.Reads.{ReadsLine, IsStopped, GivesListing, GivesFront}
+use Rattle.listing_read.specs.Reads.{ReadsLine, IsStopped, GivesListing, GivesFront, GivesBefore}
 
 -- no statement in front
 with_front-nil : (listed : Listed) → with_front [] listed ≡ listed
@@ -203,6 +204,22 @@ module _ (old mid new : Reader) (held held' held'' : Option (List ℕ)) (stateme
         counted = stopped.counted ∙ follows.counted;
         fault = fault_at_end place;
         ends_early = rw stopped.counted (ap (listing_of Header (old.number + 1)) (sym (append-nil follows.given)) ∙ follows.makes [] ∙ ap (with_front statements) (listing_of-nil place (mid.number + 1)));
+      }
+
+  -- the lines before the next make no listing yet
+  pub gives_before : Follows old mid held held' statements place → ReadsLine mid new held' held'' → GivesBefore old new held held''
+  gives_before follows reads =
+      let gives = follows.gives reads.before in
+      let kept : Keeps (bytes_ahead mid held') (prepend_known (last_taken new) held'') = rw reads.before reads.near.kept in
+      record {
+        given = follows.given;
+        gives = GivesLines-kept (bytes_ahead old held) (bytes_ahead mid held') (prepend_known (last_taken new) held'') follows.given gives.1 kept;
+        near = reads.near.near;
+        fault = fault_at_end place;
+        ends_early =
+            ap (listing_of Header (old.number + 1)) (sym (append-nil follows.given)) ∙ follows.makes []
+            ∙ ap (with_front statements) (listing_of-nil place (mid.number + 1))
+            ∙ ap (λ n. Refused (n + 1) (fault_at_end place)) follows.counted;
       }
 
 -- the statements so far are ones of the place's machine, and there are none before it is known

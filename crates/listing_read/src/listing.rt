@@ -8,7 +8,7 @@ ghost use Rattle.object_store.specs.Ranges.{IsWithinLimits};
 ghost use Rattle.listing_read.specs.declared.place.Place.TheVariants.{Header};
 ghost use Rattle.listing_read.specs.Statement.{IsStatement, IsTyped, saying, silent};
 ghost use Rattle.listing_read.specs.Listing.{IsListed, IsCause, is_end};
-ghost use Rattle.listing_read.specs.Reads.{ReadsLine, IsStopped, GivesListing, GivesFront};
+ghost use Rattle.listing_read.specs.Reads.{ReadsLine, IsStopped, GivesListing, GivesFront, GivesBefore};
 
 use crate::fault::{Fault, ListingFault};
 use crate::place::{Place, Said, judge};
@@ -80,6 +80,7 @@ impl Listing {
 }
 
 /// Reads a listing up to its line `end`. The reader is new; afterwards it stands behind that line.
+/// Where memory is wanting, it stands behind a line of the listing.
 pub fn read_listing<S: Source>(
     alloc: Global,
     lines: &mut LineReader,
@@ -99,6 +100,12 @@ pub fn read_listing<S: Source>(
         GivesListing lines.old lines.new (S.held source.old) (S.held source.new) listing) }
     ensures front { result ≡ Err ListingFault.ReadFault →
         GivesFront lines.old lines.new (S.held source.old) (S.held source.new) }
+
+    // The line given last is that of `end`, or memory was wanting in the listing: no line behind it was given.
+    ensures last { OnOk result
+        (GivesBefore lines.old lines.new (S.held source.old) (S.held source.new)) }
+    ensures memory { result ≡ Err ListingFault.OutOfMemory →
+        GivesBefore lines.old lines.new (S.held source.old) (S.held source.new) }
 
     // What happens to the reader and to the source.
     ensures told { TellsEnd lines.old (S.held source.old) → TellsEnd lines.new (S.held source.new) }
@@ -141,6 +148,7 @@ fn next_line<S: Source>(
         IsStopped lines.old lines.new (S.held source.old) (S.held source.new) }
     ensures fault { let old = ahead lines.old (S.held source.old) in
         IfErr result (λ fault. IsCause fault place.now (lines.old.number + 1) old) }
+    ensures memory { result ≢ Err ListingFault.OutOfMemory }
     ensures told { TellsEnd lines.old (S.held source.old) → TellsEnd lines.new (S.held source.new) }
     ensures number { IfOk result (λ number. number ≡ lines.old.number + 1) }
     ensures bound { IfOk result (λ number. number < 2 ^ 32) }

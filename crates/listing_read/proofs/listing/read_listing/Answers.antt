@@ -1,7 +1,7 @@
 use Rattle.std.proofs.Common.{rules, Ok, Err, refl, ◌≡◌, ◌∷◌, ◌++◌, [], length, ap, ◌∙◌, arith, length-append}
 use Rattle.listing_read.specs.declared.place.Said.TheVariants.{Nothing, Opens, Calls, Says, Ends}
 use Rattle.listing_read.specs.Reads.{IsStopped}
-use Rattle.listing_read.proofs.Follows.{says, follows_start, gives_front, follows_nothing, follows_opens, follows_calls, follows_says, listed_end, gives_end, cause_judged, holds_opens, holds_calls, holds_says}
+use Rattle.listing_read.proofs.Follows.{says, follows_start, gives_before, gives_front, follows_nothing, follows_opens, follows_calls, follows_says, listed_end, gives_end, cause_judged, holds_opens, holds_calls, holds_says}
 use Rattle.listing_read.proofs.listing.read_listing.Goals as goal
 
 pub lines-init : goal.lines-init
@@ -89,6 +89,22 @@ returns-in-Ok-Ends-clause-given g c =
     let said = says c.lines.place c.line.result.now c.next_line.new.lines.line (Ok (Ends c.in-Ok-Ends.sizes)) c.line.ensures.value e.value in
     let next = c.in_ok-number.ensures in
     gives_end _ c.lines.lines c.next_line.new.lines _ _ _ c.lines.statements.items c.lines.place c.in-Ok-Ends.sizes c.lines.invariant.follows next.reads said
+
+pub returns-in-Ok-Ends-clause-last : goal.returns-in-Ok-Ends-clause-last
+returns-in-Ok-Ends-clause-last g c =
+    let next = c.in_ok-number.ensures in
+    gives_before _ c.lines.lines c.next_line.new.lines _ _ _ c.lines.statements.items c.lines.place c.lines.invariant.follows next.reads
+
+-- memory was wanting for a name or a statement of the listing
+pub returns-in_err-call-in-Ok-Calls-clause-memory : goal.returns-in_err-call-in-Ok-Calls-clause-memory
+returns-in_err-call-in-Ok-Calls-clause-memory g c = λ same.
+    let next = c.in_ok-number.ensures in
+    gives_before _ c.lines.lines c.next_line.new.lines _ _ _ c.lines.statements.items c.lines.place c.lines.invariant.follows next.reads
+
+pub returns-in_err-push-in-Ok-Says-clause-memory : goal.returns-in_err-push-in-Ok-Says-clause-memory
+returns-in_err-push-in-Ok-Says-clause-memory g c = λ same.
+    let next = c.in_ok-number.ensures in
+    gives_before _ c.lines.lines c.next_line.new.lines _ _ _ c.lines.statements.items c.lines.place c.lines.invariant.follows next.reads
 
 pub returns-in-Err-clause-fault : goal.returns-in-Err-clause-fault
 returns-in-Err-clause-fault g c =
