@@ -14,6 +14,7 @@ ghost use Rattle.schedule_replay.specs.Scheduled.{OnParts, scheduled};
 ghost use Rattle.courses.specs.Course.{cached};
 ghost use Rattle.courses.specs.Ending.{EndsIn};
 ghost use Rattle.courses.specs.Taken.{TakesLines, TakesListing};
+ghost use Rattle.courses.specs.Wanting.{StandsAtListing};
 ghost use Rattle.back_command.specs.Back.{back_course, undoing};
 ghost use Rattle.back_command.specs.Runs.{text_of, undos};
 ghost use Rattle.back_command.specs.Slots.{FetchesBetween, FetchesListed, FetchesUndoing};
@@ -48,6 +49,10 @@ pub fn back<S: Source, K: Sink, L: Ledger>(
     ensures fetched { IfSome (S.held input.old) (λ bytes.
         FetchesListed cached number fetches.old fetches.new result (listing_of Header 1 (parts_of bytes))) }
     ensures unspent { result ≡ Exit.OutOfMemory → fetches.new ≡ fetches.old }
+
+    // Where memory is wanting, no more was taken than a listing and what came with its last line.
+    ensures wanting { result ≡ Exit.OutOfMemory →
+        StandsAtListing (S.held input.old) (S.held input.new) }
 {
     let mut lines = LineReader::new();
     let listing = match read_head(alloc, &mut lines, input, output) {

@@ -6,6 +6,7 @@ ghost use Rattle.kernel_core.specs.State.{state_of};
 ghost use Rattle.courses.specs.Course.{cached, course_output};
 ghost use Rattle.courses.specs.Listed.{lines_course};
 ghost use Rattle.courses.specs.Taken.{TakesLines, TakesListing};
+ghost use Rattle.courses.specs.Wanting.{StandsAtListing};
 ghost use Rattle.courses.specs.Stopped.{stop_exit};
 ghost use Rattle.courses.specs.declared.exit.Exit.TheVariants.{CutRefused};
 ghost use Rattle.confine_command.specs.Confine.{checked, confine_course, NobodySleeps};
@@ -38,6 +39,10 @@ pub fn confine<S: Source, K: Sink, L: Ledger>(
     // What it tells of the cut is so of the listing's machine, for good.
     ensures decided { result ≡ Exit.Done → IfSome (S.held input.old) (λ bytes.
         IsDecided bytes (course_output (lines_course confine_course (parts_of bytes))).text) }
+
+    // Where memory is wanting, no more was taken than a listing and what came with its last line.
+    ensures wanting { result ≡ Exit.OutOfMemory →
+        StandsAtListing (S.held input.old) (S.held input.new) }
 {
     let mut lines = LineReader::new();
     let listing = match read_head(alloc, &mut lines, input, output) {

@@ -120,6 +120,16 @@ rose_after : (before faults faults' : ℕ) (exit : Exit) → (exit ≡ WriteFaul
 rose_after before faults faults' WriteFault wrote quiet later rose = let first : counted before ≤ faults = wrote refl in omega (arith, first, later)
 rose_after before faults faults' other wrote quiet later rose = subst (λ n. Rose n faults') (quiet (λ same. cc)) rose
 
+-- and no want of memory that there was not
+memory_before : (T E : Type 0) (exit : Exit) (flushed : Result T E) → exit_after exit flushed ≡ OutOfMemory → exit ≡ OutOfMemory
+memory_before T E exit (Ok done) same = same
+memory_before T E ReadFault (Err fault) same = let bad : 4 ≡ 6 = ap status_of same in absurd (omega (arith, bad))
+memory_before T E other (Err fault) same = let bad : 5 ≡ 6 = ap status_of same in absurd (omega (arith, bad))
+
+pub flush-wanting : (taken taken' gone' : Option (List ℕ)) (faults faults' : ℕ) (exit exit' : Exit) → EndsFlushed taken taken' gone' faults faults' exit exit'
+    → exit' ≡ OutOfMemory → exit ≡ OutOfMemory
+flush-wanting taken taken' gone' faults faults' exit exit' e same = memory_before _ _ exit e.flushed (sym e.ends ∙ same)
+
 -- what a program did is so of the writer behind the buffer, once that was flushed
 module _ {S W A : Type 0} (held : S → Option (List ℕ)) (source_faults : S → ℕ) (contents : W → Option (List ℕ)) (input input' : S) (old mid new : WriteSink (BufWriter W A)) (exit : Exit)
     (read_of : Option (List ℕ) → Option (List ℕ)) (out : List ℕ → Output) (sure_of : List ℕ → Course)

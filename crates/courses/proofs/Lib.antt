@@ -3,6 +3,7 @@ pub mod Lasts
 pub mod Concluding
 pub mod Sound
 pub mod Bytes
+pub mod Standing
 pub mod Unlisted
 pub mod Taken
 pub mod Rests

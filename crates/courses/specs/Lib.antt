@@ -9,6 +9,7 @@ pub mod Listed
 pub mod Running
 pub mod Sure
 pub mod Taken
+pub mod Wanting
 pub mod Head
 pub mod Flush
 pub mod Migrated

@@ -5,6 +5,7 @@ ghost use Rattle.listing_read.specs.declared.place.Place.TheVariants.{Header};
 ghost use Rattle.listing_read.specs.Listing.{IsListed};
 ghost use Rattle.listing_read.specs.Reads.{GivesListing};
 ghost use Rattle.courses.specs.Head.{EndsUnlisted};
+ghost use Rattle.courses.specs.Wanting.{StandsAtListing};
 
 use crate::ending::conclude;
 use crate::exit::Exit;
@@ -31,12 +32,15 @@ pub fn read_head<S: Source, K: Sink>(
         GivesListing lines.old lines.new (S.held input.old) (S.held input.new) listing) }
     ensures reader { OnOk result (lines.new.failed ≡ false) }
     ensures told { OnOk result (TellsEnd lines.new (S.held input.new)) }
+    ensures standing { OnOk result (StandsAtListing (S.held input.old) (S.held input.new)) }
     ensures silent { OnOk result (output.new ≡ output.old) }
     ensures quiet { OnOk result (S.faults input.new ≡ S.faults input.old) }
 
     // How a call ends that has no listing.
     ensures ended { IfErr result (λ exit. EndsUnlisted S.held S.faults K.taken K.faults
         input.old input.new output.old output.new exit) }
+    ensures wanting { IfErr result (λ exit. exit ≡ Exit.OutOfMemory →
+        StandsAtListing (S.held input.old) (S.held input.new)) }
 {
     match read_listing(alloc, lines, input) {
         Ok(listing) => Ok(listing),

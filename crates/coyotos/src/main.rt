@@ -1,11 +1,12 @@
 //! The program: standard input, standard output and the words after the program's name.
 #![tactic(auto)]
 
-ghost use Rattle.std.specs.Prelude.{◌≡◌, map, string_bytes, IfSome, Some};
+ghost use Rattle.std.specs.Prelude.{◌≡◌, ◌≢◌, map, string_bytes, IfSome, Some};
 ghost use Rattle.confine_command.specs.Decided.{IsDecided};
 ghost use Rattle.coyotos_words.specs.Command.{command_of};
-ghost use Rattle.coyotos_words.specs.declared.command.Command.TheVariants.{Confine};
+ghost use Rattle.coyotos_words.specs.declared.command.Command.TheVariants.{Confine, Unpack};
 ghost use Rattle.courses.specs.Flush.{AnswersFor, GoesOutFor};
+ghost use Rattle.courses.specs.Wanting.{StandsAtListing};
 ghost use Rattle.coyotos_cli.specs.Program.{out, sure};
 ghost use Rattle.coyotos_cli.specs.Contract.{bytes_for, HasForm, ReadsInput};
 ghost use Rattle.steps.specs.Permit.{permit_for};
@@ -73,6 +74,10 @@ fn run_and_flush<S: Source, W: Write + Drop, L: Ledger>(
     // How much of the input is read, and to which words Usage is answered.
     ensures reads { ReadsInput S.held (map string_bytes words.now) input.old input.new result }
     ensures form { HasForm (map string_bytes words.now) result }
+
+    // Where memory is wanting, no more was taken than a listing and what came with its last line.
+    ensures wanting { command_of (map string_bytes words.now) ≢ Some Unpack →
+        result ≡ Exit.OutOfMemory → StandsAtListing (S.held input.old) (S.held input.new) }
 {
     let exit = counted::<_, _, L>(alloc, words, input, output, permit);
     flush_after(exit, output)
@@ -96,6 +101,8 @@ fn counted<S: Source, K: Sink, L: Ledger>(
         IsDecided bytes (out words bytes).text) }
     ensures reads { ReadsInput S.held (map string_bytes words.now) input.old input.new result }
     ensures form { HasForm (map string_bytes words.now) result }
+    ensures wanting { command_of (map string_bytes words.now) ≢ Some Unpack →
+        result ≡ Exit.OutOfMemory → StandsAtListing (S.held input.old) (S.held input.new) }
 {
     let mut fetches = Steps::<L>::new(permit);
     coyotos(alloc, words, input, output, &mut fetches)

@@ -1,7 +1,7 @@
 //! A command, with the input or without.
 ghost use Rattle.std.specs.Prelude.{◌≡◌, ◌≢◌, true, false, IfSome, Some};
 ghost use Rattle.std.specs.Io.KnownBytes.{IsAtEnd};
-ghost use Rattle.coyotos_words.specs.declared.command.Command.TheVariants.{Confine, Help, Migrate, Pack, Share};
+ghost use Rattle.coyotos_words.specs.declared.command.Command.TheVariants.{Confine, Help, Migrate, Pack, Share, Unpack};
 ghost use Rattle.confine_command.specs.Decided.{IsDecided};
 ghost use Rattle.coyotos_cli.specs.Command.{asks_input, asks_run, has_cache};
 ghost use Rattle.coyotos_cli.specs.Contract.{ComesFor, StandsFor, bytes_for};
@@ -10,6 +10,7 @@ ghost use Rattle.coyotos_cli.specs.Program.{command_course, usage_text};
 ghost use Rattle.courses.specs.Course.{HasEntries, course_output};
 ghost use Rattle.courses.specs.Ending.{HasCauses, IsGiven, EndsIn};
 ghost use Rattle.courses.specs.Exit.{is_finished};
+ghost use Rattle.courses.specs.Wanting.{StandsAtListing};
 ghost use Rattle.image_commands.specs.Same.{IsImageOf};
 ghost use Rattle.migrate_command.specs.Same.{IsMigrated};
 ghost use Rattle.share_command.specs.Few.{IsSharedBounded, TellsFew};
@@ -76,6 +77,8 @@ pub(crate) fn answer<S: Source, K: Sink, L: Ledger>(
     // Why it may end otherwise.
     ensures usage { result ≢ Exit.Usage }
     ensures memory { command ≡ Help → result ≢ Exit.OutOfMemory }
+    ensures wanting { command ≢ Unpack → result ≡ Exit.OutOfMemory →
+        StandsAtListing (S.held input.old) (S.held input.new) }
     ensures causes { HasCauses (S.faults input.old) (S.faults input.new)
         (K.faults output.old) (K.faults output.new) result }
     ensures unwritten { result ≡ Exit.OutOfMemory → K.taken output.new ≡ K.taken output.old }

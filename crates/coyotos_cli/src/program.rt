@@ -1,7 +1,7 @@
 //! The top call.
-ghost use Rattle.std.specs.Prelude.{◌≡◌, map, string_bytes, true, IfSome, Some};
+ghost use Rattle.std.specs.Prelude.{◌≡◌, ◌≢◌, map, string_bytes, true, IfSome, Some};
 ghost use Rattle.coy_io.specs.Causes.{Rose};
-ghost use Rattle.coyotos_words.specs.declared.command.Command.TheVariants.{Confine, Migrate, Pack};
+ghost use Rattle.coyotos_words.specs.declared.command.Command.TheVariants.{Confine, Migrate, Pack, Unpack};
 ghost use Rattle.confine_command.specs.Decided.{IsDecided};
 ghost use Rattle.image_commands.specs.Same.{IsImageOf};
 ghost use Rattle.migrate_command.specs.Same.{IsMigrated};
@@ -9,6 +9,7 @@ ghost use Rattle.coyotos_words.specs.Command.{command_of};
 ghost use Rattle.coyotos_cli.specs.Command.{has_cache};
 ghost use Rattle.courses.specs.Course.{HasEntries};
 ghost use Rattle.courses.specs.Ending.{HasCauses, Completes};
+ghost use Rattle.courses.specs.Wanting.{StandsAtListing};
 ghost use Rattle.coyotos_cli.specs.Program.{out, sure, whole_course};
 ghost use Rattle.coyotos_cli.specs.Contract.{bytes_for, Answers, HasForm, ReadsInput, SharesFor, StandsFor, FetchesFor};
 
@@ -52,6 +53,10 @@ pub fn coyotos<S: Source, K: Sink, L: Ledger>(
     ensures form { HasForm (map string_bytes words.now) result }
     ensures causes { HasCauses (S.faults input.old) (S.faults input.new)
         (K.faults output.old) (K.faults output.new) result }
+
+    // Where memory is wanting, no more was taken than a listing and what came with its last line.
+    ensures wanting { command_of (map string_bytes words.now) ≢ Some Unpack →
+        result ≡ Exit.OutOfMemory → StandsAtListing (S.held input.old) (S.held input.new) }
 
     // What the mapping lines of `tables` say: each is right and its space live, none comes twice, those of a space are in
     // order of address, and where the need of the run fits, each covered pair of the last state has one.

@@ -7,6 +7,7 @@ ghost use Rattle.courses.specs.Course.{cached, course_output};
 ghost use Rattle.courses.specs.Ending.{EndsIn};
 ghost use Rattle.courses.specs.Listed.{lines_course};
 ghost use Rattle.courses.specs.Taken.{TakesLines, TakesListing};
+ghost use Rattle.courses.specs.Wanting.{StandsAtListing};
 ghost use Rattle.image_commands.specs.Packed.{pack_course};
 ghost use Rattle.image_commands.specs.Same.{IsImageOf};
 
@@ -26,6 +27,10 @@ pub fn answer_pack<S: Source, K: Sink>(alloc: Global, input: &mut S, output: &mu
     // What was written is an image for which `unpack` writes what `migrate` writes for the input.
     ensures packed { result ≡ Exit.Done → IfSome (S.held input.old) (λ bytes.
         IsImageOf bytes (course_output (lines_course pack_course (parts_of bytes))).text) }
+
+    // Where memory is wanting, no more was taken than a listing and what came with its last line.
+    ensures wanting { result ≡ Exit.OutOfMemory →
+        StandsAtListing (S.held input.old) (S.held input.new) }
 {
     let mut lines = LineReader::new();
     let listing = match read_head(alloc, &mut lines, input, output) {

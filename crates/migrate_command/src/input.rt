@@ -7,6 +7,7 @@ ghost use Rattle.courses.specs.Course.{cached, course_output};
 ghost use Rattle.courses.specs.Listed.{lines_course};
 ghost use Rattle.courses.specs.Taken.{TakesLines, TakesListing};
 ghost use Rattle.courses.specs.Migrated.{migrate_course};
+ghost use Rattle.courses.specs.Wanting.{StandsAtListing};
 ghost use Rattle.migrate_command.specs.Migrate.{lines_exit};
 ghost use Rattle.migrate_command.specs.Same.{IsMigrated, ReadsAgain};
 
@@ -27,6 +28,10 @@ pub fn migrate<S: Source, K: Sink>(alloc: Global, input: &mut S, output: &mut K)
     // What was written is, read again, the same statements and events.
     ensures migrated { result ≡ Exit.Done → IfSome (S.held input.old) (λ bytes.
         IsMigrated bytes (course_output (lines_course migrate_course (parts_of bytes))).text) }
+
+    // Where memory is wanting, no more was taken than a listing and what came with its last line.
+    ensures wanting { result ≡ Exit.OutOfMemory →
+        StandsAtListing (S.held input.old) (S.held input.new) }
 {
     let mut lines = LineReader::new();
     let listing = match read_head(alloc, &mut lines, input, output) {

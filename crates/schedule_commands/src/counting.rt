@@ -4,6 +4,7 @@ ghost use Rattle.coy_io.specs.Reader.{TellsEnd};
 ghost use Rattle.courses.specs.Course.{cached};
 ghost use Rattle.courses.specs.Ending.{EndsIn};
 ghost use Rattle.courses.specs.Taken.{TakesLines, TakesListing};
+ghost use Rattle.courses.specs.Wanting.{StandsAtListing};
 ghost use Rattle.schedule_commands.specs.Finished.{check_course, count_text};
 
 use courses::{Exit, conclude, counts_or_exit, end_with, read_head};
@@ -15,8 +16,12 @@ use std::alloc::Global;
 
 /// Reads a listing and its schedule, and writes how many events that has. No slot is fetched.
 pub fn check<S: Source, K: Sink>(alloc: Global, input: &mut S, output: &mut K) -> Exit
-    ensures { (fetches : ℕ) → TakesListing S.held S.faults K.taken K.faults
+    ensures course { (fetches : ℕ) → TakesListing S.held S.faults K.taken K.faults
         input.old input.new output.old output.new fetches fetches result cached check_course }
+
+    // Where memory is wanting, no more was taken than a listing and what came with its last line.
+    ensures wanting { result ≡ Exit.OutOfMemory →
+        StandsAtListing (S.held input.old) (S.held input.new) }
 {
     let mut lines = LineReader::new();
     let listing = match read_head(alloc, &mut lines, input, output) {

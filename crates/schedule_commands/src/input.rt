@@ -4,6 +4,7 @@ ghost use Rattle.coy_io.specs.Lines.{parts_of};
 ghost use Rattle.courses.specs.Course.{HasEntries, cached};
 ghost use Rattle.courses.specs.Listed.{lines_course};
 ghost use Rattle.courses.specs.Taken.{TakesListing};
+ghost use Rattle.courses.specs.Wanting.{StandsAtListing};
 ghost use Rattle.schedule_commands.specs.Finished.{schedule_course};
 
 use crate::command::ScheduleCommand;
@@ -30,6 +31,10 @@ pub fn answer_schedule<S: Source, K: Sink, L: Ledger>(
     // What the entries of the mapping cache say then.
     ensures entries { result ≡ Exit.Done → IfSome (S.held input.old) (λ bytes.
         HasEntries (lines_course (schedule_course command) (parts_of bytes))) }
+
+    // Where memory is wanting, no more was taken than a listing and what came with its last line.
+    ensures wanting { result ≡ Exit.OutOfMemory →
+        StandsAtListing (S.held input.old) (S.held input.new) }
 {
     let mut lines = LineReader::new();
     let listing = match read_head(alloc, &mut lines, input, output) {

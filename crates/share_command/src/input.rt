@@ -8,6 +8,7 @@ ghost use Rattle.kernel_core.specs.State.{state_of};
 ghost use Rattle.schedule_replay.specs.Scheduled.{scheduled};
 ghost use Rattle.courses.specs.Listed.{lines_course};
 ghost use Rattle.courses.specs.Taken.{TakesLines, TakesListing};
+ghost use Rattle.courses.specs.Wanting.{StandsAtListing};
 ghost use Rattle.share_command.specs.Few.{IsSharedBounded, TellsFew};
 ghost use Rattle.share_command.specs.Share.{share_course, shared_fetched, sharing};
 
@@ -39,6 +40,10 @@ pub fn share<S: Source, K: Sink, L: Ledger>(
         TellsFew (lines_course share_course (parts_of bytes))) }
     ensures bounded { IfSome (S.held input.old) (λ bytes.
         IsSharedBounded fetches.old fetches.new (lines_course share_course (parts_of bytes))) }
+
+    // Where memory is wanting, no more was taken than a listing and what came with its last line.
+    ensures wanting { result ≡ Exit.OutOfMemory →
+        StandsAtListing (S.held input.old) (S.held input.new) }
 {
     let mut lines = LineReader::new();
     let listing = match read_head(alloc, &mut lines, input, output) {

@@ -3,6 +3,7 @@ use Rattle.courses.specs.Course.{cached}
 use Rattle.courses.specs.declared.exit.Exit.TheVariants.{Done}
 use Rattle.courses.proofs.Bytes.{known-output}
 use Rattle.courses.proofs.Lasts.{ends-causes, none-entries}
+use Rattle.courses.proofs.Standing.{stands-unread}
 use Rattle.coyotos_words.specs.declared.command.Command.TheVariants.{Help, Check, Schedule, Make, Pack, Unpack, Migrate, Confine, Share}
 use Rattle.share_command.specs.Share.{shared_fetched}
 use Rattle.coyotos_cli.specs.Command.{asks_run}
@@ -23,6 +24,12 @@ returns-in-Help-clause-unread g c = λ off. refl
 
 pub returns-in-Help-clause-causes : goal.returns-in-Help-clause-causes
 returns-in-Help-clause-causes g c = ends-causes _ _ _ _ _ _ c.usage.ensures _ _ _ (λ bad. cc) refl refl
+
+pub returns-in-Help-clause-wanting : goal.returns-in-Help-clause-wanting
+returns-in-Help-clause-wanting g c = λ other same. stands-unread _
+
+pub returns-in-Make-clause-wanting : goal.returns-in-Make-clause-wanting
+returns-in-Make-clause-wanting g c = λ other same. stands-unread _
 
 pub returns-in-Make-clause-comes : goal.returns-in-Make-clause-comes
 returns-in-Make-clause-comes g c = rw c.in-Make.is (comes-told (Make c.in-Make.number c.in-Make.summary) _ _ _ _ _ cached refl _ c.make.ensures.comes)
@@ -53,25 +60,25 @@ returns-in-Schedule-clause-entries g c = λ done has. rw c.in-Schedule.is (c.ans
 -- ---- what is no schedule over the mapping cache
 
 pub returns-in-Check-clause-comes : goal.returns-in-Check-clause-comes
-returns-in-Check-clause-comes g c = rw c.in-Check.is (comes-known Check _ _ _ _ _ cached refl _ _ (c.check.ensures _).comes)
+returns-in-Check-clause-comes g c = rw c.in-Check.is (comes-known Check _ _ _ _ _ cached refl _ _ (c.check.ensures.course _).comes)
 
 pub returns-in-Check-clause-sure : goal.returns-in-Check-clause-sure
-returns-in-Check-clause-sure g c = λ fault. rw c.in-Check.is (stands-told (Some Check) _ _ _ _ _ _ cached refl _ ((c.check.ensures _).sure fault))
+returns-in-Check-clause-sure g c = λ fault. rw c.in-Check.is (stands-told (Some Check) _ _ _ _ _ _ cached refl _ ((c.check.ensures.course _).sure fault))
 
 pub returns-in-Check-clause-entries : goal.returns-in-Check-clause-entries
 returns-in-Check-clause-entries g c = λ done has. rw c.in-Check.is (known-check _)
 
 pub returns-in-Check-clause-end : goal.returns-in-Check-clause-end
-returns-in-Check-clause-end g c = λ done asks. (c.check.ensures 0).end done
+returns-in-Check-clause-end g c = λ done asks. (c.check.ensures.course 0).end done
 
 pub returns-in-Check-clause-usage : goal.returns-in-Check-clause-usage
-returns-in-Check-clause-usage g c = (c.check.ensures 0).usage
+returns-in-Check-clause-usage g c = (c.check.ensures.course 0).usage
 
 pub returns-in-Check-clause-causes : goal.returns-in-Check-clause-causes
-returns-in-Check-clause-causes g c = (c.check.ensures 0).causes
+returns-in-Check-clause-causes g c = (c.check.ensures.course 0).causes
 
 pub returns-in-Check-clause-unwritten : goal.returns-in-Check-clause-unwritten
-returns-in-Check-clause-unwritten g c = (c.check.ensures 0).unwritten
+returns-in-Check-clause-unwritten g c = (c.check.ensures.course 0).unwritten
 
 pub returns-in-Pack-clause-comes : goal.returns-in-Pack-clause-comes
 returns-in-Pack-clause-comes g c = rw c.in-Pack.is (comes-known Pack _ _ _ _ _ cached refl _ _ (c.answer_pack.ensures.course _).comes)
@@ -114,6 +121,9 @@ returns-in-Unpack-clause-causes g c = (c.answer_unpack.ensures 0).causes
 
 pub returns-in-Unpack-clause-unwritten : goal.returns-in-Unpack-clause-unwritten
 returns-in-Unpack-clause-unwritten g c = (c.answer_unpack.ensures 0).unwritten
+
+pub returns-in-Unpack-clause-wanting : goal.returns-in-Unpack-clause-wanting
+returns-in-Unpack-clause-wanting g c = λ other. absurd (other c.in-Unpack.is)
 
 pub returns-in-Migrate-clause-comes : goal.returns-in-Migrate-clause-comes
 returns-in-Migrate-clause-comes g c = rw c.in-Migrate.is (comes-known Migrate _ _ _ _ _ cached refl _ _ (c.migrate.ensures.course _).comes)

@@ -1,5 +1,6 @@
-use Rattle.std.proofs.Common.{◌∙◌, sym, ap, map, string_bytes}
+use Rattle.std.proofs.Common.{◌∙◌, Some, sym, ap, map, string_bytes}
 use Rattle.courses.specs.Course.{HasEntries}
+use Rattle.courses.proofs.Standing.{stands-unread}
 use Rattle.coyotos_cli.specs.Command.{has_cache}
 use Rattle.coyotos_words.specs.declared.command.Command.TheVariants.{Confine, Migrate, Pack}
 use Rattle.confine_command.specs.Decided.{IsDecided}
@@ -10,6 +11,12 @@ use Rattle.coyotos_cli.proofs.program.coyotos.Goals as goal
 
 pub returns-in-Err-clause-form : goal.returns-in-Err-clause-form
 returns-in-Err-clause-form g c = form-memory string_bytes c.args.words.now c.read_command.result _ c.in-Err.is c.read_command.ensures.early
+
+pub returns-in-Err-clause-wanting : goal.returns-in-Err-clause-wanting
+returns-in-Err-clause-wanting g c = λ other same. stands-unread _
+
+pub returns-in-Ok-None-clause-wanting : goal.returns-in-Ok-None-clause-wanting
+returns-in-Ok-None-clause-wanting g c = λ other same. stands-unread _
 
 pub returns-clause-answers : goal.returns-clause-answers
 returns-clause-answers g c =
@@ -61,3 +68,8 @@ pub returns-clause-decided : goal.returns-clause-decided
 returns-clause-decided g c =
     let asked = sym c.in-Ok-Some.ensures.asked ∙ c.in-Ok-Some.field-0-is in
     λ is done. text-words (map string_bytes c.args.words.now) _ asked IsDecided Confine is _ (λ same. c.answer.ensures.decided same done)
+
+pub returns-clause-wanting : goal.returns-clause-wanting
+returns-clause-wanting g c =
+    let asked = sym c.in-Ok-Some.ensures.asked ∙ c.in-Ok-Some.field-0-is in
+    λ other. c.answer.ensures.wanting (λ same. other (asked ∙ ap Some same))
