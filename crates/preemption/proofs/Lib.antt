@@ -1,7 +1,12 @@
 mod Thinning
+mod Leaving
+mod Keeping
+mod Taking
 mod Systems
 mod States
 mod Instructions
+mod Events
+mod Runs
 mod Nobody
 mod Beginning
 mod Idling

@@ -1,5 +1,5 @@
 -- The laws of preemption, as statements.
-use Rattle.std.specs.Prelude.{◌≡◌, ◌↔◌, ℕ, ◌<◌, List, [], length, None}
+use Rattle.std.specs.Prelude.{◌≡◌, ◌↔◌, ℕ, ◌<◌, Bool, false, List, [], ◌∷◌, length, None}
 use Rattle.std.specs.List.{All}
 use Rattle.schedules.specs.Queues.{QueuesValue, ready_queue, hart_of}
 use Rattle.machine_state.specs.declared.event.Event.{Event}
@@ -8,11 +8,45 @@ use Rattle.machine_state.specs.State.{State, IsOnHart}
 use Rattle.kernel_core.specs.Run.{run_state, run_records}
 use Rattle.independence.specs.Rewrite.{SameButData}
 use Rattle.preemption.specs.Wide.{Spread, IsForEach}
+use Rattle.preemption.specs.Turns.{AreTurns, steps_of, InTurns, StaysForEach}
 use Rattle.preemption.specs.Begun.{at_home, at_rest, with_idle}
 
 -- the events are of harts below this number
 abbrev pub AreOf : ℕ → List Event → Type 0
 AreOf harts es = All (λ e. hart_in e < harts) es
+
+-- One event is at most one turn.
+abbrev pub EventLaw : Type 0
+EventLaw = (few many : ℕ) (s w : State) (e : Event)
+    → Spread few many s w → IsForEach many w
+    → hart_in e < few
+    → InTurns few many s (e ∷ []) w
+
+-- A run is a list of turns.
+abbrev pub RunLaw : Type 0
+RunLaw = (few many : ℕ) (s w : State) (es : List Event)
+    → Spread few many s w → StaysForEach many w
+    → AreOf few es
+    → InTurns few many s es w
+
+-- Two states are the same but for places: for how many harts there are, and for who is on which
+-- hart or in which ready queue.
+pub record SameButPlaces (s t : State) : Type 0 where
+  pub items : s.store.items ≡ t.store.items
+  pub contents : s.store.contents ≡ t.store.contents
+  pub sleepers : s.queues.sleepers ≡ t.queues.sleepers
+  pub halted : s.halted ≡ t.halted
+
+-- what is asked of a state depends on no place
+abbrev pub SeesNoPlaces : (State → Bool) → Type 0
+SeesNoPlaces test = (s t : State) → SameButPlaces s t → test s ≡ test t
+
+-- What holds after no turns holds after no events.
+abbrev pub NeverLaw : Type 0
+NeverLaw = (few many : ℕ) (test : State → Bool) (s w : State)
+    → Spread few many s w → StaysForEach many w → SeesNoPlaces test
+    → ((ps : List ℕ) → AreTurns w ps → test (run_state w (steps_of ps)) ≡ false)
+    → (es : List Event) → AreOf few es → test (run_state s es) ≡ false
 
 -- nobody is on a hart or in a ready queue
 pub record NobodyGoesOn (q : QueuesValue) : Type 0 where

@@ -1,17 +1,42 @@
-//! Preemption: machines with few harts beside machines with a hart for each process.
+//! Preemption: what holds of a machine with a hart for each process holds of the same machine with
+//! any number of harts, whatever their timers do.
 //!
 //! In a machine with few harts a process waits for one, and a tick hands its hart to the next. In
 //! a wide machine, with a hart for each process, who has a hart keeps it until it waits, receives,
-//! faults, yields or is stopped. A state of the narrow machine is spread to one of the wide machine
-//! with the same objects, where each process that is on a hart of the narrow machine is on the hart
-//! of its own number, and so may be others that wait for a hart. The laws say where the wide
-//! machine begins, when nobody goes on, and that idle harts change nothing.
+//! faults, yields or is stopped. Beside each state of the narrow machine there is one of the wide
+//! machine with the same objects. Each process that is on a hart of the narrow machine is on the
+//! hart of its own number in the wide one, and so may be others that wait for a hart. One event of
+//! the narrow machine is then at most one step of the wide one, and a tick is none. So what is
+//! asked of all runs, and doesn't depend on where a process stands, may be asked of the wide
+//! machine, and there of steps alone.
+//!
+//! The laws ask that each process that is on a hart of the wide machine runs and has a schedule:
+//! without one, a process faults at a tick.
 //!
 //! There is no code here. Each function has a law as its contract; the definitions are in
 //! `specs/`.
 #![tactic(auto)]
 
-ghost use Rattle.preemption.specs.Laws.{StuckLaw, StartLaw, RestLaw, MoreLaw, SeesLaw};
+ghost use Rattle.preemption.specs.Laws.{EventLaw, RunLaw, NeverLaw, StuckLaw};
+ghost use Rattle.preemption.specs.Laws.{StartLaw, RestLaw, MoreLaw, SeesLaw};
+
+/// One event of a machine with few harts is at most one step of a wide machine, with the same
+/// records: the step of the hart of process `p`, which `p` performs. A tick is no step.
+pub fn event_law()
+    ensures { EventLaw }
+{}
+
+/// A run of a machine with few harts is a run of a wide machine, of such steps alone, with no more
+/// steps than it has events.
+pub fn run_law()
+    ensures { RunLaw }
+{}
+
+/// A test that doesn't depend on places, and holds after no such run of the wide machine, holds
+/// after no run of the machine with few harts.
+pub fn never_law()
+    ensures { NeverLaw }
+{}
 
 /// In the machine with few harts nobody goes on exactly where nobody does in the wide one.
 pub fn stuck_law()
