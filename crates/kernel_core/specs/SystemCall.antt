@@ -107,9 +107,12 @@ system_call s p = call_of s p (call_with (register_of s p 17))
 
 -- a call, where it is one of those that move a capability, 1 to 3
 abbrev pub moving : Option SystemCall → Option SystemCall
+moving None = None
 moving (Some Invoke) = None
+moving (Some LoadCap) = Some LoadCap
+moving (Some StoreCap) = Some StoreCap
+moving (Some CopyCap) = Some CopyCap
 moving (Some Yield) = None
-moving call = call
 
 -- the system call whose number is in x17, where it moves a capability; any other is no call
 unfoldable pub move_cap : State → ℕ → Outcome

@@ -95,10 +95,12 @@ pub fn move_cap<T: Translator, O: Observer, L: Ledger>(
         Leaves (process_name p ∷ outcome.changed) machine.old machine.new }
 {
     match SystemCall::from_number(machine.registers(p)[17]) {
-        None => malformed(machine, p, observer, fetches),
-        Some(SystemCall::Invoke) => malformed(machine, p, observer, fetches),
-        Some(SystemCall::Yield) => malformed(machine, p, observer, fetches),
-        Some(_) => system_call(machine, p, observer, fetches),
+        None | Some(SystemCall::Invoke | SystemCall::Yield) => {
+            malformed(machine, p, observer, fetches)
+        }
+        Some(SystemCall::LoadCap | SystemCall::StoreCap | SystemCall::CopyCap) => {
+            system_call(machine, p, observer, fetches)
+        }
     }
 }
 
