@@ -42,7 +42,8 @@ pub(crate) fn holds_without<T: Translator, L: Ledger>(
     fetches: &mut Steps<L>,
 ) -> Result<bool, OutOfMemory>
     requires { IsMade (length policy.old.domains) line }
-    ensures value { IfOk result (λ yes. yes ≡ holds_in (without policy.old line) (state_of machine.now)) }
+    ensures value { IfOk result (λ yes. yes
+        ≡ holds_in (without policy.old line) (state_of machine.now)) }
     ensures same { policy.new ≡ policy.old }
     ensures counted { IfOk result (λ yes. fetches.new ≡
         fetches.old + 16 * size_of machine.now.objects.items Gpt) }

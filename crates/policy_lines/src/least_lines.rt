@@ -38,8 +38,10 @@ pub fn least<T: Translator, L: Ledger>(
     policy: &mut Policy,
     fetches: &mut Steps<L>,
 ) -> Result<Needed, OutOfMemory>
-    ensures value { IfOk result (λ needed. needed_value needed ≡ needed_in policy.old (state_of machine.now)) }
-    ensures least { IfOk result (λ needed. IsNeeded policy.old (state_of machine.now) (needed_value needed)) }
+    ensures value { IfOk result (λ needed. needed_value needed
+        ≡ needed_in policy.old (state_of machine.now)) }
+    ensures least { IfOk result (λ needed.
+        IsNeeded policy.old (state_of machine.now) (needed_value needed)) }
     ensures after { policy.new ≡ bare_policy policy.old }
     ensures counted { IfOk result (λ needed. fetches.new ≡
         fetches.old + 16 * size_of machine.now.objects.items Gpt * passages_in policy.old (state_of machine.now)) }
@@ -63,7 +65,8 @@ fn find_needed<T: Translator, L: Ledger>(
     policy: &mut Policy,
     fetches: &mut Steps<L>,
 ) -> Result<Needed, OutOfMemory>
-    ensures value { IfOk result (λ needed. needed_value needed ≡ needed_in policy.old (state_of machine.now)) }
+    ensures value { IfOk result (λ needed. needed_value needed
+        ≡ needed_in policy.old (state_of machine.now)) }
     ensures bare { bare_policy policy.new ≡ bare_policy policy.old }
     ensures counted { IfOk result (λ needed. fetches.new ≡
         fetches.old + 16 * size_of machine.now.objects.items Gpt * passages_in policy.old (state_of machine.now)) }
@@ -175,7 +178,8 @@ fn holds_with<T: Translator, L: Ledger>(
 ) -> Result<bool, OutOfMemory>
     requires kept { All (IsMade (length policy.old.domains)) kept.now }
     requires rest { All (IsMade (length policy.old.domains)) rest.now }
-    ensures value { IfOk result (λ yes. yes ≡ holds_in (only policy.old (kept.now ++ rest.now)) (state_of machine.now)) }
+    ensures value { IfOk result (λ yes. yes
+        ≡ holds_in (only policy.old (kept.now ++ rest.now)) (state_of machine.now)) }
     ensures after { policy.new ≡ only policy.old (kept.now ++ rest.now) }
     ensures counted { IfOk result (λ yes. fetches.new ≡
         fetches.old + 16 * size_of machine.now.objects.items Gpt) }

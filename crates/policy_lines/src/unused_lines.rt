@@ -30,7 +30,8 @@ pub fn unused<T: Translator, L: Ledger>(
     policy: &mut Policy,
     fetches: &mut Steps<L>,
 ) -> Result<Vec<Permission>, OutOfMemory>
-    ensures value { IfOk result (λ found. found.items ≡ unused_in policy.old (state_of machine.now)) }
+    ensures value { IfOk result (λ found. found.items
+        ≡ unused_in policy.old (state_of machine.now)) }
     ensures each { IfOk result (λ found. (line : Permission) → Contains found.items line ↔
         IsUnused policy.old (system_of (state_of machine.now)) line) }
     ensures same { policy.new ≡ policy.old }
@@ -52,7 +53,8 @@ fn all_unused<T: Translator, L: Ledger>(
     policy: &mut Policy,
     fetches: &mut Steps<L>,
 ) -> Result<Vec<Permission>, OutOfMemory>
-    ensures value { IfOk result (λ found. found.items ≡ unused_in policy.old (state_of machine.now)) }
+    ensures value { IfOk result (λ found. found.items
+        ≡ unused_in policy.old (state_of machine.now)) }
     ensures same { policy.new ≡ policy.old }
     ensures counted { IfOk result (λ found. fetches.new ≡
         fetches.old + 16 * size_of machine.now.objects.items Gpt * length (channels_of policy.old)) }

@@ -32,7 +32,8 @@ pub fn crosses<T: Translator, L: Ledger>(
     requires { IsClosure policy.now closure.now }
     ensures value { result ≡ crosses policy.now (state_of machine.now) }
     ensures exactly { (result ≡ false) ↔ PolicyHolds policy.now (system_of (state_of machine.now)) }
-    ensures counted { result ≡ false → fetches.new ≡ fetches.old + 16 * size_of machine.now.objects.items Gpt }
+    ensures counted { result ≡ false → fetches.new
+        ≡ fetches.old + 16 * size_of machine.now.objects.items Gpt }
     ensures least { fetches.old ≤ fetches.new }
     ensures most { fetches.new ≤ fetches.old + 16 * size_of machine.now.objects.items Gpt }
 {
@@ -65,7 +66,8 @@ fn any_crosses<L: Ledger>(
     requires closure { IsClosure policy.now closure.now }
     requires processes { length queues.now.sleepers ≡ size_of objects.now.items CapKind.Process }
     ensures value { result ≡ is_any (crossings_of policy.now objects.now queues.now) }
-    ensures counted { result ≡ false → fetches.new ≡ fetches.old + 16 * size_of objects.now.items Gpt }
+    ensures counted { result ≡ false → fetches.new
+        ≡ fetches.old + 16 * size_of objects.now.items Gpt }
     ensures least { fetches.old ≤ fetches.new }
     ensures most { fetches.new ≤ fetches.old + 16 * size_of objects.now.items Gpt }
 {
@@ -84,7 +86,8 @@ fn capability_crosses<L: Ledger>(
 ) -> bool
     requires { IsClosure policy.now closure.now }
     ensures value { result ≡ is_any (capability_crossings policy.now (stored_cap objects.now) objects.now) }
-    ensures counted { result ≡ false → fetches.new ≡ fetches.old + 16 * size_of objects.now.items Gpt }
+    ensures counted { result ≡ false → fetches.new
+        ≡ fetches.old + 16 * size_of objects.now.items Gpt }
     ensures least { fetches.old ≤ fetches.new }
     ensures most { fetches.new ≤ fetches.old + 16 * size_of objects.now.items Gpt }
 {

@@ -33,7 +33,8 @@ pub fn is_indifferent<T: Translator, L: Ledger>(
     ensures value { result ≡
         (not (list_any is_about_policy question.now.properties) || not (crosses policy.now (state_of machine.now))) }
     ensures indifferent { IsTrue result → IsIndifferent question.now policy.now (state_of machine.now) }
-    ensures unasked { list_any is_about_policy question.now.properties ≡ false → fetches.new ≡ fetches.old }
+    ensures unasked { list_any is_about_policy question.now.properties ≡ false →
+        fetches.new ≡ fetches.old }
     ensures least { fetches.old ≤ fetches.new }
     ensures most { fetches.new ≤ fetches.old + 16 * size_of machine.now.objects.items Gpt }
 {
@@ -53,7 +54,8 @@ pub fn first_failing<T: Translator, L: Ledger>(
 ) -> Option<usize>
     requires sizes { question.now.sizes ≡ sizes_of machine.now.objects }
     requires closure { IsClosure policy.now closure.now }
-    requires indifferent { IsTrue indifferent → IsIndifferent question.now policy.now (state_of machine.now) }
+    requires indifferent { IsTrue indifferent →
+        IsIndifferent question.now policy.now (state_of machine.now) }
     ensures value { result ≡ first_failing question.now policy.now (state_of machine.now) }
     ensures least { fetches.old ≤ fetches.new }
     ensures most { fetches.new ≤ fetches.old + 16 * size_of machine.now.objects.items Gpt
@@ -83,7 +85,8 @@ pub fn holds<T: Translator, L: Ledger>(
 ) -> bool
     requires sizes { question.now.sizes ≡ sizes_of machine.now.objects }
     requires closure { IsClosure policy.now closure.now }
-    requires indifferent { IsTrue indifferent → IsIndifferent question.now policy.now (state_of machine.now) }
+    requires indifferent { IsTrue indifferent →
+        IsIndifferent question.now policy.now (state_of machine.now) }
     requires there { property < length question.now.properties }
     ensures value { result ≡ holds question.now policy.now (state_of machine.now) property }
     ensures least { fetches.old ≤ fetches.new }
@@ -115,7 +118,8 @@ pub fn first_holds<T: Translator, L: Ledger>(
 ) -> bool
     requires sizes { question.now.sizes ≡ sizes_of machine.now.objects }
     requires closure { IsClosure policy.now closure.now }
-    requires indifferent { IsTrue indifferent → IsIndifferent question.now policy.now (state_of machine.now) }
+    requires indifferent { IsTrue indifferent →
+        IsIndifferent question.now policy.now (state_of machine.now) }
     requires there { property < length question.now.properties }
     ensures value { result ≡ first_holds question.now policy.now (state_of machine.now) property }
     ensures least { fetches.old ≤ fetches.new }

@@ -60,7 +60,8 @@ impl Question {
     /// The choices, in the order in which they are tried: those that were stated, or each event of each hart.
     pub fn choices(&self, alloc: Global) -> Result<Vec<Choice>, OutOfMemory>
         ensures value { IfOk result (λ choices. choices.items ≡ choices_of self.now) }
-        ensures range { IfOk result (λ choices. All (IsChoiceOf self.now.sizes.harts) choices.items) }
+        ensures range { IfOk result (λ choices.
+            All (IsChoiceOf self.now.sizes.harts) choices.items) }
         ensures once { EachOnce (choices_of self.now) }
     {
         if self.choices.is_empty() {

@@ -58,7 +58,8 @@ pub fn sleeper_on(queues: &Queues, policy: &Policy, p: u16, on: u16) -> Option<C
 /// Puts down the crossings of a process that sleeps, of so many processes. There is room for them.
 fn push_process(queues: &Queues, count: u16, policy: &Policy, p: u16, found: &mut Vec<Crossing>)
     requires processes { count ≡ length queues.now.sleepers }
-    requires room { vec_len found.old + length (process_crossings policy.now queues.now p) ≤ vec_capacity found.old }
+    requires room { vec_len found.old + length (process_crossings policy.now queues.now p)
+        ≤ vec_capacity found.old }
     ensures value { found.new.items ≡ found.old.items ++ process_crossings policy.now queues.now p }
     ensures capacity { vec_capacity found.new ≡ vec_capacity found.old }
 {
@@ -106,7 +107,8 @@ pub fn sleeper_limit(queues: &Queues, count: u16) -> u32
 /// Puts down the crossings of all processes that sleep on any of so many, by their numbers. There is room for them.
 pub(crate) fn push_sleepers(queues: &Queues, count: u16, policy: &Policy, found: &mut Vec<Crossing>)
     requires processes { count ≡ length queues.now.sleepers }
-    requires room { vec_len found.old + length (sleeper_crossings policy.now queues.now) ≤ vec_capacity found.old }
+    requires room { vec_len found.old + length (sleeper_crossings policy.now queues.now)
+        ≤ vec_capacity found.old }
     ensures value { found.new.items ≡ found.old.items ++ sleeper_crossings policy.now queues.now }
     ensures capacity { vec_capacity found.new ≡ vec_capacity found.old }
 {

@@ -116,7 +116,8 @@ impl ObjectDomains {
     fn extend(&mut self, from: u16, to: u16, domain: u8)
         requires order { from ≤ to }
         requires there { to < length self.old }
-        requires free { list_any (is_other domain) (take (to + 1 - from) (drop from self.old)) ≡ false }
+        requires free { list_any (is_other domain) (take (to + 1 - from) (drop from self.old))
+            ≡ false }
         ensures { self.new ≡ assigned_between self.old from to domain }
     {
         let first = from as usize;
