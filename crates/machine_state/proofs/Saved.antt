@@ -133,7 +133,7 @@ slots_end places i past = ap slots_back (drop_all i places past)
 module _ {K : Type 0} (cost : K → Items → Capability → ℕ → Kind → ℕ) (after : K → Items → Capability → ℕ → Kind → K) (without : K → Item → K) (k : K) where
   pub kept_next : (places : List Place) (i : ℕ) (d : Place) → i < length places
       → kept_after cost after without k (touches_back (drop i places))
-          ≡ kept_after cost after without (without k (Header (get_or places i d).kind (get_or places i d).number)) (touches_back (drop (i + 1) places))
+      ≡ kept_after cost after without (without k (Header (get_or places i d).kind (get_or places i d).number)) (touches_back (drop (i + 1) places))
   kept_next places i d within = ap (λ rest. kept_after cost after without k (touches_back rest)) (drop_more places i d within)
 
   pub kept_end : (places : List Place) (i : ℕ) → length places ≤ i → kept_after cost after without k (touches_back (drop i places)) ≡ k

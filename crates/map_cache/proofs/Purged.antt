@@ -95,7 +95,7 @@ left-kept v cache item hart =
     noted root page =
         same_tests (list_any (takes_out root page item) v.records) (list_any (λ d. is_under v.keys root page item (note_of v.keys d)) v.records)
         (λ is. let found = any_has (takes_out root page item) v.records is in
-            has_any (λ d. is_under v.keys root page item (note_of v.keys d)) v.records found.0 found.1.0 (sym (one root page found.0 found.1.0) ∙ found.1.1))
+        has_any (λ d. is_under v.keys root page item (note_of v.keys d)) v.records found.0 found.1.0 (sym (one root page found.0 found.1.0) ∙ found.1.1))
         (λ is. let found = any_has (λ d. is_under v.keys root page item (note_of v.keys d)) v.records is in
-            has_any (takes_out root page item) v.records found.0 found.1.0 (one root page found.0 found.1.0 ∙ found.1.1))
+        has_any (takes_out root page item) v.records found.0 found.1.0 (one root page found.0 found.1.0 ∙ found.1.1))
         ∙ sym (any-items space_coding (space_at v.keys) (is_under v.keys root page item) v.records)
