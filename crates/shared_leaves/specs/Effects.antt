@@ -10,6 +10,7 @@ use Rattle.sv32_tables.specs.declared.leaf.Leaf.{Leaf as Entry}
 use Rattle.sv32_tables.specs.Shared.{IsSharedRoot, entry_at, link_at, shared_leaf_at}
 use Rattle.sv32_tables.specs.declared.shared_use.SharedUse.{SharedUse}
 use Rattle.sv32_tables.specs.declared.shared_use.SharedUse.TheVariants.{Leaf as LeafUse, Root as RootUse}
+use Rattle.tlb_model.specs.declared.entry.Entry.{Entry as TlbEntry}
 use Rattle.tlb_model.specs.Tlb.{look}
 use Rattle.depend_table.specs.Depend.{Depend, depend, has, same_item}
 use Rattle.map_cache.specs.Key.{same_space}
