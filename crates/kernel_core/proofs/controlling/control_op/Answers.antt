@@ -8,13 +8,16 @@ use Rattle.operations.specs.Request.{request_map}
 use Rattle.operations.specs.Control.{control_operation}
 use Rattle.machine_state.specs.State.{State, state_of, process}
 use Rattle.machine_state.specs.Setters.{advance}
-use Rattle.machine_state.specs.Operation.{request_of}
+use Rattle.machine_state.specs.Outcome.{spared_by}
+use Rattle.machine_state.specs.Operation.{change_touches, request_of}
 use Rattle.machine_state.proofs.Operated.{spent_changed}
 use Rattle.kernel_core.proofs.Destroyed.{header_tells}
 use Rattle.kernel_core.proofs.controlling.control_op.Goals as goal
 
 pub returns-clause-came : goal.returns-clause-came
 returns-clause-came g c =
+    let t = g.T.Translator in
+    let m = c.args.machine.now in
     let s : State = state_of c.advance.new.self in
     let asked = request_map bare c.request-request.result in
     let item : State → Request → Option Item = λ x request. item_in (control_operation Meant x.store (bare c.args.cap) request).answer.changes in
@@ -28,5 +31,8 @@ returns-clause-came g c =
       records = search rules;
       counted = search rules;
       keeps = search rules;
-      others = search rules;
+      others = λ k elsewhere.
+          c.do_and_reply-changed.ensures.caches k
+          ∙ (ap (λ x. spared_by t.after t.without t.spared t.purged (t.kept x) (change_touches (item s asked)) (t.cache x k)) c.advance.ensures.translator
+          ∙ ap (λ (changed : Option Item). spared_by t.after t.without t.spared t.purged (t.kept m.translator) (change_touches changed) (t.cache m.translator k)) same);
     }
