@@ -2,13 +2,14 @@
 -- no other.
 use Rattle.std.proofs.Common.{◌≡◌, ℕ, ◌+◌, ◌<◌, ◌≤◌, ◌⊎◌, inl, inr, List, [], ◌∷◌, map, drop, get_or, length, sym, ap, ◌∙◌, subst}
 use Rattle.std.proofs.lemmas.List.{drop_more, drop_all, get_or-map, length-map}
+use Rattle.std.proofs.lemmas.List.Sums.{sum_by-cons}
 use Rattle.cap_format.specs.declared.kind.CapKind.{CapKind}
 use Rattle.object_store.specs.Store.{Store, size_of, sizes_of}
 use Rattle.object_store.specs.Object.{ObjectName, object_name, object_at, with_object, SameObject, IsAmong, Stays, IsEven}
-use Rattle.object_store.specs.Saved.{AreThere}
+use Rattle.object_store.specs.Saved.{AreThere, slots_copied}
 use Rattle.object_store.proofs.Same.{same_stores, object_at_with_object, object_at_with_object_here}
 use Rattle.machine_state.specs.declared.taking.Name.{Name}
-use Rattle.machine_state.specs.Taking.{name_of, names_of}
+use Rattle.machine_state.specs.Taking.{name_of, names_of, slots_taken}
 
 -- an object that is taken over is no longer among those that may differ
 pub stays_taken : (s t : Store) (kind : CapKind) (number : ℕ) (names : List ObjectName) → IsEven t → number < size_of t.items kind → Stays (object_name kind number ∷ names) s t → Stays names s (with_object t number (object_at s kind number))
@@ -40,6 +41,12 @@ name_by kind number = record { kind = kind; number = number }
 -- the next of the rest
 pub names_next : (names : List Name) (i : ℕ) (d : Name) → i < length names → names_of (drop i names) ≡ name_of (get_or names i d) ∷ names_of (drop (i + 1) names)
 names_next names i d within = ap names_of (drop_more names i d within)
+
+-- how many slots the next of the rest and all behind it read
+pub slots_next : (names : List Name) (i : ℕ) (d : Name) → i < length names → slots_taken (names_of (drop i names)) ≡ slots_copied (get_or names i d).kind + slots_taken (names_of (drop (i + 1) names))
+slots_next names i d within =
+    ap slots_taken (names_next names i d within)
+    ∙ sum_by-cons (λ (name : ObjectName). slots_copied name.kind) (name_of (get_or names i d)) (names_of (drop (i + 1) names))
 
 -- none is left
 pub names_end : (names : List Name) (i : ℕ) → length names ≤ i → names_of (drop i names) ≡ []

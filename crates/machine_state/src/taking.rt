@@ -1,11 +1,11 @@
 //! Taking objects over from a store that agrees with the machine's outside named objects.
-ghost use Rattle.std.specs.Prelude.{◌≡◌, ◌<◌, IsTrue};
+ghost use Rattle.std.specs.Prelude.{◌≡◌, ◌+◌, ◌<◌, IsTrue};
 ghost use Rattle.object_store.specs.Store.{size_of, sizes_of};
 ghost use Rattle.object_store.specs.Meaning.{map_of};
 ghost use Rattle.object_store.specs.Object.{object_at, with_object, Stays, IsEven};
-ghost use Rattle.object_store.specs.Saved.{AreThere};
+ghost use Rattle.object_store.specs.Saved.{AreThere, slots_copied};
 ghost use Rattle.machine_state.specs.Machine.{IsMachine};
-ghost use Rattle.machine_state.specs.Taking.{names_of};
+ghost use Rattle.machine_state.specs.Taking.{names_of, slots_taken};
 
 use crate::machine::Machine;
 use cap_format::CapKind;
@@ -43,6 +43,7 @@ impl<T: Translator> Machine<T> {
         ensures objects { self.new.objects ≡ from.now }
         ensures queues { self.new.queues ≡ queues.now }
         ensures halted { self.new.halted ≡ halted }
+        ensures counted { fetches.new ≡ fetches.old + slots_taken (names_of names.now) }
     {
         take_each(
             &mut self.objects,
@@ -69,6 +70,7 @@ impl<T: Translator> Machine<T> {
         ensures objects { self.new.objects ≡ from.now }
         ensures queues { self.new.queues ≡ self.old.queues }
         ensures halted { self.new.halted ≡ self.old.halted }
+        ensures counted { fetches.new ≡ fetches.old + slots_taken (names_of names.now) }
     {
         take_each(
             &mut self.objects,
@@ -95,6 +97,7 @@ fn take_each<T: Translator, L: Ledger>(
     ensures objects { objects.new ≡ from.now }
     ensures coherent { T.coherent translator.new (map_of objects.new.items) }
     ensures harts { T.harts translator.new ≡ T.harts translator.old }
+    ensures counted { fetches.new ≡ fetches.old + slots_taken (names_of names.now) }
 {
     // Sizes that are read tell that there are as many objects as counts.
     let _sizes = objects.sizes();
@@ -119,6 +122,7 @@ fn take_one<T: Translator, L: Ledger>(
         with_object objects.old name.number (object_at from.now name.kind name.number) }
     ensures coherent { T.coherent translator.new (map_of objects.new.items) }
     ensures harts { T.harts translator.new ≡ T.harts translator.old }
+    ensures counted { fetches.new ≡ fetches.old + slots_copied name.kind }
 {
     let leads_on = leads_on(objects, from, name);
     let item = objects.copy_object(name.kind, name.number, from, name.number, fetches);

@@ -1,10 +1,11 @@
-use Rattle.std.proofs.Common.{◌≡◌, ◌<◌, ℕ, List, get_or, refl, sym, ◌∙◌, subst}
+use Rattle.std.proofs.Common.{◌≡◌, ◌<◌, ℕ, List, get_or, refl, sym, ap, ◌∙◌, subst, arith}
 use Rattle.cap_format.specs.declared.kind.CapKind.TheVariants.{Null}
 use Rattle.object_store.specs.Store.{Store, size_of}
 use Rattle.object_store.specs.Object.{ObjectName, object_at, with_object, Stays}
 use Rattle.object_store.proofs.Same.{even_store, even_with_object, sizes_with_object}
 use Rattle.object_store.proofs.Restored.{size_of_same}
-use Rattle.machine_state.proofs.Taken.{stays_taken, stays_none, name_by, names_next, names_end, name_there}
+use Rattle.machine_state.specs.Taking.{slots_taken}
+use Rattle.machine_state.proofs.Taken.{stays_taken, stays_none, name_by, names_next, names_end, name_there, slots_next}
 use Rattle.machine_state.proofs.taking.take_each.Goals as goal
 
 pub each-init : goal.each-init
@@ -14,6 +15,7 @@ each-init g c = record {
   others = c.requires.others;
   coherent = c.requires.coherent;
   harts = refl;
+  counted = refl;
 }
 
 pub take_one-requires-clause-copy : goal.take_one-requires-clause-copy
@@ -42,6 +44,7 @@ each-preserved g c =
       others = rw c.take_one.ensures.objects (stays_taken from l.objects name.kind name.number _ l.invariant.even there others);
       coherent = c.take_one.ensures.coherent;
       harts = c.take_one.ensures.harts ∙ l.invariant.harts;
+      counted = let taken = c.take_one.ensures.counted in let slots = slots_next c.args.names.now l.i (name_by Null 0) c.each-test.true in let before = l.invariant.counted in omega (arith, taken, slots, before);
     }
 
 pub returns-clause-objects : goal.returns-clause-objects
@@ -50,3 +53,9 @@ returns-clause-objects g c =
     let from = c.args.from.now in
     let Others : List ObjectName → Type 0 = λ names. Stays names from l.objects in
     stays_none from l.objects (even_store from c.sizes-from.ensures.sized) l.invariant.even l.invariant.sizes (subst Others (names_end c.args.names.now l.i c.each-test.false) l.invariant.others)
+
+pub returns-clause-counted : goal.returns-clause-counted
+returns-clause-counted g c =
+    let none = ap slots_taken (names_end c.args.names.now c.each.i c.each-test.false) in
+    let before = c.each.invariant.counted in
+    omega (arith, none, before)
