@@ -12,5 +12,6 @@ returns-in-Ok-Some-clause-next g c =
       before = search rules;
       line = e.next;
       given = λ unended. GivesLines-line c.in-Ok-Some.field-0-0 c.next.new.self _ _ unended e.line e.bytes;
+      near = e.near;
     })
     e.failed
