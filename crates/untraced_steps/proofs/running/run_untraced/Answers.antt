@@ -133,7 +133,7 @@ steps-preserved g c =
     let harts = next.harts in
     record {
       ran = subst (λ (told : List Record). RanUntraced t.kept t.cost t.after t.without (take (c.steps.done + ahead + 1) all) c.args.machine.now c.args.fetches.now c.step_untraced.new.machine told c.step_untraced.new.fetches) none next;
-      less = gains-next t.cache t.less g.met.T.Translator.less_then all c.steps.done ahead (Step c.steps.next) _ _ _ _ _ within at.rest i.less e.caches c.step_untraced.ensures.less;
+      less = gains-next t.cache t.less g.met.T.Translator.less_then all c.steps.done ahead (Step c.steps.next) _ c.args.machine.now c.steps.machine c.run_ahead-done.new.machine c.step_untraced.new.machine within at.rest i.less e.caches c.step_untraced.ensures.less;
       others = spares-next t.after t.without t.spared t.purged t.kept t.cache all c.steps.done ahead (Step c.steps.next) _ _ _ _ _ within at.rest i.others e.caches at.ran.state c.step_untraced.ensures.others;
       none = none;
       rest = drop-next all (c.steps.done + ahead) (Step c.steps.next) _ within at.rest ∙ split;
@@ -176,7 +176,7 @@ returns-then-not-plain-clause-less g c =
     let e = c.run_ahead-done.ensures in
     let most = e.most in
     let at = ran-ahead t.kept t.cost t.after t.without all c.steps.done more c.steps.next _ _ _ _ _ _ c.steps.fetches i.ran i.rest (e.ran c.steps.fetches) e.behind in
-    gains-next t.cache t.less g.met.T.Translator.less_then all c.steps.done more (Step c.steps.next) _ _ _ _ _ (omega (arith, size, most)) at.rest i.less e.caches c.step_untraced.ensures.less
+    gains-next t.cache t.less g.met.T.Translator.less_then all c.steps.done more (Step c.steps.next) _ c.args.machine.now c.steps.machine c.run_ahead-done.new.machine c.step_untraced.new.machine (omega (arith, size, most)) at.rest i.less e.caches c.step_untraced.ensures.less
 
 pub returns-in-None-clause-less : goal.returns-in-None-clause-less
 returns-in-None-clause-less g c =
@@ -188,4 +188,4 @@ returns-in-None-clause-less g c =
     let e = c.run_ahead-done.ensures in
     let most = e.most in
     let at = ran-ahead t.kept t.cost t.after t.without all c.steps.done more c.steps.next _ _ _ _ _ _ c.steps.fetches i.ran i.rest (e.ran c.steps.fetches) e.behind in
-    gains-next t.cache t.less g.met.T.Translator.less_then all c.steps.done more (Step c.steps.next) _ _ _ _ _ (omega (arith, size, most)) at.rest i.less e.caches c.step_untraced.ensures.less
+    gains-next t.cache t.less g.met.T.Translator.less_then all c.steps.done more (Step c.steps.next) _ c.args.machine.now c.steps.machine c.run_ahead-done.new.machine c.step_untraced.new.machine (omega (arith, size, most)) at.rest i.less e.caches c.step_untraced.ensures.less
