@@ -4,3 +4,4 @@ pub mod Input
 pub mod Program
 pub mod Laws
 pub mod Contract
+pub mod Flushed

@@ -4,11 +4,13 @@
 #![tactic(auto)]
 
 mod answering;
+mod entry;
 mod laws;
 mod making;
 mod program;
 
 pub use courses::Exit;
+pub use entry::{run_and_flush, run_program};
 pub use laws::{confined_law, same_course_law};
 pub use program::coyotos;
 pub use schedule_replay::{Counts, Mode, Replayed, replay};

@@ -6,3 +6,4 @@ pub mod Theorem
 pub mod Program
 pub mod Written
 pub mod FedBack
+pub mod Flushed

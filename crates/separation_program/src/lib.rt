@@ -5,6 +5,7 @@
 #![tactic(auto)]
 
 mod crossing;
+mod entry;
 mod input;
 mod judging;
 mod laws;
@@ -18,5 +19,6 @@ mod unused;
 mod words;
 
 pub use courses::Exit;
+pub use entry::{run_and_flush, run_program};
 pub use laws::{fed_back_law, judged_law, least_law};
 pub use program::separation;

@@ -4,7 +4,7 @@ use Rattle.courses.specs.Program.{HasForm, ReadsInput, bytes_for, out, sure}
 use Rattle.explore_program.specs.Program.{asked_by, explore}
 use Rattle.explore_program.specs.Theorem.{Judges}
 use Rattle.explore_program.proofs.Called.{form-after, judges-after, reads-after, tells-after}
-use Rattle.explore.proofs.run_and_flush.Goals as goal
+use Rattle.explore_entry.proofs.entry.run_and_flush.Goals as goal
 
 pub returns-clause-output : goal.returns-clause-output
 returns-clause-output g c =

@@ -3,7 +3,7 @@ use Rattle.coyotos_words.specs.Command.{command_of}
 use Rattle.coyotos_cli.specs.Contract.{bytes_for}
 use Rattle.coyotos_cli.specs.Program.{out, sure}
 use Rattle.courses.proofs.Flushed.{flush-wanting, goes-out-for}
-use Rattle.coyotos.proofs.run_and_flush.Goals as goal
+use Rattle.coyotos_cli.proofs.entry.run_and_flush.Goals as goal
 
 pub returns-clause-output : goal.returns-clause-output
 returns-clause-output g c =

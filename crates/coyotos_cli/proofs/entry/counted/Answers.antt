@@ -1,4 +1,4 @@
-use Rattle.coyotos.proofs.counted.Goals as goal
+use Rattle.coyotos_cli.proofs.entry.counted.Goals as goal
 
 pub returns-clause-answers : goal.returns-clause-answers
 returns-clause-answers g c = record {

@@ -1,4 +1,4 @@
-use Rattle.separation.proofs.counted.Goals as goal
+use Rattle.separation_program.proofs.entry.counted.Goals as goal
 
 pub returns-clause-answers : goal.returns-clause-answers
 returns-clause-answers g c = record {

@@ -3,7 +3,7 @@ use Rattle.courses.proofs.Flushed.{goes-out-for}
 use Rattle.courses.specs.Program.{bytes_for, out, sure}
 use Rattle.separation_program.specs.Program.{Judges, asked_by, separation}
 use Rattle.separation_program.proofs.Called.{judges-after}
-use Rattle.separation.proofs.run_and_flush.Goals as goal
+use Rattle.separation_program.proofs.entry.run_and_flush.Goals as goal
 
 pub returns-clause-output : goal.returns-clause-output
 returns-clause-output g c =

@@ -1,0 +1,4 @@
+use Rattle.explore_entry.proofs.entry.run_program.Goals as goal
+
+pub returns : goal.returns
+returns g c = record { exit = c.run_words-exit.result; status = c.end.ensures.status; said = c.end.ensures.said; so = c.run_words-exit.ensures }
