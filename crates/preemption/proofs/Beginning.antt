@@ -1,5 +1,5 @@
 -- States from which a wide machine may begin.
-use Rattle.std.proofs.Common.{◌≡◌, ℕ, zero, suc, ◌<◌, ◌==◌, inl, inr, true, false, Bool, cond, if◌then◌else◌, List, [], ◌∷◌, get_or, replicate, Option, Some, None, refl, sym, ap, ◌∙◌, subst, arith}
+use Rattle.std.proofs.Common.{◌≡◌, ℕ, zero, suc, ◌<◌, ◌==◌, inl, inr, true, false, Bool, cond, if◌then◌else◌, List, [], ◌∷◌, get_or, replicate, length, Option, Some, None, refl, sym, ap, ◌∙◌, subst, arith}
 use Rattle.std.specs.List.{sum_by}
 use Rattle.std.proofs.lemmas.Bool.{cases_lt, eqb-true, ne_eqb}
 use Rattle.std.proofs.lemmas.List.{get_or_past}
@@ -99,10 +99,15 @@ start many s below =
 
 -- ---- all harts are idle
 
-idle-at : (many hart : ℕ) → get_or {A = Option ℕ} (replicate many None) hart None ≡ None
+pub idle-at : (many hart : ℕ) → get_or {A = Option ℕ} (replicate many None) hart None ≡ None
 idle-at zero hart = refl
 idle-at (suc many) zero = refl
 idle-at (suc many) (suc hart) = idle-at many hart
+
+-- there are as many of them
+pub length-idle : (many : ℕ) → length {A = Option ℕ} (replicate many None) ≡ many
+length-idle zero = refl
+length-idle (suc many) = ap suc (length-idle many)
 
 not-on : (x : ℕ) (on : Option ℕ) → on ≡ None → on ≡ Some x → ⊥
 not-on x None idle on = cc

@@ -1,6 +1,5 @@
 -- One event of a machine with few harts is at most one turn in a wide one.
 use Rattle.std.proofs.Common.{◌≡◌, ◌≢◌, ℕ, zero, suc, ◌+◌, ◌<◌, Bool, true, false, if◌then◌else◌, List, [], ◌∷◌, ◌++◌, inl, inr, get_or, set, length, Option, Some, None, refl, sym, ap, ap₂, ◌∙◌, subst, subst₂, arith}
-use Rattle.std.proofs.lemmas.Bool.{cases_lt, false_from_ne_true}
 use Rattle.cap_format.specs.declared.kind.CapKind.{CapKind}
 use Rattle.cap_format.specs.declared.kind.CapKind.TheVariants.{Schedule}
 use Rattle.cap_format.specs.Capability.{Capability}
@@ -9,7 +8,6 @@ use Rattle.process_objects.specs.declared.state.State.{State as ProcessState}
 use Rattle.process_objects.specs.Process.{ProcessValue, process_of, empty_process}
 use Rattle.schedules.specs.Queues.{QueuesValue, priorities, ready_queue, hart_of, stands_in, first_of, enqueued, left, highest_below, taken_from, dispatched_by, dispatched}
 use Rattle.schedules.specs.Ready.{readied_process, readied_queues, with_processes}
-use Rattle.schedules.proofs.OnHart.{not_ready, in_lists}
 use Rattle.machine_state.specs.declared.event.Event.{Event}
 use Rattle.machine_state.specs.declared.event.Event.TheVariants.{Step, Tick}
 use Rattle.machine_state.specs.declared.record.Record.{Record}
@@ -205,8 +203,7 @@ module _ (few many : ℕ) where
           waited : hart_of w.queues p ≡ Some p → InTurns few many s (Step hart ∷ []) w
           waited home =
               let on : IsOnHart w.queues p = record { hart = p; there = home } in
-              let absent = false_from_ne_true (stands_in (ready_queue w.queues k) p)
-              (λ is. not_ready w.queues p k p wide.queues is home) in
+              let absent = wide.ready k p on in
               let same = dispatched-on w.queues p p home in
               one-turn hart p runs narrow-on (ap (λ q. hart_of q p) same ∙ home)
               (subst₂ (Thins few) (sym narrow-took) (sym same)
@@ -215,12 +212,7 @@ module _ (few many : ℕ) where
 
           -- there is a hart for a process that stands in a ready queue of the wide machine
           room : stands_in (ready_queue w.queues k) p ≡ true → p < length w.queues.harts
-          room is = elim (cases_lt p (length w.queues.sleepers)) [
-            | inl known ↦ omega (arith, known, wide.each, wide.harts)
-            | inr past ↦ absurd (let once = in_lists p k w.queues.ready is
-                in let none = (let queues = wide.queues in queues.known p past)
-                in omega (arith, once, none))
-          ]
+          room is = omega (arith, wide.each k p is, wide.harts)
 
           full-too : first_of (ready_queue w.queues k) ≡ Some p → ready_queue w.queues k ≢ []
           full-too first empty = absurd (some-none (sym first ∙ ap first_of empty))
@@ -295,7 +287,8 @@ module _ (few many : ℕ) where
             (sym (ticked-same s p has running)) (record {
               same = spread.same;
               places = thins-ticked few s.queues w.queues places wide.queues p
-                  (schedule_slot s p).object on has.priority;
+                  (schedule_slot s p).object on has.priority
+                  (λ j. wide.ready j p on) (λ j. wide.sleeps j p on);
             }))
 
     event-turn : IsForEach many w → (e : Event) → hart_in e < few → (halted : Bool)

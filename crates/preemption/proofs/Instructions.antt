@@ -161,12 +161,12 @@ module _ (many : ℕ) (R : QueuesValue → QueuesValue → Type 0) (k : AreKept 
           ap (λ (string : Side). string.records) (sym (same-sent p inv (s false) (s true) b));
       state = b;
     };
-    receives = λ s q inv b own asks. record {
+    receives = λ s e q inv b heard asks. record {
       records =
           ap (λ (string : Side). string.records) (sym (same-received q inv (s false) (s true) b));
       state = b;
     };
-    delivers = λ s p e q inv b own over other asks. delivery-alike p e q inv (s false) (s true) b;
+    delivers = λ s p e q inv b own heard asks. delivery-alike p e q inv (s false) (s true) b;
     memory = λ s p inv cap b own asks may memory. memory-alike many R k p inv cap (s false)
         (s true) b;
     control = λ s p inv cap b own asks may. control-alike many R k p inv cap (s false) (s true) b;

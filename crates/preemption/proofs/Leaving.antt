@@ -1,5 +1,5 @@
 -- Processes that are taken out of lists, wherever they stand there.
-use Rattle.std.proofs.Common.{◌≡◌, ◌≢◌, ℕ, ◌==◌, Bool, true, false, ◌||◌, if◌then◌else◌, inl, inr, List, [], ◌∷◌, Some, refl, sym, ap, ◌∙◌, subst}
+use Rattle.std.proofs.Common.{◌≡◌, ◌≢◌, ℕ, zero, suc, ◌==◌, Bool, true, false, ◌||◌, if◌then◌else◌, inl, inr, List, [], ◌∷◌, get_or, map, Some, refl, sym, ap, ap₂, ◌∙◌, subst}
 use Rattle.std.proofs.lemmas.Bool.{cond_both, eqb-true, eq-eqb, ne_eqb, true≢false}
 use Rattle.schedules.specs.Queues.{stands_in, rest_of, without}
 use Rattle.preemption.specs.Places.{Thinned}
@@ -22,6 +22,24 @@ stands-without x p (y ∷ ys) other e =
         → (b || stands_in ys x) ≡ true → (b || stands_in (without p ys) x) ≡ true
     by true rest e = refl
     by false rest e = rest e
+
+-- one who isn't there is taken out
+without-absent : (p : ℕ) (xs : List ℕ) → stands_in xs p ≡ false → without p xs ≡ xs
+without-absent p [] e = refl
+without-absent p (x ∷ xs) e = by (x == p) (λ absent. without-absent p xs absent) e
+  where
+    by : (b : Bool) → (stands_in xs p ≡ false → without p xs ≡ xs)
+        → (b || stands_in xs p) ≡ false → (if b then without p xs else x ∷ without p xs) ≡ x ∷ xs
+    by true rest e = cc
+    by false rest e = ap (λ ys. x ∷ ys) (rest e)
+
+-- so it is with several lists
+pub without-none : (p : ℕ) (lists : List (List ℕ))
+    → ((j : ℕ) → stands_in (get_or lists j []) p ≡ false) → map (without p) lists ≡ lists
+without-none p [] absent = refl
+without-none p (xs ∷ lists) absent =
+    ap₂ (λ (ys : List ℕ) (rest : List (List ℕ)). ys ∷ rest) (without-absent p xs (absent zero))
+    (without-none p lists (λ j. absent (suc j)))
 
 module _ (out : ℕ → Type 0) where
   -- one is taken out of both

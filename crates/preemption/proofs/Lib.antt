@@ -11,3 +11,5 @@ mod Nobody
 mod Beginning
 mod Idling
 mod Seeing
+mod Searching
+mod Testing

@@ -1,16 +1,13 @@
 -- A hart of the narrow machine takes a process, or loses one at a tick.
 use Rattle.std.proofs.Common.{◌≡◌, ◌≢◌, ℕ, zero, suc, ◌+◌, ◌<◌, ◌==◌, Bool, true, false, if◌then◌else◌, ◌⊎◌, inl, inr, List, [], ◌∷◌, ◌++◌, get_or, set, map, length, Option, Some, None, refl, sym, ap, ◌∙◌, subst, subst₂, arith}
-use Rattle.std.proofs.lemmas.Bool.{cases_eq, cases_lt, eqb-true, ne_eqb, false_from_ne_true, true≢false}
+use Rattle.std.proofs.lemmas.Bool.{cases_eq, cases_lt, eqb-true, ne_eqb, true≢false}
 use Rattle.std.proofs.lemmas.List.{length-map, length-set, get_or-set_same, get_or-set_other, get_or_past}
 use Rattle.object_store.proofs.Lists.{get_or-set}
-use Rattle.schedules.specs.Queues.{QueuesValue, priorities, ready_queue, hart_of, stands_in, first_of, rest_of, without, hart_without, enqueued, left, highest_below, taken_from}
-use Rattle.schedules.specs.Standing.{IsQueues}
-use Rattle.schedules.proofs.OnHart.{on_hart, not_ready}
-use Rattle.schedules.proofs.Nowhere.{without_absent_all}
+use Rattle.schedules.specs.Queues.{QueuesValue, priorities, ready_queue, sleepers_of, hart_of, stands_in, first_of, rest_of, without, hart_without, enqueued, left, highest_below, taken_from}
 use Rattle.machine_state.specs.State.{IsOnHart}
 use Rattle.preemption.specs.Places.{Thinned, IsReady, Thins}
 use Rattle.preemption.proofs.Thinning.{last-stands, stands-rest, thinned-more, thinned-waits, thinned-first_out, thinned-first}
-use Rattle.preemption.proofs.Leaving.{thinned-leaves}
+use Rattle.preemption.proofs.Leaving.{without-none, thinned-leaves}
 use Rattle.preemption.proofs.Keeping.{ready-left, on-left, stays-on, stays-ready, put-both, still-ready}
 
 -- ---- the highest ready queue that is not empty
@@ -254,15 +251,12 @@ module _ (few : ℕ) (n w : QueuesValue) (t : Thins few n w) (hart k p : ℕ)
 
 -- ---- a tick
 
-module _ (few : ℕ) (n w : QueuesValue) (t : Thins few n w) (queues : IsQueues w) (p priority : ℕ)
-    (on : IsOnHart w p) (below : priority < priorities) where
-  absent : (j : ℕ) → stands_in (ready_queue w j) p ≡ false
-  absent j = false_from_ne_true (stands_in (ready_queue w j) p)
-      (λ is. not_ready w p j on.hart queues is on.there)
-
+module _ (few : ℕ) (n w : QueuesValue) (t : Thins few n w) (full : length w.ready ≡ priorities)
+    (p priority : ℕ) (on : IsOnHart w p) (below : priority < priorities)
+    (absent : (j : ℕ) → stands_in (ready_queue w j) p ≡ false)
+    (sleeps : (j : ℕ) → stands_in (sleepers_of w j) p ≡ false) where
   awake : map (without p) w.sleepers ≡ w.sleepers
-  awake = without_absent_all p w.sleepers
-      (omega (arith, queues.once p, on_hart p on.hart w.harts on.there))
+  awake = without-none p w.sleepers sleeps
 
   -- who leaves a hart of the narrow machine was in no ready queue of the wide one
   left-ready : (j : ℕ) → Thinned (IsOnHart w) (ready_queue (left n p) j) (ready_queue w j)
@@ -282,7 +276,7 @@ module _ (few : ℕ) (n w : QueuesValue) (t : Thins few n w) (queues : IsQueues 
       ]
 
   within-ready : priority < length (left n p).ready
-  within-ready = omega (arith, below, length-map n.ready (without p), t.queues, queues.ready)
+  within-ready = omega (arith, below, length-map n.ready (without p), t.queues, full)
 
   waits : IsReady (enqueued (left n p) priority p) p
   waits = record {

@@ -1,7 +1,7 @@
 -- The laws of preemption, as statements.
 use Rattle.std.specs.Prelude.{◌≡◌, ◌↔◌, ℕ, ◌<◌, Bool, false, List, [], ◌∷◌, length, None}
 use Rattle.std.specs.List.{All}
-use Rattle.schedules.specs.Queues.{QueuesValue, ready_queue, hart_of}
+use Rattle.schedules.specs.Queues.{QueuesValue, priorities, ready_queue, hart_of}
 use Rattle.machine_state.specs.declared.event.Event.{Event}
 use Rattle.machine_state.specs.Machine.{hart_in}
 use Rattle.machine_state.specs.State.{State, IsOnHart}
@@ -29,13 +29,20 @@ RunLaw = (few many : ℕ) (s w : State) (es : List Event)
     → AreOf few es
     → InTurns few many s es w
 
+-- nobody is on a hart or in a ready queue
+pub record NobodyGoesOn (q : QueuesValue) : Type 0 where
+  pub harts : (hart : ℕ) → hart_of q hart ≡ None
+  pub ready : (priority : ℕ) → ready_queue q priority ≡ []
+
 -- Two states are the same but for places: for how many harts there are, and for who is on which
--- hart or in which ready queue.
+-- hart or in which ready queue. Nobody goes on in the one exactly where nobody does in the other.
 pub record SameButPlaces (s t : State) : Type 0 where
   pub items : s.store.items ≡ t.store.items
   pub contents : s.store.contents ≡ t.store.contents
   pub sleepers : s.queues.sleepers ≡ t.queues.sleepers
   pub halted : s.halted ≡ t.halted
+  pub queues : (length s.queues.ready ≡ priorities) × (length t.queues.ready ≡ priorities)
+  pub stuck : NobodyGoesOn s.queues ↔ NobodyGoesOn t.queues
 
 -- what is asked of a state depends on no place
 abbrev pub SeesNoPlaces : (State → Bool) → Type 0
@@ -47,11 +54,6 @@ NeverLaw = (few many : ℕ) (test : State → Bool) (s w : State)
     → Spread few many s w → StaysForEach many w → SeesNoPlaces test
     → ((ps : List ℕ) → AreTurns w ps → test (run_state w (steps_of ps)) ≡ false)
     → (es : List Event) → AreOf few es → test (run_state s es) ≡ false
-
--- nobody is on a hart or in a ready queue
-pub record NobodyGoesOn (q : QueuesValue) : Type 0 where
-  pub harts : (hart : ℕ) → hart_of q hart ≡ None
-  pub ready : (priority : ℕ) → ready_queue q priority ≡ []
 
 -- Nobody goes on in the one machine exactly where nobody does in the other.
 abbrev pub StuckLaw : Type 0

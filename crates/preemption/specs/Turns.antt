@@ -29,6 +29,12 @@ pub record InTurns (few many : ℕ) (s : State) (es : List Event) (w : State) : 
   pub records : run_records w (steps_of turns) ≡ run_records s es
   pub spread : Spread few many (run_state s es) (run_state w (steps_of turns))
 
--- whatever turns are taken, each process that is on a hart then runs, and has a schedule
+-- whatever turns are taken, no more than so many, each process that is on a hart then runs, and
+-- has a schedule
+abbrev pub StaysWithin : ℕ → ℕ → State → Type 0
+StaysWithin most many w = (ps : List ℕ) → AreTurns w ps → length ps ≤ most
+    → IsForEach many (run_state w (steps_of ps))
+
+-- whatever turns are taken, it does
 abbrev pub StaysForEach : ℕ → State → Type 0
 StaysForEach many w = (ps : List ℕ) → AreTurns w ps → IsForEach many (run_state w (steps_of ps))

@@ -1,10 +1,9 @@
 -- A machine with a hart for each process, beside one with fewer. (Own.)
-use Rattle.std.specs.Prelude.{◌≡◌, ℕ, ◌<◌, ◌≤◌, length}
+use Rattle.std.specs.Prelude.{◌≡◌, ℕ, ◌<◌, true, false, length}
 use Rattle.cap_format.specs.declared.kind.CapKind.TheVariants.{Schedule}
 use Rattle.process_objects.specs.declared.state.State.TheVariants.{Running}
 use Rattle.object_store.specs.Store.{Store}
-use Rattle.schedules.specs.Queues.{QueuesValue, priorities}
-use Rattle.schedules.specs.Standing.{IsQueues}
+use Rattle.schedules.specs.Queues.{QueuesValue, priorities, ready_queue, sleepers_of, stands_in}
 use Rattle.machine_state.specs.State.{State, IsOnHart, process, schedule_slot}
 use Rattle.preemption.specs.Places.{Thins}
 
@@ -28,11 +27,15 @@ pub record HasSchedule (s : State) (p : ℕ) : Type 0 where
   pub kind : (schedule_slot s p).kind ≡ Schedule
   pub priority : (schedule_slot s p).object < priorities
 
--- A state of a machine with `many` harts, no fewer than it has processes. Each process that is on
--- a hart runs, and has a schedule.
+-- A state of a machine with `many` harts, and a ready queue for each priority. There is a hart for
+-- each process that waits for one. Each process that is on a hart waits nowhere, runs, and has a
+-- schedule.
 pub record IsForEach (many : ℕ) (s : State) : Type 0 where
-  pub queues : IsQueues s.queues
   pub harts : length s.queues.harts ≡ many
-  pub each : length s.queues.sleepers ≤ many
+  pub queues : length s.queues.ready ≡ priorities
+  pub each : (priority p : ℕ) → stands_in (ready_queue s.queues priority) p ≡ true → p < many
+  pub ready : (priority p : ℕ) → IsOnHart s.queues p
+      → stands_in (ready_queue s.queues priority) p ≡ false
+  pub sleeps : (on p : ℕ) → IsOnHart s.queues p → stands_in (sleepers_of s.queues on) p ≡ false
   pub running : (p : ℕ) → IsOnHart s.queues p → (process s p).state ≡ Running
   pub scheduled : (p : ℕ) → IsOnHart s.queues p → HasSchedule s p

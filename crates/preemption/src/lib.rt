@@ -13,12 +13,20 @@
 //! The laws ask that each process that is on a hart of the wide machine runs and has a schedule:
 //! without one, a process faults at a tick.
 //!
+//! A search goes over the wide machine by steps of its harts, or by runs of them, and asks that of
+//! each state that it comes to. Then a test that it finds in none of them holds after no list of
+//! steps and ticks of the few harts: `steps_law` and `runs_law`.
+//!
 //! There is no code here. Each function has a law as its contract; the definitions are in
 //! `specs/`.
 #![tactic(auto)]
 
 ghost use Rattle.preemption.specs.Laws.{EventLaw, RunLaw, NeverLaw, StuckLaw};
 ghost use Rattle.preemption.specs.Laws.{StartLaw, RestLaw, MoreLaw, SeesLaw};
+ghost use Rattle.preemption.specs.Tested.{TestLaw, KeptLaw};
+ghost use Rattle.preemption.specs.Searched.{StepsLaw, StepsWithinLaw, RunsLaw, RunsWithinLaw};
+
+use quiet_runs::simulation_law;
 
 /// One event of a machine with few harts is at most one step of a wide machine, with the same
 /// records: the step of the hart of process `p`, which `p` performs. A tick is no step.
@@ -63,3 +71,25 @@ pub fn more_law()
 pub fn sees_law()
     ensures { SeesLaw }
 {}
+
+/// Whether a state is as the laws ask can be tested. In a machine it is enough to test that each
+/// process that is on a hart has a schedule.
+pub fn test_law()
+    ensures is { TestLaw }
+    ensures kept { KeptLaw }
+{}
+
+/// Where all states to which steps of the wide machine lead are safe, what is tested holds after no
+/// steps and ticks of the few harts. So it is with so many of both at most.
+pub fn steps_law()
+    ensures always { StepsLaw }
+    ensures within { StepsWithinLaw }
+{}
+
+/// So it is where the states are those to which runs lead: a step, and quiet steps after it.
+pub fn runs_law()
+    ensures always { RunsLaw }
+    ensures within { RunsWithinLaw }
+{
+    simulation_law();
+}

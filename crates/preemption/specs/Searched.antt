@@ -1,0 +1,85 @@
+-- What a search over the wide machine says of the machine with few harts, as statements: the states
+-- to which its harts' steps lead, or runs of them, against all lists of steps and ticks. (The
+-- reduction is this project's own.)
+use Rattle.std.specs.Prelude.{◌≡◌, ◌≤◌, ◌<◌, ◌⊎◌, ℕ, Bool, false, List, length, None}
+use Rattle.schedules.specs.Queues.{hart_of}
+use Rattle.machine_state.specs.declared.event.Event.{Event}
+use Rattle.machine_state.specs.State.{State, IsOnHart}
+use Rattle.kernel_core.specs.Run.{run_state}
+use Rattle.quiet_runs.specs.Runs.{Watch, RunsAreQuiet, SeesOnly, after_steps, after_runs}
+use Rattle.quiet_runs.specs.Laws.{AreHarts}
+use Rattle.preemption.specs.Wide.{IsForEach}
+use Rattle.preemption.specs.Begun.{at_home, at_rest}
+use Rattle.preemption.specs.Laws.{AreOf, SeesNoPlaces}
+
+-- ---- where both machines begin
+
+-- The wide machine has each process that is on a hart on the hart of its own number, and there is
+-- one for each of them.
+pub record IsMoved (few many : ℕ) (s w : State) : Type 0 where
+  pub few_harts : length s.queues.harts ≡ few
+  pub each : (p : ℕ) → IsOnHart s.queues p → p < many
+  pub wide : w ≡ at_home many s
+
+-- All harts are idle in both, and all else is the same.
+pub record IsIdle (few many : ℕ) (s w : State) : Type 0 where
+  pub wide : w ≡ at_rest many w
+  pub narrow : s ≡ at_rest few w
+
+-- so the wide machine may begin in state `w`, and the one with few harts in state `s`
+abbrev pub Begin : ℕ → ℕ → State → State → Type 0
+Begin few many s w = IsMoved few many s w ⊎ IsIdle few many s w
+
+-- ---- what is asked of each state
+
+-- each process that is on a hart has a schedule, and what is tested doesn't hold
+pub record IsSafe (many : ℕ) (test : State → Bool) (t : State) : Type 0 where
+  pub scheduled : IsForEach many t
+  pub fails : test t ≡ false
+
+-- It doesn't hold after steps and ticks of so many harts, in whatever order, if there are no more
+-- of them than this.
+abbrev pub HoldsAfterNone : ℕ → ℕ → (State → Bool) → State → Type 0
+HoldsAfterNone few most test s = (es : List Event) → AreOf few es → length es ≤ most
+    → test (run_state s es) ≡ false
+
+-- it doesn't, however many there are
+abbrev pub HoldsNever : ℕ → (State → Bool) → State → Type 0
+HoldsNever few test s = (es : List Event) → AreOf few es → test (run_state s es) ≡ false
+
+-- ---- steps of the wide machine
+
+-- Where all states to which steps of the wide machine's harts lead are safe, what is tested holds
+-- after no steps and ticks of the few harts.
+abbrev pub StepsLaw : Type 0
+StepsLaw = (few many : ℕ) (test : State → Bool) (s w : State)
+    → Begin few many s w → SeesNoPlaces test
+    → ((harts : List ℕ) → AreHarts many harts → IsSafe many test (after_steps w harts))
+    → HoldsNever few test s
+
+-- Where those are to which so many steps lead at most, it holds after no more events than that.
+abbrev pub StepsWithinLaw : Type 0
+StepsWithinLaw = (few many most : ℕ) (test : State → Bool) (s w : State)
+    → Begin few many s w → SeesNoPlaces test
+    → ((harts : List ℕ) → AreHarts many harts → length harts ≤ most
+    → IsSafe many test (after_steps w harts))
+    → HoldsAfterNone few most test s
+
+-- ---- runs of the wide machine: a step, and quiet steps after it
+
+-- So it is where all states to which runs lead are safe.
+abbrev pub RunsLaw : Type 0
+RunsLaw = (few many : ℕ) (watch : Watch) (more : State → ℕ → ℕ) (test : State → Bool)
+    (s w : State)
+    → Begin few many s w → SeesNoPlaces test → SeesOnly watch test → RunsAreQuiet watch more
+    → ((runs : List ℕ) → AreHarts many runs → IsSafe many test (after_runs more w runs))
+    → HoldsNever few test s
+
+-- And where those are to which so many runs lead at most.
+abbrev pub RunsWithinLaw : Type 0
+RunsWithinLaw = (few many most : ℕ) (watch : Watch) (more : State → ℕ → ℕ)
+    (test : State → Bool) (s w : State)
+    → Begin few many s w → SeesNoPlaces test → SeesOnly watch test → RunsAreQuiet watch more
+    → ((runs : List ℕ) → AreHarts many runs → length runs ≤ most
+    → IsSafe many test (after_runs more w runs))
+    → HoldsAfterNone few most test s
