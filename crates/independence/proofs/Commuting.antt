@@ -9,6 +9,8 @@ use Rattle.process_objects.specs.Process.{ProcessValue, capreg_of, slot_of, empt
 use Rattle.object_store.specs.Store.{Items, slot_at}
 use Rattle.object_store.proofs.Lists.{get_or-set}
 use Rattle.page_store.specs.CapPage.{cap_at, empty_cappage}
+use Rattle.endpoint_objects.specs.declared.endpoint.Endpoint.{Endpoint as EndpointValue}
+use Rattle.endpoint_objects.specs.Endpoint.{empty_endpoint}
 use Rattle.schedules.specs.Queues.{QueuesValue, priorities, ready_queue, hart_of, first_of, highest_below, taken_from, dispatched_by, dispatched}
 use Rattle.machine_state.specs.declared.event.Event.{Event}
 use Rattle.machine_state.specs.declared.event.Event.TheVariants.{Step, Tick}
@@ -20,10 +22,12 @@ use Rattle.confinement.specs.Cut.{Cut, side_of, MayHold, AllOn}
 use Rattle.confinement.proofs.Sleeping.{each_set}
 use Rattle.independence.specs.Seclusion.{OnHarts, Secluded}
 use Rattle.independence.specs.Rewrite.{Rewrite, ProcessIs, PageIs, IsPrivate, ArePrivate, rewritten, rewritten_all, SameButData, DifferOnLeft}
+use Rattle.independence.specs.Settled.{SparesPage, IsSettled, AreSettled}
 use Rattle.independence.specs.Quiet.{IsQuietBy}
 use Rattle.independence.specs.Laws.{IsOfOthers, IndependenceLaw, HartsApart}
 use Rattle.independence.proofs.Shape.{shape-sym}
 use Rattle.independence.proofs.Runs.{left_law, blind_law, keeps-harts}
+use Rattle.independence.proofs.Settling.{settled_law}
 use Rattle.independence.proofs.Quieting.{quiet_law}
 
 module _ (cut : Cut) where
@@ -95,8 +99,9 @@ module _ (cut : Cut) where
 
 -- either may come first
 pub independence_law : IndependenceLaw
-independence_law cut p s hart e quiet others =
-    let does = quiet_law cut p s hart quiet in
+independence_law cut settled p s hart e quiet others =
+    let does = quiet_law cut settled p s hart quiet in
+    let still = settled_law settled s e quiet.still in
     let doing = does.does in
     let t = (event_of s e).state in
     let left = left_law cut s e quiet.secluded others in
@@ -107,8 +112,8 @@ independence_law cut p s hart e quiet others =
       others = λ q by. others q (sym (ap (λ (u : State). performer u e) doing.state ∙ performer-rewritten cut s e does.rewrites) ∙ by);
       told = ap (λ (u : State). (event_of u e).records) doing.state ∙ blind.records;
       differs = subst (λ (u : State). DifferOnLeft cut t u) (sym behind) (does.differs t left.spares);
-      quiet = λ unhalted. let alike = does.alike t unhalted left.secluded left.spares on in alike.by;
-      either = λ unhalted. let alike = does.alike t unhalted left.secluded left.spares on in let there = alike.does in behind ∙ sym there.state;
+      quiet = λ unhalted. let alike = does.alike t unhalted left.secluded left.spares on still.stay still.bytes in alike.by;
+      either = λ unhalted. let alike = does.alike t unhalted left.secluded left.spares on still.stay still.bytes in let there = alike.does in behind ∙ sym there.state;
     }
 
 -- ---- steps of two harts
@@ -148,10 +153,21 @@ module _ (cut : Cut) (p : ℕ) (s : State) (hart other : ℕ) (secluded : Seclud
   step-of-others : IsOfOthers cut s (Step other)
   step-of-others q performs = dispatched-right q (ap (λ (b : Bool). if b then None else performer_by s (Step other)) (sym runs) ∙ performs)
 
+-- what is settled is so where data alone differ
+settled-shape : (n : ℕ) (s t : State) → SameButData s t → IsSettled s.store n → IsSettled t.store n
+settled-shape n s t same settled = record {
+  slots = λ g i. subst (λ (o : Items). SparesPage n (slot_at o g i)) same.items (settled.slots g i);
+  cappages = λ c i. subst (λ (xs : List (List Capability)). SparesPage n (cap_at (get_or xs c empty_cappage) i)) same.cappages (settled.cappages c i);
+  capregs = λ p i. let one = same.processes p in subst (λ (cs : List Capability). SparesPage n (get_or cs i null)) one.capregs (settled.capregs p i);
+  process_slots = λ p i. let one = same.processes p in subst (λ (cs : List Capability). SparesPage n (get_or cs i null)) one.slots (settled.process_slots p i);
+  recipients = λ e. subst (λ (xs : List EndpointValue). SparesPage n (get_or xs e empty_endpoint).recipient) same.endpoints (settled.recipients e);
+}
+
 -- what is quiet after a quiet step of another hart was so before it
-pub quiet-before : (cut own : Cut) (p q : ℕ) (s : State) (hart other : ℕ) → IsQuietBy own q s other → other ≢ hart → IsQuietBy cut p (event_of s (Step other)).state hart → IsQuietBy cut p s hart
-quiet-before cut own p q s hart other first apart second =
-    let does = quiet_law own q s other first in
+pub quiet-before : (cut own : Cut) (settled seen : ℕ → Bool) (p q : ℕ) (s : State) (hart other : ℕ) → IsQuietBy own seen q s other → other ≢ hart
+    → IsQuietBy cut settled p (event_of s (Step other)).state hart → IsQuietBy cut settled p s hart
+quiet-before cut own settled seen p q s hart other first apart second =
+    let does = quiet_law own seen q s other first in
     let doing = does.does in
     let t = (event_of s (Step other)).state in
     let differ : DifferOnLeft own s t = subst (λ (u : State). DifferOnLeft own s u) (sym doing.state) (does.differs s (λ kind n right. refl)) in
@@ -161,13 +177,15 @@ quiet-before cut own p q s hart other first apart second =
     let on = ap (λ (r : QueuesValue). hart_of r hart) shape.queues ∙ second.on in
     let others : IsOfOthers cut s (Step other) = step-of-others cut p s hart other secluded second.own second.alone on first.runs apart in
     let left = left_law cut s (Step other) secluded others in
-    let again = quiet_law cut p t hart second in
-    let alike = again.alike s first.runs secluded (λ kind n right. sym (left.spares kind n right)) on in
+    let still : AreSettled settled s.store = λ n is. settled-shape n t s back (second.still n is) in
+    let stay = settled_law settled s (Step other) still in
+    let again = quiet_law cut settled p t hart second in
+    let alike = again.alike s first.runs secluded (λ kind n right. sym (left.spares kind n right)) on still (λ n is. sym (stay.bytes n is)) in
     alike.by
 
 -- a step of another hart than that of a quiet one
-pub others_of_harts : (cut : Cut) (p : ℕ) (s : State) (hart other : ℕ) → IsQuietBy cut p s hart → other ≢ hart → IsOfOthers cut s (Step other)
-others_of_harts cut p s hart other quiet apart = step-of-others cut p s hart other quiet.secluded quiet.own quiet.alone quiet.on quiet.runs apart
+pub others_of_harts : (cut : Cut) (settled : ℕ → Bool) (p : ℕ) (s : State) (hart other : ℕ) → IsQuietBy cut settled p s hart → other ≢ hart → IsOfOthers cut s (Step other)
+others_of_harts cut settled p s hart other quiet apart = step-of-others cut p s hart other quiet.secluded quiet.own quiet.alone quiet.on quiet.runs apart
 
 -- the laws of two harts
 pub harts_apart : HartsApart

@@ -8,6 +8,7 @@ mod Messaging
 mod Kernel
 mod Events
 mod Runs
+mod Settling
 mod Walking
 pub mod Shape
 pub mod Quieting

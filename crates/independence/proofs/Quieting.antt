@@ -41,7 +41,8 @@ use Rattle.confinement.specs.Cut.{Cut, side_of}
 use Rattle.confinement.specs.Acts.{Spares}
 use Rattle.independence.specs.Seclusion.{Secluded}
 use Rattle.independence.specs.Rewrite.{Rewrite, ProcessIs, PageIs, ArePrivate, rewritten_all, SameButRegisters, SameButData}
-use Rattle.independence.specs.Quiet.{StaysLeft, AccessesLeft, IsQuietEffect, IsQuietInstruction, IsQuietBy}
+use Rattle.independence.specs.Settled.{AreSettled, SameSettled}
+use Rattle.independence.specs.Quiet.{MayRead, StaysLeft, AccessesLeft, IsQuietEffect, IsQuietInstruction, IsQuietBy}
 use Rattle.independence.specs.Laws.{Does, QuietAlike, QuietLaw}
 use Rattle.independence.proofs.Walking.{ReadsLeft, walk-follows}
 use Rattle.independence.proofs.Shape.{shape-then, shape-process, shape-page, spares-rewritten_all}
@@ -88,28 +89,28 @@ page-then s p v is hit page page_is size value =
 
 -- ---- two states with the same on the left
 
-module _ (cut : Cut) (p : ℕ) (s t : State) (here : process s p ≡ process t p) (gpts : (g : ℕ) → side_of cut Gpt g ≡ Left → gpt_at s.store.items g ≡ gpt_at t.store.items g)
-    (pages : (n : ℕ) → side_of cut Page n ≡ Left → page_at s.store n ≡ page_at t.store n) where
+module _ (cut : Cut) (settled : ℕ → Bool) (p : ℕ) (s t : State) (here : process s p ≡ process t p) (gpts : (g : ℕ) → side_of cut Gpt g ≡ Left → gpt_at s.store.items g ≡ gpt_at t.store.items g)
+    (pages : (n : ℕ) → MayRead cut settled n → page_at s.store n ≡ page_at t.store n) where
   place-ok : (r : Result Place WalkFault) (hit : Hit) → hit_of r ≡ Ok hit → (place : Place) × (r ≡ Ok place)
   place-ok (Ok place) hit e = (place, refl)
   place-ok (Err f) hit e = absurd (cc (e))
 
   -- an access that stays on the left is the same
-  stays : (address : ℕ) (kind : Kind) (hit : Hit) → StaysLeft cut s p address kind hit → StaysLeft cut t p address kind hit
+  stays : (address : ℕ) (kind : Kind) (hit : Hit) → StaysLeft cut settled s p address kind hit → StaysLeft cut settled t p address kind hit
   stays address kind hit is =
       let space : space_of s p ≡ space_of t p = ap (λ (q : ProcessValue). slot_of q 0) here in
       let ends = place-ok (access s.store.items (space_of s p) address kind) hit is.reaches in
-      let same = walk-follows cut s.store.items t.store.items gpts kind address 32 (space_of s p) (start_at address) tt is.way ends.0 ends.1 in
+      let same = walk-follows cut settled s.store.items t.store.items gpts kind address 32 (space_of s p) (start_at address) tt is.way ends.0 ends.1 in
       record {
         reaches = ap (λ (c : Capability). hit_of (access t.store.items c address kind)) (sym space) ∙ (ap hit_of same.walked ∙ is.reaches);
         page = is.page;
-        way = subst (ReadsLeft cut) (sym (ap (λ (c : Capability). trail t.store.items c address kind) (sym space) ∙ same.read)) is.way;
+        way = subst (ReadsLeft cut settled) (sym (ap (λ (c : Capability). trail t.store.items c address kind) (sym space) ∙ same.read)) is.way;
       }
 
-  accesses : (address size : ℕ) (kind : Kind) → AccessesLeft cut s p address size kind → AccessesLeft cut t p address size kind
+  accesses : (address size : ℕ) (kind : Kind) → AccessesLeft cut settled s p address size kind → AccessesLeft cut settled t p address size kind
   accesses address size kind is = record { aligned = is.aligned; hit = is.hit; stays = stays address kind is.hit is.stays }
 
-  quiet-effect : (effect : Effect) → IsQuietEffect cut s p effect → IsQuietEffect cut t p effect
+  quiet-effect : (effect : Effect) → IsQuietEffect cut settled s p effect → IsQuietEffect cut settled t p effect
   quiet-effect (Next pc) is = tt
   quiet-effect (Load at size signed rd) is = accesses at size LoadKind is
   quiet-effect (StoreOf at size value) is = accesses at size StoreKind is
@@ -117,31 +118,31 @@ module _ (cut : Cut) (p : ℕ) (s t : State) (here : process s p ≡ process t p
   quiet-effect Break is = is
   quiet-effect (Misaligned target) is = is
 
-  same-number : (hit : Hit) (size : ℕ) → side_of cut Page hit.page ≡ Left → number_at s hit size ≡ number_at t hit size
+  same-number : (hit : Hit) (size : ℕ) → MayRead cut settled hit.page → number_at s hit size ≡ number_at t hit size
   same-number hit size left = ap (λ (page : List ℕ). number_of (bytes_at page hit.offset size)) (pages hit.page left)
 
   same-effect : (insn : Insn) → effect_of (process s p).regs (pc_of s p) insn ≡ effect_of (process t p).regs (pc_of t p) insn
   same-effect insn = ap (λ (q : ProcessValue). effect_of q.regs q.pc insn) here
 
   -- a quiet instruction is quiet
-  quiet-instruction : IsQuietInstruction cut s p → IsQuietInstruction cut t p
+  quiet-instruction : IsQuietInstruction cut settled s p → IsQuietInstruction cut settled t p
   quiet-instruction is = let fetch = is.fetch in record {
     hit = is.hit;
-    fetch = subst (λ (pc : ℕ). StaysLeft cut t p pc Fetch is.hit) (ap (λ (q : ProcessValue). q.pc) here) (stays (pc_of s p) Fetch is.hit is.fetch);
+    fetch = subst (λ (pc : ℕ). StaysLeft cut settled t p pc Fetch is.hit) (ap (λ (q : ProcessValue). q.pc) here) (stays (pc_of s p) Fetch is.hit is.fetch);
     insn = is.insn;
     decoded = ap insn_at (sym (same-number is.hit 4 fetch.page)) ∙ is.decoded;
-    effect = subst (IsQuietEffect cut t p) (same-effect is.insn) (quiet-effect (effect_of (process s p).regs (pc_of s p) is.insn) is.effect);
+    effect = subst (IsQuietEffect cut settled t p) (same-effect is.insn) (quiet-effect (effect_of (process s p).regs (pc_of s p) is.insn) is.effect);
   }
 
 -- ---- what a quiet instruction does
 
-module _ (cut : Cut) (p : ℕ) (v : ProcessValue) (runs : v.state ≡ Running) (insn : Insn) where
+module _ (cut : Cut) (settled : ℕ → Bool) (p : ℕ) (v : ProcessValue) (runs : v.state ≡ Running) (insn : Insn) where
   -- the registers that it computes, and going on
   abbrev goes : List ℕ → (ProcessValue → ℕ) → List Rewrite
   goes registers pc = ProcessIs p (with_regs v registers) ∷ ProcessIs p (with_pc (with_regs v registers) (pc (with_regs v registers))) ∷ []
 
   -- what is rewritten by its effect
-  abbrev rewrites_in : (t : State) (effect : Effect) → IsQuietEffect cut t p effect → List Rewrite
+  abbrev rewrites_in : (t : State) (effect : Effect) → IsQuietEffect cut settled t p effect → List Rewrite
   rewrites_in t (Next pc) is = goes (registers_after v.regs v.pc insn) (λ q. pc)
   rewrites_in t (Load at size signed rd) is = goes (loaded v.regs rd size signed (number_at t is.hit size)) (λ q. next_of q.pc)
   rewrites_in t (StoreOf at size value) is = let hit = is.hit in
@@ -149,7 +150,7 @@ module _ (cut : Cut) (p : ℕ) (v : ProcessValue) (runs : v.state ≡ Running) (
   rewrites_in t _ is = []
 
   -- and what is told
-  abbrev records_in : (t : State) (effect : Effect) → IsQuietEffect cut t p effect → List Record
+  abbrev records_in : (t : State) (effect : Effect) → IsQuietEffect cut settled t p effect → List Record
   records_in t (Load at size signed rd) is = reached p LoadKind at is.hit ∷ []
   records_in t (StoreOf at size value) is = reached p StoreKind at is.hit ∷ []
   records_in t _ is = []
@@ -160,7 +161,7 @@ module _ (cut : Cut) (p : ℕ) (v : ProcessValue) (runs : v.state ≡ Running) (
     told : o.records ≡ records
 
   module _ (t : State) (here : process t p ≡ v) where
-    load-made : (at size : ℕ) (signed : Bool) (rd : ℕ) (is : AccessesLeft cut t p at size LoadKind)
+    load-made : (at size : ℕ) (signed : Bool) (rd : ℕ) (is : AccessesLeft cut settled t p at size LoadKind)
         → Makes t (load t p at size signed rd) (goes (loaded v.regs rd size signed (number_at t is.hit size)) (λ q. next_of q.pc)) (reached p LoadKind at is.hit ∷ [])
     unfolding load
     load-made at size signed rd is = let stays = is.stays in
@@ -175,7 +176,7 @@ module _ (cut : Cut) (p : ℕ) (v : ProcessValue) (runs : v.state ≡ Running) (
               ∙ ap (λ (r : Result Hit WalkFault). (loaded_from t p at size signed rd r).records) stays.reaches;
         }
 
-    store-made : (at size value : ℕ) (is : AccessesLeft cut t p at size StoreKind)
+    store-made : (at size value : ℕ) (is : AccessesLeft cut settled t p at size StoreKind)
         → Makes t (store t p at size value) (rewrites_in t (StoreOf at size value) is) (reached p StoreKind at is.hit ∷ [])
     unfolding store
     store-made at size value is = let stays = is.stays in let hit = is.hit in
@@ -188,7 +189,7 @@ module _ (cut : Cut) (p : ℕ) (v : ProcessValue) (runs : v.state ≡ Running) (
               ∙ ap (λ (r : Result Hit WalkFault). (stored_to t p at size value r).records) stays.reaches;
         }
 
-    performed-made : (effect : Effect) (is : IsQuietEffect cut t p effect) → Makes t (performed t p insn effect) (rewrites_in t effect is) (records_in t effect is)
+    performed-made : (effect : Effect) (is : IsQuietEffect cut settled t p effect) → Makes t (performed t p insn effect) (rewrites_in t effect is) (records_in t effect is)
     performed-made (Next pc) is = record {
       state = ap (λ (q : ProcessValue). set_pc (set_registers t p (registers_after q.regs q.pc insn)) p pc) here ∙ registers-then t p v here runs (registers_after v.regs v.pc insn) (λ q. pc);
       told = refl;
@@ -200,7 +201,7 @@ module _ (cut : Cut) (p : ℕ) (v : ProcessValue) (runs : v.state ≡ Running) (
     performed-made (Misaligned target) is = absurd is
 
     -- the whole instruction
-    instruction-made : (hit : Hit) → data_access t p v.pc Fetch ≡ Ok hit → insn_at (number_at t hit 4) ≡ Some insn → (is : IsQuietEffect cut t p (effect_of v.regs v.pc insn))
+    instruction-made : (hit : Hit) → data_access t p v.pc Fetch ≡ Ok hit → insn_at (number_at t hit 4) ≡ Some insn → (is : IsQuietEffect cut settled t p (effect_of v.regs v.pc insn))
         → Makes t (instruction t p) (rewrites_in t (effect_of v.regs v.pc insn) is) (reached p Fetch v.pc hit ∷ InsnRead p v.pc insn ∷ records_in t (effect_of v.regs v.pc insn) is)
     unfolding instruction perform
     instruction-made hit reaches decoded is =
@@ -218,7 +219,7 @@ module _ (cut : Cut) (p : ℕ) (v : ProcessValue) (runs : v.state ≡ Running) (
         }
 
   -- all that it rewrites is on the left
-  rewrites-private : side_of cut Process p ≡ Left → (t : State) (effect : Effect) (is : IsQuietEffect cut t p effect) → ArePrivate cut (rewrites_in t effect is)
+  rewrites-private : side_of cut Process p ≡ Left → (t : State) (effect : Effect) (is : IsQuietEffect cut settled t p effect) → ArePrivate cut (rewrites_in t effect is)
   rewrites-private left t (Next pc) is = ((left, runs), ((left, runs), tt))
   rewrites-private left t (Load at size signed rd) is = ((left, runs), ((left, runs), tt))
   rewrites-private left t (StoreOf at size value) is = let stays = is.stays in (stays.page, ((left, runs), tt))
@@ -228,9 +229,9 @@ module _ (cut : Cut) (p : ℕ) (v : ProcessValue) (runs : v.state ≡ Running) (
 
 -- ---- the law
 
-module _ (cut : Cut) (p : ℕ) (v : ProcessValue) (runs : v.state ≡ Running) (insn : Insn) where
+module _ (cut : Cut) (settled : ℕ → Bool) (p : ℕ) (v : ProcessValue) (runs : v.state ≡ Running) (insn : Insn) where
   -- what is rewritten keeps capabilities and states
-  goes-shape : (t : State) → process t p ≡ v → (registers : List ℕ) (pc : ProcessValue → ℕ) → SameButData t (rewritten_all t (goes cut p v runs insn registers pc))
+  goes-shape : (t : State) → process t p ≡ v → (registers : List ℕ) (pc : ProcessValue → ℕ) → SameButData t (rewritten_all t (goes cut settled p v runs insn registers pc))
   goes-shape t here registers pc =
       let x = with_regs v registers in
       let first : SameButRegisters (process t p) x = subst (λ (q : ProcessValue). SameButRegisters q x) (sym here) (record { capregs = refl; slots = refl; state = refl }) in
@@ -238,7 +239,7 @@ module _ (cut : Cut) (p : ℕ) (v : ProcessValue) (runs : v.state ≡ Running) (
       shape-then t (set_process t p x) (set_process (set_process t p x) p (with_pc x (pc x))) (shape-process t p x first)
       (shape-process (set_process t p x) p (with_pc x (pc x)) (subst (λ (q : ProcessValue). SameButRegisters q (with_pc x (pc x))) (sym there) (record { capregs = refl; slots = refl; state = refl })))
 
-  rewrites-shape : (s t : State) → process t p ≡ v → (effect : Effect) (is : IsQuietEffect cut s p effect) → SameButData t (rewritten_all t (rewrites_in cut p v runs insn s effect is))
+  rewrites-shape : (s t : State) → process t p ≡ v → (effect : Effect) (is : IsQuietEffect cut settled s p effect) → SameButData t (rewritten_all t (rewrites_in cut settled p v runs insn s effect is))
   rewrites-shape s t here (Next pc) is = goes-shape t here (registers_after v.regs v.pc insn) (λ q. pc)
   rewrites-shape s t here (Load at size signed rd) is = goes-shape t here (loaded v.regs rd size signed (number_at s is.hit size)) (λ q. next_of q.pc)
   rewrites-shape s t here (StoreOf at size value) is =
@@ -250,20 +251,20 @@ module _ (cut : Cut) (p : ℕ) (v : ProcessValue) (runs : v.state ≡ Running) (
   rewrites-shape s t here Break is = absurd is
   rewrites-shape s t here (Misaligned target) is = absurd is
 
-module _ (cut : Cut) (p : ℕ) (s t : State) (here : process s p ≡ process t p) (gpts : (g : ℕ) → side_of cut Gpt g ≡ Left → gpt_at s.store.items g ≡ gpt_at t.store.items g)
-    (pages : (n : ℕ) → side_of cut Page n ≡ Left → page_at s.store n ≡ page_at t.store n) (v : ProcessValue) (runs : v.state ≡ Running) (insn : Insn) where
-  same-rewrites : (effect : Effect) (is : IsQuietEffect cut s p effect) → rewrites_in cut p v runs insn t effect (quiet-effect cut p s t here gpts pages effect is) ≡ rewrites_in cut p v runs insn s effect is
+module _ (cut : Cut) (settled : ℕ → Bool) (p : ℕ) (s t : State) (here : process s p ≡ process t p) (gpts : (g : ℕ) → side_of cut Gpt g ≡ Left → gpt_at s.store.items g ≡ gpt_at t.store.items g)
+    (pages : (n : ℕ) → MayRead cut settled n → page_at s.store n ≡ page_at t.store n) (v : ProcessValue) (runs : v.state ≡ Running) (insn : Insn) where
+  same-rewrites : (effect : Effect) (is : IsQuietEffect cut settled s p effect) → rewrites_in cut settled p v runs insn t effect (quiet-effect cut settled p s t here gpts pages effect is) ≡ rewrites_in cut settled p v runs insn s effect is
   unfolding quiet-effect accesses
   same-rewrites (Next pc) is = refl
   same-rewrites (Load at size signed rd) is = let stays = is.stays in
-      ap (λ (number : ℕ). goes cut p v runs insn (loaded v.regs rd size signed number) (λ q. next_of q.pc)) (sym (same-number cut p s t here gpts pages is.hit size stays.page))
+      ap (λ (number : ℕ). goes cut settled p v runs insn (loaded v.regs rd size signed number) (λ q. next_of q.pc)) (sym (same-number cut settled p s t here gpts pages is.hit size stays.page))
   same-rewrites (StoreOf at size value) is = let stays = is.stays in let hit = is.hit in
-      ap (λ (page : List ℕ). PageIs hit.page (with_bytes page hit.offset (bytes_of size value)) ∷ ProcessIs p (with_pc v (next_of v.pc)) ∷ []) (sym (pages hit.page stays.page))
+      ap (λ (page : List ℕ). PageIs hit.page (with_bytes page hit.offset (bytes_of size value)) ∷ ProcessIs p (with_pc v (next_of v.pc)) ∷ []) (sym (pages hit.page (inl stays.page)))
   same-rewrites Syscall is = refl
   same-rewrites Break is = refl
   same-rewrites (Misaligned target) is = refl
 
-  same-records : (effect : Effect) (is : IsQuietEffect cut s p effect) → records_in cut p v runs insn t effect (quiet-effect cut p s t here gpts pages effect is) ≡ records_in cut p v runs insn s effect is
+  same-records : (effect : Effect) (is : IsQuietEffect cut settled s p effect) → records_in cut settled p v runs insn t effect (quiet-effect cut settled p s t here gpts pages effect is) ≡ records_in cut settled p v runs insn s effect is
   unfolding quiet-effect accesses
   same-records (Next pc) is = refl
   same-records (Load at size signed rd) is = refl
@@ -272,11 +273,11 @@ module _ (cut : Cut) (p : ℕ) (s t : State) (here : process s p ≡ process t p
   same-records Break is = refl
   same-records (Misaligned target) is = refl
 
-module _ (cut : Cut) (p : ℕ) (s : State) (hart : ℕ) (quiet : IsQuietBy cut p s hart) where
-  is : IsQuietInstruction cut s p
+module _ (cut : Cut) (settled : ℕ → Bool) (p : ℕ) (s : State) (hart : ℕ) (quiet : IsQuietBy cut settled p s hart) where
+  is : IsQuietInstruction cut settled s p
   is = quiet.instruction
 
-  fetch : StaysLeft cut s p (pc_of s p) Fetch is.hit
+  fetch : StaysLeft cut settled s p (pc_of s p) Fetch is.hit
   fetch = is.fetch
 
   abbrev v : ProcessValue
@@ -290,12 +291,12 @@ module _ (cut : Cut) (p : ℕ) (s : State) (hart : ℕ) (quiet : IsQuietBy cut p
 
   -- what it rewrites, and what it tells
   abbrev rewrites : List Rewrite
-  rewrites = rewrites_in cut p v runs is.insn s effect is.effect
+  rewrites = rewrites_in cut settled p v runs is.insn s effect is.effect
 
   abbrev records : List Record
-  records = reached p Fetch v.pc is.hit ∷ InsnRead p v.pc is.insn ∷ records_in cut p v runs is.insn s effect is.effect
+  records = reached p Fetch v.pc is.hit ∷ InsnRead p v.pc is.insn ∷ records_in cut settled p v runs is.insn s effect is.effect
 
-  does-made : (t : State) → t.halted ≡ false → hart_of t.queues hart ≡ Some p → (rs : List Rewrite) (ns : List Record) → Makes cut p v runs is.insn t (instruction t p) rs ns
+  does-made : (t : State) → t.halted ≡ false → hart_of t.queues hart ≡ Some p → (rs : List Rewrite) (ns : List Record) → Makes cut settled p v runs is.insn t (instruction t p) rs ns
       → Does t hart rs ns
   does-made t unhalted on rs ns made = record {
     state = ap (λ (o : Outcome). o.state) (step-is t hart p unhalted on) ∙ made.state;
@@ -303,7 +304,7 @@ module _ (cut : Cut) (p : ℕ) (s : State) (hart : ℕ) (quiet : IsQuietBy cut p
   }
 
   does : Does s hart rewrites records
-  does = does-made s quiet.runs quiet.on rewrites records (instruction-made cut p v runs is.insn s refl is.hit fetch.reaches is.decoded is.effect)
+  does = does-made s quiet.runs quiet.on rewrites records (instruction-made cut settled p v runs is.insn s refl is.hit fetch.reaches is.decoded is.effect)
 
   module _ (t : State) (spares : Spares cut Right s.store t.store) where
     not-right : (side : CutSide) → side ≡ Left → side ≢ Right
@@ -315,21 +316,23 @@ module _ (cut : Cut) (p : ℕ) (s : State) (hart : ℕ) (quiet : IsQuietBy cut p
     gpts : (g : ℕ) → side_of cut Gpt g ≡ Left → gpt_at s.store.items g ≡ gpt_at t.store.items g
     gpts g left = let e = spares Gpt g (not-right (side_of cut Gpt g) left) in cc (e)
 
-    pages : (n : ℕ) → side_of cut Page n ≡ Left → page_at s.store n ≡ page_at t.store n
-    pages n left = let e = spares Page n (not-right (side_of cut Page n) left) in cc (e)
+    pages : SameSettled settled s.store t.store → (n : ℕ) → MayRead cut settled n → page_at s.store n ≡ page_at t.store n
+    pages bytes n (inl left) = let e = spares Page n (not-right (side_of cut Page n) left) in cc (e)
+    pages bytes n (inr still) = bytes n still
 
-  module _ (t : State) (unhalted : t.halted ≡ false) (secluded : Secluded cut t) (spares : Spares cut Right s.store t.store) (on : hart_of t.queues hart ≡ Some p) where
+  module _ (t : State) (unhalted : t.halted ≡ false) (secluded : Secluded cut t) (spares : Spares cut Right s.store t.store) (on : hart_of t.queues hart ≡ Some p)
+      (still : AreSettled settled t.store) (bytes : SameSettled settled s.store t.store) where
     -- it does the same in another state
     does-there : Does t hart rewrites records
     does-there =
-        let there = stays cut p s t (here t spares) (gpts t spares) (pages t spares) v.pc Fetch is.hit is.fetch in
-        let decoded = ap insn_at (sym (same-number cut p s t (here t spares) (gpts t spares) (pages t spares) is.hit 4 fetch.page)) ∙ is.decoded in
-        let made = instruction-made cut p v runs is.insn t (sym (here t spares)) is.hit there.reaches decoded (quiet-effect cut p s t (here t spares) (gpts t spares) (pages t spares) effect is.effect) in
+        let there = stays cut settled p s t (here t spares) (gpts t spares) (pages t spares bytes) v.pc Fetch is.hit is.fetch in
+        let decoded = ap insn_at (sym (same-number cut settled p s t (here t spares) (gpts t spares) (pages t spares bytes) is.hit 4 fetch.page)) ∙ is.decoded in
+        let made = instruction-made cut settled p v runs is.insn t (sym (here t spares)) is.hit there.reaches decoded (quiet-effect cut settled p s t (here t spares) (gpts t spares) (pages t spares bytes) effect is.effect) in
         subst₂ (λ (rs : List Rewrite) (ns : List Record). Does t hart rs (reached p Fetch v.pc is.hit ∷ InsnRead p v.pc is.insn ∷ ns))
-        (same-rewrites cut p s t (here t spares) (gpts t spares) (pages t spares) v runs is.insn effect is.effect) (same-records cut p s t (here t spares) (gpts t spares) (pages t spares) v runs is.insn effect is.effect)
+        (same-rewrites cut settled p s t (here t spares) (gpts t spares) (pages t spares bytes) v runs is.insn effect is.effect) (same-records cut settled p s t (here t spares) (gpts t spares) (pages t spares bytes) v runs is.insn effect is.effect)
         (does-made t unhalted on _ _ made)
 
-    alike : QuietAlike cut p t hart rewrites records
+    alike : QuietAlike cut settled p t hart rewrites records
     alike = record {
       by = record {
         runs = unhalted;
@@ -337,7 +340,8 @@ module _ (cut : Cut) (p : ℕ) (s : State) (hart : ℕ) (quiet : IsQuietBy cut p
         secluded = secluded;
         own = quiet.own;
         alone = quiet.alone;
-        instruction = quiet-instruction cut p s t (here t spares) (gpts t spares) (pages t spares) quiet.instruction;
+        still = still;
+        instruction = quiet-instruction cut settled p s t (here t spares) (gpts t spares) (pages t spares bytes) quiet.instruction;
       };
       does = does-there;
     }
@@ -345,15 +349,15 @@ module _ (cut : Cut) (p : ℕ) (s : State) (hart : ℕ) (quiet : IsQuietBy cut p
 -- a quiet step
 pub quiet_law : QuietLaw
 unfolding is runs
-quiet_law cut p s hart quiet = record {
-  rewrites = rewrites cut p s hart quiet;
-  records = records cut p s hart quiet;
+quiet_law cut settled p s hart quiet = record {
+  rewrites = rewrites cut settled p s hart quiet;
+  records = records cut settled p s hart quiet;
   own = let is = quiet.instruction in
-      rewrites-private cut p (process s p) (runs cut p s hart quiet) is.insn quiet.own s (effect_of (process s p).regs (pc_of s p) is.insn) is.effect;
-  does = does cut p s hart quiet;
+      rewrites-private cut settled p (process s p) (runs cut settled p s hart quiet) is.insn quiet.own s (effect_of (process s p).regs (pc_of s p) is.insn) is.effect;
+  does = does cut settled p s hart quiet;
   differs = λ t spares. let is = quiet.instruction in let effect = effect_of (process s p).regs (pc_of s p) is.insn in record {
-    same = rewrites-shape cut p (process s p) (runs cut p s hart quiet) is.insn s t (sym (here cut p s hart quiet t spares)) effect is.effect;
-    right = spares-rewritten_all cut t (rewrites cut p s hart quiet) (rewrites-private cut p (process s p) (runs cut p s hart quiet) is.insn quiet.own s effect is.effect);
+    same = rewrites-shape cut settled p (process s p) (runs cut settled p s hart quiet) is.insn s t (sym (here cut settled p s hart quiet t spares)) effect is.effect;
+    right = spares-rewritten_all cut t (rewrites cut settled p s hart quiet) (rewrites-private cut settled p (process s p) (runs cut settled p s hart quiet) is.insn quiet.own s effect is.effect);
   };
-  alike = λ t unhalted secluded spares on. alike cut p s hart quiet t unhalted secluded spares on;
+  alike = λ t unhalted secluded spares on still bytes. alike cut settled p s hart quiet t unhalted secluded spares on still bytes;
 }

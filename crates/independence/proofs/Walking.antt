@@ -1,6 +1,6 @@
 -- A walk that reads nothing but what is on the left is the same in two maps of items whose GPTs of the left are, and so is what it
 -- reads.
-use Rattle.std.proofs.Common.{◌≡◌, ℕ, zero, suc, if◌then◌else◌, List, [], ◌∷◌, ◌++◌, Option, Some, None, Result, Ok, Err, refl, sym, ◌∙◌, ap, subst}
+use Rattle.std.proofs.Common.{◌≡◌, ℕ, zero, suc, Bool, if◌then◌else◌, List, [], ◌∷◌, ◌++◌, Option, Some, None, Result, Ok, Err, refl, sym, ◌∙◌, ap, subst}
 use Rattle.std.specs.List.{AllByRecursion as Each}
 use Rattle.cap_format.specs.declared.kind.CapKind.{CapKind}
 use Rattle.cap_format.specs.declared.kind.CapKind.TheVariants.{Gpt}
@@ -24,17 +24,17 @@ use Rattle.walk_meaning.proofs.Ways.{Way, gone, step-headers}
 use Rattle.walk_meaning.proofs.Ways.Way.{BySlot, ByWindow, ByLocal}
 use Rattle.confinement.specs.declared.cut_side.CutSide.TheVariants.{Left}
 use Rattle.confinement.specs.Cut.{Cut, side_of}
-use Rattle.independence.specs.Quiet.{item_side}
+use Rattle.independence.specs.Quiet.{MayPass}
 
 -- what holds of each of a list holds of each of its two parts
 each-parts : {A : Type 0} (P : A → Type 0) (xs ys : List A) → Each P (xs ++ ys) → Each P xs × Each P ys
 each-parts P [] ys each = (tt, each)
 each-parts P (x ∷ xs) ys each = let rest = each-parts P xs ys each.1 in ((each.0, rest.0), rest.1)
 
-module _ (cut : Cut) where
+module _ (cut : Cut) (settled : ℕ → Bool) where
   -- these reads are of what is on the left
   abbrev pub ReadsLeft : List Noted → Type 0
-  ReadsLeft reads = Each (λ (n : Noted). item_side cut n.item ≡ Left) reads
+  ReadsLeft reads = Each (λ (n : Noted). MayPass cut settled n.item) reads
 
   -- there is no such GPT, or it is on the left
   abbrev OnLeft : Option ℕ → Type 0
@@ -90,7 +90,7 @@ module _ (cut : Cut) where
     follows : (n : ℕ) → Follows n
     follows zero c w on reads place ends = let no : ◌≡◌ {A = Result Place WalkFault} (Err _) (Ok place) = sym (walk-zero o kind c w) ∙ ends in absurd (cc (no))
     follows (suc n) c w on reads place ends =
-        let parts = each-parts (λ (n : Noted). item_side cut n.item ≡ Left) (header_noted c address w.l2) (trail_after o kind address n (step o kind c w)) (subst ReadsLeft (trail_from-suc o kind address n c w) reads) in
+        let parts = each-parts (λ (n : Noted). MayPass cut settled n.item) (header_noted c address w.l2) (trail_after o kind address n (step o kind c w)) (subst ReadsLeft (trail_from-suc o kind address n c w) reads) in
         let step_is = same-step c w on parts.0 in
         let rest = same-after n (λ c w on reads place ends. follows n c w on reads place ends) c w (step o kind c w) refl parts.1 place (sym (walk-suc o kind n c w) ∙ ends) in
         record {

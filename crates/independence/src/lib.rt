@@ -5,12 +5,14 @@
 //! names, weakly neither. They run, and nobody else holds a capability to one; only an endpoint may name one as its recipient,
 //! which then is busy and no more. An event of another process finds nothing of it and leaves it as it is, and does the same
 //! whatever stands there. A step of such a process is quiet where its instruction ends without a system call, a breakpoint or a
-//! fault, and reads and writes nothing but what the process has to itself, by walks that go through no GPT but its own. It does
-//! the same in each state that has the same there.
+//! fault, and reads and writes nothing but what the process has to itself, by walks that go through no GPT but its own. It may also
+//! read pages that are settled: each capability that names one is RO, and nobody holds a Range, so nobody can change it, for good. The
+//! step does the same in each state that has the same there.
 //!
 //! There is no code here. Each function has a law as its contract; the definitions are in `specs/`.
 #![tactic(auto)]
 
+ghost use Rattle.independence.specs.Settled.{SettledLaw};
 ghost use Rattle.independence.specs.Laws.{LeftLaw, BlindLaw, QuietLaw, IndependenceLaw, HartsApart};
 
 /// An event of others leaves what is on the left as it is, and theirs alone who have it.
@@ -21,6 +23,11 @@ pub fn left_law()
 /// An event of others does the same whatever is on the left.
 pub fn blind_law()
     ensures { BlindLaw }
+{}
+
+/// No event changes a page that is settled, and it stays so.
+pub fn settled_law()
+    ensures { SettledLaw }
 {}
 
 /// A quiet step rewrites nothing but what is on the left, and does the same wherever that is the same.
