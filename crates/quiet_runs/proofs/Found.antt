@@ -1,5 +1,5 @@
 -- The steps that are found to be quiet are.
-use Rattle.std.proofs.Common.{◌≡◌, ℕ, zero, suc, ◌%◌, ◌==◌, ◌<◌, ◌≤◌, nat_lt, ⊎_elim, Bool, true, false, not, ◌&&◌, if◌then◌else◌, length, Option, Some, None, Result, Ok, Err, refl, sym, ◌∙◌, ap, arith}
+use Rattle.std.proofs.Common.{◌≡◌, ℕ, zero, suc, ◌%◌, ◌==◌, ◌<◌, ◌≤◌, nat_lt, ⊎_elim, inl, Bool, true, false, not, ◌&&◌, if◌then◌else◌, length, Option, Some, None, Result, Ok, Err, refl, sym, ◌∙◌, ap, arith}
 use Rattle.std.proofs.lemmas.Bool.{and_parts, and_cases, or_parts, false≢true, not-true, eqb-true, ltb-true}
 use Rattle.cap_format.specs.declared.kind.CapKind.TheVariants.{Page, Window}
 use Rattle.object_store.specs.Store.{slot_at}
@@ -18,8 +18,9 @@ use Rattle.walk_engine.specs.declared.hit.Hit.{Hit}
 use Rattle.walk_engine.specs.Answer.{hit_of}
 use Rattle.machine_state.specs.State.{State, process, pc_of, space_of}
 use Rattle.machine_state.specs.DataAccess.{data_access, number_at}
+use Rattle.confinement.specs.declared.cut_side.CutSide.TheVariants.{Left}
 use Rattle.confinement.specs.Cut.{Cut, side_of}
-use Rattle.independence.specs.Quiet.{StaysLeft, AccessesLeft, IsQuietEffect, IsQuietInstruction}
+use Rattle.independence.specs.Quiet.{MayReach, StaysLeft, AccessesLeft, IsQuietEffect, IsQuietInstruction}
 use Rattle.quiet_runs.specs.Runs.{Watch, IsQuietFor, AreQuiet, after_step}
 use Rattle.quiet_runs.specs.Reaching.{reached_by, is_alone}
 use Rattle.quiet_runs.specs.Finding.{is_far_reaching, is_secluded, is_own, is_watched, reaches_own, is_quiet_effect, is_quiet_word, is_quiet_fetch, is_quiet_next, is_quiet_on, is_quiet, quiet_within}
@@ -44,6 +45,10 @@ module _ (watch : Watch) (s : State) (p hart : ℕ) (is : is_secluded s p hart �
   abbrev cut : Cut
   cut = own_cut watch s p
 
+  -- pages that are settled play no part in it
+  abbrev settled : ℕ → Bool
+  settled n = false
+
   -- a page of its own isn't watched
   own-unwatched : (n : ℕ) → is_own s p n ≡ true → watch.pages n ≡ false
   own-unwatched n own =
@@ -55,8 +60,14 @@ module _ (watch : Watch) (s : State) (p hart : ℕ) (is : is_secluded s p hart �
       (λ (no : is_own s p n ≡ false). absurd (false≢true (sym no ∙ own)))
       (and_cases (watch.pages n) (is_own s p n) none)
 
+  -- a page of the left may be reached
+  reach : (kind : Kind) (n : ℕ) → side_of cut Page n ≡ Left → MayReach cut settled kind n
+  reach Fetch n left = inl left
+  reach LoadKind n left = inl left
+  reach _ n left = left
+
   -- an access that reaches a page of its own reads nothing but its own on the way
-  stays-left : (address : ℕ) (kind : Kind) (hit : Hit) → is_data kind ≡ true → data_access s p address kind ≡ Ok hit → is_own s p hit.page ≡ true → StaysLeft cut s p address kind hit
+  stays-left : (address : ℕ) (kind : Kind) (hit : Hit) → is_data kind ≡ true → data_access s p address kind ≡ Ok hit → is_own s p hit.page ≡ true → StaysLeft cut settled s p address kind hit
   stays-left address kind hit of_data reaches own =
       let pages = length s.store.contents.pages in
       let alone = alone-unshared s.store p Page hit.page (and_parts (nat_lt hit.page pages) (is_alone p (reached_by s.store Page hit.page)) own).1 in
@@ -64,10 +75,10 @@ module _ (watch : Watch) (s : State) (p hart : ℕ) (is : is_secluded s p hart �
       let at = placed (access s.store.items (space_of s p) address kind) hit reaches in
       record {
         reaches = reaches;
-        page = page;
-        way = stays s.store.items (shared s.store p) kind of_data (near-window) (shared-gpt s.store p) at.place cut
+        page = reach kind hit.page page;
+        way = stays s.store.items (shared s.store p) kind of_data (near-window) (shared-gpt s.store p) at.place cut settled
             (ap (shared s.store p Page) at.page ∙ alone)
-            (ap (side_of cut Page) at.page ∙ page)
+            (inl (ap (side_of cut Page) at.page ∙ page))
             (left-gpt watch s p) address 32 (space_of s p) (start_at address) at.reached;
       }
     where
@@ -85,19 +96,19 @@ module _ (watch : Watch) (s : State) (p hart : ℕ) (is : is_secluded s p hart �
   reaches-is (Ok hit) e = record { hit = hit; reached = refl; own = e }
   reaches-is (Err fault) e = absurd (false≢true e)
 
-  accesses : (at size : ℕ) (kind : Kind) → is_data kind ≡ true → ((at % size == 0) && reaches_own s p (data_access s p at kind)) ≡ true → AccessesLeft cut s p at size kind
+  accesses : (at size : ℕ) (kind : Kind) → is_data kind ≡ true → ((at % size == 0) && reaches_own s p (data_access s p at kind)) ≡ true → AccessesLeft cut settled s p at size kind
   accesses at size kind of_data e =
       let parts = and_parts (at % size == 0) (reaches_own s p (data_access s p at kind)) e in
       let r = reaches-is (data_access s p at kind) parts.1 in
       record { aligned = eqb-true (at % size) 0 parts.0; hit = r.hit; stays = stays-left at kind r.hit of_data r.reached r.own }
 
-  quiet-effect : (effect : Effect) → is_quiet_effect s p effect ≡ true → IsQuietEffect cut s p effect
+  quiet-effect : (effect : Effect) → is_quiet_effect s p effect ≡ true → IsQuietEffect cut settled s p effect
   quiet-effect (Next pc) e = tt
   quiet-effect (Load at size signed rd) e = accesses at size LoadKind refl e
   quiet-effect (StoreOf at size value) e = accesses at size StoreKind refl e
   quiet-effect _ e = absurd (false≢true e)
 
-  quiet-word : (hit : Hit) → StaysLeft cut s p (pc_of s p) Fetch hit → (word : Option Insn) → insn_at (number_at s hit 4) ≡ word → is_quiet_word s p word ≡ true → IsQuietInstruction cut s p
+  quiet-word : (hit : Hit) → StaysLeft cut settled s p (pc_of s p) Fetch hit → (word : Option Insn) → insn_at (number_at s hit 4) ≡ word → is_quiet_word s p word ≡ true → IsQuietInstruction cut settled s p
   quiet-word hit fetch None decoded e = absurd (false≢true e)
   quiet-word hit fetch (Some insn) decoded e = record {
     hit = hit;
@@ -107,7 +118,7 @@ module _ (watch : Watch) (s : State) (p hart : ℕ) (is : is_secluded s p hart �
     effect = quiet-effect (effect_of (process s p).regs (pc_of s p) insn) e;
   }
 
-  quiet-fetch : (r : Result Hit WalkFault) → data_access s p (pc_of s p) Fetch ≡ r → is_quiet_fetch s p r ≡ true → IsQuietInstruction cut s p
+  quiet-fetch : (r : Result Hit WalkFault) → data_access s p (pc_of s p) Fetch ≡ r → is_quiet_fetch s p r ≡ true → IsQuietInstruction cut settled s p
   quiet-fetch (Err fault) reaches e = absurd (false≢true e)
   quiet-fetch (Ok hit) reaches e =
       let parts = and_parts (is_own s p hit.page) (is_quiet_word s p (insn_at (number_at s hit 4))) e in
@@ -117,6 +128,7 @@ module _ (watch : Watch) (s : State) (p hart : ℕ) (is : is_secluded s p hart �
   pub quiet-next : s.halted ≡ false → is_quiet_next s p ≡ true → IsQuietFor watch s hart
   quiet-next runs next = record {
     cut = cut;
+    settled = settled;
     process = p;
     by = record {
       runs = runs;
@@ -124,6 +136,7 @@ module _ (watch : Watch) (s : State) (p hart : ℕ) (is : is_secluded s p hart �
       secluded = secluded watch s p hart is;
       own = left-process watch s p;
       alone = left-alone watch s p;
+      still = λ n is. absurd (false≢true is);
       instruction = quiet-fetch (data_access s p (pc_of s p) Fetch) refl next;
     };
     unwatched = (or_parts (watch.processes p) _ unwatched).0;

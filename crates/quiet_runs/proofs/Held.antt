@@ -86,7 +86,7 @@ held-step : (watch : Watch) (s : State) (hart : ℕ) → IsQuietFor watch s hart
 held-step watch s hart quiet =
     let seen = quiet-same watch s hart quiet in
     let same = seen.same in
-    let law = quiet_law quiet.cut quiet.process s hart quiet.by in
+    let law = quiet_law quiet.cut quiet.settled quiet.process s hart quiet.by in
     let does = law.does in
     record {
       hold = hold-alike s.store (after_step s hart).store (sym same.items) (sym same.cappages)

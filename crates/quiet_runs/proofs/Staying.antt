@@ -24,7 +24,7 @@ use Rattle.walk_meaning.proofs.Ways.Way.{BySlot, ByWindow, ByLocal}
 use Rattle.walk_meaning.proofs.Ends.{Serves, reached}
 use Rattle.confinement.specs.declared.cut_side.CutSide.TheVariants.{Left}
 use Rattle.confinement.specs.Cut.{Cut, side_of}
-use Rattle.independence.specs.Quiet.{item_side}
+use Rattle.independence.specs.Quiet.{MayRead, MayPass}
 use Rattle.quiet_runs.specs.Reaching.{names}
 
 -- a capability of this kind names its object
@@ -79,11 +79,11 @@ module _ (o : Items) (shared : CapKind → ℕ → Bool) (kind : Kind) (of_data 
     shares (suc n) g i w is holding ends =
         shares-after n (λ g i w is holding ends. shares n g i w is holding ends) g i w is holding (step o kind (slot_at o g i) w) refl (sym (walk-suc o kind n (slot_at o g i) w) ∙ ends)
 
-    module _ (cut : Cut) (own : shared Page place.number ≡ false) (page : side_of cut Page place.number ≡ Left)
+    module _ (cut : Cut) (settled : ℕ → Bool) (own : shared Page place.number ≡ false) (page : MayRead cut settled place.number)
         (gpts : (g : ℕ) → shared Gpt g ≡ false → side_of cut Gpt g ≡ Left) (address : ℕ) where
       -- what is read is on the left
       abbrev OnLeft : List Noted → Type 0
-      OnLeft reads = Each (λ (n : Noted). item_side cut n.item ≡ Left) reads
+      OnLeft reads = Each (λ (n : Noted). MayPass cut settled n.item) reads
 
       left-append : (xs ys : List Noted) → OnLeft xs → OnLeft ys → OnLeft (xs ++ ys)
       left-append [] ys first second = second
@@ -107,7 +107,7 @@ module _ (o : Items) (shared : CapKind → ℕ → Bool) (kind : Kind) (of_data 
           let at : p ≡ place = cc (ends) in
           let last = page-end c w p e in
           let number : c.object ≡ place.number = last.1 ∙ ap (λ (q : Place). q.number) at in
-          left-append (header_noted c address w.l2) [] (left-header c w.l2 Page last.0 (subst (λ (n : ℕ). side_of cut Page n ≡ Left) (sym number) page, tt)) tt
+          left-append (header_noted c address w.l2) [] (left-header c w.l2 Page last.0 (subst (λ (n : ℕ). MayRead cut settled n) (sym number) page, tt)) tt
       stays-after n rest c w (Fault code h) e ends = absurd (cc (ends))
       stays-after n rest c w (Go next g i) e ends =
           let way = (gone o next g i c kind w e).way in

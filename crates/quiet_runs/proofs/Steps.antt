@@ -63,9 +63,9 @@ module _ (watch : Watch) where
   }
 
   -- what is on the left of a quiet step isn't looked at
-  differ-same : (cut : Cut) (p h : ℕ) (s t u : State) → IsQuietBy cut p s h → watch.processes p ≡ false → ((n : ℕ) → watch.pages n ≡ true → side_of cut Page n ≡ Right)
+  differ-same : (cut : Cut) (settled : ℕ → Bool) (p h : ℕ) (s t u : State) → IsQuietBy cut settled p s h → watch.processes p ≡ false → ((n : ℕ) → watch.pages n ≡ true → side_of cut Page n ≡ Right)
       → DifferOnLeft cut t u → SameFor watch t u
-  differ-same cut p h s t u quiet unwatched pages differ = record {
+  differ-same cut settled p h s t u quiet unwatched pages differ = record {
     same = differ.same;
     processes = λ q is. let e = differ.right Process q (λ left. let same = quiet.alone q left in let no = sym is ∙ (ap watch.processes same ∙ unwatched) in absurd (cc (no))) in cc (e);
     pages = λ n is. let e = differ.right Page n (λ left. let no : Left ≡ Right = sym left ∙ pages n is in absurd (cc (no))) in cc (e);
@@ -78,10 +78,10 @@ module _ (watch : Watch) where
   quiet-same s h quiet =
       let cut = quiet.cut in
       let p = quiet.process in
-      let does = quiet_law cut p s h quiet.by in
+      let does = quiet_law cut quiet.settled p s h quiet.by in
       let doing = does.does in
       let differ = does.differs s (λ kind n right. refl) in
-      differ-same cut p h s s (after_step s h) quiet.by quiet.unwatched quiet.pages (subst (λ (u : State). DifferOnLeft cut s u) (sym doing.state) differ)
+      differ-same cut quiet.settled p h s s (after_step s h) quiet.by quiet.unwatched quiet.pages (subst (λ (u : State). DifferOnLeft cut s u) (sym doing.state) differ)
 
   -- the machine isn't halted after it
   pub quiet-runs : (s : State) (h : ℕ) → IsQuietFor watch s h → (after_step s h).halted ≡ false
@@ -90,12 +90,12 @@ module _ (watch : Watch) where
   -- ---- a quiet step of one hart, and a step of another
 
   module _ (s : State) (h g : ℕ) (quiet : IsQuietFor watch s h) (apart : g ≢ h) where
-    independent : Independent quiet.cut quiet.process s h (Step g)
-    independent = independence_law quiet.cut quiet.process s h (Step g) quiet.by (others_of_harts quiet.cut quiet.process s h g quiet.by apart)
+    independent : Independent quiet.cut quiet.settled quiet.process s h (Step g)
+    independent = independence_law quiet.cut quiet.settled quiet.process s h (Step g) quiet.by (others_of_harts quiet.cut quiet.settled quiet.process s h g quiet.by apart)
 
     -- it is quiet after the other
     pub quiet-behind : (after_step s g).halted ≡ false → IsQuietFor watch (after_step s g) h
-    quiet-behind runs = record { cut = quiet.cut; process = quiet.process; by = independent.quiet runs; unwatched = quiet.unwatched; pages = quiet.pages }
+    quiet-behind runs = record { cut = quiet.cut; settled = quiet.settled; process = quiet.process; by = independent.quiet runs; unwatched = quiet.unwatched; pages = quiet.pages }
 
     -- both orders lead to the same state
     pub either-order : (after_step s g).halted ≡ false → after_step (after_step s h) g ≡ after_step (after_step s g) h
@@ -103,7 +103,7 @@ module _ (watch : Watch) where
 
     -- and where the other halts the machine, to states that are the same for one who looks at these
     pub either-same : SameFor watch (after_step s g) (after_step (after_step s h) g)
-    either-same = differ-same quiet.cut quiet.process h s (after_step s g) (after_step (after_step s h) g) quiet.by quiet.unwatched quiet.pages independent.differs
+    either-same = differ-same quiet.cut quiet.settled quiet.process h s (after_step s g) (after_step (after_step s h) g) quiet.by quiet.unwatched quiet.pages independent.differs
 
     -- so both are halted, or neither
     pub either-halted : (after_step (after_step s h) g).halted ≡ (after_step s g).halted
@@ -113,8 +113,9 @@ module _ (watch : Watch) where
     pub quiet-earlier : IsQuietFor watch (after_step s h) g → IsQuietFor watch s g
     quiet-earlier later = record {
       cut = later.cut;
+      settled = later.settled;
       process = later.process;
-      by = quiet-before later.cut quiet.cut later.process quiet.process s g h quiet.by (λ same. apart (sym same)) later.by;
+      by = quiet-before later.cut quiet.cut later.settled quiet.settled later.process quiet.process s g h quiet.by (λ same. apart (sym same)) later.by;
       unwatched = later.unwatched;
       pages = later.pages;
     }

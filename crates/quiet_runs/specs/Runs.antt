@@ -32,8 +32,9 @@ watch_by processes pages = record { processes = λ p. stands_in processes p; pag
 -- a step is quiet for one who looks at these: it is quiet, and nothing of it is on the left
 pub record IsQuietFor (watch : Watch) (s : State) (hart : ℕ) : Type 0 where
   pub cut : Cut
+  pub settled : ℕ → Bool
   pub process : ℕ
-  pub by : IsQuietBy cut process s hart
+  pub by : IsQuietBy cut settled process s hart
   pub unwatched : watch.processes process ≡ false
   pub pages : (n : ℕ) → watch.pages n ≡ true → side_of cut Page n ≡ Right
 
