@@ -8,7 +8,8 @@ use Rattle.object_store.specs.Saved.{restored, AreThere}
 use Rattle.schedules.specs.Queues.{QueuesValue}
 use Rattle.machine_state.specs.Machine.{MachineValue, IsMachine}
 use Rattle.machine_state.specs.State.{State}
-use Rattle.machine_state.specs.Past.{names_in, saved_in, IsFor}
+use Rattle.machine_state.specs.Outcome.{Touch}
+use Rattle.machine_state.specs.Past.{names_in, saved_in, touches_back, IsFor}
 use Rattle.reverse_run.specs.Remembered.{MementoValue, AtMostOneGpt, queues_before, halted_before}
 
 -- a machine without its translator, as it is stored
@@ -33,6 +34,11 @@ moment_before m kept = record { objects = restored (saved_in kept.past) m.object
 abbrev pub unwound : Moment → List MementoValue → List Moment
 unwound m [] = []
 unwound m (kept ∷ pasts) = moment_before m kept ∷ unwound (moment_before m kept) pasts
+
+-- what a translator is told of an undo, one after the other: the copies that the latest event left are put back
+abbrev pub undo_touches : List MementoValue → List Touch
+undo_touches [] = []
+undo_touches (kept ∷ pasts) = touches_back kept.past.places
 
 -- each of these moments, one after the other, is that of a machine
 abbrev pub CanUnwind : Moment → List MementoValue → Type 0

@@ -5,10 +5,10 @@ ghost use Rattle.object_store.specs.Object.{IsEven};
 ghost use Rattle.object_store.specs.Saved.{restored, AreThere};
 ghost use Rattle.machine_state.specs.Machine.{hart_in, IsMachine};
 ghost use Rattle.machine_state.specs.Outcome.{spent, kept_after};
-ghost use Rattle.machine_state.specs.Past.{names_in, saved_in, slots_back};
+ghost use Rattle.machine_state.specs.Past.{names_in, saved_in, slots_back, touches_back};
 ghost use Rattle.kernel_core.specs.Event.{event_of};
 ghost use Rattle.reverse_run.specs.Remembered.{queues_before, halted_before};
-ghost use Rattle.reverse_run.specs.Moments.{moment_of, moment_before, moments_of};
+ghost use Rattle.reverse_run.specs.Moments.{moment_of, moment_before, moments_of, undo_touches};
 ghost use Rattle.reverse_run.specs.History.{begun, remembered, after_event, after_undo, can_undo, history_of};
 ghost use Rattle.reverse_run.specs.Reads.{FetchesWithin, a_memento, an_undo};
 
@@ -140,6 +140,9 @@ impl<T: Translator> Reversible<T> {
         ensures none { result ≡ false → self.new ≡ self.old }
         ensures undone { result ≡ true →
             moments_of self.old ≡ moment_of self.new.machine ∷ moments_of self.new }
+        ensures kept { let touches = undo_touches self.old.pasts in
+            let kept = T.kept self.old.machine.translator in
+            T.kept self.new.machine.translator ≡ kept_after T.cost T.after T.without kept touches }
         ensures depth { self.new.depth ≡ self.old.depth }
         ensures harts { self.new.machine.objects.harts ≡ self.old.machine.objects.harts }
         ensures least { fetches.old ≤ fetches.new }
@@ -172,6 +175,9 @@ fn put_back<T: Translator, L: Ledger>(
     ensures harts { machine.new.objects.harts ≡ machine.old.objects.harts }
     ensures halted { machine.new.halted ≡ halted_before kept.now machine.old.halted }
     ensures counted { fetches.new ≡ fetches.old + slots_back kept.now.past.places }
+    ensures kept { let touches = touches_back kept.now.past.places in
+        T.kept machine.new.translator
+        ≡ kept_after T.cost T.after T.without (T.kept machine.old.translator) touches }
 {
     if kept.whole {
         machine.restore(&kept.past, fetches);
