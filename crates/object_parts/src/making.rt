@@ -1,5 +1,5 @@
 //! Making parts of objects.
-ghost use Rattle.std.specs.Prelude.{◌≡◌, ◌<◌, ◌≤◌, map, length, IfOk};
+ghost use Rattle.std.specs.Prelude.{◌≡◌, ◌+◌, ◌<◌, ◌≤◌, map, length, IfOk};
 ghost use Rattle.cap_format.specs.declared.kind.CapKind.{CapKind};
 ghost use Rattle.page_store.specs.CapPage.{IsCapPage};
 ghost use Rattle.process_objects.specs.Process.{IsProcess, process_of};
@@ -7,6 +7,7 @@ ghost use Rattle.object_store.specs.Store.{size_of, count_of, gpt_at, page_at, c
 ghost use Rattle.object_store.specs.Object.{object_at};
 ghost use Rattle.object_store.specs.Object.ObjectValue.{OfPage, OfCapPage, OfGpt, OfProcess, OfEndpoint};
 ghost use Rattle.object_store.specs.Meaning.{live, process_map, endpoint_map, gpt_map};
+ghost use Rattle.object_store.specs.Saved.{slots_copied};
 ghost use Rattle.object_parts.specs.Live.{live_store, IsInRanges};
 ghost use Rattle.object_parts.specs.Objects.{object_in};
 
@@ -21,7 +22,8 @@ use std::alloc::Global;
 use std::sync::ledger::Ledger;
 use steps::Steps;
 
-/// A copy of an object with its count, and with Null in place of each dead capability.
+/// A copy of an object with its count, and with Null in place of each dead capability. It reads each slot of a GPT once, and of
+/// any other object none.
 pub fn part_of<L: Ledger>(
     alloc: Global,
     objects: &Objects,
@@ -33,6 +35,7 @@ pub fn part_of<L: Ledger>(
     ensures object { IfOk result
         (λ part. object_in part ≡ object_at (live_store objects.now) kind number) }
     ensures ranged { IfOk result (λ part. IsInRanges (object_in part)) }
+    ensures counted { fetches.new ≡ fetches.old + slots_copied kind }
 {
     match kind {
         CapKind::Page => page_part(alloc, objects, number),
@@ -131,6 +134,7 @@ fn gpt_part<L: Ledger>(objects: &Objects, n: u16, fetches: &mut Steps<L>) -> Par
     ensures object { let o = objects.now.items in object_in result ≡
         OfGpt (count_of o CapKind.Gpt n) (gpt_map (live o) (gpt_at o n)) }
     ensures ranged { IsInRanges (object_in result) }
+    ensures counted { fetches.new ≡ fetches.old + slots_copied CapKind.Gpt }
 {
     let gpt = Slots::of(objects, n, fetches);
     gpt.tell_range();

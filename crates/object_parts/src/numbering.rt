@@ -1,8 +1,9 @@
 //! The numbers of objects' parts.
-ghost use Rattle.std.specs.Prelude.{◌≡◌, ◌<◌, map, slice_get, Some, IfOk, OnOk, IfSome, IsSome};
+ghost use Rattle.std.specs.Prelude.{◌≡◌, ◌+◌, ◌<◌, map, slice_get, Some, IfOk, OnOk, IfSome, IsSome};
 ghost use Rattle.cap_format.specs.declared.kind.CapKind.{CapKind};
 ghost use Rattle.object_store.specs.Store.{size_of};
 ghost use Rattle.object_store.specs.Object.{object_at};
+ghost use Rattle.object_store.specs.Saved.{slots_copied};
 ghost use Rattle.object_parts.specs.Live.{live_store, IsInRanges};
 ghost use Rattle.object_parts.specs.Objects.{object_in};
 ghost use Rattle.object_parts.specs.Table.{Grows};
@@ -19,7 +20,7 @@ use std::sync::ledger::Ledger;
 use steps::Steps;
 
 /// The number of an object's part, with Null in place of each dead capability. A process or a page whose part is in the
-/// table is not copied.
+/// table is not copied. It reads each slot of a GPT once, whether its part is known or not, and of any other object none.
 pub fn number_of_part<L: Ledger>(
     alloc: Global,
     table: &mut Table<Part>,
@@ -33,6 +34,7 @@ pub fn number_of_part<L: Ledger>(
     ensures value { IfOk result (λ found.
         slice_get (map object_in table.new) found ≡ Some (object_at (live_store objects.now) kind number)) }
     ensures ranged { OnOk result (IsInRanges (object_at (live_store objects.now) kind number)) }
+    ensures counted { fetches.new ≡ fetches.old + slots_copied kind }
 {
     if let Some(found) = known_number(table, objects, kind, number) {
         return Ok(found);
@@ -47,6 +49,7 @@ fn known_number(table: &Table<Part>, objects: &Objects, kind: CapKind, number: u
     ensures value { IfSome result (λ found.
         slice_get (map object_in table.now) found ≡ Some (object_at (live_store objects.now) kind number)) }
     ensures ranged { IsSome result → IsInRanges (object_at (live_store objects.now) kind number) }
+    ensures copied { IsSome result → slots_copied kind ≡ 0 }
 {
     match kind {
         CapKind::Page => known_page(table, objects, number),

@@ -1,9 +1,10 @@
 //! The header and slots of a GPT, as they are kept.
-ghost use Rattle.std.specs.Prelude.{◌≡◌, ◌<◌, fold, map, length};
+ghost use Rattle.std.specs.Prelude.{◌≡◌, ◌+◌, ◌<◌, fold, map, length};
 ghost use Rattle.cap_format.specs.declared.kind.CapKind.{CapKind};
 ghost use Rattle.gpt_objects.specs.Gpt.{slot_of};
 ghost use Rattle.object_store.specs.Store.{size_of, gpt_at};
 ghost use Rattle.object_store.specs.Meaning.{live, gpt_map};
+ghost use Rattle.object_store.specs.Saved.{slots_copied};
 ghost use Rattle.object_parts.specs.Same.{same_gpt, same_header};
 ghost use Rattle.object_parts.specs.Part.{hashed_caps};
 ghost use Rattle.object_parts.specs.Slots.{AreSixteen};
@@ -38,7 +39,8 @@ impl Slots {
     /// A copy of a GPT, with Null in place of each dead capability.
     pub(crate) fn of<L: Ledger>(objects: &Objects, gpt: u16, fetches: &mut Steps<L>) -> Slots
         requires { gpt < size_of objects.now.items CapKind.Gpt }
-        ensures { let o = objects.now.items in result ≡ gpt_map (live o) (gpt_at o gpt) }
+        ensures value { let o = objects.now.items in result ≡ gpt_map (live o) (gpt_at o gpt) }
+        ensures counted { fetches.new ≡ fetches.old + slots_copied CapKind.Gpt }
     {
         Slots {
             header: objects.gpt_header(gpt),
@@ -96,6 +98,7 @@ fn live_slots<L: Ledger>(objects: &Objects, gpt: u16, fetches: &mut Steps<L>) ->
     requires { gpt < size_of objects.now.items CapKind.Gpt }
     ensures value { let o = objects.now.items in result ≡ map (live o) (gpt_at o gpt).slots }
     ensures range { AreSixteen result }
+    ensures counted { fetches.new ≡ fetches.old + slots_copied CapKind.Gpt }
 {
     // Ranges that are read tell how many slots there are.
     objects.in_ranges();

@@ -26,10 +26,12 @@ loop-i-preserved g c =
         sixteen = length-set l.slots l.i c.live-cap.result ∙ l.invariant.sixteen.sixteen;
         ranges = All-set IsCapability l.slots l.i c.live-cap.result c.kind-kind.ensures.range l.invariant.sixteen.ranges;
       };
+      counted = let read = c.gpt_slot.ensures.counted in let before = l.invariant.counted in omega (arith, read, before);
     }
 
 pub loop-i-init : goal.loop-i-init
 loop-i-init g c = record {
   copied = refl;
   sixteen = record { sixteen = refl; ranges = All-replicate IsCapability 16 c.null-slots.result (rw c.null-slots.ensures IsCapability-null) };
+  counted = omega arith;
 }

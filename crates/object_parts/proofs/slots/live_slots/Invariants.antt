@@ -1,4 +1,4 @@
-use Rattle.std.proofs.Common.{◌≡◌, take, map}
+use Rattle.std.proofs.Common.{◌≡◌, ◌+◌, take, map}
 use Rattle.object_store.specs.Store.{gpt_at}
 use Rattle.object_store.specs.Meaning.{live}
 use Rattle.object_parts.specs.Slots.{AreSixteen}
@@ -9,4 +9,5 @@ abbrev pub invariant-loop-i : goal.invariant-loop-i
 invariant-loop-i g l = record {
   copied : take l.i l.slots ≡ take l.i (map (live l.objects.items) (gpt_at l.objects.items l.gpt).slots);
   sixteen : AreSixteen l.slots;
+  counted : l.fetches ≡ l.fn.fetches + l.i;
 }
