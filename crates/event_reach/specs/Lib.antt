@@ -2,3 +2,4 @@ pub mod Reach
 pub mod Looked
 pub mod Plain
 pub mod Reads
+pub mod FreshWalks

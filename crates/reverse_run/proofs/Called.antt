@@ -1,19 +1,12 @@
 -- Lists of calls, call by call.
 use Rattle.std.proofs.Common.{◌≡◌, ℕ, zero, suc, ◌+◌, ◌-◌, ◌<◌, ◌≤◌, List, [], ◌∷◌, ◌++◌, map, take, drop, get_or, length, replicate, refl, sym, ap, ◌∙◌, append-nil, arith}
 use Rattle.std.proofs.lemmas.List.{drop_more, drop_all, length-take, take_all}
-use Rattle.std.proofs.lemmas.List.Sums.{sum_by-cons}
-use Rattle.cap_format.specs.Capability.{Capability}
-use Rattle.cap_format.specs.declared.item.Item.{Item}
-use Rattle.object_store.specs.Store.{Items}
-use Rattle.walk_meaning.specs.declared.kind.Kind.{Kind}
 use Rattle.machine_state.specs.declared.event.Event.{Event}
-use Rattle.machine_state.specs.Outcome.{Touch, spent}
-use Rattle.machine_state.specs.Outcome.Touch.{DataAccess, CapAccess, GptCall, Changed}
 use Rattle.reverse_run.specs.declared.call.Call.{Call}
 use Rattle.reverse_run.specs.declared.call.Call.TheVariants.{Perform, Undo}
 use Rattle.reverse_run.specs.History.{History, remembered, after_event, after_undo}
 use Rattle.reverse_run.specs.Calls.{after_call, history_after, UndoesAll}
-use Rattle.reverse_run.specs.Reads.{WalksAtMost, walked_at, walked, most_for, most_in}
+use Rattle.reverse_run.specs.Reads.{most_for, most_in}
 
 -- ---- the next call
 
@@ -31,29 +24,6 @@ most_next depth h calls i d within = ap (most_in depth h) (drop_more calls i d w
 pub history_end : (depth : ℕ) (h : History) (calls : List Call) (i : ℕ) → length calls ≤ i → history_after depth h (drop i calls) ≡ h
 unfolding history_after
 history_end depth h calls i past = ap (history_after depth h) (drop_all i calls past)
-
--- ---- slots
-
--- touches fetch at most what they read where each access is a fresh walk
-pub spent_walked : {K : Type 0} (cost : K → Items → Capability → ℕ → Kind → ℕ) (after : K → Items → Capability → ℕ → Kind → K) (without : K → Item → K) (k : K) (touches : List Touch) → WalksAtMost cost → spent cost after without k touches ≤ walked touches
-spent_walked cost after without k [] walks = omega arith
-spent_walked cost after without k (DataAccess o space address kind ∷ ts) walks =
-    let first = sum_by-cons walked_at (DataAccess o space address kind) ts in
-    let here = walks.most k o space address kind in
-    let rest = spent_walked cost after without (after k o space address kind) ts walks in
-    omega (arith, first, here, rest)
-spent_walked cost after without k (CapAccess o space address kind ∷ ts) walks =
-    let first = sum_by-cons walked_at (CapAccess o space address kind) ts in
-    let rest = spent_walked cost after without k ts walks in
-    omega (arith, first, rest)
-spent_walked cost after without k (GptCall reads ∷ ts) walks =
-    let first = sum_by-cons walked_at (GptCall reads) ts in
-    let rest = spent_walked cost after without k ts walks in
-    omega (arith, first, rest)
-spent_walked cost after without k (Changed item ∷ ts) walks =
-    let first = sum_by-cons walked_at (Changed item) ts in
-    let rest = spent_walked cost after without (without k item) ts walks in
-    omega (arith, first, rest)
 
 -- ---- there and back
 

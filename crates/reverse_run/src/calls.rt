@@ -3,7 +3,8 @@ ghost use Rattle.std.specs.Prelude.{◌≡◌, ◌≤◌, ◌+◌};
 ghost use Rattle.std.specs.List.{All};
 ghost use Rattle.reverse_run.specs.History.{history_of};
 ghost use Rattle.reverse_run.specs.Calls.{after_call, history_after, IsOfHart};
-ghost use Rattle.reverse_run.specs.Reads.{WalksAtMost, most_for, most_in};
+ghost use Rattle.event_reach.specs.FreshWalks.{WalksAtMost};
+ghost use Rattle.reverse_run.specs.Reads.{most_for, most_in};
 
 use crate::call::Call;
 use crate::reversible::Reversible;

@@ -1,7 +1,7 @@
 use Rattle.std.proofs.Common.{arith}
 use Rattle.machine_state.specs.State.{state_of}
 use Rattle.kernel_core.specs.Event.{event_of}
-use Rattle.reverse_run.proofs.Called.{spent_walked}
+use Rattle.event_reach.proofs.Spent.{spent_walked}
 use Rattle.reverse_run.proofs.calls.make_call.Goals as goal
 
 pub returns-in-Perform-clause-most : goal.returns-in-Perform-clause-most

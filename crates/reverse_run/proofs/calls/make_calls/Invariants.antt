@@ -1,7 +1,8 @@
 use Rattle.std.proofs.Common.{◌≡◌, ◌≤◌, ◌+◌, drop}
 use Rattle.reverse_run.specs.History.{history_of}
 use Rattle.reverse_run.specs.Calls.{history_after}
-use Rattle.reverse_run.specs.Reads.{WalksAtMost, most_in}
+use Rattle.event_reach.specs.FreshWalks.{WalksAtMost}
+use Rattle.reverse_run.specs.Reads.{most_in}
 use Rattle.reverse_run.proofs.calls.make_calls.Given as goal
 
 -- the rest of the calls makes what all make
