@@ -1,6 +1,6 @@
 //! Nodes from which no round leads back, by classes of nodes that edges only lead down.
 
-ghost use Rattle.std.specs.Prelude.{◌≡◌, ◌<◌, ◌≤◌, ◌+◌, ◌*◌, ℕ, true, length, IfOk};
+ghost use Rattle.std.specs.Prelude.{◌≡◌, ◌<◌, ◌≤◌, ◌+◌, ◌*◌, ℕ, ◌↔◌, length, IfOk, IsTrue};
 ghost use Rattle.reaches_back.specs.Edges.{AreEdges, end_of};
 ghost use Rattle.fair_rounds.specs.Table.{IsTable, is_marked};
 ghost use Rattle.fair_rounds.specs.Loops.{AreLoopless, KeepsMarks};
@@ -13,7 +13,7 @@ use std::alloc::{AllocError, Global};
 fn falls_from(width: usize, ends: &[u32], classes: &[u32], at: usize) -> bool
     requires edges { AreEdges width ends.now (length classes.now) }
     requires at { at < length classes.now }
-    ensures { result ≡ true → FallsFrom width ends.now classes.now at }
+    ensures { IsTrue result ↔ FallsFrom width ends.now classes.now at }
 {
     for choice in 0..width {
         if classes[ends[at * width + choice] as usize] > classes[at] {
@@ -26,7 +26,7 @@ fn falls_from(width: usize, ends: &[u32], classes: &[u32], at: usize) -> bool
 /// Whether each class is one of as many as there are nodes, and no edge leads to a higher class.
 fn are_falling(width: usize, ends: &[u32], classes: &[u32]) -> bool
     requires { AreEdges width ends.now (length classes.now) }
-    ensures { result ≡ true → IsFalling width ends.now classes.now }
+    ensures { IsTrue result ↔ IsFalling width ends.now classes.now }
 {
     for at in 0..classes.len() {
         if classes[at] as usize >= classes.len() || !falls_from(width, ends, classes, at) {
@@ -71,10 +71,10 @@ fn inner_choices(
     Ok(inner)
 }
 
-/// Whether a class lacks an edge of some choice.
+/// Whether some choice isn't marked for a class.
 fn lacks(width: usize, inner: &[bool], class: usize) -> bool
     requires { class * width + width ≤ length inner.now }
-    ensures { result ≡ true → Lacks width inner.now class }
+    ensures { IsTrue result ↔ Lacks width inner.now class }
 {
     for choice in 0..width {
         if !inner[class * width + choice] {

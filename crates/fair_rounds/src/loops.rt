@@ -1,6 +1,6 @@
 //! Rounds that lead from a node back to it.
 
-ghost use Rattle.std.specs.Prelude.{◌≡◌, ◌<◌, ℕ, ◌↔◌, true, false, length, replicate, IfOk, OnOk, MatchOption, slice_set};
+ghost use Rattle.std.specs.Prelude.{◌≡◌, ◌<◌, ℕ, ◌↔◌, true, false, length, replicate, IfOk, OnOk, IsTrue, Some, MatchOption, slice_set};
 ghost use Rattle.std.specs.List.{Contains};
 ghost use Rattle.reaches_back.specs.Edges.{AreEdges, CanReach};
 ghost use Rattle.fair_rounds.specs.Table.{IsTable, is_marked, ComesTo, IsLoop};
@@ -101,7 +101,7 @@ fn with_edge(
 
 /// Whether a choice is among some.
 fn has(choices: &[u32], choice: u32) -> bool
-    ensures { result ≡ true → Contains choices.now choice }
+    ensures { IsTrue result ↔ Contains choices.now choice }
 {
     for other in choices {
         if *other == choice {
@@ -112,7 +112,7 @@ fn has(choices: &[u32], choice: u32) -> bool
 }
 
 /// Goes on to a node with an edge of one choice to a marked node, takes the edge, and answers where it
-/// ends. If the choice was taken before, it stays where it is.
+/// ends, or that no such node is behind this one. If the choice was taken before, it stays here.
 fn go_on(
     alloc: Global,
     width: usize,
@@ -126,8 +126,10 @@ fn go_on(
     requires choice { choice < width }
     requires from { from < length marks.now }
     requires marked { is_marked marks.now from ≡ true }
-    ensures { IfOk result (GoesOn width ends.now marks.now choice
+    ensures goes_on { IfOk result (GoesOn width ends.now marks.now choice
         from taken.old.items taken.new.items) }
+    ensures stays { Contains taken.old.items choice
+        → IfOk result (λ to. (to ≡ Some from) × (taken.new.items ≡ taken.old.items)) }
 {
     if has(taken, choice as u32) {
         return Ok(Some(from));

@@ -12,7 +12,7 @@ are_falling-requires c = subst (AreEdges c.args.width c.args.ends.now) (sym (ap 
 pub inner_choices-requires : goal.inner_choices-requires
 inner_choices-requires c = record {
   edges = subst (AreEdges c.args.width c.args.ends.now) (sym (ap length c.deref-2.ensures.value ∙ c.in_ok-classes.ensures)) c.requires.edges;
-  falling = subst (IsFalling c.args.width c.args.ends.now) (c.deref.ensures.value ∙ sym c.deref-2.ensures.value) (c.are_falling.ensures c.if-not-are_falling.false);
+  falling = subst (IsFalling c.args.width c.args.ends.now) (c.deref.ensures.value ∙ sym c.deref-2.ensures.value) (c.are_falling.ensures.0 c.if-not-are_falling.false);
 }
 
 pub lacks-requires : goal.lacks-requires
@@ -21,7 +21,7 @@ lacks-requires c =
     let e = c.args.ends.now in
     let classes = c.in_ok-classes.classes.items in
     let many : length classes ≡ c.args.nodes = c.in_ok-classes.ensures in
-    let falling : IsFalling w e classes = subst (IsFalling w e) c.deref.ensures.value (c.are_falling.ensures c.if-not-are_falling.false) in
+    let falling : IsFalling w e classes = subst (IsFalling w e) c.deref.ensures.value (c.are_falling.ensures.0 c.if-not-are_falling.false) in
     let inner : AreInner w e classes c.in_ok-inner.inner.items = subst (λ k. AreInner w e k c.in_ok-inner.inner.items) c.deref-2.ensures.value c.in_ok-inner.ensures in
     let at : c.loop-at.at < length classes = omega (arith, many, c.loop-at-test.true) in
     let read : class_of classes c.loop-at.at ≡ c.index.result.now =
@@ -45,14 +45,14 @@ loop-at-preserved c =
     let classes = c.in_ok-classes.classes.items in
     let many : length classes ≡ c.args.nodes = c.in_ok-classes.ensures in
     let are : AreEdges w e (length classes) = subst (AreEdges w e) (sym many) c.requires.edges in
-    let falling : IsFalling w e classes = subst (IsFalling w e) c.deref.ensures.value (c.are_falling.ensures c.if-not-are_falling.false) in
+    let falling : IsFalling w e classes = subst (IsFalling w e) c.deref.ensures.value (c.are_falling.ensures.0 c.if-not-are_falling.false) in
     let inner : AreInner w e classes c.in_ok-inner.inner.items = subst (λ k. AreInner w e k c.in_ok-inner.inner.items) c.deref-2.ensures.value c.in_ok-inner.ensures in
     let at : l.at < length classes = omega (arith, many, c.loop-at-test.true) in
     let read : class_of classes l.at ≡ c.index.result.now =
     get_or_from_slice_get classes l.at c.index.result.now 0 (slice_get_read classes (length classes) l.at c.index.result.now refl at c.index.ensures) in
     loopless-more w e c.args.nodes l.marks.items l.invariant l.at c.loop-at-test.true c.lacks.result
     (λ h. lacking-loopless w e classes are falling c.in_ok-inner.inner.items inner l.at at
-    (subst (Lacks w c.in_ok-inner.inner.items) (sym read) (subst (λ ms. Lacks w ms c.index.result.now) c.deref-in-loop-at.ensures.value (c.lacks.ensures h))))
+    (subst (Lacks w c.in_ok-inner.inner.items) (sym read) (subst (λ ms. Lacks w ms c.index.result.now) c.deref-in-loop-at.ensures.value (c.lacks.ensures.0 h))))
 
 pub returns : goal.returns
 returns c = c.loop-at.invariant

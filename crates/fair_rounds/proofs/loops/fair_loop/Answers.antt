@@ -28,7 +28,7 @@ loop-choice-preserved c =
     let a = c.args in
     let l = c.loop-choice in
     let marks = c.in_ok-marks.marks.items in
-    let goes = subst (λ ms. GoesOn a.width a.ends.now ms l.choice l.here l.taken.items c.go_on.new.taken.items c.in_ok-next.field-0) c.deref.ensures.value c.in_ok-next.ensures in
+    let goes = subst (λ ms. GoesOn a.width a.ends.now ms l.choice l.here l.taken.items c.go_on.new.taken.items c.in_ok-next.field-0) c.deref.ensures.value c.in_ok-next.ensures.goes_on in
     let adds = subst (GoesOn a.width a.ends.now marks l.choice l.here l.taken.items c.go_on.new.taken.items) c.in-Some.is goes in
     under-more a.width a.ends.now a.nodes a.at marks c.requires.table.edges c.requires.at c.in_ok-marks.ensures l.choice l.here c.in-Some.next l.taken.items c.go_on.new.taken.items l.invariant adds
 
@@ -37,7 +37,7 @@ returns-in_default c =
     let a = c.args in
     let l = c.loop-choice in
     let marks = c.in_ok-marks.marks.items in
-    let goes = subst (λ ms. GoesOn a.width a.ends.now ms l.choice l.here l.taken.items c.go_on.new.taken.items c.in_ok-next.field-0) c.deref.ensures.value c.in_ok-next.ensures in
+    let goes = subst (λ ms. GoesOn a.width a.ends.now ms l.choice l.here l.taken.items c.go_on.new.taken.items c.in_ok-next.field-0) c.deref.ensures.value c.in_ok-next.ensures.goes_on in
     let none = subst (GoesOn a.width a.ends.now marks l.choice l.here l.taken.items c.go_on.new.taken.items) c.in_default.is goes in
     under-stuck a.width a.ends.now a.nodes a.at marks c.requires.table.edges c.requires.at c.in_ok-marks.ensures l.choice l.here l.taken.items l.invariant c.loop-choice-test.true none
 

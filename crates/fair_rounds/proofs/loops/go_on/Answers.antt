@@ -7,13 +7,13 @@ use Rattle.fair_rounds.proofs.Edges.{place-inside, walked-inside}
 use Rattle.fair_rounds.proofs.Looping.{marked-within, adds-over, adds-none}
 use Rattle.fair_rounds.proofs.loops.go_on.Goals as goal
 
-pub returns-then-has : goal.returns-then-has
-returns-then-has c =
+pub returns-then-has-clause-goes_on : goal.returns-then-has-clause-goes_on
+returns-then-has-clause-goes_on c =
     adds-none c.args.width c.args.ends.now c.args.marks.now c.args.choice c.args.from c.args.taken.now.items c.requires.marked
-    (subst (λ (xs : List ℕ). Contains xs c.args.choice) c.deref.ensures.value (c.has.ensures c.if-has.true))
+    (subst (λ (xs : List ℕ). Contains xs c.args.choice) c.deref.ensures.value (c.has.ensures.0 c.if-has.true))
 
-pub returns-in_default : goal.returns-in_default
-returns-in_default c path all =
+pub returns-in_default-clause-goes_on : goal.returns-in_default-clause-goes_on
+returns-in_default-clause-goes_on c path all =
     let w = c.args.width in
     let e = c.args.ends.now in
     let none = subst (IsWayTo w e c.args.from c.deref-2.result.now) c.in_default.is c.in_ok-way.ensures in
@@ -28,8 +28,8 @@ bounds-ends-way c =
     place-inside c.args.width c.args.ends.now (length c.args.marks.now) c.requires.table.edges c.in-Some.way.end c.args.choice
     (omega (arith, marked-within c.in_ok-edges.edges.items c.in-Some.way.end marked, c.in_ok-edges.ensures.many)) c.requires.choice
 
-pub returns : goal.returns
-returns c =
+pub returns-clause-goes_on : goal.returns-clause-goes_on
+returns-clause-goes_on c =
     let w = c.args.width in
     let e = c.args.ends.now in
     let end = c.in-Some.way.end in
