@@ -17,7 +17,6 @@ use Rattle.questions.specs.Choice.{IsChoiceOf, is_among}
 use Rattle.questions.specs.Question.{IsPropertyOf, QuestionValue, property_of, property_with, with_choice, with_depth, with_property, with_states}
 use Rattle.listing_read.specs.declared.object_fault.QuestionFault.{QuestionFault}
 use Rattle.listing_read.specs.declared.object_fault.QuestionFault.TheVariants.{LineTooLong, BadByte, UnknownQuestion, UnknownEvent, WrongWords, OfPolicy}
-use Rattle.listing_read.specs.declared.object_fault.PolicyFault.TheVariants.{Taken}
 use Rattle.question_lines.specs.declared.fault.Untaken.{Untaken}
 use Rattle.question_lines.specs.declared.fault.Untaken.TheVariants.{Refused, OutOfMemory}
 use Rattle.question_lines.specs.declared.said.Next.{Next}
@@ -141,7 +140,7 @@ question_line sizes n line = do
 
 -- what a line says, or its fault where a line above it states the same choice
 abbrev pub new_said : List Choice → Said → Result Said QuestionFault
-new_said choices (May choice) = if is_among choices choice then Err (OfPolicy Taken) else Ok (May choice)
+new_said choices (May choice) = if is_among choices choice then Err Taken else Ok (May choice)
 new_said choices said = Ok said
 
 -- what line `n` of a question says
@@ -177,6 +176,18 @@ IsSaid sizes (May choice) = IsChoiceOf sizes.harts choice
 IsSaid sizes (Asked property) = IsPropertyOf sizes property
 IsSaid sizes (States states) = 1 ≤ states
 IsSaid sizes _ = Unit {0}
+
+-- whether what a line says takes memory: a choice and a property do
+abbrev pub is_kept : Said → Bool
+is_kept (May choice) = true
+is_kept (Asked property) = true
+is_kept said = false
+
+-- whether a line may take memory, by its first word
+abbrev pub takes_memory : List (List ℕ) → Bool
+takes_memory words =
+    bytes_eq (field words 0) (codes "never") || bytes_eq (field words 0) (codes "ever") || bytes_eq (field words 0) (codes "must")
+    || bytes_eq (field words 0) (codes "after") || bytes_eq (field words 0) (codes "count") || bytes_eq (field words 0) (codes "may")
 
 -- ---- lines of the policy among them
 

@@ -1,12 +1,12 @@
 //! Lines of a question.
-ghost use Rattle.std.specs.Prelude.{◌≡◌, ◌≢◌, ◌<◌, ◌≤◌, ◌==◌, ◌||◌, false, length, IfOk, IfErr, OnOk, OnErr};
-ghost use Rattle.coy_text.specs.Words.{words_of};
+ghost use Rattle.std.specs.Prelude.{◌≡◌, ◌≢◌, ◌<◌, ◌≤◌, ◌==◌, ◌||◌, bytes_eq, codes, false, length, true, IfOk, IfErr, OnOk, OnErr};
+ghost use Rattle.coy_text.specs.Words.{field, words_of};
 ghost use Rattle.object_store.specs.declared.sizes.Sizes.{Sizes};
 ghost use Rattle.questions.specs.Choice.{IsChoiceOf};
 ghost use Rattle.questions.specs.Question.{with_choice};
 ghost use Rattle.listing_read.specs.declared.object_fault.QuestionFault.TheVariants.{WrongWords};
 ghost use Rattle.question_lines.specs.declared.said.Said.TheVariants.{May};
-ghost use Rattle.question_lines.specs.QuestionLine.{after_said, answered, as_untaken, asks_line, depth_line, end_line, is_of_policy, line_answer, line_policy, line_question, may_line, must_after, new_said, plain_line, policy_answered, question_line, said_by, states_line, IsSaid, IsUntaken};
+ghost use Rattle.question_lines.specs.QuestionLine.{after_said, answered, as_untaken, asks_line, depth_line, end_line, is_kept, is_of_policy, line_answer, line_policy, line_question, may_line, must_after, new_said, plain_line, policy_answered, question_line, said_by, states_line, takes_memory, IsSaid, IsUntaken};
 ghost use Rattle.separation_lines.specs.PolicyLine.{policy_line, after_line as policy_after_line};
 
 use crate::atoms::groups;
@@ -17,7 +17,7 @@ use crate::phrase::Phrase;
 use crate::said::{Next, Said};
 use coy_io::LINE_LIMIT;
 use coy_text::{is_skipped, is_visible, word, word_count, words_from};
-use listing_read::{PolicyFault, QuestionFault};
+use listing_read::QuestionFault;
 use object_store::Sizes;
 use questions::{Asks, Choice, Property, Question};
 use separation_lines::read_policy;
@@ -25,7 +25,8 @@ use separation_policy::Policy;
 use std::alloc::Global;
 
 /// Takes line `n` in, and answers what the next line belongs to. After a fault, and where memory is wanting, the question
-/// and its policy are as before; so they are after a line that is skipped. A line of the policy takes no memory.
+/// and its policy are as before; so they are after a line that is skipped. Lines that say a choice or ask something take memory,
+/// and no others: none of the policy does.
 pub fn read_question(
     alloc: Global,
     line: &[u8],
@@ -41,6 +42,7 @@ pub fn read_question(
     ensures before { result ≡ Err Untaken.OutOfMemory →
         (policy.new ≡ policy.old) × (question.new ≡ question.old) }
     ensures wanting { result ≡ Err Untaken.OutOfMemory → is_of_policy (words_of line.now) ≡ false }
+    ensures takes { result ≡ Err Untaken.OutOfMemory → takes_memory (words_of line.now) ≡ true }
 {
     if is_of_policy(line) {
         return Ok(state_policy(line, policy)?);
@@ -81,6 +83,7 @@ fn take_in(said: Said, question: &mut Question) -> Result<Next, Untaken>
     ensures after { OnOk result (question.new ≡ after_said question.old said) }
     ensures untaken { IfErr result (IsUntaken (new_said question.old.choices said)) }
     ensures before { OnErr result (question.new ≡ question.old) }
+    ensures takes { result ≡ Err Untaken.OutOfMemory → is_kept said ≡ true }
 {
     match said {
         Said::Nothing => Ok(Next::Question),
@@ -111,7 +114,7 @@ fn state_choice(choice: Choice, question: &mut Question) -> Result<Next, Untaken
     ensures before { OnErr result (question.new ≡ question.old) }
 {
     if question.has_choice(choice) {
-        return Err(Untaken::Refused(QuestionFault::OfPolicy(PolicyFault::Taken)));
+        return Err(Untaken::Refused(QuestionFault::Taken));
     }
     match question.may(choice) {
         Ok(()) => Ok(Next::Question),
@@ -125,6 +128,9 @@ fn said(alloc: Global, sizes: Sizes, n: u32, line: &[u8]) -> Result<Said, Untake
     ensures value { IfOk result (λ said. question_line sizes n line.now ≡ Ok said) }
     ensures range { IfOk result (IsSaid sizes) }
     ensures untaken { IfErr result (IsUntaken (question_line sizes n line.now)) }
+    ensures takes { result ≡ Err Untaken.OutOfMemory → takes_memory (words_of line.now) ≡ true }
+    ensures kept { let takes = takes_memory (words_of line.now) in
+        IfOk result (λ said. is_kept said ≡ true → takes ≡ true) }
 {
     if line.len() > LINE_LIMIT {
         return Err(Untaken::Refused(QuestionFault::LineTooLong));
@@ -143,6 +149,9 @@ fn by_first_word(alloc: Global, sizes: Sizes, n: u32, line: &[u8]) -> Result<Sai
     ensures value { IfOk result (λ said. said_by sizes n (words_of line.now) ≡ Ok said) }
     ensures range { IfOk result (IsSaid sizes) }
     ensures untaken { IfErr result (IsUntaken (said_by sizes n (words_of line.now))) }
+    ensures takes { result ≡ Err Untaken.OutOfMemory → takes_memory (words_of line.now) ≡ true }
+    ensures kept { let takes = takes_memory (words_of line.now) in
+        IfOk result (λ said. is_kept said ≡ true → takes ≡ true) }
 {
     let first = word(line, 0);
     if first == b"never".as_slice() {
@@ -202,6 +211,8 @@ fn must_after(alloc: Global, sizes: Sizes, n: u32, words: &Phrase<'_>) -> Result
 fn plain(sizes: Sizes, line: &[u8]) -> Result<Said, QuestionFault>
     ensures value { result ≡ plain_line sizes (words_of line.now) }
     ensures range { IfOk result (IsSaid sizes) }
+    ensures kept { let may = bytes_eq (field (words_of line.now) 0) (codes "may") in
+        IfOk result (λ said. is_kept said ≡ true → may ≡ true) }
 {
     let first = word(line, 0);
     if first == b"may".as_slice() {
@@ -231,6 +242,7 @@ fn may(sizes: Sizes, line: &[u8]) -> Result<Said, QuestionFault>
 #[tactic(auto, unfolding(crate::specs::QuestionLine::depth_line))]
 fn depth(line: &[u8]) -> Result<Said, QuestionFault>
     ensures value { result ≡ depth_line (words_of line.now) }
+    ensures kept { IfOk result (λ said. is_kept said ≡ false) }
     ensures range { (sizes : Sizes) → IfOk result (IsSaid sizes) }
 {
     has_words(word_count(line), 2)?;
@@ -241,6 +253,7 @@ fn depth(line: &[u8]) -> Result<Said, QuestionFault>
 #[tactic(auto, unfolding(crate::specs::QuestionLine::states_line))]
 fn states(line: &[u8]) -> Result<Said, QuestionFault>
     ensures value { result ≡ states_line (words_of line.now) }
+    ensures kept { IfOk result (λ said. is_kept said ≡ false) }
     ensures range { (sizes : Sizes) → IfOk result (IsSaid sizes) }
 {
     has_words(word_count(line), 2)?;
@@ -251,6 +264,7 @@ fn states(line: &[u8]) -> Result<Said, QuestionFault>
 #[tactic(auto, unfolding(crate::specs::QuestionLine::end_line))]
 fn end(line: &[u8]) -> Result<Said, QuestionFault>
     ensures value { result ≡ end_line (words_of line.now) }
+    ensures kept { IfOk result (λ said. is_kept said ≡ false) }
     ensures range { (sizes : Sizes) → IfOk result (IsSaid sizes) }
 {
     has_words(word_count(line), 1)?;
