@@ -28,7 +28,7 @@ def words_of(line):
 
 
 class Question:
-    """A listing and what is asked of it, from the text of an input. One without the line `end` of a question has no schedule."""
+    """A listing, what is asked of it, and the schedule behind that, from the text of an input."""
 
     def __init__(self, text):
         self.listing, self.setup, self.lines, self.choices = [], [], [], []
@@ -47,8 +47,8 @@ class Question:
             part(number, line, words)
             if words == ["end"] and part != self.take_setup:
                 part = self.take_question if part == self.take_listing else self.take_setup
-        if part == self.take_listing:
-            raise Wrong("the listing has no line `end`")
+        if part != self.take_setup:
+            raise Wrong(f"the {'listing' if part == self.take_listing else 'question'} has no line `end`")
 
     def take_listing(self, _number, line, words):
         self.listing.append(line)

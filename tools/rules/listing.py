@@ -118,6 +118,7 @@ class Reader:
                 "machine": Refused("BadMachine", nothing, f"the second line: {FORM}", "the input ends before it"),
                 "statements": Refused("NoEnd", nothing, "a line `end`", "the input ends without it"),
                 "policy": Refused("NoEnd", nothing, "a line `end` of the policy", "the input ends without it"),
+                "question": Refused("NoEnd", nothing, "a line `end` of the question", "the input ends without it"),
                 }.get(self.place)
 
 

@@ -1,5 +1,5 @@
 -- From the lines of a question and of a schedule, to what a part of a call did with them.
-use Rattle.std.proofs.Common.{◌≡◌, ◌≢◌, ◌++◌, [], ℕ, List, Option, Some, None, true, refl, sym, ap, subst}
+use Rattle.std.proofs.Common.{◌≡◌, ◌≢◌, ◌+◌, ◌++◌, [], ℕ, List, Option, Some, None, true, refl, sym, ap, subst}
 use Rattle.coy_io.specs.Causes.{Rose}
 use Rattle.coy_io.specs.Lines.{Part}
 use Rattle.coy_io.specs.Reader.{Reader, ahead, bytes_ahead}
@@ -7,6 +7,7 @@ use Rattle.coy_io.proofs.GivenLaws.{GivesLines-trans}
 use Rattle.kernel_core.specs.State.{State}
 use Rattle.judged_lines.specs.declared.stop.Stop.{Stop}
 use Rattle.judged_lines.specs.declared.stop.Stop.TheVariants as stops
+use Rattle.listing_read.specs.declared.object_fault.QuestionFault.TheVariants.{NoEnd}
 use Rattle.question_lines.specs.declared.fault.Untaken.{Untaken}
 use Rattle.question_lines.specs.declared.fault.Untaken.TheVariants.{Refused, OutOfMemory}
 use Rattle.schedule_replay.specs.Scheduled.{OnParts, Scheduled, scheduled}
@@ -20,8 +21,8 @@ use Rattle.courses.specs.Taken.{TakesLines}
 use Rattle.courses.specs.declared.exit.Exit.{Exit}
 use Rattle.courses.specs.declared.exit.Exit.TheVariants as exits
 use Rattle.courses.specs.declared.exit.Exit.TheVariants.{QuestionRefused, ReadFault, TooLong}
-use Rattle.courses.proofs.Concluding.{came-wanting, takes-concluded}
-use Rattle.courses.proofs.Rests.{TellsAlone, stop-stopped}
+use Rattle.courses.proofs.Concluding.{came-unread, came-wanting, takes-concluded}
+use Rattle.courses.proofs.Rests.{TellsAlone, failed-unread, stop-stopped}
 use Rattle.explore_program.specs.declared.asked.Asked.{Asked}
 use Rattle.explore_program.specs.Posed.{IfPosed, posed_by}
 use Rattle.explore_program.specs.Stated.{AreStated, IsOver, PastEnd, RefusedAt, Stated, States, StatesRest, stated, untaken_exit}
@@ -75,9 +76,10 @@ module _ {S K : Type 0} (held : S → Option (List ℕ)) (source_faults : S → 
         (States first 0 []) RefusedAt PastEnd QuestionRefused (tells first 0) stops.TooLong r (λ bad. cc) (λ other. quiet (λ bad. cc)) out' 0 exit
         given (let same : TooLong ≡ given = cc in ap Some same) c refl
     question-stopped out out' exit given stops.ReadFault r at rose quiet c =
-        stop-stopped held source_faults taken sink_faults old new source source' out 0 cached refl (stated first old.number) (λ st. ends_in (stated_output told harts st))
-        (States asked new.number []) RefusedAt PastEnd QuestionRefused (tells asked new.number) stops.ReadFault r (λ same. rose refl) (λ other. absurd (other refl)) out' 0 exit
-        given (let same : ReadFault ≡ given = cc in ap Some same) c refl
+        takes-concluded held source_faults taken sink_faults old new source source' out out 0 0 cached here out' 0 exit given
+        (came-unread (let same : given ≡ ReadFault = cc in same)
+        (failed-unread held source_faults taken sink_faults old new source source' out 0 cached refl (stated first old.number) (λ st. ends_in (stated_output told harts st))
+        (RefusedAt (new.number + 1) NoEnd) r refl refl refl (rose refl))) c refl
 
     -- the question was read, and the machine set up by the schedule behind it and explored
     pub question-over : (mid : Reader) (between : S) (out out' : K) (exit : Exit) → IsOver first asked old mid (held source) (held between) → source_faults between ≡ source_faults source

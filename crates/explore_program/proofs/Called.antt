@@ -58,17 +58,17 @@ module _ (listing : ListingValue) (last : ℕ) (s : State) (harts : ℕ) (asked 
   of-listing told parts = rw (sizes, start) refl
 
   -- and what they ask is what the known bytes ask
-  pub asks-bytes : (P : Asked → State → Type 0) (held mid : Option (List ℕ)) (first middle : Reader) → middle.number ≡ last → first ≡ new_reader
+  pub asks-bytes : (Q : Option Posed → Type 0) (held mid : Option (List ℕ)) (first middle : Reader) → middle.number ≡ last → first ≡ new_reader
       → IsListed Header (first.number + 1) (ahead first held) listing middle.number (ahead middle mid)
-      → OnParts (ahead middle mid) (λ parts. IfPosed P (posed_by s harts (stated asked last parts))) → IfSome held (λ bytes. IfPosed P (posed bytes))
-  asks-bytes P held mid first middle number starts listed is =
-      on_listed held (ahead middle mid) listing last (λ listed. IfPosed P (posed_behind listed))
+      → OnParts (ahead middle mid) (λ parts. Q (posed_by s harts (stated asked last parts))) → IfSome held (λ bytes. Q (posed bytes))
+  asks-bytes Q held mid first middle number starts listed is =
+      on_listed held (ahead middle mid) listing last (λ listed. Q (posed_behind listed))
       (subst (λ n. IsListed Header 1 (ahead new_reader held) listing n (ahead middle mid)) number
       (subst (λ r. IsListed Header (r.number + 1) (ahead r held) listing middle.number (ahead middle mid)) starts listed))
       (on_parts-asked (ahead middle mid) is)
     where
-      on_parts-asked : (left : Option (List Part)) → OnParts left (λ parts. IfPosed P (posed_by s harts (stated asked last parts)))
-          → OnParts left (λ parts. IfPosed P (posed_by (booted listing) listing.sizes.harts (stated (first_asked listing.sizes) last parts)))
+      on_parts-asked : (left : Option (List Part)) → OnParts left (λ parts. Q (posed_by s harts (stated asked last parts)))
+          → OnParts left (λ parts. Q (posed_by (booted listing) listing.sizes.harts (stated (first_asked listing.sizes) last parts)))
       on_parts-asked left is = rw (state, sizes, start) at is
 
 -- where memory was wanting behind the listing, nothing was done

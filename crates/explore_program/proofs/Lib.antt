@@ -6,3 +6,4 @@ mod Verdicts
 mod Setting
 mod Asking
 pub mod Called
+mod Wanting

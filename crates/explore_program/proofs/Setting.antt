@@ -31,7 +31,7 @@ use Rattle.courses.proofs.Concluding.{Did, takes-wanting}
 use Rattle.courses.proofs.Lasts.{finished-form, finished-given, memory-or}
 use Rattle.courses.proofs.Rests.{TellsAlone, at, follows-rest, run-ends, stop-ended, stop-stopped}
 use Rattle.explore_program.specs.declared.asked.Asked.{Asked}
-use Rattle.explore_program.specs.Posed.{IfPosed, posed_at, posed_of}
+use Rattle.explore_program.specs.Posed.{IfPosed, Posed, posed_at, posed_of}
 use Rattle.explore_program.specs.Told.{ended_output}
 
 -- what a call tells that tells nothing
@@ -120,19 +120,20 @@ module _ {S K : Type 0} (held : S → Option (List ℕ)) (source_faults : S → 
         given (let same : ReadFault ≡ given = cc in ap Some same) c refl
     schedule-stopped given answers.WriteFault is at_exit whole rose quiet c = absurd (whole is)
 
+  -- where all lines were read, what is so of this question and the state that they lead to is so of what the known lines ask
+  pub asks-ended : (Q : Option Posed → Type 0) (counts : Counts) → replay_exit answer ≡ Ok counts → Q (posed_at asked (run_state start events) AtEnd)
+      → OnParts (ahead lines (held old)) (λ parts. Q (posed_of asked start (sched parts)))
+  asks-ended Q counts given is =
+      on_all (ahead lines (held old)) _ _ (λ parts accords. of_all (sched parts) accords) (follows-at (answers.Ended counts) (run-ends counts answer given)).lines
+    where
+      of_all : (all : Scheduled) → Accords (run_answer start) (answers.Ended counts) events all → Q (posed_of asked start all)
+      of_all all a =
+          subst (λ e. Q (posed_at asked (run_state start all.events) e)) (sym (ended-at _ _ all.ending a.1))
+          (subst (λ es. Q (posed_at asked (run_state start es) AtEnd)) a.0 is)
+
   module _ (P : Asked → State → Type 0) where
     abbrev Asks_here : Type 0
     Asks_here = OnParts (ahead lines (held old)) (λ parts. IfPosed P (posed_of asked start (sched parts)))
-
-    -- where all lines were read, what is so of the state that they lead to is so of what the known lines ask
-    pub asks-ended : (counts : Counts) → replay_exit answer ≡ Ok counts → (s : State) → s ≡ run_state start events → P asked s → Asks_here
-    asks-ended counts given s state is =
-        on_all (ahead lines (held old)) _ _ (λ parts accords. of_all (sched parts) accords) (follows-at (answers.Ended counts) (run-ends counts answer given)).lines
-      where
-        of_all : (all : Scheduled) → Accords (run_answer start) (answers.Ended counts) events all → IfPosed P (posed_of asked start all)
-        of_all all a =
-            subst (λ e. IfPosed P (posed_at asked (run_state start all.events) e)) (sym (ended-at _ _ all.ending a.1))
-            (subst (λ es. P asked (run_state start es)) a.0 (subst (P asked) state is))
 
     -- where they were not, the known lines ask nothing, unless reading failed
     pub asks-stopped : (given : Exit) (a : Replayed) → answer ≡ a → replay_exit a ≡ Err given → answer ≢ answers.WriteFault → Concludes taken sink_faults given mid out exit → exit ≢ ReadFault → Asks_here

@@ -1,13 +1,15 @@
 -- Line by line, what the lines of a question state.
-use Rattle.std.proofs.Common.{◌≡◌, ◌+◌, ◌∙◌, ◌∷◌, ◌++◌, [], ℕ, List, Bool, if◌then◌else◌, true, false, Option, Some, None, Result, Ok, Err, refl, sym, ap, subst, inl, inr}
+use Rattle.std.proofs.Common.{◌≡◌, ◌+◌, ◌∙◌, ◌∷◌, ◌++◌, [], ℕ, List, Bool, if◌then◌else◌, true, false, Option, Some, None, Result, Ok, Err, refl, sym, ap, subst, inl, inr, append-nil}
+use Rattle.std.specs.Io.KnownBytes.{Keeps, prepend_known}
 use Rattle.coy_io.specs.Lines.{Part, Line, LongLine, PastLimit}
-use Rattle.coy_io.specs.Reader.{Reader, Advances, Begins, IsDone, ahead}
-use Rattle.judged_lines.specs.Judged.{JudgesNext, NoneLeft, Refuses}
+use Rattle.coy_io.specs.Reader.{Reader, Advances, Begins, IsDone, ahead, bytes_ahead, last_taken}
+use Rattle.coy_io.proofs.GivenLaws.{Advances-trans, GivesLines-kept}
+use Rattle.judged_lines.specs.Judged.{JudgesNext, Refuses, RefusesLine}
 use Rattle.judged_lines.specs.declared.stop.Stop.{Stop}
 use Rattle.judged_lines.specs.declared.stop.Stop.TheVariants as stops
 use Rattle.question_lines.specs.QuestionLine.{as_untaken}
 use Rattle.listing_read.specs.declared.object_fault.QuestionFault.{QuestionFault}
-use Rattle.listing_read.specs.declared.object_fault.QuestionFault.TheVariants.{LineTooLong}
+use Rattle.listing_read.specs.declared.object_fault.QuestionFault.TheVariants.{LineTooLong, NoEnd}
 use Rattle.question_lines.specs.declared.fault.Untaken.{Untaken}
 use Rattle.question_lines.specs.declared.fault.Untaken.TheVariants.{Refused, OutOfMemory}
 use Rattle.question_lines.specs.declared.said.Next.{Next}
@@ -19,9 +21,9 @@ use Rattle.questions.specs.Question.{QuestionValue}
 use Rattle.coy_text.specs.Words.{words_of}
 use Rattle.schedule_replay.specs.Lines.{FailsOn, ReadsOn}
 use Rattle.schedule_replay.proofs.ReadOn.{fails_on, on_lines, reads_on-line, reads_on-trans}
-use Rattle.schedule_replay.proofs.Reading.{on_begun, on_given}
+use Rattle.schedule_replay.proofs.Reading.{on_begun, on_given, on_none}
 use Rattle.explore_program.specs.declared.asked.Asked.{Asked}
-use Rattle.explore_program.specs.Stated.{AreStated, IsOver, JudgesQuestionLine, PastEnd, RefusedAt, StateAll, States, StatesRest, answer_to, line_asked, stated, stated_with}
+use Rattle.explore_program.specs.Stated.{AreStated, IsOver, JudgesQuestionLine, PastEnd, RefusedAt, StateAll, States, StatesRest, StopsAtLine, answer_to, line_asked, stated, stated_with, without_end}
 
 -- ---- one line
 
@@ -35,7 +37,7 @@ answered-fault (Ok next) fault same = cc
 answered-fault (Err other) fault same = let one : fault ≡ other = cc in ap Err (sym one)
 
 module _ (asked : Asked) (n : ℕ) where
-  stated-end : stated asked n [] ≡ States asked n []
+  stated-end : stated asked n [] ≡ RefusedAt (n + 1) NoEnd
   unfolding stated
   stated-end = refl
 
@@ -104,11 +106,6 @@ judged-sizes n asked line (Err OutOfMemory) asked' j = ap (λ (a : Asked). a.que
 
 -- ---- the question is over
 
--- no line is left
-are_stated-end : (asked : Asked) (n : ℕ) (old : Option (List Part)) (rest : List Part) → IsDone old → rest ≡ [] → AreStated asked n old asked n (Some rest)
-are_stated-end asked n None rest none last = tt
-are_stated-end asked n (Some parts) rest none last = ap (stated asked n) none ∙ stated-end asked n ∙ ap (States asked n) (sym last)
-
 -- lines were read, and then those behind them state a question
 are_stated-behind : (first mid last : Asked) (n m k : ℕ) (old now new : Option (List Part)) (given : List Part) → Advances old now given
     → ((rest : List Part) → stated first n (given ++ rest) ≡ stated mid m rest) → AreStated mid m now last k new → AreStated first n old last k new
@@ -124,21 +121,11 @@ are_stated-on first last n k None new given lines makes = tt
 are_stated-on first last n k (Some parts) None given lines makes = absurd lines
 are_stated-on first last n k (Some parts) (Some rest) given lines makes = ap (stated first n) lines ∙ makes rest
 
--- a reader at the end
-abbrev at_end : Reader → Reader
-at_end old = record old { rest = []; ended = true }
-
 -- ---- the next line
 
--- there is none
-over-end : (asked : Asked) (old new : Reader) (held held' : Option (List ℕ)) → NoneLeft old new held held' → IsOver asked asked old new held held'
-over-end asked old new held held' left = subst (λ (r : Reader). IsDone (ahead r held') → IsOver asked asked old r held held') (sym left.reader) here left.still
-  where
-    here : IsDone (ahead (at_end old) held') → IsOver asked asked old (at_end old) held held'
-    here still = record {
-      known = are_stated-end asked old.number (ahead old held) _ left.none still;
-      given = λ going. let bad : true ≡ false = going in cc;
-    }
+-- there is none, and the question lacks its end
+states-none : (asked : Asked) (old : Reader) (held : Option (List ℕ)) → IsDone (ahead old held) → StateAll asked old held (RefusedAt (old.number + 1) NoEnd)
+states-none asked old held done = on_none (ahead old held) (λ parts. stated asked old.number parts ≡ RefusedAt (old.number + 1) NoEnd) done (stated-end asked old.number)
 
 -- it is past the limit
 states-past : (asked : Asked) (old : Reader) (held : Option (List ℕ)) → Begins (ahead old held) PastLimit → StateAll asked old held PastEnd
@@ -192,6 +179,12 @@ module _ (first asked : Asked) (old new : Reader) (held held' : Option (List ℕ
           on_given (ahead old held) (ahead new held') (Line new.line ∷ []) (λ parts. stated first old.number parts ≡ RefusedAt line fault) r.reads.line
           (λ rest same. stated-refused first old.number asked new.line fault rest r.judges ∙ ap (λ n. RefusedAt n fault) (sym next.0))
 
+-- memory was wanting for a line
+wanting-line : (n : ℕ) (first asked : Asked) (old new : Reader) (held held' : Option (List ℕ)) → Refuses (JudgesQuestionLine n) (Refused LineTooLong) first asked old new held held' OutOfMemory
+    → RefusesLine (JudgesQuestionLine n) first asked old new held held' OutOfMemory
+wanting-line n first asked old new held held' (inl long) = let bad : OutOfMemory ≡ Refused LineTooLong = long.1 in cc
+wanting-line n first asked old new held held' (inr r) = r
+
 -- ---- all lines
 
 module _ (first mid last : Asked) (old now new : Reader) (held held' held'' : Option (List ℕ)) (r : ReadsOn (stated first old.number) (stated mid now.number) old now held held') where
@@ -206,14 +199,34 @@ module _ (first mid last : Asked) (old now new : Reader) (held held' held'' : Op
   pub states-over : Came mid last now new held' held'' (Ok nexts.Schedule) → IsOver first last old new held held''
   states-over next = over-behind (over-line mid last now new held' held'' next)
 
-  -- there is no further line
-  pub states-rest : (stop : Stop Untaken) → Came mid last now new held' held'' (Err stop) → StatesRest first last old new held held'' stop
-  states-rest stops.End next = over-behind (subst (λ (p : Asked). IsOver mid p now new held' held'') (sym next.1) (over-end mid now new held' held'' next.0))
+  -- memory is wanting for a line behind those that were read
+  stops-at-line : RefusesLine (JudgesQuestionLine (now.number + 1)) mid last now new held' held'' OutOfMemory → StopsAtLine first old new held held''
+  stops-at-line refuses =
+      let reads = refuses.reads in
+      let kept : Keeps (bytes_ahead now held') (prepend_known (last_taken new) held'') = rw reads.before reads.near.kept in
+      record {
+        before = r.before reads.before;
+        given = r.given;
+        lines = Advances-trans (ahead old held) (ahead now held') (ahead new held'') r.given (Line new.line ∷ []) r.lines reads.line;
+        gives = GivesLines-kept (bytes_ahead old held) (bytes_ahead now held') (prepend_known (last_taken new) held'') r.given (r.bytes reads.before) kept;
+        near = reads.near.near;
+        unended =
+            ap (stated first old.number) (sym (append-nil r.given)) ∙ r.makes [] ∙ stated-end mid now.number
+            ∙ ap (λ n. RefusedAt n NoEnd) (sym reads.counted);
+        plain = refuses.judges.wanting refl;
+        takes = refuses.judges.takes refl;
+      }
+
+  -- none ends it, and there is no further line
+  pub states-rest : (stop : Stop Untaken) → Came mid last now new held' held'' (Err stop) → StatesRest first last old new held held'' (without_end new.number stop)
+  states-rest stops.End next =
+      on_lines _ _ old now held held' (λ s. s ≡ RefusedAt (new.number + 1) NoEnd) r
+      (subst (λ n. StateAll mid now held' (RefusedAt (n + 1) NoEnd)) (ap (λ (reader : Reader). reader.number) (sym next.0.reader)) (states-none mid now held' next.0.none))
   states-rest (stops.Refused line (Refused fault)) next =
       on_lines _ _ old now held held' (λ s. s ≡ RefusedAt line fault) r (states-refused mid last now new held' held'' line fault next)
-  states-rest (stops.Refused line OutOfMemory) next = tt
+  states-rest (stops.Refused line OutOfMemory) next = stops-at-line (wanting-line (now.number + 1) mid last now new held' held'' next.1)
   states-rest stops.TooLong next = on_lines _ _ old now held held' (λ s. s ≡ PastEnd) r (states-past mid now held' next.0)
   states-rest stops.ReadFault next =
       subst (λ made. FailsOn (stated first old.number) made old new held held'')
-      (stated-end mid now.number ∙ ap (λ n. States mid n []) (sym next.0.counted) ∙ ap (λ (p : Asked). States p new.number []) (sym next.1))
+      (stated-end mid now.number ∙ ap (λ n. RefusedAt (n + 1) NoEnd) (sym next.0.counted))
       (fails_on (stated first old.number) (stated mid now.number) old now new held held' held'' r next.0)

@@ -38,6 +38,11 @@ posed_behind _ = None
 abbrev pub posed : List ℕ → Option Posed
 posed bytes = posed_behind (listing_of Header 1 (parts_of bytes))
 
+-- something is asked
+abbrev pub IsPosed : Option Posed → Type 0
+IsPosed None = ⊥
+IsPosed (Some p) = ⊤
+
 -- where something is asked, this holds of it
 abbrev pub IfPosed : (Asked → State → Type 0) → Option Posed → Type 0
 IfPosed P None = ⊤

@@ -1,15 +1,17 @@
--- What the lines behind a listing state: a question with its policy, and the lines of a schedule behind it; or the first line
--- that is refused (this project's own).
-use Rattle.std.specs.Prelude.{◌≡◌, ◌≢◌, ℕ, ◌+◌, false, List, [], ◌∷◌, Option, Some, None, Result, Ok, Err, ⊤}
+-- What the lines behind a listing state: a question with its policy, and the lines of a schedule behind its end; or the first line
+-- that is refused, which is the one behind the last where the question has no end (this project's own).
+use Rattle.std.specs.Prelude.{◌≡◌, ◌≢◌, ◌≤◌, ℕ, ◌+◌, false, List, [], ◌∷◌, ◌++◌, length, true, Option, Some, None, Result, Ok, Err, ⊤}
+use Rattle.std.specs.Io.KnownBytes.{prepend_known}
 use Rattle.coy_io.specs.Lines.{Part, Line, LongLine, PastLimit}
-use Rattle.coy_io.specs.Reader.{Reader, ahead}
+use Rattle.coy_io.specs.Limits.{window_limit}
+use Rattle.coy_io.specs.Reader.{Reader, Advances, GivesLines, ahead, bytes_ahead, last_taken}
 use Rattle.coy_text.specs.Words.{words_of}
 use Rattle.object_store.specs.declared.sizes.Sizes.{Sizes}
 use Rattle.separation_policy.specs.Making.{first_policy}
 use Rattle.questions.specs.Question.{nothing_asked}
-use Rattle.question_lines.specs.QuestionLine.{as_untaken, is_of_policy, line_answer, line_policy, line_question}
+use Rattle.question_lines.specs.QuestionLine.{as_untaken, is_of_policy, line_answer, line_policy, line_question, takes_memory}
 use Rattle.listing_read.specs.declared.object_fault.QuestionFault.{QuestionFault}
-use Rattle.listing_read.specs.declared.object_fault.QuestionFault.TheVariants.{LineTooLong}
+use Rattle.listing_read.specs.declared.object_fault.QuestionFault.TheVariants.{LineTooLong, NoEnd}
 use Rattle.question_lines.specs.declared.fault.Untaken.{Untaken}
 use Rattle.question_lines.specs.declared.fault.Untaken.TheVariants.{Refused, OutOfMemory}
 use Rattle.question_lines.specs.declared.said.Next.{Next}
@@ -35,8 +37,8 @@ line_asked asked n line = record { question = line_question asked.question n lin
 abbrev pub answer_to : Asked → ℕ → List ℕ → Result Next QuestionFault
 answer_to asked n line = line_answer asked.policy asked.question n line
 
--- what lines state: this question, with the number of its last line and the lines of the schedule behind it, which are none
--- where no line `end` stands; or nothing, since a line is refused or the input goes on behind the last byte that is read
+-- what lines state: this question, with the number of its line `end` and the lines of the schedule behind that; or nothing, since
+-- a line is refused or the input goes on behind the last byte that is read
 pub data Stated : Type 0 where
   States : (asked : Asked) (last : ℕ) (rest : List Part) → Stated
   RefusedAt : (line : ℕ) (fault : QuestionFault) → Stated
@@ -51,19 +53,25 @@ stated_with asked n rest (Err fault) behind = RefusedAt n fault
 
 -- what the lines behind line `n` state, where those before asked this
 unfoldable pub stated : Asked → ℕ → List Part → Stated
-stated asked n [] = States asked n []
+stated asked n [] = RefusedAt (n + 1) NoEnd
 stated asked n (LongLine ∷ parts) = RefusedAt (n + 1) LineTooLong
 stated asked n (PastLimit ∷ parts) = PastEnd
 stated asked n (Line line ∷ parts) =
     stated_with (line_asked asked (n + 1) line) (n + 1) parts (answer_to asked (n + 1) line) (stated (line_asked asked (n + 1) line) (n + 1) parts)
 
 -- how line `n` is judged by itself: what is told of it, and what is asked after it, which is as before where memory is wanting.
--- It is never wanting for a line of the policy.
+-- It may be wanting for a line that says a choice or asks something, by its first word, and never for one of the policy.
 pub record JudgesQuestionLine (n : ℕ) (asked : Asked) (line : List ℕ) (told : Result Next Untaken) (asked' : Asked) : Type 0 where
   pub answer : told ≢ Err OutOfMemory → told ≡ as_untaken (answer_to asked n line)
   pub after : told ≢ Err OutOfMemory → asked' ≡ line_asked asked n line
   pub before : told ≡ Err OutOfMemory → asked' ≡ asked
   pub wanting : told ≡ Err OutOfMemory → is_of_policy (words_of line) ≡ false
+  pub takes : told ≡ Err OutOfMemory → takes_memory (words_of line) ≡ true
+
+-- why there is no further line of a question, behind `n` lines of which none ends it: where there is none at all, it lacks its end
+abbrev pub without_end : ℕ → Stop Untaken → Stop Untaken
+without_end n stops.End = stops.Refused (n + 1) (Refused NoEnd)
+without_end n stop = stop
 
 -- ---- lines as they are read
 
@@ -79,17 +87,30 @@ pub record IsOver (first asked : Asked) (old new : Reader) (held held' : Option 
   pub known : AreStated first old.number (ahead old held) asked new.number (ahead new held')
   pub given : new.ended ≡ false → ReadsOn (stated first old.number) (States asked new.number) old new held held'
 
+-- Memory was wanting for a line of the question: the lines given before it do not end the question, and have no fault but that.
+-- It says a choice or asks something, by its first word, and is none of the policy's; and it stood in the room that a reader has,
+-- with all that was taken behind it.
+pub record StopsAtLine (first : Asked) (old new : Reader) (held held' : Option (List ℕ)) : Type 0 where
+  pub before : old.ended ≡ false
+  pub given : List Part
+  pub lines : Advances (ahead old held) (ahead new held') (given ++ Line new.line ∷ [])
+  pub gives : GivesLines (bytes_ahead old held) (prepend_known (last_taken new) held') given
+  pub near : length (last_taken new) ≤ window_limit
+  pub unended : stated first old.number given ≡ RefusedAt new.number NoEnd
+  pub plain : is_of_policy (words_of new.line) ≡ false
+  pub takes : takes_memory (words_of new.line) ≡ true
+
 -- the lines to come state this
 abbrev pub StateAll : Asked → Reader → Option (List ℕ) → Stated → Type 0
 StateAll first old held all = OnParts (ahead old held) (λ parts. stated first old.number parts ≡ all)
 
--- what reading all lines came to, up to where they end
+-- what reading the lines of a question came to, up to where it ends
 abbrev pub StatesRest : Asked → Asked → Reader → Reader → Option (List ℕ) → Option (List ℕ) → Stop Untaken → Type 0
 StatesRest first asked old new held held' stops.End = IsOver first asked old new held held'
 StatesRest first asked old new held held' (stops.Refused line (Refused fault)) = StateAll first old held (RefusedAt line fault)
-StatesRest first asked old new held held' (stops.Refused line OutOfMemory) = ⊤
+StatesRest first asked old new held held' (stops.Refused line OutOfMemory) = StopsAtLine first old new held held'
 StatesRest first asked old new held held' stops.TooLong = StateAll first old held PastEnd
-StatesRest first asked old new held held' stops.ReadFault = FailsOn (stated first old.number) (States asked new.number []) old new held held'
+StatesRest first asked old new held held' stops.ReadFault = FailsOn (stated first old.number) (RefusedAt (new.number + 1) NoEnd) old new held held'
 
 -- the exit where a line of a question is not taken in
 abbrev pub untaken_exit : ℕ → Untaken → Exit

@@ -10,6 +10,7 @@ ghost use Rattle.courses.specs.Taken.{TakesLines, TakesListing};
 ghost use Rattle.explore_program.specs.Posed.{IfPosed, posed, posed_by};
 ghost use Rattle.explore_program.specs.Stated.{stated, untaken_exit};
 ghost use Rattle.explore_program.specs.Told.{Answers, Tells, explore_course, stated_output};
+ghost use Rattle.explore_program.specs.Wanting.{Wants, WantsBehind};
 
 use crate::asked::Asked;
 use crate::lines::read_questions;
@@ -26,7 +27,7 @@ use std::alloc::Global;
 use std::sync::ledger::Ledger;
 use steps::Steps;
 
-/// Reads a listing, the lines of a question and, behind a line `end`, a schedule, which sets the machine up: it is run without
+/// Reads a listing, the lines of a question and, behind its line `end`, a schedule, which sets the machine up: it is run without
 /// a word. Goes through the states to which the question's choices lead from there, and tells what that comes to.
 pub(crate) fn explore_input<S: Source, K: Sink, W: Watcher, L: Ledger>(
     alloc: Global,
@@ -35,10 +36,11 @@ pub(crate) fn explore_input<S: Source, K: Sink, W: Watcher, L: Ledger>(
     watcher: &mut W,
     fetches: &mut Steps<L>,
 ) -> Exit
-    ensures { Tells result
+    ensures tells { Tells result
         (λ told. IfSome (S.held input.old) (λ bytes. IfPosed (λ asked s. Answers asked s told) (posed bytes)))
         (λ told. TakesListing S.held S.faults K.taken K.faults
         input.old input.new output.old output.new 0 0 result cached (explore_course told)) }
+    ensures wanting { result ≡ Exit.OutOfMemory → Wants (S.held input.old) (S.held input.new) }
 {
     let mut lines = LineReader::new();
     let listing = match read_head(alloc, &mut lines, input, output) {
@@ -73,12 +75,15 @@ fn ask_lines<S: Source, K: Sink, W: Watcher, L: Ledger>(
     requires reader { lines.old.failed ≡ false }
     requires told { TellsEnd lines.old (S.held input.old) }
     requires sizes { asked.question.sizes ≡ sizes_of machine.objects }
-    ensures { Tells result
+    ensures tells { Tells result
         (λ told. OnParts (ahead lines.old (S.held input.old)) (λ parts. IfPosed (λ asked s. Answers asked s told)
         (posed_by (state_of machine) machine.objects.harts (stated asked lines.old.number parts))))
         (λ told. TakesLines S.held S.faults K.taken K.faults lines.old lines.new
         input.old input.new output.old output.new 0 0 result cached (λ parts.
         ends_in (stated_output told machine.objects.harts (stated asked lines.old.number parts)))) }
+    ensures wanting { result ≡ Exit.OutOfMemory →
+        WantsBehind asked (state_of machine) machine.objects.harts lines.old lines.new
+        (S.held input.old) (S.held input.new) }
 {
     let stop = read_questions(alloc, lines, input, &mut asked);
     match question_exit(stop) {

@@ -1,10 +1,10 @@
 //! The lines of a question, one after the other.
-ghost use Rattle.std.specs.Prelude.{◌≡◌, ◌≢◌, ◌+◌, false};
+ghost use Rattle.std.specs.Prelude.{◌≡◌, ◌≢◌, ◌<◌, ◌+◌, ◌↔◌, false};
 ghost use Rattle.coy_io.specs.Causes.{Rose};
 ghost use Rattle.coy_io.specs.Reader.{TellsEnd};
 ghost use Rattle.listing_read.specs.declared.object_fault.QuestionFault.TheVariants.{LineTooLong};
 ghost use Rattle.question_lines.specs.declared.fault.Untaken.TheVariants.{Refused};
-ghost use Rattle.explore_program.specs.Stated.{JudgesQuestionLine, StatesRest};
+ghost use Rattle.explore_program.specs.Stated.{without_end, JudgesQuestionLine, StatesRest};
 
 use crate::asked::Asked;
 use coy_io::{LineReader, Source};
@@ -45,8 +45,8 @@ impl Judge for QuestionLine {
     }
 }
 
-/// Reads the lines of a question up to where it ends, and takes in what they say. It answers why there is no further line of
-/// it: `End` where it is over, by a line `end` or with the input.
+/// Reads the lines of a question up to its line `end`, and takes in what they say. It answers why there is no further line of
+/// it: `End` where it is over, and where the input is over before, that the line behind the last is refused.
 pub(crate) fn read_questions<S: Source>(
     alloc: Global,
     lines: &mut LineReader,
@@ -67,8 +67,24 @@ pub(crate) fn read_questions<S: Source>(
         match judge_next(&QuestionLine { alloc, number }, asked, lines, source) {
             Ok(Next::Question) => {}
             Ok(Next::Schedule) => return Stop::End,
-            Err(stop) => return stop,
+            Err(stop) => return without_end(stop, lines.number()),
         }
+    }
+}
+
+/// Why there is no further line of a question, behind so many of which none ends it.
+fn without_end(stop: Stop<Untaken>, number: u32) -> Stop<Untaken>
+    requires { number < 4294967295 }
+    ensures value { result ≡ without_end number stop }
+    ensures refused { result ≢ Stop.End }
+    ensures read { result ≡ Stop.ReadFault ↔ stop ≡ Stop.ReadFault }
+{
+    match stop {
+        Stop::End => Stop::Refused {
+            line: number + 1,
+            fault: Untaken::Refused(QuestionFault::NoEnd),
+        },
+        other => other,
     }
 }
 

@@ -6,6 +6,7 @@ ghost use Rattle.courses.specs.Flush.{AnswersFor};
 ghost use Rattle.courses.specs.Program.{bytes_for, out, sure, HasForm, ReadsInput};
 ghost use Rattle.explore_program.specs.Program.{asked_by, explore, usage_text};
 ghost use Rattle.explore_program.specs.Theorem.{Judges, TellsInput};
+ghost use Rattle.explore_program.specs.Wanting.{Wants};
 
 use crate::input::explore_input;
 use crate::words::{Wanted, read_words};
@@ -56,6 +57,10 @@ pub fn explore<S: Source, K: Sink, W: Watcher, L: Ledger>(
     ensures causes { HasCauses (S.faults input.old) (S.faults input.new)
         (K.faults output.old) (K.faults output.new) result }
     ensures unwritten { result ≡ Exit.OutOfMemory → K.taken output.new ≡ K.taken output.old }
+
+    // Where memory is wanting, no more was taken than a listing and what came with its last line; or than the lines of the
+    // question up to one that says a choice or asks something, and what came with that; or the whole input was read and is searched.
+    ensures wanting { result ≡ Exit.OutOfMemory → Wants (S.held input.old) (S.held input.new) }
 {
     match read_words(words) {
         Some(Wanted::Explore) => explore_input(alloc, input, output, watcher, fetches),

@@ -17,6 +17,7 @@ const EXPLORE_ROWS: &str = "\
 coyotos 1
 machine 1 2 0 0 1 0
 end
+end
 =>
 holds states=1 tried=2 depth=0
 ==
@@ -30,6 +31,7 @@ process 0 0 gpt:0@16/0 schedule:3 null run
 end
 may step 0
 never halted
+end
 =>
 holds states=3 tried=3 depth=2
 ==
@@ -42,6 +44,7 @@ slot 0 0 page:0@12/0
 process 0 0 gpt:0@16/0 schedule:3 null run
 end
 never halted
+end
 =>
 holds states=4 tried=8 depth=2
 ==
@@ -55,6 +58,7 @@ process 0 0 gpt:0@16/0 schedule:3 null run
 end
 may step 0 2
 never pc 0 4 and not faulted 0
+end
 =>
 holds states=2 tried=2 depth=1
 ==
@@ -74,6 +78,7 @@ count running 0 and running 1
 count halted
 ever faulted 0 and faulted 1
 never faulted 0 BadOpcode
+end
 =>
 count 11 states=1 depth=4
 count 12 states=5 depth=0
@@ -91,6 +96,7 @@ end
 may step 0
 never halted
 never pc 0 4
+end
 =>
 found 10 depth=1
 step 0 1
@@ -105,6 +111,7 @@ process 0 0 gpt:0@16/0 schedule:3 null run
 end
 count halted
 never faulted 0 Breakpoint
+end
 =>
 found 9 depth=2
 step 0 2
@@ -120,6 +127,7 @@ end
 may step 0
 never pc 0 4 and reg 0 1 5
 never pc 0 4
+end
 =>
 found 9 depth=1
 step 0 1
@@ -133,6 +141,7 @@ slot 0 0 page:0@12/0
 process 0 0 gpt:0@16/0 schedule:3 null run
 end
 never not halted
+end
 =>
 found 8 depth=0
 ==
@@ -146,6 +155,7 @@ process 0 0 gpt:0@16/0 schedule:3 null run
 process 1 0 gpt:0@16/0 schedule:3 null run
 end
 never pc 0 4 and pc 1 4 and not faulted 0 and not faulted 1
+end
 =>
 found 9 depth=3
 step 0 1
@@ -162,6 +172,7 @@ process 0 0 gpt:0@16/0 schedule:3 null run
 end
 may step 0 2
 never faulted 0
+end
 =>
 found 9 depth=1
 step 0 2
@@ -179,6 +190,7 @@ may step 0
 count stuck
 ever faulted 0
 ever reg 0 1 0
+end
 =>
 count 10 states=1 depth=2
 lost 12 depth=1
@@ -193,6 +205,7 @@ slot 0 0 page:0@12/0
 process 0 0 gpt:0@16/0 schedule:3 null run
 end
 ever halted
+end
 =>
 lost 8 depth=0
 ==
@@ -206,6 +219,7 @@ process 0 0 gpt:0@16/0 schedule:3 null run
 end
 may step 0
 must faulted 0
+end
 =>
 avoided 9 depth=1 loop=2
 step 0 1
@@ -216,6 +230,7 @@ coyotos 1
 machine 1 2 0 0 1 0
 end
 must halted
+end
 =>
 avoided 4 depth=0 loop=2
 step 0 1
@@ -233,6 +248,7 @@ may step 0
 count faulted 0
 must faulted 0
 after pc 0 4 must halted
+end
 =>
 count 9 states=1 depth=2
 avoided 11 depth=2 loop=1
@@ -250,6 +266,7 @@ end
 may step 0
 must faulted 0
 ever reg 0 1 0
+end
 =>
 lost 10 depth=1
 step 0 1
@@ -263,6 +280,7 @@ slot 0 0 page:0@12/0
 process 0 0 gpt:0@16/0 schedule:3 null run
 end
 must faulted 0
+end
 =>
 holds states=4 tried=8 depth=2
 ==
@@ -276,6 +294,7 @@ process 0 0 gpt:0@16/0 schedule:3 null run
 end
 domain a process 0
 never crossing
+end
 =>
 found 9 depth=0
 ==
@@ -292,6 +311,7 @@ domain a page 0
 domain a gpt 0
 never crossing
 may step 0
+end
 =>
 holds states=3 tried=3 depth=2
 ==
@@ -302,6 +322,7 @@ capreg 0 1 kernlog
 end
 domain a process 0
 never crossing
+end
 =>
 found 6 depth=0
 ==
@@ -313,6 +334,7 @@ end
 domain a process 0
 logs a
 never crossing
+end
 =>
 holds states=1 tried=2 depth=0
 ==
@@ -324,6 +346,7 @@ end
 domain a gpt 0
 writes a rest
 never crossing
+end
 =>
 holds states=1 tried=2 depth=0
 ==
@@ -339,6 +362,7 @@ may step 0
 depth 1
 never faulted 0
 count pc 0 4
+end
 =>
 count 11 states=1 depth=1
 open states=2 tried=2 depth=1
@@ -353,6 +377,7 @@ process 0 0 gpt:0@16/0 schedule:3 null run
 end
 may step 0
 depth 2
+end
 =>
 holds states=3 tried=3 depth=2
 ==
@@ -366,6 +391,7 @@ process 0 0 gpt:0@16/0 schedule:3 null run
 end
 may step 0
 depth 3
+end
 =>
 holds states=3 tried=3 depth=2
 ==
@@ -379,6 +405,7 @@ process 0 0 gpt:0@16/0 schedule:3 null run
 end
 depth 0
 ever halted
+end
 =>
 open states=1 tried=1 depth=0
 ==
@@ -392,6 +419,7 @@ process 0 0 gpt:0@16/0 schedule:3 null run
 end
 may step 0
 states 2
+end
 =>
 open states=2 tried=2 depth=1
 ==
@@ -405,6 +433,7 @@ process 0 0 gpt:0@16/0 schedule:3 null run
 end
 may step 0
 states 3
+end
 =>
 holds states=3 tried=3 depth=2
 ==
@@ -419,6 +448,7 @@ end
 may step 0
 states 2
 never pc 0 4
+end
 =>
 found 10 depth=1
 step 0 1
@@ -436,6 +466,7 @@ depth 0
 depth 9
 states 1
 states 9
+end
 =>
 holds states=3 tried=3 depth=2
 ==
@@ -479,6 +510,7 @@ end
 
 # never
   may   step 0
+end
 =>
 holds states=3 tried=3 depth=2
 ==
@@ -642,6 +674,32 @@ never x
 =>
 refused 5 Taken
 ==
+9 none: two lines say the same choice
+coyotos 1
+machine 1 2 0 0 1 0
+end
+may step 0
+may tick 0
+may step 0 1
+end
+=>
+refused 6 Taken
+==
+9 none: the question lacks its end
+coyotos 1
+machine 1 2 0 0 1 0
+end
+never halted
+=>
+refused 5 NoEnd
+==
+9 none: there is no question
+coyotos 1
+machine 1 2 0 0 1 0
+end
+=>
+refused 4 NoEnd
+==
 2 none
 coyotos 3
 =>
@@ -670,6 +728,7 @@ process 1 0 gpt:1@16/0 null null stop
 
 end
 may run 0
+end
 =>
 holds states=3 tried=3 depth=2
 ==
@@ -686,6 +745,7 @@ process 1 0 gpt:1@16/0 null null stop
 capreg 1 5 page:0@12/0+rw
 end
 may run 0
+end
 =>
 holds states=4 tried=4 depth=3
 ==
@@ -704,6 +764,7 @@ slot 2 5 gpt:3@16/0
 slot 3 7 page:0@12/0
 end
 may run 0
+end
 =>
 holds states=4 tried=4 depth=3
 ==
@@ -720,6 +781,7 @@ process 1 0 gpt:1@16/0 null null stop
 cap 0 9 page:0@12/0
 end
 may run 0
+end
 =>
 holds states=4 tried=4 depth=3
 ==
@@ -736,6 +798,7 @@ process 1 0 gpt:1@16/0 null null stop
 slot 2 5 page:0@12/0
 end
 may run 0
+end
 =>
 holds states=3 tried=3 depth=2
 ==
@@ -752,6 +815,7 @@ process 1 0 gpt:1@16/0 null null stop
 capreg 1 5 process:0
 end
 may run 0
+end
 =>
 holds states=4 tried=4 depth=3
 ==
@@ -769,6 +833,7 @@ endpoint 0 process:0 1 0 plain
 capreg 1 5 entry:0:0
 end
 may run 0
+end
 =>
 holds states=3 tried=3 depth=2
 ==
@@ -785,6 +850,7 @@ process 1 0 gpt:1@16/0 null null stop
 cap 0 5 range
 end
 may run 0
+end
 =>
 holds states=4 tried=4 depth=3
 ==
@@ -801,6 +867,7 @@ process 1 0 gpt:1@16/0 null null stop
 slot 3 5 window:1000@12/0
 end
 may run 0
+end
 =>
 holds states=4 tried=4 depth=3
 ==
@@ -818,6 +885,7 @@ process 1 0 gpt:1@16/0 null null stop
 end
 may run 0
 count pc 0 4
+end
 =>
 count 13 states=1 depth=1
 holds states=4 tried=4 depth=3
@@ -836,6 +904,7 @@ process 1 0 gpt:1@16/0 null null stop
 end
 may run 0
 count word 0 ffc 0
+end
 =>
 count 13 states=4 depth=0
 holds states=4 tried=4 depth=3
@@ -854,6 +923,7 @@ process 1 0 gpt:1@16/0 null null stop
 end
 may run 0
 count word 1 ffc 0
+end
 =>
 count 13 states=3 depth=0
 holds states=3 tried=3 depth=2
@@ -874,6 +944,7 @@ reg 0 4 1000
 capreg 1 5 page:2@12/0+r
 end
 may run 0
+end
 =>
 holds states=4 tried=4 depth=3
 ==
@@ -891,6 +962,7 @@ reg 0 4 1000
 end
 may run 0
 never faulted 0
+end
 =>
 found 13 depth=2
 step 0 3
@@ -915,6 +987,7 @@ reg 0 11 1
 reg 0 17 2
 end
 may run 0
+end
 =>
 holds states=6 tried=6 depth=5
 ==
@@ -1038,6 +1111,7 @@ reg 0 2 bb8
 end
 may run 0
 never faulted 0
+end
 =>
 found 13 depth=3
 step 0 6001
@@ -1053,6 +1127,7 @@ process 1 0 gpt:1@16/0 null null stop
 
 end
 may run 0
+end
 =>
 holds states=2 tried=2 depth=1
 ==
@@ -1074,6 +1149,7 @@ may run 0
 may run 1
 ever faulted 0 and faulted 1
 count faulted 1
+end
 =>
 count 17 states=3 depth=3
 holds states=11 tried=22 depth=4
@@ -1095,6 +1171,7 @@ end
 may run 0
 may tick 0
 never faulted 1
+end
 =>
 found 16 depth=4
 step 0 5

@@ -1,15 +1,17 @@
-use Rattle.std.proofs.Common.{◌∙◌, ap, refl, sym}
+use Rattle.std.proofs.Common.{◌∙◌, ap, inl, refl, sym}
 use Rattle.courses.specs.Course.{cached}
 use Rattle.courses.proofs.Taken.{takes-listing, takes-same}
+use Rattle.explore_program.specs.Posed.{IfPosed}
 use Rattle.explore_program.specs.Stated.{first_asked}
 use Rattle.explore_program.specs.Told.{Answers, explore_course}
 use Rattle.explore_program.proofs.Called.{asks-bytes, asks-unlisted, of-listing, takes-none}
 use Rattle.explore_program.proofs.Setting.{nothing_told}
+use Rattle.explore_program.proofs.Wanting.{wants-input}
 use Rattle.explore_program.proofs.input.explore_input.Goals as goal
 
 -- there is no listing
-pub returns-in-Err : goal.returns-in-Err
-returns-in-Err g c =
+pub returns-in-Err-clause-tells : goal.returns-in-Err-clause-tells
+returns-in-Err-clause-tells g c =
     let e = c.in-Err.ensures.ended in
     record {
       told = nothing_told;
@@ -19,24 +21,24 @@ returns-in-Err g c =
     }
 
 -- or no memory for the cache, the machine or the question
-pub returns-in_default : goal.returns-in_default
-returns-in_default g c = record {
+pub returns-in_default-clause-tells : goal.returns-in_default-clause-tells
+returns-in_default-clause-tells g c = record {
   told = nothing_told;
   finished = refl;
   answers = λ read memory. absurd (memory refl);
   so = takes-none g.S.Source.held g.S.Source.faults g.K.Sink.taken g.K.Sink.faults _ _ _ _ nothing_told c.in-Ok.ensures.silent c.in-Ok.ensures.quiet;
 }
 
-pub returns-in_default-new : goal.returns-in_default-new
-returns-in_default-new g c = record {
+pub returns-in_default-new-clause-tells : goal.returns-in_default-new-clause-tells
+returns-in_default-new-clause-tells g c = record {
   told = nothing_told;
   finished = refl;
   answers = λ read memory. absurd (memory refl);
   so = takes-none g.S.Source.held g.S.Source.faults g.K.Sink.taken g.K.Sink.faults _ _ _ _ nothing_told c.in-Ok.ensures.silent c.in-Ok.ensures.quiet;
 }
 
-pub returns-in_default-boot : goal.returns-in_default-boot
-returns-in_default-boot g c = record {
+pub returns-in_default-boot-clause-tells : goal.returns-in_default-boot-clause-tells
+returns-in_default-boot-clause-tells g c = record {
   told = nothing_told;
   finished = refl;
   answers = λ read memory. absurd (memory refl);
@@ -49,16 +51,16 @@ ask_lines-requires-clause-sizes g c =
     let start = c.in-Ok-new-2.ensures ∙ ap first_asked c.sizes-2.ensures.value in
     ap (λ a. a.question.sizes) start ∙ sym c.in-Ok-boot.ensures.sizes
 
-pub returns : goal.returns
-returns g c =
+pub returns-clause-tells : goal.returns-clause-tells
+returns-clause-tells g c =
     let harts = ap (λ sizes. sizes.harts) c.in-Ok-boot.ensures.sizes in
     let start = c.in-Ok-new-2.ensures ∙ ap first_asked c.sizes-2.ensures.value in
-    let t = c.ask_lines.ensures in
+    let t = c.ask_lines.ensures.tells in
     record {
       told = t.told;
       finished = t.finished;
       answers = λ read memory.
-          asks-bytes c.in-Ok.listing _ _ _ _ c.in-Ok-boot.ensures.state harts start (λ asked s. Answers asked s t.told) _ _ c.new-lines.result c.read_head.new.lines refl
+          asks-bytes c.in-Ok.listing _ _ _ _ c.in-Ok-boot.ensures.state harts start (IfPosed (λ asked s. Answers asked s t.told)) _ _ c.new-lines.result c.read_head.new.lines refl
           c.new-lines.ensures c.in-Ok.ensures.listed (t.answers read memory);
       so =
           takes-listing g.S.Source.held g.S.Source.faults g.K.Sink.taken g.K.Sink.faults c.new-lines.result c.read_head.new.lines _ c.in-Ok.listing _ _ _ _ _ _ 0 0 _ cached (explore_course t.told)
@@ -66,3 +68,24 @@ returns g c =
           (takes-same g.S.Source.held g.S.Source.faults g.K.Sink.taken g.K.Sink.faults _ _ _ _ _ _ 0 0 _ cached _ _
           (of-listing c.in-Ok.listing _ _ _ _ c.in-Ok-boot.ensures.state harts start t.told) t.so);
     }
+
+-- ---- where memory is wanting
+
+pub returns-in-Err-clause-wanting : goal.returns-in-Err-clause-wanting
+returns-in-Err-clause-wanting g c = λ lacks. inl (c.in-Err.ensures.wanting lacks)
+
+pub returns-in_default-clause-wanting : goal.returns-in_default-clause-wanting
+returns-in_default-clause-wanting g c = λ lacks. inl c.in-Ok.ensures.standing
+
+pub returns-in_default-new-clause-wanting : goal.returns-in_default-new-clause-wanting
+returns-in_default-new-clause-wanting g c = λ lacks. inl c.in-Ok.ensures.standing
+
+pub returns-in_default-boot-clause-wanting : goal.returns-in_default-boot-clause-wanting
+returns-in_default-boot-clause-wanting g c = λ lacks. inl c.in-Ok.ensures.standing
+
+pub returns-clause-wanting : goal.returns-clause-wanting
+returns-clause-wanting g c = λ lacks.
+    let harts = ap (λ sizes. sizes.harts) c.in-Ok-boot.ensures.sizes in
+    let start = c.in-Ok-new-2.ensures ∙ ap first_asked c.sizes-2.ensures.value in
+    wants-input c.in-Ok.listing _ _ _ c.new-lines.result c.read_head.new.lines c.ask_lines.new.lines _ _ _ c.in-Ok-boot.ensures.state harts start
+    c.new-lines.ensures c.in-Ok.ensures.listed c.in-Ok.ensures.given (c.ask_lines.ensures.wanting lacks)

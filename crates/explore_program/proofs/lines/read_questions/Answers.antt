@@ -1,9 +1,9 @@
-use Rattle.std.proofs.Common.{◌∙◌, Ok, Err, refl, subst}
+use Rattle.std.proofs.Common.{◌∙◌, Ok, Err, ap, refl, subst, sym}
 use Rattle.judged_lines.specs.Judged.{JudgesNext}
 use Rattle.listing_read.specs.declared.object_fault.QuestionFault.TheVariants.{LineTooLong}
 use Rattle.question_lines.specs.declared.fault.Untaken.TheVariants.{Refused}
 use Rattle.question_lines.specs.declared.said.Next.TheVariants as nexts
-use Rattle.explore_program.specs.Stated.{JudgesQuestionLine, stated}
+use Rattle.explore_program.specs.Stated.{JudgesQuestionLine, StatesRest, stated, without_end}
 use Rattle.schedule_replay.proofs.ReadOn.{reads_on-none, reads_on-trans}
 use Rattle.explore_program.proofs.Stating.{came-sizes, reads-line, states-over, states-rest}
 use Rattle.explore_program.proofs.lines.read_questions.Goals as goal
@@ -46,7 +46,9 @@ returns-in-Err-clause-states g c =
     let next =
     subst (λ n. JudgesNext (JudgesQuestionLine n) (Refused LineTooLong) c.lines.asked c.judge_next.new.made c.lines.lines c.judge_next.new.lines (g.S.Source.held c.lines.source) (g.S.Source.held c.judge_next.new.source) (Err c.in-Err.stop))
     c.next_number-number.ensures c.in-Err.ensures.next in
-    states-rest c.args.asked.now c.lines.asked c.judge_next.new.made c.args.lines.now c.lines.lines c.judge_next.new.lines _ _ _ c.lines.invariant.reads c.in-Err.stop next
+    subst (StatesRest c.args.asked.now c.judge_next.new.made c.args.lines.now c.judge_next.new.lines _ _)
+    (sym (c.without_end.ensures.value ∙ ap (λ n. without_end n c.in-Err.stop) c.number.ensures.value))
+    (states-rest c.args.asked.now c.lines.asked c.judge_next.new.made c.args.lines.now c.lines.lines c.judge_next.new.lines _ _ _ c.lines.invariant.reads c.in-Err.stop next)
 
 pub returns-in-Err-clause-sizes : goal.returns-in-Err-clause-sizes
 returns-in-Err-clause-sizes g c =

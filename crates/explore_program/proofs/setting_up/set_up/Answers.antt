@@ -1,7 +1,9 @@
-use Rattle.std.proofs.Common.{◌∙◌, ap, refl, sym}
+use Rattle.std.proofs.Common.{◌∙◌, ap, refl, subst, sym}
 use Rattle.machine_state.specs.State.{state_of}
 use Rattle.courses.specs.Stopped.{replay_exit}
+use Rattle.courses.proofs.Lacking.{concludes-memory, replay-memory}
 use Rattle.courses.proofs.Rests.{run-ends}
+use Rattle.explore_program.specs.Posed.{IfPosed, IsPosed}
 use Rattle.explore_program.specs.Told.{Answers}
 use Rattle.explore_program.proofs.Setting.{asks-ended, asks-stopped, from-start, no_write, nothing_told, schedule-ended, schedule-stopped}
 use Rattle.explore_program.proofs.setting_up.set_up.Goals as goal
@@ -10,8 +12,8 @@ use Rattle.explore_program.proofs.setting_up.set_up.Goals as goal
 pub answer-requires : goal.answer-requires
 answer-requires g c = c.requires.sizes ∙ sym c.replay-replayed.ensures.replays.ran.sizes
 
-pub returns-in-Ok : goal.returns-in-Ok
-returns-in-Ok g c =
+pub returns-in-Ok-clause-tells : goal.returns-in-Ok-clause-tells
+returns-in-Ok-clause-tells g c =
     let e = c.replay-replayed.ensures in
     let m = c.args.machine in
     let given = sym c.counts_or_exit.ensures ∙ c.in-Ok.is in
@@ -22,7 +24,8 @@ returns-in-Ok g c =
       answers = λ read memory.
           asks-ended g.S.Source.held g.S.Source.faults g.K.Sink.taken g.K.Sink.faults c.args.asked.now (state_of m) m.objects.harts
           c.args.lines.now c.replay-replayed.new.lines _ _ c.replay-replayed.new.output c.answer.new.output c.answer.result e.replays.events c.replay-replayed.result e.replays.follows
-          (λ asked s. Answers asked s t.told) c.in-Ok._counts given (state_of c.replay-replayed.new.machine) e.replays.ran.state (t.answers read memory);
+          (IfPosed (λ asked s. Answers asked s t.told)) c.in-Ok._counts given
+          (subst (λ s. Answers c.args.asked.now s t.told) e.replays.ran.state (t.answers read memory));
       so =
           from-start g.S.Source.held g.S.Source.faults g.K.Sink.taken g.K.Sink.faults _ _ _ _ _ _ _ _ _ _ (e.silent refl)
           (schedule-ended g.S.Source.held g.S.Source.faults g.K.Sink.taken g.K.Sink.faults c.args.asked.now (state_of m) m.objects.harts
@@ -31,8 +34,8 @@ returns-in-Ok g c =
           t.so c.answer.ensures.unwritten);
     }
 
-pub returns-in-Err : goal.returns-in-Err
-returns-in-Err g c =
+pub returns-in-Err-clause-tells : goal.returns-in-Err-clause-tells
+returns-in-Err-clause-tells g c =
     let e = c.replay-replayed.ensures in
     let m = c.args.machine in
     let given = sym c.counts_or_exit.ensures ∙ c.in-Err.is in
@@ -50,3 +53,30 @@ returns-in-Err g c =
           c.args.lines.now c.replay-replayed.new.lines _ _ c.replay-replayed.new.output _ _ e.replays.events c.replay-replayed.result e.replays.follows nothing_told refl c.in-Err.exit c.replay-replayed.result refl given
           whole e.reasons.read e.reasons.read_quiet c.conclude.ensures);
     }
+
+-- ---- where memory is wanting
+
+pub returns-in-Ok-clause-end : goal.returns-in-Ok-clause-end
+returns-in-Ok-clause-end g c = λ lacks.
+    let e = c.replay-replayed.ensures in
+    let given = sym c.counts_or_exit.ensures ∙ c.in-Ok.is in
+    e.told c.requires.told (e.end c.in-Ok._counts (run-ends c.in-Ok._counts c.replay-replayed.result given))
+
+pub returns-in-Ok-clause-wanting : goal.returns-in-Ok-clause-wanting
+returns-in-Ok-clause-wanting g c = λ lacks.
+    let e = c.replay-replayed.ensures in
+    let m = c.args.machine in
+    let given = sym c.counts_or_exit.ensures ∙ c.in-Ok.is in
+    asks-ended g.S.Source.held g.S.Source.faults g.K.Sink.taken g.K.Sink.faults c.args.asked.now (state_of m) m.objects.harts
+    c.args.lines.now c.replay-replayed.new.lines _ _ c.replay-replayed.new.output c.answer.new.output c.answer.result e.replays.events c.replay-replayed.result e.replays.follows
+    IsPosed c.in-Ok._counts given tt
+
+pub returns-in-Err-clause-end : goal.returns-in-Err-clause-end
+returns-in-Err-clause-end g c = λ lacks.
+    let given = sym c.counts_or_exit.ensures ∙ c.in-Err.is in
+    absurd (concludes-memory g.K.Sink.taken g.K.Sink.faults _ _ _ c.in-Err.exit (replay-memory c.replay-replayed.result c.in-Err.exit given) c.conclude.ensures lacks)
+
+pub returns-in-Err-clause-wanting : goal.returns-in-Err-clause-wanting
+returns-in-Err-clause-wanting g c = λ lacks.
+    let given = sym c.counts_or_exit.ensures ∙ c.in-Err.is in
+    absurd (concludes-memory g.K.Sink.taken g.K.Sink.faults _ _ _ c.in-Err.exit (replay-memory c.replay-replayed.result c.in-Err.exit given) c.conclude.ensures lacks)
