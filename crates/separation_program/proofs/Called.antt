@@ -147,7 +147,7 @@ judges-for aim (Some bytes) taken taken' exit comes tells = record {
         exact-listed aim (IsAsked aim) exit (listing_of Header 1 (parts_of bytes)) (ap is_finished (sym own) ∙ is)
 
 -- words ask for one thing alone
-aims-same : (words : List (List ℕ)) (aim other : Aim) → asked_by words ≡ Some (Judge aim) → asked_by words ≡ Some (Judge other) → aim ≡ other
+pub aims-same : (words : List (List ℕ)) (aim other : Aim) → asked_by words ≡ Some (Judge aim) → asked_by words ≡ Some (Judge other) → aim ≡ other
 aims-same words aim other asked also = let same : Some (Judge aim) ≡ Some (Judge other) = sym asked ∙ also in cc
 
 -- a call that judged its input

@@ -1,5 +1,6 @@
 -- How many slots of GPTs the program reads for its input (this project's own).
-use Rattle.std.specs.Prelude.{◌≡◌, ◌⊎◌, ℕ, ◌+◌, ◌*◌, List, [], ◌∷◌, length}
+use Rattle.std.specs.Prelude.{◌≡◌, ◌⊎◌, ℕ, ◌+◌, ◌*◌, List, [], ◌∷◌, length, Option, IfSome}
+use Rattle.std.specs.Io.KnownBytes.{IsAtEnd}
 use Rattle.coy_io.specs.Lines.{parts_of}
 use Rattle.machine_state.specs.declared.event.Event.{Event}
 use Rattle.machine_state.specs.Outcome.{Touch, spent, spent_at}
@@ -17,6 +18,7 @@ use Rattle.policy_lines.specs.Passages.{ReadsWhole}
 use Rattle.policy_lines.specs.Permission.{channels_of}
 use Rattle.policy_lines.specs.Needed.{passages_in}
 use Rattle.schedule_replay.specs.Scheduled.{Ending, AtEnd, Scheduled, scheduled}
+use Rattle.courses.specs.Wanting.{StandsAtListing}
 use Rattle.separation_program.specs.Stated.{Stated, States, stated}
 use Rattle.separation_program.specs.declared.words.Aim.{Aim}
 use Rattle.separation_program.specs.declared.words.Aim.TheVariants.{Holds, Least}
@@ -102,6 +104,13 @@ module _ (count : List Touch → ℕ) (aim : Aim) where
 abbrev pub LacksFor : Aim → List ℕ → ℕ → ℕ → Type 0
 LacksFor aim bytes fetches fetches' =
     (fetches' ≡ fetches) ⊎ LacksListed walked aim (listing_of Header 1 (parts_of bytes)) fetches fetches'
+
+-- Where memory was wanting, and how many slots had been read: the source stands at its listing, and none had; or the whole input
+-- was read, and judging the state behind it had read so many.
+abbrev pub WantsFor : Aim → Option (List ℕ) → Option (List ℕ) → ℕ → ℕ → Type 0
+WantsFor aim held held' fetches fetches' =
+    (StandsAtListing held held' × (fetches' ≡ fetches))
+    ⊎ (IsAtEnd held' × IfSome held (λ bytes. LacksListed walked aim (listing_of Header 1 (parts_of bytes)) fetches fetches'))
 
 -- those of all bytes of an input, by what is to be found of it; each access is walked afresh
 abbrev pub input_slots : Aim → List ℕ → ℕ

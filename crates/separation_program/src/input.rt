@@ -1,5 +1,6 @@
 //! A listing, the lines of a policy and a schedule, from the first line to the last.
 ghost use Rattle.std.specs.Prelude.{◌≡◌, true, false, IfSome};
+ghost use Rattle.std.specs.Io.KnownBytes.{IsAtEnd};
 ghost use Rattle.coy_io.specs.Reader.{TellsEnd, ahead};
 ghost use Rattle.kernel_core.specs.Outcome.{spent};
 ghost use Rattle.kernel_core.specs.State.{state_of};
@@ -11,7 +12,7 @@ ghost use Rattle.courses.specs.Stopped.{stop_exit};
 ghost use Rattle.courses.specs.Taken.{TakesLines, TakesListing};
 ghost use Rattle.courses.specs.declared.exit.Exit.TheVariants.{PolicyRefused};
 ghost use Rattle.separation_program.specs.Judged.{HasJudged, judged, judged_by, separation_course, stated_output};
-ghost use Rattle.separation_program.specs.Slots.{input_slots, judged_slots, stated_slots, LacksFor, LacksStated};
+ghost use Rattle.separation_program.specs.Slots.{input_slots, judged_slots, stated_slots, LacksStated, WantsFor};
 ghost use Rattle.separation_program.specs.Stated.{stated};
 ghost use Rattle.separation_program.specs.Text.{told_for};
 ghost use Rattle.separation_program.specs.Theorem.{TellsOf};
@@ -35,7 +36,7 @@ use walk_engine::Plain;
 /// Reads a listing, the lines of a policy and, behind its line `end`, a schedule, which sets the system up: it is run without
 /// a word, each access walked afresh. Tells of the state behind it what is to be found: that the policy holds, or every
 /// crossing; or the least lines with which it would, or every crossing that no line allows.
-#[tactic(auto, using(crate::proofs::Slots::slots_wanting, crate::proofs::Lacking::lacks_none))]
+#[tactic(auto, using(crate::proofs::Slots::slots_wanting))]
 pub(crate) fn separate<S: Source, K: Sink, L: Ledger>(
     alloc: Global,
     aim: Aim,
@@ -54,8 +55,8 @@ pub(crate) fn separate<S: Source, K: Sink, L: Ledger>(
     // How many slots are read.
     ensures fetched { IfSome (S.held input.old) (λ bytes.
         Fetches fetches.old fetches.new result (input_slots aim bytes)) }
-    ensures wanting { result ≡ Exit.OutOfMemory → IfSome (S.held input.old) (λ bytes.
-        LacksFor aim bytes fetches.old fetches.new) }
+    ensures wanting { result ≡ Exit.OutOfMemory →
+        WantsFor aim (S.held input.old) (S.held input.new) fetches.old fetches.new }
 {
     let mut lines = LineReader::new();
     let listing = match read_head(alloc, &mut lines, input, output) {
@@ -105,6 +106,7 @@ fn judge_lines<T: PageTranslator, S: Source, K: Sink, L: Ledger>(
         OnParts (ahead lines.old (S.held input.old)) (λ parts. Fetches fetches.old fetches.new result
         (stated_slots (λ touches. spent T.cost T.after T.without (T.kept m.translator) touches) (judged_slots aim)
         (state_of m) m.objects.harts (stated policy.old lines.old.number parts))) }
+    ensures end { result ≡ Exit.OutOfMemory → IsAtEnd (S.held input.new) }
     ensures wanting { let m = machine.old in result ≡ Exit.OutOfMemory →
         OnParts (ahead lines.old (S.held input.old)) (λ parts.
         LacksStated (λ touches. spent T.cost T.after T.without (T.kept m.translator) touches) aim

@@ -1,5 +1,6 @@
 //! A machine set up by its schedule, and judged.
 ghost use Rattle.std.specs.Prelude.{◌≡◌, ◌≢◌, ◌*◌, false, true, length};
+ghost use Rattle.std.specs.Io.KnownBytes.{IsAtEnd};
 ghost use Rattle.coy_io.specs.Reader.{TellsEnd, ahead};
 ghost use Rattle.kernel_core.specs.Outcome.{spent};
 ghost use Rattle.kernel_core.specs.State.{state_of};
@@ -60,6 +61,7 @@ pub(crate) fn judge<T: PageTranslator, S: Source, K: Sink, L: Ledger>(
         OnParts (ahead lines.old (S.held input.old)) (λ parts. Fetches fetches.old fetches.new result
         (judging_slots (λ touches. spent T.cost T.after T.without (T.kept m.translator) touches) (judged_slots aim)
         policy.old (state_of m) (scheduled m.objects.harts lines.old.number parts))) }
+    ensures end { result ≡ Exit.OutOfMemory → IsAtEnd (S.held input.new) }
     ensures wanting { let m = machine.old in result ≡ Exit.OutOfMemory →
         OnParts (ahead lines.old (S.held input.old)) (λ parts.
         LacksBehind (λ touches. spent T.cost T.after T.without (T.kept m.translator) touches) aim policy.old

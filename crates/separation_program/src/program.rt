@@ -1,10 +1,13 @@
 //! The top call.
-ghost use Rattle.std.specs.Prelude.{◌≡◌, map, string_bytes, IfSome};
+ghost use Rattle.std.specs.Prelude.{◌≡◌, map, string_bytes, IfSome, Some};
 ghost use Rattle.coy_io.specs.Causes.{Rose};
 ghost use Rattle.courses.specs.Ending.{Completes, EndsIn, HasCauses, IsGiven, Outputs};
 ghost use Rattle.courses.specs.Program.{bytes_for, out, sure, HasForm, ReadsInput};
 ghost use Rattle.courses.specs.Sure.{WritesSure};
 ghost use Rattle.separation_program.specs.Program.{asked_by, separation, usage_text, FetchesFor, Judges};
+ghost use Rattle.separation_program.specs.Slots.{WantsFor};
+ghost use Rattle.separation_program.specs.declared.words.Aim.{Aim};
+ghost use Rattle.separation_program.specs.declared.words.Asked.TheVariants.{Judge};
 
 use crate::input::separate;
 use crate::words::{Asked, read_words};
@@ -56,6 +59,12 @@ pub fn separation<S: Source, K: Sink, L: Ledger>(
     ensures causes { HasCauses (S.faults input.old) (S.faults input.new)
         (K.faults output.old) (K.faults output.new) result }
     ensures unwritten { result ≡ Exit.OutOfMemory → K.taken output.new ≡ K.taken output.old }
+
+    // Where memory is wanting, no more was taken than a listing and what came with its last line, and no slot was read; or the
+    // whole input was read, and whole passages through the slots were made for what is to be found.
+    ensures wanting { (aim : Aim) → asked_by (map string_bytes words.now) ≡ Some (Judge aim) →
+        result ≡ Exit.OutOfMemory →
+        WantsFor aim (S.held input.old) (S.held input.new) fetches.old fetches.new }
 {
     match read_words(words) {
         Some(Asked::Judge(aim)) => separate(alloc, aim, input, output, fetches),

@@ -60,6 +60,11 @@ returns-in-Some-clause-fetched g c =
 
 -- ---- where memory is wanting
 
+pub returns-in-Some-clause-end : goal.returns-in-Some-clause-end
+returns-in-Some-clause-end g c = λ lacks.
+    absurd (concludes-memory g.K.Sink.taken g.K.Sink.faults _ _ _ c.in-Some.exit
+    (stop-memory PolicyRefused (λ line fault bad. cc) c.read_policies-stop.result c.in-Some.exit (sym c.policy_exit.ensures ∙ c.in-Some.is)) c.conclude.ensures lacks)
+
 pub returns-in-None-clause-wanting : goal.returns-in-None-clause-wanting
 returns-in-None-clause-wanting g c = λ lacks.
     let e = c.read_policies-stop.ensures in

@@ -1,4 +1,4 @@
-use Rattle.std.proofs.Common.{◌≡◌, ◌∙◌, true, false, ap, refl, sym}
+use Rattle.std.proofs.Common.{◌≡◌, ◌∙◌, true, false, ap, inl, inr, refl, sym}
 use Rattle.courses.proofs.Taken.{takes-listing, takes-same}
 use Rattle.courses.specs.Course.{cached}
 use Rattle.separation_policy.specs.Making.{first_policy}
@@ -6,7 +6,7 @@ use Rattle.separation_program.specs.Judged.{separation_course}
 use Rattle.separation_program.specs.Text.{told_for}
 use Rattle.separation_program.specs.Theorem.{TellsOf}
 use Rattle.separation_program.proofs.Called.{judged-bytes, of-listing}
-use Rattle.separation_program.proofs.Lacking.{lacks-behind, lacks_none}
+use Rattle.separation_program.proofs.Lacking.{lacks-behind}
 use Rattle.separation_program.proofs.Slots.{slots-behind, slots-unlisted, slots_course}
 use Rattle.separation_program.proofs.input.separate.Goals as goal
 
@@ -44,11 +44,20 @@ returns-clause-fetched g c =
 -- ---- where memory is wanting
 
 pub returns-in-Err-clause-wanting : goal.returns-in-Err-clause-wanting
-returns-in-Err-clause-wanting g c = λ lacks. lacks_none c.args.aim _ _
+returns-in-Err-clause-wanting g c = λ lacks. inl (c.in-Err.ensures.wanting lacks, refl)
+
+pub returns-in_default-clause-wanting : goal.returns-in_default-clause-wanting
+returns-in_default-clause-wanting g c = λ lacks. inl (c.in-Ok.ensures.standing, refl)
+
+pub returns-in_default-boot-clause-wanting : goal.returns-in_default-boot-clause-wanting
+returns-in_default-boot-clause-wanting g c = λ lacks. inl (c.in-Ok.ensures.standing, refl)
 
 pub returns-clause-wanting : goal.returns-clause-wanting
 returns-clause-wanting g c = λ lacks.
     let harts = ap (λ sizes. sizes.harts) c.in-Ok-boot.ensures.sizes in
     let start = c.in-Ok-new.ensures ∙ ap first_policy c.sizes.ensures.value in
-    lacks-behind c.args.aim c.in-Ok.listing _ _ _ _ c.in-Ok-boot.ensures.state harts start _ _ c.new-lines.result c.read_head.new.lines refl c.new-lines.ensures c.in-Ok.ensures.listed _ _
-    (c.judge_lines.ensures.wanting lacks)
+    inr (
+      c.judge_lines.ensures.end lacks,
+      lacks-behind c.args.aim c.in-Ok.listing _ _ _ _ c.in-Ok-boot.ensures.state harts start _ _ c.new-lines.result c.read_head.new.lines refl c.new-lines.ensures c.in-Ok.ensures.listed _ _
+          (c.judge_lines.ensures.wanting lacks),
+    )

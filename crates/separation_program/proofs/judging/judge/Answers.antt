@@ -58,6 +58,17 @@ returns-in-Err-clause-fetched g c =
 
 -- ---- where memory is wanting
 
+pub returns-in-Ok-clause-end : goal.returns-in-Ok-clause-end
+returns-in-Ok-clause-end g c = λ lacks.
+    let e = c.replay-replayed.ensures in
+    let given = sym c.counts_or_exit.ensures ∙ c.in-Ok.is in
+    e.told c.requires.told (e.end c.in-Ok._counts (run-ends c.in-Ok._counts c.replay-replayed.result given))
+
+pub returns-in-Err-clause-end : goal.returns-in-Err-clause-end
+returns-in-Err-clause-end g c = λ lacks.
+    absurd (concludes-memory g.K.Sink.taken g.K.Sink.faults _ _ _ c.in-Err.exit
+    (replay-memory c.replay-replayed.result c.in-Err.exit (sym c.counts_or_exit.ensures ∙ c.in-Err.is)) c.conclude.ensures lacks)
+
 pub returns-in-Ok-clause-wanting : goal.returns-in-Ok-clause-wanting
 returns-in-Ok-clause-wanting g c = λ lacks.
     let e = c.replay-replayed.ensures in

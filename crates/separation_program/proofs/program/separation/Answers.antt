@@ -1,12 +1,14 @@
-use Rattle.std.proofs.Common.{◌≡◌, ◌∙◌, Some, None, map, string_bytes, ap, sym}
+use Rattle.std.proofs.Common.{◌≡◌, ◌∙◌, Some, None, map, string_bytes, ap, subst, sym}
 use Rattle.courses.specs.Course.{cached, course_output}
 use Rattle.courses.specs.Ending.{Outputs}
 use Rattle.courses.specs.Program.{whole_course}
 use Rattle.courses.proofs.Bytes.{known-output}
 use Rattle.separation_program.specs.Program.{asked_by, separation}
+use Rattle.separation_program.specs.Slots.{WantsFor}
 use Rattle.separation_program.specs.declared.words.Aim.{Aim}
 use Rattle.separation_program.specs.declared.words.Asked.TheVariants.{Help, Judge}
-use Rattle.separation_program.proofs.Called.{completes-known, fetches-words, form-judge, judges-call, judges-none, known-words, sure-words}
+use Rattle.separation_program.proofs.Called.{aims-same, completes-known, fetches-words, form-judge, judges-call, judges-none, known-words, sure-words}
+use Rattle.separation_program.proofs.Lacking.{lacks-for}
 use Rattle.separation_program.proofs.program.separation.Goals as goal
 
 -- ---- the input is judged
@@ -35,12 +37,19 @@ returns-in-Some-Judge-clause-sure g c = λ failed.
 pub returns-in-Some-Judge-clause-fetches : goal.returns-in-Some-Judge-clause-fetches
 returns-in-Some-Judge-clause-fetches g c =
     let asked : asked_by (map string_bytes c.args.words.now) ≡ Some (Judge c.in-Some-Judge.aim) = sym c.read_words.ensures ∙ c.in-Some-Judge.is ∙ ap Some c.in-Some-Judge.field-0-is in
-    fetches-words (map string_bytes c.args.words.now) c.in-Some-Judge.aim asked _ _ _ c.separate.result c.separate.ensures.fetched c.separate.ensures.wanting
+    fetches-words (map string_bytes c.args.words.now) c.in-Some-Judge.aim asked _ _ _ c.separate.result c.separate.ensures.fetched
+    (λ lacks. lacks-for c.in-Some-Judge.aim _ _ _ _ (c.separate.ensures.wanting lacks))
 
 pub returns-in-Some-Judge-clause-form : goal.returns-in-Some-Judge-clause-form
 returns-in-Some-Judge-clause-form g c =
     let asked : asked_by (map string_bytes c.args.words.now) ≡ Some (Judge c.in-Some-Judge.aim) = sym c.read_words.ensures ∙ c.in-Some-Judge.is ∙ ap Some c.in-Some-Judge.field-0-is in
     form-judge (map string_bytes c.args.words.now) c.in-Some-Judge.aim asked c.separate.result c.separate.ensures.course.usage
+
+pub returns-in-Some-Judge-clause-wanting : goal.returns-in-Some-Judge-clause-wanting
+returns-in-Some-Judge-clause-wanting g c = λ aim also lacks.
+    let asked : asked_by (map string_bytes c.args.words.now) ≡ Some (Judge c.in-Some-Judge.aim) = sym c.read_words.ensures ∙ c.in-Some-Judge.is ∙ ap Some c.in-Some-Judge.field-0-is in
+    subst (λ a. WantsFor a (g.S.Source.held c.args.input.now) (g.S.Source.held c.separate.new.input) c.args.fetches.now c.separate.new.fetches) (aims-same (map string_bytes c.args.words.now) c.in-Some-Judge.aim aim asked also)
+    (c.separate.ensures.wanting lacks)
 
 -- ---- it is not
 
