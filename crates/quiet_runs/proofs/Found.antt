@@ -20,6 +20,7 @@ use Rattle.machine_state.specs.State.{State, process, pc_of, space_of}
 use Rattle.machine_state.specs.DataAccess.{data_access, number_at}
 use Rattle.confinement.specs.declared.cut_side.CutSide.TheVariants.{Left}
 use Rattle.confinement.specs.Cut.{Cut, side_of}
+use Rattle.independence.specs.Settled.{AreSettled}
 use Rattle.independence.specs.Quiet.{MayReach, StaysLeft, AccessesLeft, IsQuietEffect, IsQuietInstruction}
 use Rattle.quiet_runs.specs.Runs.{Watch, IsQuietFor, AreQuiet, after_step}
 use Rattle.quiet_runs.specs.Reaching.{reached_by, is_alone}
@@ -41,13 +42,10 @@ placed : (r : Result Place WalkFault) (hit : Hit) → hit_of r ≡ Ok hit → Pl
 placed (Ok place) hit e = record { place = place; reached = refl; page = let same : (record { page = place.number; offset = place.offset }) ≡ hit = cc (e) in ap (λ (h : Hit). h.page) same }
 placed (Err fault) hit e = absurd (cc (e))
 
-module _ (watch : Watch) (s : State) (p hart : ℕ) (is : is_secluded s p hart ≡ true) (unwatched : is_watched watch s p ≡ false) where
+module _ (watch : Watch) (s : State) (p hart : ℕ) (is : is_secluded s p hart ≡ true) (unwatched : is_watched watch s p ≡ false)
+    (settled : ℕ → Bool) (still : AreSettled settled s.store) where
   abbrev cut : Cut
   cut = own_cut watch s p
-
-  -- pages that are settled play no part in it
-  abbrev settled : ℕ → Bool
-  settled n = false
 
   -- a page of its own isn't watched
   own-unwatched : (n : ℕ) → is_own s p n ≡ true → watch.pages n ≡ false
@@ -67,7 +65,7 @@ module _ (watch : Watch) (s : State) (p hart : ℕ) (is : is_secluded s p hart �
   reach _ n left = left
 
   -- an access that reaches a page of its own reads nothing but its own on the way
-  stays-left : (address : ℕ) (kind : Kind) (hit : Hit) → is_data kind ≡ true → data_access s p address kind ≡ Ok hit → is_own s p hit.page ≡ true → StaysLeft cut settled s p address kind hit
+  pub stays-left : (address : ℕ) (kind : Kind) (hit : Hit) → is_data kind ≡ true → data_access s p address kind ≡ Ok hit → is_own s p hit.page ≡ true → StaysLeft cut settled s p address kind hit
   stays-left address kind hit of_data reaches own =
       let pages = length s.store.contents.pages in
       let alone = alone-unshared s.store p Page hit.page (and_parts (nat_lt hit.page pages) (is_alone p (reached_by s.store Page hit.page)) own).1 in
@@ -96,7 +94,7 @@ module _ (watch : Watch) (s : State) (p hart : ℕ) (is : is_secluded s p hart �
   reaches-is (Ok hit) e = record { hit = hit; reached = refl; own = e }
   reaches-is (Err fault) e = absurd (false≢true e)
 
-  accesses : (at size : ℕ) (kind : Kind) → is_data kind ≡ true → ((at % size == 0) && reaches_own s p (data_access s p at kind)) ≡ true → AccessesLeft cut settled s p at size kind
+  pub accesses : (at size : ℕ) (kind : Kind) → is_data kind ≡ true → ((at % size == 0) && reaches_own s p (data_access s p at kind)) ≡ true → AccessesLeft cut settled s p at size kind
   accesses at size kind of_data e =
       let parts = and_parts (at % size == 0) (reaches_own s p (data_access s p at kind)) e in
       let r = reaches-is (data_access s p at kind) parts.1 in
@@ -124,9 +122,9 @@ module _ (watch : Watch) (s : State) (p hart : ℕ) (is : is_secluded s p hart �
       let parts = and_parts (is_own s p hit.page) (is_quiet_word s p (insn_at (number_at s hit 4))) e in
       quiet-word hit (stays-left (pc_of s p) Fetch hit refl reaches parts.0) (insn_at (number_at s hit 4)) refl parts.1
 
-  -- its step is quiet
-  pub quiet-next : s.halted ≡ false → is_quiet_next s p ≡ true → IsQuietFor watch s hart
-  quiet-next runs next = record {
+  -- the step by a quiet instruction is quiet
+  pub quiet-by : s.halted ≡ false → IsQuietInstruction cut settled s p → IsQuietFor watch s hart
+  quiet-by runs instruction = record {
     cut = cut;
     settled = settled;
     process = p;
@@ -136,12 +134,20 @@ module _ (watch : Watch) (s : State) (p hart : ℕ) (is : is_secluded s p hart �
       secluded = secluded watch s p hart is;
       own = left-process watch s p;
       alone = left-alone watch s p;
-      still = λ n is. absurd (false≢true is);
-      instruction = quiet-fetch (data_access s p (pc_of s p) Fetch) refl next;
+      still = still;
+      instruction = instruction;
     };
     unwatched = (or_parts (watch.processes p) _ unwatched).0;
     pages = right-watched watch s p;
   }
+
+module _ (watch : Watch) (s : State) (p hart : ℕ) (is : is_secluded s p hart ≡ true) (unwatched : is_watched watch s p ≡ false) where
+  -- its step is quiet, by no settled page
+  pub quiet-next : s.halted ≡ false → is_quiet_next s p ≡ true → IsQuietFor watch s hart
+  quiet-next runs next =
+      let none : AreSettled (λ n. false) s.store = λ n is. absurd (false≢true is) in
+      quiet-by watch s p hart is unwatched (λ n. false) none runs
+      (quiet-fetch watch s p hart is unwatched (λ n. false) none (data_access s p (pc_of s p) Fetch) refl next)
 
 -- a step that is found to be quiet is
 pub found : (watch : Watch) (s : State) (hart : ℕ) → is_quiet watch s hart ≡ true → IsQuietFor watch s hart

@@ -12,3 +12,4 @@ mod Cutting
 mod Staying
 pub mod Found
 pub mod Held
+mod Still

@@ -51,7 +51,7 @@ module _ (test : Capability → Bool) (nothing : test null ≡ false) where
   any-empty_process = list_any-append test empty_slots empty_capregs ∙ ap₂ (λ (a b : Bool). a || b) any-empty_slots any-empty_capregs
 
 -- what passes where the default doesn't is in the list
-is-there : {X : Type 0} (test : X → Bool) (xs : List X) (i : ℕ) (d : X) → test d ≡ false → test (get_or xs i d) ≡ true → i < length xs
+pub is-there : {X : Type 0} (test : X → Bool) (xs : List X) (i : ℕ) (d : X) → test d ≡ false → test (get_or xs i d) ≡ true → i < length xs
 is-there test [] i d other e = absurd (false≢true (sym other ∙ e))
 is-there test (x ∷ xs) zero d other e = omega arith
 is-there test (x ∷ xs) (suc i) d other e = let l = is-there test xs i d other e in omega arith

@@ -2,5 +2,6 @@ pub mod Runs
 pub mod Reaching
 pub mod Finding
 pub mod Laws
+pub mod Settled
 pub mod Begun
 pub mod RoundLaws

@@ -21,6 +21,7 @@
 #![tactic(auto)]
 
 ghost use Rattle.quiet_runs.specs.Laws.{SimulationLaw, NeverLaw, EverLaw, FoundLaw, HeldLaw};
+ghost use Rattle.quiet_runs.specs.Settled.{SettledFoundLaw, StillFoundLaw, QuietIsStill};
 ghost use Rattle.quiet_runs.specs.RoundLaws.{BegunLaw, PassingLaw, MustLaw, AlwaysLaw};
 ghost use Rattle.quiet_runs.specs.RoundLaws.{LassoLaw, EvasionLaw, ShortLaw};
 
@@ -69,6 +70,15 @@ pub fn lasso_law()
 /// The steps that are found to be quiet are.
 pub fn found_law()
     ensures { FoundLaw }
+{}
+
+/// A fetch or a load from a settled page, by GPTs of the process's own, is as quiet as one from a page
+/// of its own. Such pages and steps can be found, and among these are the steps that are found to be
+/// quiet without them.
+pub fn settled_law()
+    ensures page { SettledFoundLaw }
+    ensures step { StillFoundLaw }
+    ensures special { QuietIsStill }
 {}
 
 /// No more than 4,096 are found, one after the other.
