@@ -7,6 +7,7 @@ pub mod Reading
 pub mod ReadOn
 pub mod Scheduled
 pub mod Asked
+mod Gains
 mod First
 pub mod SoFar
 pub mod Counted

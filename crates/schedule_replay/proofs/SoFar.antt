@@ -15,6 +15,7 @@ use Rattle.machine_state.specs.declared.record.Record.{Record}
 use Rattle.kernel_core.specs.Machine.{MachineValue}
 use Rattle.kernel_core.specs.Run.{run_records}
 use Rattle.kernel_core.specs.State.{State, state_of}
+use Rattle.untraced_steps.specs.Spared.{GainsNothing}
 use Rattle.schedule_replay.specs.Counts.{AreAtMost, and_more, events_alone, counts_of}
 use Rattle.schedule_replay.specs.Lines.{FailsOn}
 use Rattle.schedule_replay.specs.Replay.{Accords, FailsBehind, Follows, Ran, Replays, WritesRun, answer_at, run_answer, stop_answer}
@@ -28,6 +29,7 @@ use Rattle.judged_lines.specs.declared.stop.Stop.TheVariants as stops
 use Rattle.schedule_replay.specs.declared.mode.Mode.{Mode}
 use Rattle.schedule_replay.specs.declared.replayed.Replayed.{Replayed}
 use Rattle.schedule_replay.specs.declared.replayed.Replayed.TheVariants as answers
+use Rattle.schedule_replay.proofs.Gains.{gains-then}
 use Rattle.schedule_replay.proofs.Ran.{ran-none, ran-trans}
 use Rattle.schedule_replay.proofs.ReadOn.{fails_on, on_lines, reads_on-none}
 use Rattle.schedule_replay.proofs.Reading.{on_all, on_each}
@@ -106,23 +108,30 @@ stop-writes mode s taken taken' events counts (stops.Refused line fault) written
 stop-writes mode s taken taken' events counts stops.TooLong written = written
 stop-writes mode s taken taken' events counts stops.ReadFault written = written
 
-module _ {T K : Type 0} (kept : T → K) (cost : K → Items → Capability → ℕ → Kind → ℕ) (after : K → Items → Capability → ℕ → Kind → K) (without : K → Item → K)
-    (mode : Mode) (m : MachineValue T) (old : Reader) (held taken : Option (List ℕ)) (fetches : ℕ) where
+module _ {T K C : Type 0} (kept : T → K) (cost : K → Items → Capability → ℕ → Kind → ℕ) (after : K → Items → Capability → ℕ → Kind → K) (without : K → Item → K)
+    (cache : T → ℕ → C) (less : C → C → Type 0) (mode : Mode) (m : MachineValue T) (old : Reader) (held taken : Option (List ℕ)) (fetches : ℕ) where
   -- these events were run, written and counted, and those that are left are the last of the lines that were read
   pub record SoFar (n : MachineValue T) (now : Reader) (held' taken' : Option (List ℕ)) (fetches' : ℕ) (counts : Counts) (left : List Event) : Type 0 where
     pub done : List Event
     pub ran : Ran kept cost after without m fetches n fetches' done
+    pub gains : GainsNothing cache less done m n
     pub text : Appends taken taken' (lines_told mode (state_of m) done)
     pub reads : Reads m.objects.harts old now held held' (done ++ left)
     pub counted : counts ≡ counts_of (state_of m) done
     pub most : AreAtMost (65 * length done) counts
     pub few : length done + length left + 255000000 * old.number ≤ 255000000 * now.number
 
+  -- a replay that leaves this, where no cache gains but those of the harts that perform its events
+  abbrev pub ReplaysTo : MachineValue T → Reader → Option (List ℕ) → Option (List ℕ) → ℕ → Replayed → Type 0
+  ReplaysTo n now held' taken' fetches' answer =
+      (r : Replays kept cost after without mode m n old now held held' taken taken' fetches fetches' answer) × GainsNothing cache less r.events m n
+
   -- at the start
-  pub so_far-start : (counts : Counts) → counts ≡ events_alone 0 → SoFar m old held taken fetches counts []
-  so_far-start counts none = record {
+  pub so_far-start : ((c : C) → less c c) → (counts : Counts) → counts ≡ events_alone 0 → SoFar m old held taken fetches counts []
+  so_far-start less_same counts none = record {
     done = [];
     ran = ran-none kept cost after without m fetches;
+    gains = λ hart idle. less_same (cache m.translator hart);
     text = subst (Appends taken taken) (sym (told-nil mode (state_of m))) (Appends-nil taken);
     reads = reads_on-none (scheduled m.objects.harts old.number) old held;
     counted = none ∙ sym (counts_of-nil (state_of m));
@@ -138,10 +147,10 @@ module _ {T K : Type 0} (kept : T → K) (cost : K → Items → Capability → 
         told-append mode (state_of m) done events ∙ ap (λ s. lines_told mode (state_of m) done ++ lines_told mode s events) (sym ran.state)
 
     -- these events more were run, written and counted
-    pub so_far-performed : (n1 : MachineValue T) (taken1 : Option (List ℕ)) (fetches1 : ℕ) (entries : List Record) (counts1 : Counts) (all split left : List Event)
-        → split ≡ all → (first : RunsFirst kept cost after without mode all left n fetches' n1 fetches1 entries counts counts1) → SoFar n now held' taken' fetches' counts split
+    pub so_far-performed : ((a b c : C) → less a b → less b c → less a c) → (n1 : MachineValue T) (taken1 : Option (List ℕ)) (fetches1 : ℕ) (entries : List Record) (counts1 : Counts) (all split left : List Event)
+        → split ≡ all → (first : RunsFirst kept cost after without cache less mode all left n fetches' n1 fetches1 entries counts counts1) → SoFar n now held' taken' fetches' counts split
         → Appends taken' taken1 (lines_of mode entries) → SoFar n1 now held' taken1 fetches1 counts1 left
-    so_far-performed n1 taken1 fetches1 entries counts1 all split left is first s written =
+    so_far-performed less_then n1 taken1 fetches1 entries counts1 all split left is first s written =
         let events : List Event = first.before ++ first.last ∷ [] in
         let size : length (s.done ++ events) ≡ length s.done + length events = length-append s.done events in
         let whole : split ≡ events ++ left = is ∙ first.split in
@@ -150,6 +159,7 @@ module _ {T K : Type 0} (kept : T → K) (cost : K → Items → Capability → 
         record {
           done = s.done ++ events;
           ran = ran-trans kept cost after without m n n1 fetches fetches' fetches1 s.done events s.ran first.ran;
+          gains = gains-then cache less less_then s.done events m n n1 s.gains first.gains;
           text = subst (Appends taken taken1) (sym (told-behind s.done events s.ran))
               (Appends-trans taken taken' taken1 (lines_told mode (state_of m) s.done) (lines_told mode (state_of n) events) s.text (subst (Appends taken' taken1) first.lines written));
           reads = reads-same m.objects.harts old now held held' (s.done ++ split) ((s.done ++ events) ++ left)
@@ -173,6 +183,7 @@ module _ {T K : Type 0} (kept : T → K) (cost : K → Items → Capability → 
         record {
           done = s.done;
           ran = s.ran;
+          gains = s.gains;
           text = s.text;
           reads = reads-trans m.objects.harts old now now1 held held' held1 s.done events here
               (subst (λ h. Reads h now now1 held' held1 events) same (subst (Reads harts now now1 held' held1) (sym line) reads));
@@ -182,11 +193,11 @@ module _ {T K : Type 0} (kept : T → K) (cost : K → Items → Capability → 
         }
 
     -- writing failed in the records of the last of these events
-    pub replays-cut : (n1 : MachineValue T) (taken1 : Option (List ℕ)) (fetches1 : ℕ) (entries : List Record) (counts1 : Counts) (all split left : List Event)
-        → split ≡ all → (first : RunsFirst kept cost after without mode all left n fetches' n1 fetches1 entries counts counts1) → SoFar n now held' taken' fetches' counts split
+    pub replays-cut : ((a b c : C) → less a b → less b c → less a c) → (n1 : MachineValue T) (taken1 : Option (List ℕ)) (fetches1 : ℕ) (entries : List Record) (counts1 : Counts) (all split left : List Event)
+        → split ≡ all → (first : RunsFirst kept cost after without cache less mode all left n fetches' n1 fetches1 entries counts counts1) → SoFar n now held' taken' fetches' counts split
         → AppendsSome taken' taken1 (lines_of mode entries)
-        → Replays kept cost after without mode m n1 old now held held' taken taken1 fetches fetches1 answers.WriteFault
-    replays-cut n1 taken1 fetches1 entries counts1 all split left is first s some =
+        → ReplaysTo n1 now held' taken1 fetches1 answers.WriteFault
+    replays-cut less_then n1 taken1 fetches1 entries counts1 all split left is first s some =
         let events : List Event = first.before ++ first.last ∷ [] in
         let whole : split ≡ events ++ left = is ∙ first.split in
         let before : List ℕ = lines_told mode (state_of m) s.done in
@@ -199,49 +210,53 @@ module _ {T K : Type 0} (kept : T → K) (cost : K → Items → Capability → 
         let short : count < length (lines_of mode entries) = some.1 in
         let size : length (lines_told mode (state_of m) (s.done ++ events)) ≡ length before + length (lines_of mode entries) = ap length text ∙ length-append before (lines_of mode entries) in
         let front : take (length before + count) (lines_told mode (state_of m) (s.done ++ events)) ≡ before ++ take count (lines_of mode entries) =
-        ap (take (length before + count)) text ∙ take-append-add before (lines_of mode entries) count in
-        record {
-          events = s.done ++ events;
-          ran = ran-trans kept cost after without m n n1 fetches fetches' fetches1 s.done events s.ran first.ran;
-          text = record {
-            before = s.done ++ first.before;
-            last = first.last;
-            all = sym (append_assoc s.done first.before (first.last ∷ []));
-            count = length before + count;
-            written = subst (Appends taken taken1) (sym front) (Appends-trans taken taken' taken1 before (take count (lines_of mode entries)) s.text some.2);
-            behind = omega (arith, quiet_size);
-            short = omega (arith, size, short);
-          };
-          follows = record {
-            lines =
-                on_lines _ _ old now held held'
-                (Accords (run_answer (state_of m)) answers.WriteFault (s.done ++ events))
-                (reads-same m.objects.harts old now held held' (s.done ++ split) ((s.done ++ events) ++ left)
-                (ap (λ es. s.done ++ es) whole ∙ sym (append_assoc s.done events left)) s.reads)
-                (on_each (ahead now held') _ (λ rest known. (left ++ (scheduled m.objects.harts now.number rest).events, append_assoc (s.done ++ events) left (scheduled m.objects.harts now.number rest).events)));
-            read = λ fault. absurd (write-no-read fault);
-          };
-        }
+        ap (take (length before + count)) text ∙ take-append-add before (lines_of mode entries) count in (
+          record {
+            events = s.done ++ events;
+            ran = ran-trans kept cost after without m n n1 fetches fetches' fetches1 s.done events s.ran first.ran;
+            text = record {
+              before = s.done ++ first.before;
+              last = first.last;
+              all = sym (append_assoc s.done first.before (first.last ∷ []));
+              count = length before + count;
+              written = subst (Appends taken taken1) (sym front) (Appends-trans taken taken' taken1 before (take count (lines_of mode entries)) s.text some.2);
+              behind = omega (arith, quiet_size);
+              short = omega (arith, size, short);
+            };
+            follows = record {
+              lines =
+                  on_lines _ _ old now held held'
+                  (Accords (run_answer (state_of m)) answers.WriteFault (s.done ++ events))
+                  (reads-same m.objects.harts old now held held' (s.done ++ split) ((s.done ++ events) ++ left)
+                  (ap (λ es. s.done ++ es) whole ∙ sym (append_assoc s.done events left)) s.reads)
+                  (on_each (ahead now held') _ (λ rest known. (left ++ (scheduled m.objects.harts now.number rest).events, append_assoc (s.done ++ events) left (scheduled m.objects.harts now.number rest).events)));
+              read = λ fault. absurd (write-no-read fault);
+            };
+          },
+          gains-then cache less less_then s.done events m n n1 s.gains first.gains,
+        )
 
     -- no further line was read
     replays-stopped : (now1 : Reader) (held1 : Option (List ℕ)) (harts : ℕ) (stop : Stop ScheduleFault) (none : List Event) → none ≡ [] → harts ≡ m.objects.harts
         → SoFar n now held' taken' fetches' counts none → IsNextLine harts now now1 held' held1 (Err stop)
-        → Replays kept cost after without mode m n old now1 held held1 taken taken' fetches fetches' (stop_answer counts stop)
+        → ReplaysTo n now1 held1 taken' fetches' (stop_answer counts stop)
     replays-stopped now1 held1 harts stop none is same s next =
         let here : Reads m.objects.harts old now held held' s.done =
         reads-same m.objects.harts old now held held' (s.done ++ none) s.done (ap (λ es. s.done ++ es) is ∙ append-nil s.done) s.reads in
         let answer : (ending : Ending) → answer_at counts ending ≡ run_answer (state_of m) (preceded s.done (ends ending)) =
-        λ ending. ap (λ k. answer_at k ending) (s.counted ∙ ap (counts_of (state_of m)) (sym (append-nil s.done))) in
-        record {
-          events = s.done;
-          ran = s.ran;
-          text = stop-writes mode (state_of m) taken taken' s.done counts stop s.text;
-          follows = follows-stop (run_answer (state_of m)) m.objects.harts old now now1 held held' held1 s.done counts stop answer here
-              (subst (λ h. IsNextLine h now now1 held' held1 (Err stop)) same next);
-        }
+        λ ending. ap (λ k. answer_at k ending) (s.counted ∙ ap (counts_of (state_of m)) (sym (append-nil s.done))) in (
+          record {
+            events = s.done;
+            ran = s.ran;
+            text = stop-writes mode (state_of m) taken taken' s.done counts stop s.text;
+            follows = follows-stop (run_answer (state_of m)) m.objects.harts old now now1 held held' held1 s.done counts stop answer here
+                (subst (λ h. IsNextLine h now now1 held' held1 (Err stop)) same next);
+          },
+          s.gains,
+        )
 
     pub replays-stop : (now1 : Reader) (held1 : Option (List ℕ)) (harts : ℕ) (stop : Stop ScheduleFault) (answered : Replayed) (none : List Event) → none ≡ [] → harts ≡ m.objects.harts
         → SoFar n now held' taken' fetches' counts none → IsNextLine harts now now1 held' held1 (Err stop) → answered ≡ stop_answer counts stop
-        → Replays kept cost after without mode m n old now1 held held1 taken taken' fetches fetches' answered
+        → ReplaysTo n now1 held1 taken' fetches' answered
     replays-stop now1 held1 harts stop answered none is same s next by =
-        subst (Replays kept cost after without mode m n old now1 held held1 taken taken' fetches fetches') (sym by) (replays-stopped now1 held1 harts stop none is same s next)
+        subst (ReplaysTo n now1 held1 taken' fetches') (sym by) (replays-stopped now1 held1 harts stop none is same s next)

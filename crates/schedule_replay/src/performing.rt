@@ -19,7 +19,7 @@ use walk_engine::Translator;
 
 /// Performs and counts this event, and where no trace is written some of the steps behind it. None but the last of them
 /// tells anything that the mode names. What they told is left in the list of records, of which, where no trace is written,
-/// those of accesses and instructions may be missing.
+/// those of accesses and instructions may be missing. The caches of harts that perform none of them hold no more than before.
 pub(crate) fn perform<T: PageTranslator, L: Ledger>(
     event: Event,
     events: &mut Events,
@@ -32,7 +32,8 @@ pub(crate) fn perform<T: PageTranslator, L: Ledger>(
     requires harts { OfHarts machine.old.objects.harts (event ∷ left events.old) }
     requires few { length (left events.old) ≤ 255000000 }
     requires room { AreAtMost (2 ^ 62) counts.old }
-    ensures { RunsFirst T.kept T.cost T.after T.without mode (event ∷ left events.old) (left events.new)
+    ensures { RunsFirst T.kept T.cost T.after T.without T.cache T.less
+        mode (event ∷ left events.old) (left events.new)
         machine.old fetches.old machine.new fetches.new records.new.records counts.old counts.new }
 {
     match mode {
@@ -56,7 +57,8 @@ fn perform_one<T: Translator, L: Ledger>(
 )
     requires hart { hart_in event < machine.old.objects.harts }
     requires room { AreAtMost (2 ^ 62) counts.old }
-    ensures { (mode : Mode) (behind : List AnyEvent) → RunsFirst T.kept T.cost T.after T.without mode (event ∷ behind) behind
+    ensures { (mode : Mode) (behind : List AnyEvent) →
+        RunsFirst T.kept T.cost T.after T.without T.cache T.less mode (event ∷ behind) behind
         machine.old fetches.old machine.new fetches.new records.new counts.old counts.new }
 {
     event_into(machine, event, records, fetches);
@@ -75,7 +77,9 @@ fn perform_steps<T: PageTranslator, L: Ledger>(
     requires harts { OfHarts machine.old.objects.harts (Step hart ∷ steps_left steps.old) }
     requires few { length (steps_left steps.old) ≤ 255000000 }
     requires room { AreAtMost (2 ^ 62) counts.old }
-    ensures { (mode : Mode) → mode ≢ Mode.Trace → RunsFirst T.kept T.cost T.after T.without mode (Step hart ∷ steps_left steps.old) (steps_left steps.new)
+    ensures { (mode : Mode) → mode ≢ Mode.Trace →
+        RunsFirst T.kept T.cost T.after T.without T.cache T.less
+        mode (Step hart ∷ steps_left steps.old) (steps_left steps.new)
         machine.old fetches.old machine.new fetches.new records.new.records counts.old counts.new }
 {
     let done = run_untraced(machine, hart, steps, records, fetches);

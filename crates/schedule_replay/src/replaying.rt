@@ -1,6 +1,7 @@
 //! The lines behind a listing, run as they are read.
 ghost use Rattle.std.specs.Prelude.{◌≡◌, false, true};
 ghost use Rattle.coy_io.specs.Reader.{TellsEnd};
+ghost use Rattle.untraced_steps.specs.Spared.{GainsNothing};
 ghost use Rattle.schedule_replay.specs.Replay.{Replays, HasReasons, stop_answer};
 
 use crate::counts::Counts;
@@ -30,10 +31,12 @@ pub fn replay<T: PageTranslator, S: Source, K: Sink, L: Ledger>(
 ) -> Replayed
     requires { lines.old.failed ≡ false }
 
-    // Which events were run, what was written of them, and that they and the answer are what the lines ask for.
-    ensures replays { Replays T.kept T.cost T.after T.without mode machine.old machine.new
+    // Which events were run, what was written of them, and that they and the answer are what the lines ask for. No cache
+    // holds more than before but those of the harts that perform these events.
+    ensures replays { (run : Replays T.kept T.cost T.after T.without mode machine.old machine.new
         lines.old lines.new (S.held source.old) (S.held source.new)
-        (K.taken output.old) (K.taken output.new) fetches.old fetches.new result }
+        (K.taken output.old) (K.taken output.new) fetches.old fetches.new result)
+        × GainsNothing T.cache T.less run.events machine.old machine.new }
     ensures silent { mode ≡ Mode.Silent → output.new ≡ output.old }
 
     // Why it ends as it does.

@@ -10,7 +10,7 @@ use Rattle.explore_program.proofs.setting_up.set_up.Goals as goal
 
 -- the machine that is explored has the sizes of the question
 pub answer-requires : goal.answer-requires
-answer-requires g c = c.requires.sizes ∙ sym c.replay-replayed.ensures.replays.ran.sizes
+answer-requires g c = c.requires.sizes ∙ sym c.replay-replayed.ensures.replays.0.ran.sizes
 
 pub returns-in-Ok-clause-tells : goal.returns-in-Ok-clause-tells
 returns-in-Ok-clause-tells g c =
@@ -23,13 +23,13 @@ returns-in-Ok-clause-tells g c =
       finished = t.finished;
       answers = λ read memory.
           asks-ended g.S.Source.held g.S.Source.faults g.K.Sink.taken g.K.Sink.faults c.args.asked.now (state_of m) m.objects.harts
-          c.args.lines.now c.replay-replayed.new.lines _ _ c.replay-replayed.new.output c.answer.new.output c.answer.result e.replays.events c.replay-replayed.result e.replays.follows
+          c.args.lines.now c.replay-replayed.new.lines _ _ c.replay-replayed.new.output c.answer.new.output c.answer.result e.replays.0.events c.replay-replayed.result e.replays.0.follows
           (IfPosed (λ asked s. Answers asked s t.told)) c.in-Ok._counts given
-          (subst (λ s. Answers c.args.asked.now s t.told) e.replays.ran.state (t.answers read memory));
+          (subst (λ s. Answers c.args.asked.now s t.told) e.replays.0.ran.state (t.answers read memory));
       so =
           from-start g.S.Source.held g.S.Source.faults g.K.Sink.taken g.K.Sink.faults _ _ _ _ _ _ _ _ _ _ (e.silent refl)
           (schedule-ended g.S.Source.held g.S.Source.faults g.K.Sink.taken g.K.Sink.faults c.args.asked.now (state_of m) m.objects.harts
-          c.args.lines.now c.replay-replayed.new.lines _ _ c.replay-replayed.new.output _ _ e.replays.events c.replay-replayed.result e.replays.follows t.told t.finished c.in-Ok._counts given
+          c.args.lines.now c.replay-replayed.new.lines _ _ c.replay-replayed.new.output _ _ e.replays.0.events c.replay-replayed.result e.replays.0.follows t.told t.finished c.in-Ok._counts given
           (e.reasons.read_quiet (λ same. let bad = sym given ∙ ap replay_exit same in cc)) (e.told c.requires.told (e.end c.in-Ok._counts (run-ends c.in-Ok._counts c.replay-replayed.result given)))
           t.so c.answer.ensures.unwritten);
     }
@@ -39,18 +39,18 @@ returns-in-Err-clause-tells g c =
     let e = c.replay-replayed.ensures in
     let m = c.args.machine in
     let given = sym c.counts_or_exit.ensures ∙ c.in-Err.is in
-    let whole = no_write (state_of m) _ _ e.replays.events c.replay-replayed.result e.replays.text in
+    let whole = no_write (state_of m) _ _ e.replays.0.events c.replay-replayed.result e.replays.0.text in
     record {
       told = nothing_told;
       finished = refl;
       answers = λ read memory.
           asks-stopped g.S.Source.held g.S.Source.faults g.K.Sink.taken g.K.Sink.faults c.args.asked.now (state_of m) m.objects.harts
-          c.args.lines.now c.replay-replayed.new.lines _ _ c.replay-replayed.new.output c.conclude.new.output c.conclude.result e.replays.events c.replay-replayed.result e.replays.follows
+          c.args.lines.now c.replay-replayed.new.lines _ _ c.replay-replayed.new.output c.conclude.new.output c.conclude.result e.replays.0.events c.replay-replayed.result e.replays.0.follows
           (λ asked s. Answers asked s nothing_told) c.in-Err.exit c.replay-replayed.result refl given whole c.conclude.ensures read;
       so =
           from-start g.S.Source.held g.S.Source.faults g.K.Sink.taken g.K.Sink.faults _ _ _ _ _ _ _ _ _ _ (e.silent refl)
           (schedule-stopped g.S.Source.held g.S.Source.faults g.K.Sink.taken g.K.Sink.faults c.args.asked.now (state_of m) m.objects.harts
-          c.args.lines.now c.replay-replayed.new.lines _ _ c.replay-replayed.new.output _ _ e.replays.events c.replay-replayed.result e.replays.follows nothing_told refl c.in-Err.exit c.replay-replayed.result refl given
+          c.args.lines.now c.replay-replayed.new.lines _ _ c.replay-replayed.new.output _ _ e.replays.0.events c.replay-replayed.result e.replays.0.follows nothing_told refl c.in-Err.exit c.replay-replayed.result refl given
           whole e.reasons.read e.reasons.read_quiet c.conclude.ensures);
     }
 
@@ -68,7 +68,7 @@ returns-in-Ok-clause-wanting g c = λ lacks.
     let m = c.args.machine in
     let given = sym c.counts_or_exit.ensures ∙ c.in-Ok.is in
     asks-ended g.S.Source.held g.S.Source.faults g.K.Sink.taken g.K.Sink.faults c.args.asked.now (state_of m) m.objects.harts
-    c.args.lines.now c.replay-replayed.new.lines _ _ c.replay-replayed.new.output c.answer.new.output c.answer.result e.replays.events c.replay-replayed.result e.replays.follows
+    c.args.lines.now c.replay-replayed.new.lines _ _ c.replay-replayed.new.output c.answer.new.output c.answer.result e.replays.0.events c.replay-replayed.result e.replays.0.follows
     IsPosed c.in-Ok._counts given tt
 
 pub returns-in-Err-clause-end : goal.returns-in-Err-clause-end

@@ -11,6 +11,6 @@ returns g c =
     let step = Step c.args.hart in
     let ran = c.run_untraced-done.ensures in
     λ mode other.
-    first-untraced t.kept t.cost t.after t.without mode other c.run_untraced-done.result step (step ∷ steps_left c.args.steps.now) _ _ _ _ _ _ _ _
-    ran.some ran.most ran.behind ran.ran ran.before
+    first-untraced t.kept t.cost t.after t.without t.cache t.less mode other c.run_untraced-done.result step (step ∷ steps_left c.args.steps.now) _ _ _ _ _ _ _ _
+    ran.some ran.most ran.behind ran.ran ran.less ran.before
     (c.count_events.ensures.value ∙ ap (and_more c.args.counts.now c.run_untraced-done.result) c.as_slice.ensures.value) c.count_events.ensures.most

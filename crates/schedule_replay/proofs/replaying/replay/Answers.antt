@@ -9,7 +9,7 @@ pub each-init : goal.each-init
 each-init g c =
     let t = g.T.Translator in
     record {
-      so_far = so_far-start t.kept t.cost t.after t.without _ _ _ _ _ _ _ c.of_events-counts.ensures;
+      so_far = so_far-start t.kept t.cost t.after t.without t.cache t.less _ _ _ _ _ _ g.met.T.Translator.less_same _ c.of_events-counts.ensures;
       harts = ap (λ sizes. sizes.harts) c.sizes-harts.ensures.value ∙ ap (λ objects. objects.harts) c.objects.ensures;
       there = tt;
       few = omega arith;
@@ -31,7 +31,7 @@ each-preserved-in-Ok g c =
     let more = ap length split in
     let size = ap length first.split ∙ length-append (first.before ++ first.last ∷ []) (left c.perform.new.events) in
     record {
-      so_far = so_far-performed t.kept t.cost t.after t.without _ _ _ _ _ _ _ _ _ _ _ _ _ _ _ _ _ _ _ _ split first i.so_far c.in-Ok.ensures.text;
+      so_far = so_far-performed t.kept t.cost t.after t.without t.cache t.less _ _ _ _ _ _ _ _ _ _ _ _ g.met.T.Translator.less_then _ _ _ _ _ _ _ _ split first i.so_far c.in-Ok.ensures.text;
       harts = i.harts;
       there = of_harts-behind c.sizes-harts.result.harts (first.before ++ first.last ∷ []) (left c.perform.new.events) (subst (OfHarts c.sizes-harts.result.harts) (split ∙ first.split) i.there);
       few = omega (arith, few, more, size);
@@ -46,7 +46,7 @@ each-preserved-in-Ok g c =
 pub returns-in-Err-clause-replays : goal.returns-in-Err-clause-replays
 returns-in-Err-clause-replays g c =
     let t = g.T.Translator in
-    replays-cut t.kept t.cost t.after t.without _ _ _ _ _ _ _ _ _ _ _ _ _ _ _ _ _ _ _ _ c.in-Some.ensures c.perform.ensures c.each.invariant.so_far c.in-Err.ensures.text
+    replays-cut t.kept t.cost t.after t.without t.cache t.less _ _ _ _ _ _ _ _ _ _ _ _ g.met.T.Translator.less_then _ _ _ _ _ _ _ _ c.in-Some.ensures c.perform.ensures c.each.invariant.so_far c.in-Err.ensures.text
 
 pub each-preserved : goal.each-preserved
 each-preserved g c =
@@ -56,7 +56,7 @@ each-preserved g c =
     let bound = e.bound in
     let same = c.new-left.ensures.value in
     record {
-      so_far = so_far-read t.kept t.cost t.after t.without _ _ _ _ _ _ _ _ _ _ _ _ _ _ c.sizes-harts.result.harts _ _ _ c.in-None.ensures.0 i.harts i.so_far e.next same c.new-left.ensures.few e.number;
+      so_far = so_far-read t.kept t.cost t.after t.without t.cache t.less _ _ _ _ _ _ _ _ _ _ _ _ _ _ c.sizes-harts.result.harts _ _ _ c.in-None.ensures.0 i.harts i.so_far e.next same c.new-left.ensures.few e.number;
       harts = i.harts;
       there = subst (OfHarts c.sizes-harts.result.harts) (sym same) (asked_of_harts c.sizes-harts.result.harts c.in-Ok-next_line.asked e.timed);
       few = c.new-left.ensures.few;
@@ -71,4 +71,4 @@ each-preserved g c =
 pub returns-in-Err-next_line-clause-replays : goal.returns-in-Err-next_line-clause-replays
 returns-in-Err-next_line-clause-replays g c =
     let t = g.T.Translator in
-    replays-stop t.kept t.cost t.after t.without _ _ _ _ _ _ _ _ _ _ _ _ _ _ c.sizes-harts.result.harts c.in-Err-next_line.stop _ _ c.in-None.ensures.0 c.each.invariant.harts c.each.invariant.so_far c.in-Err-next_line.ensures.next c.stop_answer.ensures
+    replays-stop t.kept t.cost t.after t.without t.cache t.less _ _ _ _ _ _ _ _ _ _ _ _ _ _ c.sizes-harts.result.harts c.in-Err-next_line.stop _ _ c.in-None.ensures.0 c.each.invariant.harts c.each.invariant.so_far c.in-Err-next_line.ensures.next c.stop_answer.ensures

@@ -9,7 +9,7 @@ use Rattle.schedule_replay.proofs.replaying.replay.Given as goal
 abbrev pub invariant-each : goal.invariant-each
 invariant-each g l = record {
   so_far : SoFar g.T.Translator.kept g.T.Translator.cost g.T.Translator.after g.T.Translator.without
-      l.mode l.fn.machine l.fn.lines (g.S.Source.held l.fn.source) (g.K.Sink.taken l.fn.output) l.fn.fetches
+      g.T.Translator.cache g.T.Translator.less l.mode l.fn.machine l.fn.lines (g.S.Source.held l.fn.source) (g.K.Sink.taken l.fn.output) l.fn.fetches
       l.machine l.lines (g.S.Source.held l.source) (g.K.Sink.taken l.output) l.fetches l.counts (left l.left);
   harts : l.harts ≡ l.fn.machine.objects.harts;
   there : OfHarts l.harts (left l.left);
