@@ -24,13 +24,8 @@ use Rattle.image_binary.specs.Fields.{Read}
 use Rattle.image_binary.specs.Statements.{statement_of}
 use Rattle.image_binary.specs.Image.{head_of, statements_of, listing_of, ended, concluded, unpacked, IsOpen}
 use Rattle.image_binary.specs.Laws.{AreBytes}
-use Rattle.image_binary.specs.Unpacked.{Answers, Takes, Unpacks}
+use Rattle.image_binary.specs.Unpacked.{Answers, StandsAtStatement, Takes, Unpacks, with_front}
 use Rattle.image_binary.specs.Reader.{Reader, new_reader, StepsTo, IsStop, StopsAt, IsEnding}
-
--- statements that were read before others
-abbrev with_front : Sizes → List Statement → Read (List Statement) → Read ListingValue
-with_front sizes front (Ok x) = Ok (record { sizes = sizes; statements = front ++ x.0 }, x.1)
-with_front sizes front (Err stop) = Err stop
 
 -- all bytes taken so far, and what they give with any others behind them
 pub record Follows (old now : Option (List ℕ)) (reader : Reader) (sizes : Sizes) (listed : List Statement) (left : ℕ) : Type 0 where
@@ -85,7 +80,28 @@ follows_more old mid now reader to sizes listed s n left more_left before step =
           ∙ ap (with_front sizes listed) next ∙ more_front sizes listed s (statements_of sizes left (to.held ++ more));
     }
 
+-- a statement was read last
+pub stands_behind : (old now : Option (List ℕ)) (reader : Reader) (sizes : Sizes) (listed : List Statement) (s : Statement) (left : ℕ) → Follows old now reader sizes (listed ++ s ∷ []) left
+    → StandsAtStatement old now
+stands_behind old now reader sizes listed s left f = record {
+  taken = f.got;
+  consumed = f.taken;
+  sizes = sizes;
+  read = listed ++ s ∷ [];
+  some = omega (arith, length-append listed (s ∷ []));
+  left = left;
+  behind = reader.held;
+  gives = f.reads;
+}
+
 -- ---- a step that gives no value
+
+-- memory is not why
+pub stops_memory : {A : Type 0} (read : List ℕ → Read A) (from : Reader) (old new : Option (List ℕ)) (fault : ImageFault) → StopsAt read from old new fault → fault ≡ OutOfMemory → ⊥
+stops_memory read from old new fault s is = subst (λ f. IsStop f read from s.got s.last new) is s.cause
+
+pub ending_memory : (from : Reader) (old new : Option (List ℕ)) (fault : ImageFault) → IsEnding (Err fault) from old new → fault ≡ OutOfMemory → ⊥
+ending_memory from old new fault e is = subst (λ f. IsEnding (Err f) from old new) is e
 
 -- the listing gives none either
 head_stops : (bytes : List ℕ) (stop : Stop) → head_of bytes ≡ Err stop → listing_of bytes ≡ Err stop

@@ -1,11 +1,14 @@
 -- What reading an image from a source says of the source's bytes, where these are known.
-use Rattle.std.specs.Prelude.{◌≡◌, ◌≤◌, ◌+◌, ℕ, ⊤, List, [], ◌++◌, length, Option, None, Some, Result, Ok, Err}
+use Rattle.std.specs.Prelude.{◌≡◌, ◌<◌, ◌≤◌, ◌+◌, ℕ, ⊤, List, [], ◌++◌, length, Option, None, Some, Result, Ok, Err}
 use Rattle.std.specs.Io.KnownBytes.{Consumes}
 use Rattle.coy_io.specs.Limits.{input_limit}
+use Rattle.object_store.specs.declared.sizes.Sizes.{Sizes}
 use Rattle.listing_read.specs.Statement.{ListingValue}
+use Rattle.listing_read.specs.declared.statement.Statement.{Statement}
 use Rattle.image_binary.specs.declared.fault.ImageFault.{ImageFault}
 use Rattle.image_binary.specs.declared.fault.ImageFault.TheVariants.{Refused, ReadFault, TooLong, OutOfMemory}
-use Rattle.image_binary.specs.Image.{listing_of, unpacked, IsOpen}
+use Rattle.image_binary.specs.Fields.{Read}
+use Rattle.image_binary.specs.Image.{listing_of, statements_of, unpacked, IsOpen}
 use Rattle.image_binary.specs.Laws.{AreBytes}
 
 -- each answer by the bytes that the source had, and those that it has left: a listing and a refusal are what the bytes
@@ -30,6 +33,23 @@ pub record Takes (old new : Option (List ℕ)) : Type 0 where
   pub bytes : AreBytes taken
   pub consumed : Consumes old new taken
   pub few : length taken ≤ input_limit + 1
+
+-- what other statements give behind these
+abbrev pub with_front : Sizes → List Statement → Read (List Statement) → Read ListingValue
+with_front sizes front (Ok x) = Ok (record { sizes = sizes; statements = front ++ x.0 }, x.1)
+with_front sizes front (Err stop) = Err stop
+
+-- A source stands at a statement of its image: the bytes taken of it are a head, some statements, and others behind the last of
+-- those; so what they give with any more is these statements, and what the others give with them as those that are left.
+pub record StandsAtStatement (old new : Option (List ℕ)) : Type 0 where
+  pub taken : List ℕ
+  pub consumed : Consumes old new taken
+  pub sizes : Sizes
+  pub read : List Statement
+  pub some : 0 < length read
+  pub left : ℕ
+  pub behind : List ℕ
+  pub gives : (more : List ℕ) → listing_of (taken ++ more) ≡ with_front sizes read (statements_of sizes left (behind ++ more))
 
 -- both
 pub record Unpacks (result : Result ListingValue ImageFault) (old new : Option (List ℕ)) : Type 0 where

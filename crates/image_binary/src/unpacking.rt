@@ -9,7 +9,7 @@ ghost use Rattle.coy_io.specs.declared.window.TheConstants.{WINDOW};
 ghost use Rattle.image_binary.specs.Image.{image_of, head_of};
 ghost use Rattle.image_binary.specs.Statements.{statement_of};
 ghost use Rattle.image_binary.specs.Laws.{IsPacked};
-ghost use Rattle.image_binary.specs.Unpacked.{Answers, Takes, Finds, Unpacks};
+ghost use Rattle.image_binary.specs.Unpacked.{Answers, StandsAtStatement, Takes, Finds, Unpacks};
 ghost use Rattle.image_binary.specs.Reader.{Supplies, Steps, IsEnding};
 
 use crate::fault::{ImageFault, ImageWord};
@@ -39,6 +39,10 @@ pub fn unpack<S: Source>(alloc: Global, input: &mut S) -> Result<Listing, ImageF
     ensures listing { (l : ListingValue) → IsPacked l → length (image_of l) ≤ input_limit →
         S.held input.old ≡ Some (image_of l) → Finds result l }
 
+    // Memory was wanting for a statement, and nowhere else.
+    ensures memory { result ≡ Err ImageFault.OutOfMemory →
+        StandsAtStatement (S.held input.old) (S.held input.new) }
+
     // What happens to the source.
     ensures taken { Takes (S.held input.old) (S.held input.new) }
     ensures end { OnOk result (IsAtEnd (S.held input.new)) }
@@ -53,6 +57,8 @@ pub fn unpack<S: Source>(alloc: Global, input: &mut S) -> Result<Listing, ImageF
 /// The same, by the bytes that were taken.
 fn read_image<S: Source>(alloc: Global, input: &mut S) -> Result<Listing, ImageFault>
     ensures unpacks { Unpacks result (S.held input.old) (S.held input.new) }
+    ensures memory { result ≡ Err ImageFault.OutOfMemory →
+        StandsAtStatement (S.held input.old) (S.held input.new) }
     ensures end { OnOk result (IsAtEnd (S.held input.new)) }
     ensures read { result ≡ Err ImageFault.ReadFault →
         Rose (S.faults input.old) (S.faults input.new) }

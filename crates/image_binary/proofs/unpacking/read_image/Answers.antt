@@ -3,8 +3,10 @@ use Rattle.std.proofs.lemmas.Result.{err_from_is_err_and}
 use Rattle.listing_read.specs.Statement.{ListingValue}
 use Rattle.image_binary.specs.Image.{head_of}
 use Rattle.image_binary.specs.Reader.{StepsTo, StopsAt}
+use Rattle.image_binary.specs.Statements.{statement_of}
 use Rattle.image_binary.specs.Unpacked.{Unpacks}
-use Rattle.image_binary.proofs.Follows.{Follows, follows_start, follows_more, stops_start, stops_more, stop_unpacks, memory_unpacks, ended_unpacks, ending_unpacks}
+use Rattle.image_binary.specs.declared.fault.ImageFault.TheVariants.{OutOfMemory}
+use Rattle.image_binary.proofs.Follows.{Follows, follows_start, follows_more, stops_start, stops_more, stop_unpacks, memory_unpacks, ended_unpacks, ending_memory, ending_unpacks, stands_behind, stops_memory}
 use Rattle.image_binary.proofs.unpacking.read_image.Goals as goal
 
 pub returns-in_err-head-clause-unpacks : goal.returns-in_err-head-clause-unpacks
@@ -97,3 +99,34 @@ returns-clause-unpacks g c =
     let follows = subst (λ n. Follows old mid c.statements.reader head.sizes ss n) done c.statements.invariant.follows in
     subst (λ sizes. Unpacks (Ok (record { sizes = sizes; statements = ss })) old new) (sym c.statements.invariant.sizes)
     (ended_unpacks old mid new c.statements.reader head.sizes ss follows c.in_ok-read_end.ensures.ending)
+
+-- ---- where memory is wanting
+
+pub returns-in_err-head-clause-memory : goal.returns-in_err-head-clause-memory
+returns-in_err-head-clause-memory g c =
+    let fault = c.in_err-head.field-0.0 in
+    let p = err_from_is_err_and c.from_residual.result c.from_residual.ensures.1 in
+    rw (p.1, p.2) (λ same. absurd (stops_memory head_of _ _ _ fault c.in_err-head.ensures.steps (let is : fault ≡ OutOfMemory = cc in is)))
+
+pub returns-in_err-statement-clause-memory : goal.returns-in_err-statement-clause-memory
+returns-in_err-statement-clause-memory g c =
+    let fault = c.in_err-statement.field-0.0 in
+    let p = err_from_is_err_and c.from_residual-in_err-statement.result c.from_residual-in_err-statement.ensures.1 in
+    rw (p.1, p.2) (λ same. absurd (stops_memory (statement_of c.in_ok-head.head.sizes) _ _ _ fault c.in_err-statement.ensures.steps (let is : fault ≡ OutOfMemory = cc in is)))
+
+pub returns-in_err-push-clause-memory : goal.returns-in_err-push-clause-memory
+returns-in_err-push-clause-memory g c = λ same.
+    let old = g.S.Source.held c.args.input.now in
+    let mid = g.S.Source.held c.statements.input in
+    let now = g.S.Source.held c.read_statement.new.input in
+    let head = c.in_ok-head.head in
+    let s = c.in_ok-statement.statement in
+    let left : head.count - c.statements.counter ≡ suc (head.count - (c.statements.counter + 1)) = omega (arith, c.statements-test.true) in
+    let follows = follows_more old mid now c.statements.reader c.read_statement.new.reader head.sizes c.statements.listing.statements s (head.count - c.statements.counter) (head.count - (c.statements.counter + 1)) left c.statements.invariant.follows c.in_ok-statement.ensures.steps in
+    stands_behind old now c.read_statement.new.reader head.sizes c.statements.listing.statements s (head.count - (c.statements.counter + 1)) follows
+
+pub returns-in_err-read_end-clause-memory : goal.returns-in_err-read_end-clause-memory
+returns-in_err-read_end-clause-memory g c =
+    let fault = c.in_err-read_end.field-0.0 in
+    let p = err_from_is_err_and c.from_residual-in_err-read_end.result c.from_residual-in_err-read_end.ensures.1 in
+    rw (p.1, p.2) (λ same. absurd (ending_memory _ _ _ fault c.in_err-read_end.ensures.ending (let is : fault ≡ OutOfMemory = cc in is)))
