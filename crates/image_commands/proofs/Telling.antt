@@ -37,6 +37,13 @@ nothing-open : IsOpen (listing_of [])
 unfolding listing_of head_of field_of front_of
 nothing-open = tt
 
+-- the exit where bytes give no listing tells that memory was wanting for that reason alone
+pub image-wanting : (fault : ImageFault) → image_exit fault ≡ OutOfMemory → fault ≡ faulty.OutOfMemory
+image-wanting (faulty.Refused offset fault) same = cc
+image-wanting faulty.TooLong same = cc
+image-wanting faulty.ReadFault same = cc
+image-wanting faulty.OutOfMemory same = refl
+
 -- reading failed behind bytes, where they are known
 pub record StoppedBehind (known left : Option (List ℕ)) : Type 0 where
   pub bytes : List ℕ

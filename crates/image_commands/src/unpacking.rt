@@ -4,6 +4,7 @@ ghost use Rattle.statement_text.specs.Text.{listing_text};
 ghost use Rattle.courses.specs.Course.{cached};
 ghost use Rattle.courses.specs.Ending.{EndsIn};
 ghost use Rattle.courses.specs.Taken.{TakesInput};
+ghost use Rattle.image_binary.specs.Unpacked.{StandsAtStatement};
 ghost use Rattle.image_commands.specs.Unpacked.{image_course, image_exit, read_course};
 
 use courses::{Exit, conclude};
@@ -16,9 +17,13 @@ use std::alloc::Global;
 /// Reads an image to the end of the source, and writes the text of its listing: one of version 2 without names. No slot
 /// is fetched.
 pub fn answer_unpack<S: Source, K: Sink>(alloc: Global, input: &mut S, output: &mut K) -> Exit
-    ensures { (fetches : ℕ) → TakesInput S.held S.faults K.taken K.faults
+    ensures course { (fetches : ℕ) → TakesInput S.held S.faults K.taken K.faults
         input.old input.new output.old output.new fetches fetches result cached
         image_course read_course }
+
+    // Memory was wanting for a statement, and nowhere else.
+    ensures wanting { result ≡ Exit.OutOfMemory →
+        StandsAtStatement (S.held input.old) (S.held input.new) }
 {
     match unpack(alloc, input) {
         Ok(listing) => write_text(&listing, output),
