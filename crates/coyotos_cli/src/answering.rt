@@ -11,6 +11,7 @@ ghost use Rattle.courses.specs.Course.{HasEntries, course_output};
 ghost use Rattle.courses.specs.Ending.{HasCauses, IsGiven, EndsIn};
 ghost use Rattle.courses.specs.Exit.{is_finished};
 ghost use Rattle.courses.specs.Wanting.{StandsAtListing};
+ghost use Rattle.image_binary.specs.Unpacked.{StandsAtStatement};
 ghost use Rattle.image_commands.specs.Same.{IsImageOf};
 ghost use Rattle.migrate_command.specs.Same.{IsMigrated};
 ghost use Rattle.share_command.specs.Few.{IsSharedBounded, TellsFew};
@@ -79,6 +80,8 @@ pub(crate) fn answer<S: Source, K: Sink, L: Ledger>(
     ensures memory { command ≡ Help → result ≢ Exit.OutOfMemory }
     ensures wanting { command ≢ Unpack → result ≡ Exit.OutOfMemory →
         StandsAtListing (S.held input.old) (S.held input.new) }
+    ensures wanting_image { command ≡ Unpack → result ≡ Exit.OutOfMemory →
+        StandsAtStatement (S.held input.old) (S.held input.new) }
     ensures causes { HasCauses (S.faults input.old) (S.faults input.new)
         (K.faults output.old) (K.faults output.new) result }
     ensures unwritten { result ≡ Exit.OutOfMemory → K.taken output.new ≡ K.taken output.old }

@@ -1,8 +1,9 @@
 //! The top call.
-ghost use Rattle.std.specs.Prelude.{◌≡◌, ◌≢◌, map, string_bytes, true, IfSome, Some};
+ghost use Rattle.std.specs.Prelude.{◌≡◌, ◌≢◌, ◌⊎◌, map, string_bytes, true, IfSome, Some};
 ghost use Rattle.coy_io.specs.Causes.{Rose};
 ghost use Rattle.coyotos_words.specs.declared.command.Command.TheVariants.{Confine, Migrate, Pack, Unpack};
 ghost use Rattle.confine_command.specs.Decided.{IsDecided};
+ghost use Rattle.image_binary.specs.Unpacked.{StandsAtStatement};
 ghost use Rattle.image_commands.specs.Same.{IsImageOf};
 ghost use Rattle.migrate_command.specs.Same.{IsMigrated};
 ghost use Rattle.coyotos_words.specs.Command.{command_of};
@@ -57,6 +58,11 @@ pub fn coyotos<S: Source, K: Sink, L: Ledger>(
     // Where memory is wanting, no more was taken than a listing and what came with its last line.
     ensures wanting { command_of (map string_bytes words.now) ≢ Some Unpack →
         result ≡ Exit.OutOfMemory → StandsAtListing (S.held input.old) (S.held input.new) }
+
+    // For `unpack`: nothing was taken, or memory was wanting for a statement of the image, which was read last.
+    ensures wanting_image { command_of (map string_bytes words.now) ≡ Some Unpack →
+        result ≡ Exit.OutOfMemory →
+        (input.new ≡ input.old) ⊎ StandsAtStatement (S.held input.old) (S.held input.new) }
 
     // What the mapping lines of `tables` say: each is right and its space live, none comes twice, those of a space are in
     // order of address, and where the need of the run fits, each covered pair of the last state has one.

@@ -102,28 +102,31 @@ pub returns-in-Pack-clause-unwritten : goal.returns-in-Pack-clause-unwritten
 returns-in-Pack-clause-unwritten g c = (c.answer_pack.ensures.course 0).unwritten
 
 pub returns-in-Unpack-clause-comes : goal.returns-in-Unpack-clause-comes
-returns-in-Unpack-clause-comes g c = rw c.in-Unpack.is (comes-known Unpack _ _ _ _ _ cached refl _ _ (c.answer_unpack.ensures _).comes)
+returns-in-Unpack-clause-comes g c = rw c.in-Unpack.is (comes-known Unpack _ _ _ _ _ cached refl _ _ (c.answer_unpack.ensures.course _).comes)
 
 pub returns-in-Unpack-clause-sure : goal.returns-in-Unpack-clause-sure
-returns-in-Unpack-clause-sure g c = λ fault. rw c.in-Unpack.is (stands-told (Some Unpack) _ _ _ _ _ _ cached refl _ ((c.answer_unpack.ensures _).sure fault))
+returns-in-Unpack-clause-sure g c = λ fault. rw c.in-Unpack.is (stands-told (Some Unpack) _ _ _ _ _ _ cached refl _ ((c.answer_unpack.ensures.course _).sure fault))
 
 pub returns-in-Unpack-clause-entries : goal.returns-in-Unpack-clause-entries
 returns-in-Unpack-clause-entries g c = λ done has. rw c.in-Unpack.is (known-unpack _)
 
 pub returns-in-Unpack-clause-end : goal.returns-in-Unpack-clause-end
-returns-in-Unpack-clause-end g c = λ done asks. (c.answer_unpack.ensures 0).end done
+returns-in-Unpack-clause-end g c = λ done asks. (c.answer_unpack.ensures.course 0).end done
 
 pub returns-in-Unpack-clause-usage : goal.returns-in-Unpack-clause-usage
-returns-in-Unpack-clause-usage g c = (c.answer_unpack.ensures 0).usage
+returns-in-Unpack-clause-usage g c = (c.answer_unpack.ensures.course 0).usage
 
 pub returns-in-Unpack-clause-causes : goal.returns-in-Unpack-clause-causes
-returns-in-Unpack-clause-causes g c = (c.answer_unpack.ensures 0).causes
+returns-in-Unpack-clause-causes g c = (c.answer_unpack.ensures.course 0).causes
 
 pub returns-in-Unpack-clause-unwritten : goal.returns-in-Unpack-clause-unwritten
-returns-in-Unpack-clause-unwritten g c = (c.answer_unpack.ensures 0).unwritten
+returns-in-Unpack-clause-unwritten g c = (c.answer_unpack.ensures.course 0).unwritten
 
 pub returns-in-Unpack-clause-wanting : goal.returns-in-Unpack-clause-wanting
 returns-in-Unpack-clause-wanting g c = λ other. absurd (other c.in-Unpack.is)
+
+pub returns-in-Unpack-clause-wanting_image : goal.returns-in-Unpack-clause-wanting_image
+returns-in-Unpack-clause-wanting_image g c = λ is. c.answer_unpack.ensures.wanting
 
 pub returns-in-Migrate-clause-comes : goal.returns-in-Migrate-clause-comes
 returns-in-Migrate-clause-comes g c = rw c.in-Migrate.is (comes-known Migrate _ _ _ _ _ cached refl _ _ (c.migrate.ensures.course _).comes)

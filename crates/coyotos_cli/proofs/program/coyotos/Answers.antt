@@ -1,4 +1,4 @@
-use Rattle.std.proofs.Common.{◌∙◌, Some, sym, ap, map, string_bytes}
+use Rattle.std.proofs.Common.{◌∙◌, Some, inl, inr, refl, sym, ap, map, string_bytes}
 use Rattle.courses.specs.Course.{HasEntries}
 use Rattle.courses.proofs.Standing.{stands-unread}
 use Rattle.coyotos_cli.specs.Command.{has_cache}
@@ -73,3 +73,14 @@ pub returns-clause-wanting : goal.returns-clause-wanting
 returns-clause-wanting g c =
     let asked = sym c.in-Ok-Some.ensures.asked ∙ c.in-Ok-Some.field-0-is in
     λ other. c.answer.ensures.wanting (λ same. other (asked ∙ ap Some same))
+
+pub returns-in-Err-clause-wanting_image : goal.returns-in-Err-clause-wanting_image
+returns-in-Err-clause-wanting_image g c = λ is same. inl refl
+
+pub returns-in-Ok-None-clause-wanting_image : goal.returns-in-Ok-None-clause-wanting_image
+returns-in-Ok-None-clause-wanting_image g c = λ is same. inl refl
+
+pub returns-clause-wanting_image : goal.returns-clause-wanting_image
+returns-clause-wanting_image g c = λ is same.
+    let asked = sym c.in-Ok-Some.ensures.asked ∙ c.in-Ok-Some.field-0-is in
+    inr (c.answer.ensures.wanting_image (let both = sym asked ∙ is in cc) same)
