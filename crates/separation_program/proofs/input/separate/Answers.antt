@@ -49,8 +49,8 @@ returns-in-Err-clause-wanting g c = λ lacks. inl (c.in-Err.ensures.wanting lack
 pub returns-in_default-clause-wanting : goal.returns-in_default-clause-wanting
 returns-in_default-clause-wanting g c = λ lacks. inl (c.in-Ok.ensures.standing, refl)
 
-pub returns-in_default-boot-clause-wanting : goal.returns-in_default-boot-clause-wanting
-returns-in_default-boot-clause-wanting g c = λ lacks. inl (c.in-Ok.ensures.standing, refl)
+pub returns-in_default-new-clause-wanting : goal.returns-in_default-new-clause-wanting
+returns-in_default-new-clause-wanting g c = λ lacks. inl (c.in-Ok.ensures.standing, refl)
 
 pub returns-clause-wanting : goal.returns-clause-wanting
 returns-clause-wanting g c = λ lacks.
