@@ -1,5 +1,5 @@
 -- A line of a question: what it says, or its first fault, and the question after it. (Own.)
-use Rattle.std.specs.Prelude.{ℕ, suc, ◌≤◌, ◌==◌, ◌||◌, nat_le, Bool, if◌then◌else◌, List, length, drop, take, bytes_eq, codes, Result, Ok, Err, ⊤, ◌≡◌}
+use Rattle.std.specs.Prelude.{ℕ, suc, ◌≤◌, ◌==◌, ◌||◌, nat_le, Bool, if◌then◌else◌, List, length, drop, take, bytes_eq, codes, Result, Ok, Err, ⊤, ◌≡◌, true, false}
 use Rattle.coy_io.specs.Limits.{line_limit}
 use Rattle.coy_text.specs.Line.{is_visible_line, is_skipped}
 use Rattle.coy_text.specs.Words.{words_of, field}
@@ -16,7 +16,7 @@ use Rattle.questions.specs.declared.choice.Choice.TheVariants.{Steps, Run, Tick}
 use Rattle.questions.specs.Choice.{IsChoiceOf, is_among}
 use Rattle.questions.specs.Question.{IsPropertyOf, QuestionValue, property_of, property_with, with_choice, with_depth, with_property, with_states}
 use Rattle.listing_read.specs.declared.object_fault.QuestionFault.{QuestionFault}
-use Rattle.listing_read.specs.declared.object_fault.QuestionFault.TheVariants.{LineTooLong, BadByte, UnknownQuestion, UnknownEvent, WrongWords, OfPolicy}
+use Rattle.listing_read.specs.declared.object_fault.QuestionFault.TheVariants.{LineTooLong, BadByte, UnknownQuestion, UnknownEvent, WrongWords, OfPolicy, Taken}
 use Rattle.question_lines.specs.declared.fault.Untaken.{Untaken}
 use Rattle.question_lines.specs.declared.fault.Untaken.TheVariants.{Refused, OutOfMemory}
 use Rattle.question_lines.specs.declared.said.Next.{Next}
