@@ -6,13 +6,13 @@ use Rattle.image_commands.proofs.Telling.{image-wanting, known-listing, tells-gi
 use Rattle.image_commands.proofs.unpacking.answer_unpack.Goals as goal
 
 pub returns-in-Ok-clause-course : goal.returns-in-Ok-clause-course
-returns-in-Ok-clause-course g c = λ fetches.
+returns-in-Ok-clause-course g c =
     let u = c.in-Ok.ensures in
     tells-given g.S.Source.held g.S.Source.faults g.K.Sink.taken g.K.Sink.faults _ _ _ _ _ (Ok c.in-Ok.listing) (record { read = λ bad. cc; write = λ bad. cc; memory = λ bad. cc }) (λ bad. cc)
     c.write_text.ensures (known-listing _ _ c.in-Ok.listing u.answer) (u.quiet (λ bad. cc)) (λ done. u.end)
 
 pub returns-in-Err-clause-course : goal.returns-in-Err-clause-course
-returns-in-Err-clause-course g c = λ fetches.
+returns-in-Err-clause-course g c =
     let u = c.in-Err.ensures in
     let concluded = rw c.image_exit.ensures at c.conclude.ensures in
     tells-stopped g.S.Source.held g.S.Source.faults g.K.Sink.taken g.K.Sink.faults _ _ _ _ _ c.in-Err.fault concluded u.answer
