@@ -1,7 +1,7 @@
 -- Where memory was wanting.
 use Rattle.std.proofs.Common.{◌≡◌, ◌∙◌, ◌⊎◌, ◌+◌, ◌∷◌, ◌++◌, [], ℕ, List, Option, Some, None, IfSome, false, inl, inr, refl, sym, ap, subst, append_assoc}
 use Rattle.std.specs.Io.KnownBytes.{IsAtEnd, prepend_known}
-use Rattle.coy_io.specs.Lines.{Part, Line}
+use Rattle.coy_io.specs.Lines.{Part, Line, parts_of}
 use Rattle.coy_io.specs.Reader.{Reader, Advances, GivesLines, ahead, bytes_ahead, last_taken, line_feed_of, new_reader}
 use Rattle.coy_io.proofs.GivenLaws.{GivesLines-before, GivesLines-trans}
 use Rattle.image_builder.specs.Boot.{booted}
