@@ -1,5 +1,5 @@
 -- What a process of one side may make of objects and queues: one law for each write.
-use Rattle.std.proofs.Common.{◌≡◌, ◌≢◌, ℕ, ◌==◌, ◌⊎◌, inl, inr, Bool, true, false, List, [], ◌∷◌, ◌++◌, length, get_or, Option, Some, None, refl, sym, ◌∙◌, ap, ap₂, subst, length-set, get_or-set_other}
+use Rattle.std.proofs.Common.{◌≡◌, ◌≢◌, ℕ, ◌==◌, ◌⊎◌, inl, inr, Bool, true, false, List, [], ◌∷◌, ◌++◌, length, get_or, Option, None, refl, sym, ◌∙◌, ap, ap₂, subst, length-set, get_or-set_other}
 use Rattle.std.proofs.Math.ListN.{get_or-map}
 use Rattle.std.proofs.lemmas.Bool.{or_left, or_right, eq-eqb}
 use Rattle.cap_format.specs.declared.kind.CapKind.{CapKind}
@@ -27,7 +27,7 @@ use Rattle.invocation.specs.Target.{is_receiving}
 use Rattle.operations.specs.System.{System, system, with_store, with_runs}
 use Rattle.confinement.specs.declared.cut_side.CutSide.{CutSide}
 use Rattle.confinement.specs.Cut.{Cut, side_of, same_side, MayHold, MaySleep, TakesFrom, MayLead, EachHeldBy, Beyond, HoldsFor}
-use Rattle.confinement.specs.Acts.{Spares, SparesPlaces, SameSizes, others_in, other_on, Told, Slept, Met, Filled, Rung, ProcessMoves, EndpointMoves, ObjectMoves, AllMet, Joins, Moves, Acts, ProcessHeld}
+use Rattle.confinement.specs.Acts.{Spares, SparesPlaces, SameSizes, others_in, other_on, Told, Met, Filled, Rung, ProcessMoves, EndpointMoves, ObjectMoves, AllMet, Joins, Moves, Acts, ProcessHeld}
 use Rattle.confinement.proofs.Sides.{same_side-tells, same_side-not}
 use Rattle.confinement.proofs.Answering.{open-receives, asked-takes}
 use Rattle.confinement.proofs.Placing.{others-without, others-last, places-left, places-readied, joins-none, joins-then, ready-readied, harts-readied}

@@ -2,7 +2,7 @@
 use Rattle.std.proofs.Common.{◌≡◌, ℕ, ◌⊎◌, inl, inr, true, false, List, [], ◌∷◌, length, get_or, take, drop, Option, Some, Result, Ok, Err, sym, ◌∙◌, ap, subst}
 use Rattle.cap_format.specs.declared.fault.FaultCode.{FaultCode}
 use Rattle.cap_format.specs.declared.kind.CapKind.{CapKind}
-use Rattle.cap_format.specs.declared.kind.CapKind.TheVariants.{Page, CapPage, Endpoint, Process}
+use Rattle.cap_format.specs.declared.kind.CapKind.TheVariants.{Page, CapPage, Process}
 use Rattle.cap_format.specs.Restr.{has}
 use Rattle.cap_format.specs.Capability.{Capability, null}
 use Rattle.page_store.specs.Page.{with_bytes}

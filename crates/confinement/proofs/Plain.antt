@@ -1,19 +1,17 @@
 -- Where nobody calls across, what a process does leaves all that isn't of its side the same.
-use Rattle.std.proofs.Common.{◌≡◌, ◌≢◌, ℕ, inl, inr, Bool, true, false, ◌==◌, not, cond, List, [], ◌∷◌, ◌++◌, refl, sym, ◌∙◌, ap, ap₂, append-nil, slice_index}
+use Rattle.std.proofs.Common.{◌≡◌, ◌≢◌, ℕ, inl, inr, Bool, true, ◌==◌, not, cond, List, [], ◌∷◌, ◌++◌, refl, sym, ◌∙◌, ap, ap₂, append-nil, slice_index}
 use Rattle.std.proofs.lemmas.Bool.{or_left, or_right, eq-eqb}
-use Rattle.cap_format.specs.declared.kind.CapKind.{CapKind}
-use Rattle.cap_format.specs.declared.kind.CapKind.TheVariants.{Page, CapPage, Gpt, Endpoint, Process}
+use Rattle.cap_format.specs.declared.kind.CapKind.TheVariants.{Page, Endpoint, Process}
 use Rattle.cap_format.specs.Capability.{Capability}
 use Rattle.process_objects.specs.declared.state.State.{State as RunState}
 use Rattle.process_objects.specs.Process.{ProcessValue, process_of}
 use Rattle.endpoint_objects.specs.declared.endpoint.Endpoint.{Endpoint as EndpointValue}
 use Rattle.object_store.specs.Store.{CountsValue, counts_of, process_at, endpoint_at}
-use Rattle.object_store.specs.Object.{SameObject}
 use Rattle.object_store.specs.Object.ObjectValue.{OfProcess, OfEndpoint}
-use Rattle.schedules.specs.Queues.{ready_queue, sleepers_of, stands_in}
+use Rattle.schedules.specs.Queues.{sleepers_of, stands_in}
 use Rattle.operations.specs.System.{System}
 use Rattle.confinement.specs.declared.cut_side.CutSide.{CutSide}
-use Rattle.confinement.specs.Cut.{Cut, side_of, same_side, IsClosed, HoldsFor}
+use Rattle.confinement.specs.Cut.{Cut, side_of, IsClosed, HoldsFor}
 use Rattle.confinement.specs.Acts.{others_in, Spares, KeepsApart, Told, Slept, Met, ProcessMoves, EndpointMoves, AllMet, Joins, Acts}
 use Rattle.confinement.specs.Laws.{PlainLaw}
 use Rattle.confinement.proofs.Sides.{same_side-false}

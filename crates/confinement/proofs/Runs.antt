@@ -39,7 +39,7 @@ still-by s (Step hart) none there = ap (λ (on : Option ℕ). (stepped (dispatch
 still-by s (Tick hart) none there = ap (λ (on : Option ℕ). (tick_of s on).state.queues) none
 
 -- all stand where they stood
-event_still : (s : State) (e : Event) → performer s e ≡ None → hart_in e < length s.queues.harts → (event_of s e).state.queues ≡ s.queues
+pub event_still : (s : State) (e : Event) → performer s e ≡ None → hart_in e < length s.queues.harts → (event_of s e).state.queues ≡ s.queues
 event_still s e = by s.halted
   where
     by : (b : Bool) → (if b then None else performer_by s e) ≡ None → hart_in e < length s.queues.harts → (if b then done s else event_by s e).state.queues ≡ s.queues
