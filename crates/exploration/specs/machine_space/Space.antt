@@ -1,5 +1,5 @@
 -- What a space of a machine's states keeps. (Own.)
-use Rattle.std.specs.Prelude.{◌≡◌, ◌<◌, ◌^◌, Bool, List, length, IsTrue}
+use Rattle.std.specs.Prelude.{◌≡◌, ℕ, ◌<◌, ◌^◌, Bool, List, length, IsTrue}
 use Rattle.std.specs.List.{All}
 use Rattle.machine_state.specs.State.{State}
 use Rattle.separation_policy.specs.Policy.{PolicyValue}
@@ -20,14 +20,15 @@ pub record IsHeld (question : QuestionValue) (policy : PolicyValue) (indifferent
   pub held : Held tables key
   pub is_known : IsTrue indifferent → IsIndifferent question policy (state_in tables key)
 
--- a space: what is asked, whether the policy is known to make no difference, the states that were seen with the machine, and
--- the state from which the choices start
+-- a space: what is asked, whether the policy is known to make no difference, the states that were seen with the machine, the
+-- state from which the choices start, and how many slots were read
 pub record SpaceValue : Type 0 where
   pub question : QuestionValue
   pub policy : PolicyValue
   pub indifferent : Bool
   pub states : StatesValue
   pub start : State
+  pub fetches : ℕ
 
 -- what is searched: the states from this one on
 abbrev pub searched_of : QuestionValue → PolicyValue → State → System State

@@ -50,7 +50,7 @@ impl<'a, L: Ledger> Model for MachineSpace<'a, L> {
 
     ghost coded = { Prim.hlevel (codes, terms.the_row.coded) };
 
-    ghost view = { λ s. record { question = s.question.now; policy = s.policy.now; indifferent = s.indifferent; states = s.states; start = state_in s.states.tables s.start } };
+    ghost view = { λ s. record { question = s.question.now; policy = s.policy.now; indifferent = s.indifferent; states = s.states; start = state_in s.states.tables s.start; fetches = s.fetches.now } };
 
     ghost invariant = { λ s. IsSpace s.question.now s.policy.now s.indifferent s.closure s.choices.items s.watched s.states.tables s.start };
 }
@@ -103,6 +103,8 @@ impl<'a, L: Ledger> Space for MachineSpace<'a, L> {
     ghost means = { λ space key. state_in space.states.tables key };
 
     ghost stands = { λ space s. state_of space.states.machine ≡ s };
+
+    ghost spent = { λ space. space.fetches };
 
     ghost alike = { λ space a b held held_too. keys_alike space.states.tables a b held.held held_too.held };
 
