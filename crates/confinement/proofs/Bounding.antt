@@ -14,12 +14,14 @@ use Rattle.schedules.specs.Queues.{ready_queue, sleepers_of, stands_in, hart_of}
 use Rattle.machine_state.specs.State.{State}
 use Rattle.confinement.specs.declared.cut_side.CutSide.TheVariants.{Left}
 use Rattle.confinement.specs.Acts as acts
-use Rattle.confinement.specs.Acts.{Acts, system_of}
+use Rattle.confinement.specs.Acts.{KeepsApart, system_of}
+use Rattle.kernel_core.specs.Event.{event_of}
+use Rattle.confinement.proofs.Plain.{plain_law}
 use Rattle.confinement.proofs.Runs.{event-acts}
 use Rattle.confinement.specs.authority.Authority.{Authority, Grants, IsBounded}
 use Rattle.confinement.specs.authority.Within.{may_change, others_in, other_on, StaysWithin}
 use Rattle.confinement.specs.authority.Laws.{BoundsLaw, AreApart, BesideLaw}
-use Rattle.confinement.proofs.OneSide.{side_if, not-left, same_side-left, cut_of, bounded-holds, holds-bounded}
+use Rattle.confinement.proofs.OneSide.{side_if, not-left, same_side-left, cut_of, is-closed, bounded-holds, holds-bounded}
 
 module _ (a : Authority) where
   -- those that are not of the set are those on the other side
@@ -31,7 +33,7 @@ module _ (a : Authority) where
   other-left (Some p) = ap (λ (b : Bool). if b then None else Some p) (same_side-left (a.objects Process p))
 
   -- what stays on that side stays within the set
-  acts-within : (s t : State) → Acts (cut_of a) Left (system_of s) (system_of t) → StaysWithin a s t
+  acts-within : (s t : State) → KeepsApart (cut_of a) Left (system_of s) (system_of t) → StaysWithin a s t
   acts-within s t done = let places = done.places in record {
     bounded = holds-bounded a (system_of t) done.holds;
     objects = λ kind n none. done.spares kind n (not-left (may_change a kind n) none);
@@ -46,7 +48,9 @@ module _ (a : Authority) where
 -- the law of bounds
 pub bounds_law : BoundsLaw
 bounds_law a s e p bounded performs own =
-    acts-within a s _ (event-acts (cut_of a) Left p (ap side_if own) s e performs (bounded-holds a (system_of s) bounded))
+    let holds = bounded-holds a (system_of s) bounded in
+    let t = (event_of s e).state in
+    acts-within a s t (plain_law (cut_of a) Left (system_of s) (system_of t) (is-closed a) holds (event-acts (cut_of a) Left p (ap side_if own) s e performs holds))
 
 -- ---- another set
 

@@ -1,7 +1,7 @@
--- What an event makes of a state stays on the side of the process that performs it.
+-- What an event makes of a state stays on the side of the process that performs it, but for who is told.
 use Rattle.std.proofs.Common.{◌≡◌, ℕ, ◌==◌, Option, Some, None, refl, slice_get, subst, min}
 use Rattle.std.proofs.lemmas.Bool.{cond_both}
-use Rattle.cap_format.specs.declared.kind.CapKind.TheVariants.{Endpoint, Process}
+use Rattle.cap_format.specs.declared.kind.CapKind.TheVariants.{Process}
 use Rattle.cap_format.specs.declared.request.Request.{Request}
 use Rattle.cap_format.specs.declared.request.Reply.{Reply}
 use Rattle.cap_format.specs.Capability.{Capability}
@@ -32,7 +32,7 @@ use Rattle.kernel_core.specs.Induction.{Notions, alone, Origins, Parts, Cases}
 use Rattle.kernel_core.proofs.Induction.{instruction-alone}
 use Rattle.confinement.specs.declared.cut_side.CutSide.{CutSide}
 use Rattle.confinement.specs.Cut.{Cut, side_of, MayHold, HoldsFor}
-use Rattle.confinement.specs.Acts.{Acts, ProcessHeld, MayHoldIf, AnswerPermitted, CalleeOwn, system_of}
+use Rattle.confinement.specs.Acts.{Acts, ProcessHeld, MayHoldIf, AnswerPermitted, CalleeOwn, Hears, MayAwait, system_of}
 use Rattle.confinement.specs.Reach.{Ends}
 use Rattle.confinement.proofs.Held.{may-null}
 use Rattle.confinement.proofs.Acting.{acts-same, acts-process, held-process}
@@ -40,7 +40,7 @@ use Rattle.confinement.proofs.Answering.{callee-own}
 use Rattle.confinement.proofs.Delivering.{held-capreg}
 use Rattle.confinement.proofs.Operating.{finds, memory_operation-may, control_operation-may}
 use Rattle.confinement.proofs.Machine.{acts-next, may-capreg, acts-set_pc, acts-set_registers, acts-set_capreg, acts-ticked, acts-changed_by, ends-here, ends-hit, EndsHit, acts-written, may-found, acts-cap_stored}
-use Rattle.confinement.proofs.Messaging.{StringFaultOwn, side-own, acts-fault_part, acts-wait_on, acts-listen, acts-delivered_part}
+use Rattle.confinement.proofs.Messaging.{StringFaultOwn, side-own, acts-fault_part, acts-wait_on, acts-listen, acts-delivered_part, received-reached}
 
 module _ (cut : Cut) (side : CutSide) (p : ℕ) (own : side_of cut Process p ≡ side) where
   -- from state `s` this side made state `t`, in which the cut holds
@@ -107,13 +107,13 @@ module _ (cut : Cut) (side : CutSide) (p : ℕ) (own : side_of cut Process p ≡
 -- ---- every part
 
 module _ (cut : Cut) (side : CutSide) where
-  -- states in which the cut holds, processes and endpoints of this side, and capabilities that it may hold
+  -- states in which the cut holds, processes of this side and those who take its messages, and capabilities that it may hold
   abbrev pub on_side : Notions
   on_side = record {
     holds = λ s. HoldsFor cut side (system_of s);
     by = λ p. side_of cut Process p ≡ side;
-    heard = λ s e q. (side_of cut Endpoint e ≡ side) × (side_of cut Process q ≡ side);
-    awaited = λ q. side_of cut Process q ≡ side;
+    heard = λ s e q. Hears cut side s.store e q;
+    awaited = λ q. MayAwait cut side q;
     word = λ number. Unit {0};
     regs = λ registers. Unit {0};
     has = λ c. MayHold cut side c;
@@ -127,8 +127,8 @@ module _ (cut : Cut) (side : CutSide) where
   hit-here : (s : State) (p at : ℕ) (kind : Kind) → HoldsFor cut side (system_of s) → side_of cut Process p ≡ side → EndsHit cut side kind (data_access s p at kind)
   hit-here s p at kind holds own = ends-hit cut side kind (access s.store.items (space_of s p) at kind) (ends-here cut side p own s kind at holds)
 
-  called-own : (s : State) (c : Capability) (to : Callee) → HoldsFor cut side (system_of s) → MayHold cut side c → callee s.store c ≡ to → CalleeOwn cut side to
-  called-own s c to holds may e = subst (CalleeOwn cut side) e (callee-own cut side s.store holds.each c may)
+  called-own : (s : State) (c : Capability) (to : Callee) → HoldsFor cut side (system_of s) → MayHold cut side c → callee s.store c ≡ to → CalleeOwn cut side s.store to
+  called-own s c to holds may e = subst (CalleeOwn cut side s.store) e (callee-own cut side s.store holds.each holds.beyond c may)
 
   -- a request for the kind gives nothing
   pub kind-may : (number : ℕ) (cap : Capability) → MayHoldIf cut side (settled_in (kind_table cap) number).answer.cap
@@ -196,10 +196,9 @@ module _ (cut : Cut) (side : CutSide) where
     receives = λ s e q inv holds heard asks. acts-same cut side (system_of (s tt)) holds;
     delivers = λ s p e q inv holds own heard asks.
         let accept = accept_in (s tt) q in
-        let to = side-own cut side q heard.1 (s tt) Put (spans accept.at (min inv.length accept.bound)) holds in
         let from = (sent_side (s tt) p inv).pieces in
         let onto = (received_side (s tt) q inv.length).pieces in
-        acts-delivered_part cut side p own e q heard.0 heard.1 inv (s tt) from onto (to.pieces refl) holds;
+        acts-delivered_part cut side p own e q inv (s tt) heard holds from onto (received-reached cut side (s tt) e q (spans accept.at (min inv.length accept.bound)) heard holds);
     memory = λ s p inv cap holds own asks may memory. leaves-memory_op cut side p own (s tt) inv cap may holds;
     control = λ s p inv cap holds own asks may. leaves-control_op cut side p own (s tt) inv cap may holds;
   }

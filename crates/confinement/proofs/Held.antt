@@ -13,7 +13,7 @@ use Rattle.cap_format.specs.Capability.{Capability, null, with_guard}
 use Rattle.cap_format.specs.Weakening.{reduced, weakened_kind, weakened, harmless_kind, is_harmless}
 use Rattle.operations.specs.Weak.{read_through}
 use Rattle.confinement.specs.declared.cut_side.CutSide.{CutSide}
-use Rattle.confinement.specs.Cut.{Cut, side_of, NamesOwn, MayCross, MayHold}
+use Rattle.confinement.specs.Cut.{Cut, side_of, NamesOwn, MayCross, MayCall, MayHold}
 
 -- ---- restrictions
 
@@ -74,9 +74,14 @@ is_special KernLog = true
 is_special SysCtl = true
 is_special _ = false
 
+-- an entry
+abbrev pub is_entry : CapKind → Bool
+is_entry Entry = true
+is_entry _ = false
+
 module _ (cut : Cut) (side : CutSide) where
   -- what is of no such kind may be held where what it names is of this side, or it may cross
-  pub may-plain : (c : Capability) → is_special c.kind ≡ false → NamesOwn cut side c ⊎ MayCross cut side c → MayHold cut side c
+  pub may-plain : (c : Capability) → is_special c.kind ≡ false → NamesOwn cut side c ⊎ (MayCross cut side c ⊎ MayCall cut side c) → MayHold cut side c
   may-plain c plain own = record {
     no_range = λ h. let bad = sym (ap is_special h) ∙ plain in cc;
     halting = λ h. let bad = sym (ap is_special h) ∙ plain in absurd (cc (bad));
@@ -102,7 +107,11 @@ module _ (cut : Cut) (side : CutSide) where
     no_range = m.no_range;
     halting = m.halting;
     logging = m.logging;
-    own = elim m.own [ inl own ↦ inl own | inr cross ↦ inr (cross.0, harmless_more c.kind c.restr more cross.1) ];
+    own = elim m.own [
+      | inl own ↦ inl own
+      | inr (inl cross) ↦ inr (inl (cross.0, harmless_more c.kind c.restr more cross.1))
+      | inr (inr call) ↦ inr (inr call)
+    ];
   }
 
   -- and with another guard
@@ -132,7 +141,7 @@ module _ (cut : Cut) (side : CutSide) where
 
   -- what is weakened may be held by each side, where what is harmless may cross
   pub may-cross_weakened : (c : Capability) → cut.weakly side ≡ true → MayHold cut side (weakened c)
-  may-cross_weakened c weakly = may-plain (weakened c) (weak-plain c.kind c refl) (inr (weakly, is_harmless-weakened c))
+  may-cross_weakened c weakly = may-plain (weakened c) (weak-plain c.kind c refl) (inr (inl (weakly, is_harmless-weakened c)))
 
   through : (c : Capability) (b : Bool) → MayHold cut side c → MayHold cut side (if b then weakened c else c)
   through c true m = may-weakened_kind c.kind c refl m
@@ -149,37 +158,46 @@ module _ (cut : Cut) (side : CutSide) where
 
   -- ---- whose objects a side's capabilities name
 
-  -- a capability of a kind that is not harmless names an object of the side that holds it
-  pub side_named : (c : Capability) (k : CapKind) → c.kind ≡ k → is_counted k ≡ true → harmless_kind k c.restr ≡ false → MayHold cut side c
+  -- a capability of a kind that is not harmless names an object of the side that holds it, or it is an entry by which that calls
+  pub side_or_call : (c : Capability) (k : CapKind) → c.kind ≡ k → is_counted k ≡ true → harmless_kind k c.restr ≡ false → MayHold cut side c
+      → (side_of cut (object_kind k) c.object ≡ side) ⊎ MayCall cut side c
+  side_or_call c k e counted harm m = elim m.own [
+    | inl own ↦ inl (subst (λ (j : CapKind). side_of cut (object_kind j) c.object ≡ side) e (own (ap (λ (j : CapKind). is_counted j) e ∙ counted)))
+    | inr (inl cross) ↦ let h = sym cross.1 ∙ (ap (λ (j : CapKind). harmless_kind j c.restr) e ∙ harm) in absurd (cc (h))
+    | inr (inr call) ↦ inr call
+  ]
+
+  -- where it is no entry it names one
+  pub side_named : (c : Capability) (k : CapKind) → c.kind ≡ k → is_entry k ≡ false → is_counted k ≡ true → harmless_kind k c.restr ≡ false → MayHold cut side c
       → side_of cut (object_kind k) c.object ≡ side
-  side_named c k e counted harm m = elim m.own [
-    | inl own ↦ subst (λ (j : CapKind). side_of cut (object_kind j) c.object ≡ side) e (own (ap (λ (j : CapKind). is_counted j) e ∙ counted))
-    | inr cross ↦ let h = sym cross.1 ∙ (ap (λ (j : CapKind). harmless_kind j c.restr) e ∙ harm) in absurd (cc (h))
+  side_named c k e other counted harm m = elim (side_or_call c k e counted harm m) [
+    | inl own ↦ own
+    | inr call ↦ let h = sym other ∙ (ap is_entry (sym e) ∙ ap is_entry call.0) in absurd (cc (h))
   ]
 
   -- a page that may be written
   pub side-page : (c : Capability) → c.kind ≡ Page → has c.restr 1 ≡ false → MayHold cut side c → side_of cut Page c.object ≡ side
-  side-page c e writes m = side_named c Page e refl writes m
+  side-page c e writes m = side_named c Page e refl refl writes m
 
   -- a capability page that may be written
   pub side-cappage : (c : Capability) → c.kind ≡ CapPage → has c.restr 1 ≡ false → MayHold cut side c → side_of cut CapPage c.object ≡ side
-  side-cappage c e writes m = side_named c CapPage e refl (ap (λ b. b && has c.restr 4) writes) m
+  side-cappage c e writes m = side_named c CapPage e refl refl (ap (λ b. b && has c.restr 4) writes) m
 
   -- a GPT that may be written
   pub side-gpt : (c : Capability) → c.kind ≡ Gpt → has c.restr 1 ≡ false → MayHold cut side c → side_of cut Gpt c.object ≡ side
-  side-gpt c e writes m = side_named c Gpt e refl (ap (λ b. b && has c.restr 4 && has c.restr 16) writes) m
+  side-gpt c e writes m = side_named c Gpt e refl refl (ap (λ b. b && has c.restr 4 && has c.restr 16) writes) m
 
-  -- a process, an endpoint, and the endpoint of an entry
+  -- a process
   pub side-process : (c : Capability) → c.kind ≡ Process → MayHold cut side c → side_of cut Process c.object ≡ side
-  side-process c e m = side_named c Process e refl refl m
+  side-process c e m = side_named c Process e refl refl refl m
 
   -- an endpoint
   pub side-endpoint : (c : Capability) → c.kind ≡ Endpoint → MayHold cut side c → side_of cut Endpoint c.object ≡ side
-  side-endpoint c e m = side_named c Endpoint e refl refl m
+  side-endpoint c e m = side_named c Endpoint e refl refl refl m
 
-  -- the endpoint of an entry
-  pub side-entry : (c : Capability) → c.kind ≡ Entry → MayHold cut side c → side_of cut Endpoint c.object ≡ side
-  side-entry c e m = side_named c Entry e refl refl m
+  -- the endpoint of an entry, or it is one that is called
+  pub side-entry : (c : Capability) → c.kind ≡ Entry → MayHold cut side c → (side_of cut Endpoint c.object ≡ side) ⊎ (cut.calls side c.object ≡ true)
+  side-entry c e m = elim (side_or_call c Entry e refl refl m) [ inl own ↦ inl own | inr call ↦ inr call.1 ]
 
   -- the side's own read, or one through WK
   pub may-read : (holder : CutSide) (restr : ℕ) (c : Capability) → (holder ≡ side → MayHold cut side c) → (holder ≡ side) ⊎ ((cut.weakly side ≡ true) × (has restr 4 ≡ true)) → MayHold cut side (read_through restr c)

@@ -11,6 +11,7 @@ pub mod Operating
 pub mod Machine
 pub mod Messaging
 pub mod Events
+pub mod Plain
 pub mod Runs
 pub mod OneSide
 pub mod Bounding

@@ -1,8 +1,8 @@
--- What a process of one side makes of a state by one change, one access or one message stays on its side.
+-- What a process of one side makes of a state by one change, one access or one message stays on its side, but for who is told.
 use Rattle.std.proofs.Common.{◌≡◌, ℕ, ◌⊎◌, inl, inr, true, false, List, [], ◌∷◌, length, get_or, take, drop, Option, Some, Result, Ok, Err, sym, ◌∙◌, ap, subst}
 use Rattle.cap_format.specs.declared.fault.FaultCode.{FaultCode}
 use Rattle.cap_format.specs.declared.kind.CapKind.{CapKind}
-use Rattle.cap_format.specs.declared.kind.CapKind.TheVariants.{Page, CapPage, Endpoint, Process}
+use Rattle.cap_format.specs.declared.kind.CapKind.TheVariants.{Page, CapPage, Process}
 use Rattle.cap_format.specs.Restr.{has}
 use Rattle.cap_format.specs.Capability.{Capability, null}
 use Rattle.page_store.specs.Page.{with_bytes}
@@ -33,13 +33,13 @@ use Rattle.machine_state.specs.CapAccess.{cap_found, cap_stored, slot_in}
 use Rattle.machine_state.specs.Operation.{changed_by}
 use Rattle.confinement.specs.declared.cut_side.CutSide.{CutSide}
 use Rattle.confinement.specs.Cut.{Cut, side_of, MayHold, HoldsFor}
-use Rattle.confinement.specs.Acts.{Acts, ProcessHeld, AllPermitted, MayHoldIf, system_of}
+use Rattle.confinement.specs.Acts.{others_in, Filled, Acts, ProcessHeld, AllPermitted, MayHoldIf, Hears, MayAwait, system_of}
 use Rattle.confinement.specs.Reach.{ReadsWeakly, Reaches, Ends}
 use Rattle.confinement.proofs.Own.{AllMayHold}
 use Rattle.confinement.proofs.Held.{may-read}
 use Rattle.confinement.proofs.Placing.{places-dispatched}
-use Rattle.confinement.proofs.Sleeping.{each_set, apart-dispatched, sleepers-dispatched}
-use Rattle.confinement.proofs.Acting.{acts-same, acts-then, acts-process, acts-page, acts-cappage, acts-left, acts-readied, acts-queues, held-process}
+use Rattle.confinement.proofs.Sleeping.{each_set, sleepers-dispatched, asleep-same}
+use Rattle.confinement.proofs.Acting.{acts-same, moves-then, acts-then, acts-process, acts-page, moves-page, acts-cappage, acts-left, acts-readied, acts-queues, held-process}
 use Rattle.confinement.proofs.Walks.{access_ends}
 use Rattle.confinement.proofs.Delivering.{held-capreg, acts-told, acts-waiting, acts-listening, acts-fault}
 use Rattle.confinement.proofs.Operating.{acts-applied_all}
@@ -97,7 +97,7 @@ module _ (cut : Cut) (side : CutSide) where
     unfolding fault_state
     acts-fault_state s code address handler may holds = acts-fault cut side Meant (system_of s) p code address handler own may holds
 
-    pub acts-waiting_state : (s : State) (q : ℕ) → side_of cut Process q ≡ side → HoldsFor cut side (system_of s) → Acts cut side (system_of s) (system_of (waiting_state s p q))
+    pub acts-waiting_state : (s : State) (q : ℕ) → MayAwait cut side q → HoldsFor cut side (system_of s) → Acts cut side (system_of s) (system_of (waiting_state s p q))
     unfolding waiting_state
     acts-waiting_state s q on holds = acts-waiting cut side (system_of s) p q own on holds
 
@@ -111,10 +111,11 @@ module _ (cut : Cut) (side : CutSide) where
     pub ends-here : (s : State) (kind : Kind) (address : ℕ) → HoldsFor cut side (system_of s) → Ends cut side kind (access s.store.items (space_of s p) address kind)
     ends-here s kind address holds = access_ends cut side s.store.items holds.each.slots kind (space_of s p) address (may-space s holds)
 
-  pub acts-told_state : (s : State) (e q : ℕ) (message : Message) → side_of cut Endpoint e ≡ side → side_of cut Process q ≡ side → AllMayHold cut side message.caps → HoldsFor cut side (system_of s)
-      → Acts cut side (system_of s) (system_of (told_state s e q message))
+  -- a message to one who takes it in state `b`, from which this side came to state `s`
+  pub acts-told_state : (b s : State) (e q : ℕ) (message : Message) → Hears cut side b.store e q → (HoldsFor cut side (system_of s) → AllMayHold cut side message.caps) → HoldsFor cut side (system_of b)
+      → Acts cut side (system_of b) (system_of s) → Acts cut side (system_of b) (system_of (told_state s e q message))
   unfolding told_state
-  acts-told_state s e q message endpoint process all holds = acts-told cut side Meant (system_of s) e q message endpoint process all holds
+  acts-told_state b s e q message hears all holds first = acts-told cut side Meant (system_of b) (system_of s) e q message hears all holds first
 
   pub acts-changed_by : (s : State) (changes : List Change) → AllPermitted cut side changes → HoldsFor cut side (system_of s) → Acts cut side (system_of s) (system_of (changed_by s changes))
   acts-changed_by s changes all holds = acts-applied_all cut side Meant (system_of s) changes all holds
@@ -167,24 +168,36 @@ module _ (cut : Cut) (side : CutSide) where
   PiecesOwn [] = Unit {0}
   PiecesOwn (piece ∷ pieces) = (side_of cut Page piece.page ≡ side) × PiecesOwn pieces
 
-  acts-scattered : (w : System) (pieces : List Piece) (bytes : List ℕ) → PiecesOwn pieces → HoldsFor cut side w → Acts cut side w (with_store w (scattered w.store pieces bytes))
-  unfolding scattered
-  acts-scattered w [] bytes own holds = acts-same cut side w holds
-  acts-scattered w (piece ∷ pieces) bytes own holds =
-      let v = with_store w (with_piece w.store piece (take piece.len bytes)) in
-      acts-then cut side w v (with_store v (scattered v.store pieces (drop piece.len bytes)))
-      (acts-page cut side w piece.page (with_bytes (page_at w.store piece.page) piece.at (take piece.len bytes)) own.0 holds)
-      (λ h. acts-scattered v pieces (drop piece.len bytes) own.1 h)
+  -- and pieces of pages of this side, or where one who is told takes a string
+  abbrev pub PiecesReached : System → List Piece → Type 0
+  PiecesReached base [] = Unit {0}
+  PiecesReached base (piece ∷ pieces) = ((side_of cut Page piece.page ≡ side) ⊎ Filled cut side base piece.page) × PiecesReached base pieces
 
-  -- bytes are moved to pages of this side
-  pub acts-copied : (s : State) (from to : List Piece) → PiecesOwn to → HoldsFor cut side (system_of s) → Acts cut side (system_of s) (system_of (set_store s (copied s.store from to)))
+  pub own-reached : (base : System) (pieces : List Piece) → PiecesOwn pieces → PiecesReached base pieces
+  own-reached base [] own = tt
+  own-reached base (piece ∷ pieces) own = (inl own.0, own-reached base pieces own.1)
+
+  acts-scattered : (base w : System) (pieces : List Piece) (bytes : List ℕ) → PiecesReached base pieces → Acts cut side base w → Acts cut side base (with_store w (scattered w.store pieces bytes))
+  unfolding scattered
+  acts-scattered base w [] bytes reached first = first
+  acts-scattered base w (piece ∷ pieces) bytes reached first =
+      let v = with_store w (with_piece w.store piece (take piece.len bytes)) in
+      let page = with_bytes (page_at w.store piece.page) piece.at (take piece.len bytes) in
+      acts-scattered base v pieces (drop piece.len bytes) reached.1 (elim reached.0 [
+        | inl own ↦ acts-then cut side base w v first (λ h. acts-page cut side w piece.page page own h)
+        | inr filled ↦ moves-then cut side base base w v first (λ h. moves-page cut side base w piece.page page filled h)
+      ])
+
+  -- bytes are moved to such pieces
+  pub acts-copied : (s : State) (from to : List Piece) → PiecesReached (system_of s) to → HoldsFor cut side (system_of s) → Acts cut side (system_of s) (system_of (set_store s (copied s.store from to)))
   unfolding copied
-  acts-copied s from to own holds = acts-scattered (system_of s) to (take (size_of_pieces to) (gathered s.store from)) own holds
+  acts-copied s from to reached holds =
+      acts-scattered (system_of s) (system_of s) to (take (size_of_pieces to) (gathered s.store from)) reached (acts-same cut side (system_of s) holds)
 
 -- a hart takes a process of this side: nobody sleeps elsewhere, and the others stand where they stood
 pub acts-dispatch : (cut : Cut) (side : CutSide) (s : State) (hart p : ℕ) → side_of cut Process p ≡ side → hart_of (dispatch s hart).queues hart ≡ Some p → HoldsFor cut side (system_of s)
     → Acts cut side (system_of s) (system_of (dispatch s hart))
 acts-dispatch cut side s hart p own performs holds =
     let same = sleepers-dispatched s.queues hart in
-    acts-queues cut side (system_of s) (dispatched s.queues hart) (apart-dispatched cut s.queues hart holds.sleepers)
-    (λ n other. ap (λ (xs : List (List ℕ)). get_or xs n []) (sym same)) (places-dispatched cut side s.queues hart p own performs) (ap (λ (xs : List (List ℕ)). length xs) (sym same)) holds
+    acts-queues cut side (system_of s) (dispatched s.queues hart) (λ on x there. inl (asleep-same s.queues (dispatched s.queues hart) same on x there))
+    (λ on other. ap (λ (xs : List (List ℕ)). others_in cut side (get_or xs on [])) (sym same)) (places-dispatched cut side s.queues hart p own performs) (ap (λ (xs : List (List ℕ)). length xs) (sym same)) holds

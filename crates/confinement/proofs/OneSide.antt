@@ -3,16 +3,15 @@
 use Rattle.std.proofs.Common.{◌≡◌, ◌≢◌, ℕ, ◌⊎◌, inl, inr, Bool, true, false, refl, sym, ap, subst}
 use Rattle.std.proofs.lemmas.Bool.{cases_Bool, or_cases, or_left, or_right}
 use Rattle.cap_format.specs.declared.kind.CapKind.{CapKind}
-use Rattle.cap_format.specs.declared.kind.CapKind.TheVariants.{Page, Process}
+use Rattle.cap_format.specs.declared.kind.CapKind.TheVariants.{Page}
 use Rattle.cap_format.specs.Kind.{is_counted, object_kind}
 use Rattle.cap_format.specs.Capability.{Capability}
 use Rattle.cap_format.specs.Weakening.{is_harmless}
-use Rattle.schedules.specs.Queues.{sleepers_of}
 use Rattle.operations.specs.System.{System}
 use Rattle.confinement.specs.declared.cut_side.CutSide.{CutSide}
 use Rattle.confinement.specs.declared.cut_side.CutSide.TheVariants.{Left, Right}
-use Rattle.confinement.specs.Cut.{Cut, side_of, same_side, NamesOwn, MayCross, MayHold, HoldsFor}
-use Rattle.confinement.proofs.Sleeping.{each_on, on_each}
+use Rattle.confinement.specs.Cut.{Cut, no_realm, IsClosed, same_side, NamesOwn, MayCross, MayCall, MayHold, HoldsFor}
+use Rattle.confinement.proofs.Own.{own-sleep, none-beyond}
 use Rattle.confinement.specs.authority.Authority.{Authority, NamesWithin, Grants, IsBounded}
 use Rattle.confinement.specs.authority.Within.{may_change}
 
@@ -48,7 +47,19 @@ page-kind _ e = absurd (cc (e))
 module _ (a : Authority) where
   -- the cut between what may change and all else
   abbrev pub cut_of : Cut
-  cut_of = record { side = λ kind n. side_if (may_change a kind n); weakly = λ side. a.looks; halts = λ side. a.halts; logs = λ side. a.logs }
+  cut_of = record {
+    side = λ kind n. side_if (may_change a kind n);
+    weakly = λ side. a.looks;
+    halts = λ side. a.halts;
+    logs = λ side. a.logs;
+    calls = λ side e. false;
+    hears = λ side q. false;
+    realm = λ q. no_realm;
+  }
+
+  -- over which nobody calls
+  pub is-closed : IsClosed cut_of
+  is-closed = record { calls = λ side e. refl; hears = λ side q. refl }
 
   -- an object of the set may change
   pub changes-own : (kind : CapKind) (n : ℕ) → a.objects kind n ≡ true → may_change a kind n ≡ true
@@ -62,29 +73,30 @@ module _ (a : Authority) where
 
   -- ---- one capability
 
-  grants-own : (c : Capability) → NamesWithin a c → NamesOwn cut_of Left c ⊎ MayCross cut_of Left c
+  grants-own : (c : Capability) → NamesWithin a c → NamesOwn cut_of Left c ⊎ (MayCross cut_of Left c ⊎ MayCall cut_of Left c)
   grants-own c named = by (cases_Bool (is_counted c.kind))
     where
       changes : (a.objects (object_kind c.kind) c.object ≡ true) ⊎ (((a.looks ≡ true) × (is_harmless c ≡ true)) ⊎ ((c.kind ≡ Page) × (a.pages c.object ≡ true)))
-          → NamesOwn cut_of Left c ⊎ MayCross cut_of Left c
+          → NamesOwn cut_of Left c ⊎ (MayCross cut_of Left c ⊎ MayCall cut_of Left c)
       changes (inl own) = inl (λ e. ap side_if (changes-own (object_kind c.kind) c.object own))
-      changes (inr (inl harmless)) = inr harmless
+      changes (inr (inl harmless)) = inr (inl harmless)
       changes (inr (inr page)) = inl (λ e.
           ap side_if (subst (λ (k : CapKind). may_change a (object_kind k) c.object ≡ true) (sym page.0) (or_right (a.objects Page c.object) (a.pages c.object) page.1)))
 
-      by : (is_counted c.kind ≡ true) ⊎ (is_counted c.kind ≡ false) → NamesOwn cut_of Left c ⊎ MayCross cut_of Left c
+      by : (is_counted c.kind ≡ true) ⊎ (is_counted c.kind ≡ false) → NamesOwn cut_of Left c ⊎ (MayCross cut_of Left c ⊎ MayCall cut_of Left c)
       by (inl counted) = changes (named counted)
       by (inr free) = inl (λ e. absurd (cc (free, e)))
 
   grants-may : (c : Capability) → Grants a c → MayHold cut_of Left c
   grants-may c grants = record { no_range = grants.no_range; halting = grants.halting; logging = grants.logging; own = grants-own c grants.named }
 
-  own-named : (c : Capability) → NamesOwn cut_of Left c ⊎ MayCross cut_of Left c → NamesWithin a c
+  own-named : (c : Capability) → NamesOwn cut_of Left c ⊎ (MayCross cut_of Left c ⊎ MayCall cut_of Left c) → NamesWithin a c
   own-named c (inl own) counted = elim (changed-by (object_kind c.kind) c.object (is-left _ (own counted))) [
     | inl here ↦ inl here
     | inr page ↦ inr (inr (page-kind c.kind page.0, page.1))
   ]
-  own-named c (inr cross) counted = inr (inl cross)
+  own-named c (inr (inl cross)) counted = inr (inl cross)
+  own-named c (inr (inr call)) counted = let none = call.1 in absurd (cc (none))
 
   may-grants : (c : Capability) → MayHold cut_of Left c → Grants a c
   may-grants c may = record { no_range = may.no_range; halting = may.halting; logging = may.logging; named = own-named c may.own }
@@ -100,7 +112,8 @@ module _ (a : Authority) where
       process_slots = λ p i own. grants-may _ (each.process_slots p i (is-left _ own));
       recipients = λ e own. grants-may _ (each.recipients e (is-left _ own));
     };
-    sleepers = λ on. each_on cut_of (side_of cut_of Process on) (sleepers_of w.queues on) (λ p there. ap side_if (bounded.sleepers on p there));
+    sleepers = λ on p there. inl (ap side_if (bounded.sleepers on p there));
+    beyond = none-beyond cut_of is-closed Left w.store;
   }
 
   pub holds-bounded : (w : System) → HoldsFor cut_of Left w → IsBounded a w
@@ -112,5 +125,5 @@ module _ (a : Authority) where
       process_slots = λ p i own. may-grants _ (each.process_slots p i (ap side_if own));
       recipients = λ e own. may-grants _ (each.recipients e (ap side_if own));
     };
-    sleepers = λ on p there. one-side _ _ (on_each cut_of (side_of cut_of Process on) (sleepers_of w.queues on) (holds.sleepers on) p there);
+    sleepers = λ on p there. one-side _ _ (own-sleep cut_of is-closed p on (holds.sleepers on p there));
   }

@@ -31,7 +31,7 @@ use Rattle.operations.proofs.Settled.{◌▸◌, EachRow, by_rows}
 use Rattle.confinement.specs.declared.cut_side.CutSide.{CutSide}
 use Rattle.confinement.specs.Cut.{Cut, side_of, MayHold, EachHeldBy, HoldsFor}
 use Rattle.confinement.specs.Acts.{Acts, ProcessHeld, Permitted, AllPermitted, AnswerPermitted}
-use Rattle.confinement.proofs.Held.{may-null, may-uncounted, may-own, may-reduced, may-with_guard, may-read, side-page, side-cappage, side-gpt, side-process, side-endpoint}
+use Rattle.confinement.proofs.Held.{is_entry, may-null, may-uncounted, may-own, may-reduced, may-with_guard, may-read, side-page, side-cappage, side-gpt, side-process, side-endpoint}
 use Rattle.confinement.proofs.Sleeping.{each_set}
 use Rattle.confinement.proofs.Acting.{acts-same, acts-then, acts-process, acts-page, acts-cappage, acts-slot, acts-header, acts-endpoint, acts-left, acts-readied, acts-woken}
 use Rattle.confinement.proofs.Delivering.{held-state, held-capreg, held-slot}
@@ -163,11 +163,12 @@ module _ (cut : Cut) (side : CutSide) where
     clear_cappage-may k access = does-may (CapPageIs c.object empty_cappage) (side-cappage cut side c k access may, empty-held)
 
     -- the object is of this side, or what is read of it is weak
-    reads-weak : (k : CapKind) → c.kind ≡ k → is_counted k ≡ true → (harmless_kind k c.restr ≡ true → has c.restr 4 ≡ true)
+    reads-weak : (k : CapKind) → c.kind ≡ k → is_entry k ≡ false → is_counted k ≡ true → (harmless_kind k c.restr ≡ true → has c.restr 4 ≡ true)
         → (side_of cut (object_kind k) c.object ≡ side) ⊎ ((cut.weakly side ≡ true) × (has c.restr 4 ≡ true))
-    reads-weak k e counted weak = elim may.own [
+    reads-weak k e other counted weak = elim may.own [
       | inl own ↦ inl (subst (λ (j : CapKind). side_of cut (object_kind j) c.object ≡ side) e (own (ap (λ (j : CapKind). is_counted j) e ∙ counted)))
-      | inr cross ↦ inr (cross.0, weak (sym (ap (λ (j : CapKind). harmless_kind j c.restr) e) ∙ cross.1))
+      | inr (inr call) ↦ let entry = sym (ap is_entry e) ∙ ap is_entry call.0 in absurd (cc (entry, other))
+      | inr (inl cross) ↦ inr (cross.0, weak (sym (ap (λ (j : CapKind). harmless_kind j c.restr) e) ∙ cross.1))
     ]
 
     get-may : c.kind ≡ CapPage → RowMay (memory.get_row s c r)
@@ -175,7 +176,7 @@ module _ (cut : Cut) (side : CutSide) where
     get-may k access =
         let found = cap_at (cappage_at s c.object) (w2 r) in
         gives-may (read_through c.restr found)
-        (may-read cut side (side_of cut CapPage c.object) c.restr found (held.cappages (w2 r)) (reads-weak CapPage k refl (λ h. let p = and_parts _ _ h in p.1)))
+        (may-read cut side (side_of cut CapPage c.object) c.restr found (held.cappages (w2 r)) (reads-weak CapPage k refl refl (λ h. let p = and_parts _ _ h in p.1)))
 
     set-may : c.kind ≡ CapPage → RowMay (memory.set_row s c r)
     unfolding memory.set_row
@@ -189,7 +190,7 @@ module _ (cut : Cut) (side : CutSide) where
     getslot-may k access =
         let found = slot_at s.items c.object (w2 r) in
         gives-may (read_through c.restr found)
-        (may-read cut side (side_of cut Gpt c.object) c.restr found (held.slots (w2 r)) (reads-weak Gpt k refl (λ h. let p = and_parts _ _ h in let q = and_parts _ _ p.0 in q.1)))
+        (may-read cut side (side_of cut Gpt c.object) c.restr found (held.slots (w2 r)) (reads-weak Gpt k refl refl (λ h. let p = and_parts _ _ h in let q = and_parts _ _ p.0 in q.1)))
 
     setslot-may : c.kind ≡ Gpt → RowMay (memory.setslot_row c r)
     unfolding memory.setslot_row

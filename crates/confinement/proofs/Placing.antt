@@ -1,6 +1,6 @@
 -- Where processes of the other side stand: what a process of this side does leaves their order in the ready queues, and the
 -- harts that they are on.
-use Rattle.std.proofs.Common.{◌≡◌, ◌≢◌, ℕ, ◌<◌, zero, suc, inl, inr, Bool, true, false, ◌==◌, not, cond, if◌then◌else◌, List, [], ◌∷◌, ◌++◌, map, length, slice_index_or, Option, Some, None, refl, sym, ◌∙◌, ap, arith, eqb-true, length-set}
+use Rattle.std.proofs.Common.{◌≡◌, ◌≢◌, ℕ, ◌<◌, zero, suc, inl, inr, Bool, true, false, ◌==◌, not, cond, if◌then◌else◌, List, [], ◌∷◌, ◌++◌, map, length, slice_index_or, Option, Some, None, refl, sym, ◌∙◌, ap, arith, eqb-true, length-set, append-nil, append_assoc}
 use Rattle.std.proofs.Math.ListN.{get_or-map}
 use Rattle.std.proofs.lemmas.List.{get_or-set_same}
 use Rattle.cap_format.specs.declared.kind.CapKind.{CapKind}
@@ -10,8 +10,9 @@ use Rattle.schedules.specs.Queues.{QueuesValue, priorities, ready_queue, first_o
 use Rattle.schedules.specs.Ready.{readied_queues}
 use Rattle.confinement.specs.declared.cut_side.CutSide.{CutSide}
 use Rattle.confinement.specs.Cut.{Cut, side_of, same_side}
-use Rattle.confinement.specs.Acts.{others_in, other_on, SparesPlaces}
-use Rattle.confinement.proofs.Sides.{same_side-true}
+use Rattle.operations.specs.System.{System}
+use Rattle.confinement.specs.Acts.{others_in, other_on, SparesPlaces, Met, AllMet, Joins}
+use Rattle.confinement.proofs.Sides.{same_side-true, same_side-false}
 use Rattle.confinement.proofs.Sleeping.{each_set}
 
 -- ---- harts
@@ -80,12 +81,12 @@ module _ (cut : Cut) (side : CutSide) where
   others-first p ps own = ap (λ (b : Bool). cond (not b) (p ∷ others_in cut side ps) (others_in cut side ps)) (is-own p own)
 
   -- and at the end
-  others-last : (p : ℕ) (ps : List ℕ) → side_of cut Process p ≡ side → others_in cut side ps ≡ others_in cut side (ps ++ p ∷ [])
+  pub others-last : (p : ℕ) (ps : List ℕ) → side_of cut Process p ≡ side → others_in cut side ps ≡ others_in cut side (ps ++ p ∷ [])
   others-last p [] own = sym (others-first p [] own)
   others-last p (x ∷ xs) own = ap (λ (ys : List ℕ). cond (not (same_side (side_of cut Process x) side)) (x ∷ ys) ys) (others-last p xs own)
 
   -- they stay where he leaves
-  others-without : (p : ℕ) (ps : List ℕ) → side_of cut Process p ≡ side → others_in cut side ps ≡ others_in cut side (without p ps)
+  pub others-without : (p : ℕ) (ps : List ℕ) → side_of cut Process p ≡ side → others_in cut side ps ≡ others_in cut side (without p ps)
   others-without p [] own = refl
   others-without p (x ∷ xs) own = by (x == p) refl (others-without p xs own)
     where
@@ -161,3 +162,45 @@ module _ (cut : Cut) (side : CutSide) where
       on : (h : Option ℕ) → hart_of q hart ≡ h → hart_of (dispatched_by q hart h) hart ≡ Some p → SparesPlaces cut side q (dispatched_by q hart h)
       on None e is = taken e (highest_below q.ready priorities) is
       on (Some x) e is = places-same q
+
+-- ---- others that may be made ready
+
+module _ (cut : Cut) (side : CutSide) (base : System) where
+  -- nobody joins
+  pub joins-none : (ps qs : List ℕ) → ps ≡ qs → Joins cut side base ps qs
+  joins-none ps qs same = record { joined = []; order = append-nil ps ∙ same; met = tt }
+
+  all_met-then : (ps qs : List ℕ) → AllMet cut side base ps → AllMet cut side base qs → AllMet cut side base (ps ++ qs)
+  all_met-then [] qs first second = second
+  all_met-then (p ∷ ps) qs first second = (first.0, all_met-then ps qs first.1 second)
+
+  -- some join after others
+  pub joins-then : (ps qs rs : List ℕ) → Joins cut side base ps qs → Joins cut side base qs rs → Joins cut side base ps rs
+  joins-then ps qs rs first second = record {
+    joined = first.joined ++ second.joined;
+    order = sym (append_assoc ps first.joined second.joined) ∙ (ap (λ (xs : List ℕ). xs ++ second.joined) first.order ∙ second.order);
+    met = all_met-then first.joined second.joined first.met second.met;
+  }
+
+  -- one that isn't of this side joins
+  others-joined : (p : ℕ) (ps : List ℕ) → side_of cut Process p ≢ side → others_in cut side ps ++ p ∷ [] ≡ others_in cut side (ps ++ p ∷ [])
+  others-joined p [] other = ap (λ (b : Bool). cond (not b) (p ∷ []) []) (sym (same_side-false (side_of cut Process p) side other))
+  others-joined p (x ∷ xs) other = by (not (same_side (side_of cut Process x) side)) (others-joined p xs other)
+    where
+      by : (b : Bool) → others_in cut side xs ++ p ∷ [] ≡ others_in cut side (xs ++ p ∷ [])
+          → cond b (x ∷ others_in cut side xs) (others_in cut side xs) ++ p ∷ [] ≡ cond b (x ∷ others_in cut side (xs ++ p ∷ [])) (others_in cut side (xs ++ p ∷ []))
+      by true rest = ap (λ (ys : List ℕ). x ∷ ys) rest
+      by false rest = rest
+
+  -- one that may be made ready is
+  pub ready-readied : (k : CapKind) (priority : ℕ) (q : QueuesValue) (p : ℕ) → side_of cut Process p ≢ side → Met cut side base p → (j : ℕ)
+      → Joins cut side base (others_in cut side (ready_queue q j)) (others_in cut side (ready_queue (readied_queues k priority q p) j))
+  ready-readied Schedule priority q p other met j =
+      each_set (λ j (ps : List ℕ). Joins cut side base (others_in cut side (ready_queue q j)) (others_in cut side ps)) q.ready priority (ready_queue q priority ++ p ∷ []) []
+      (record { joined = p ∷ []; order = others-joined p (ready_queue q priority) other; met = (met, tt) }) (λ j. joins-none _ _ refl) j
+  ready-readied _ priority q p other met j = joins-none _ _ refl
+
+-- the harts are as they were where one is made ready
+pub harts-readied : (k : CapKind) (priority : ℕ) (q : QueuesValue) (p : ℕ) → (readied_queues k priority q p).harts ≡ q.harts
+harts-readied Schedule priority q p = refl
+harts-readied _ priority q p = refl

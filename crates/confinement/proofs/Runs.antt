@@ -1,5 +1,5 @@
 -- Events and runs: by induction on the events before.
-use Rattle.std.proofs.Common.{◌≡◌, ◌≢◌, ℕ, ◌<◌, Bool, true, false, if◌then◌else◌, List, [], ◌∷◌, length, get_or, Option, Some, None, refl, sym, ◌∙◌, ap, subst}
+use Rattle.std.proofs.Common.{◌≡◌, ◌≢◌, ℕ, ◌<◌, inl, Bool, true, false, if◌then◌else◌, List, [], ◌∷◌, length, get_or, Option, Some, None, refl, sym, ◌∙◌, ap, subst}
 use Rattle.cap_format.specs.declared.kind.CapKind.{CapKind}
 use Rattle.cap_format.specs.declared.kind.CapKind.TheVariants.{CapPage, Gpt, Endpoint, Process}
 use Rattle.cap_format.specs.Capability.{Capability}
@@ -15,16 +15,19 @@ use Rattle.machine_state.specs.Machine.{hart_in}
 use Rattle.machine_state.specs.State.{State}
 use Rattle.machine_state.specs.Setters.{dispatch}
 use Rattle.machine_state.specs.Outcome.{done}
-use Rattle.schedules.specs.Queues.{hart_of}
+use Rattle.schedules.specs.Queues.{sleepers_of, hart_of}
 use Rattle.kernel_core.specs.Event.{instruction, stepped, tick_of, performer_by, performer, event_by, event_of}
 use Rattle.kernel_core.specs.Run.{run_state}
 use Rattle.confinement.specs.declared.cut_side.CutSide.{CutSide}
 use Rattle.confinement.specs.Cut.{Cut, side_of, same_side, MayHold, EachMayHold, AllOn, Holds, HoldsFor}
-use Rattle.confinement.specs.Acts.{Spares, SparesSleepers, SparesPlaces, Acts, system_of}
+use Rattle.confinement.specs.Acts.{Spares, SparesSleepers, SparesPlaces, KeepsApart, Acts, system_of}
+use Rattle.confinement.specs.Laws.{ReachLaw}
 use Rattle.confinement.specs.Separation.{Kept, Separation}
 use Rattle.confinement.proofs.Sides.{same_side-tells, same_side-not}
 use Rattle.confinement.proofs.Placing.{dispatched-none, harts-dispatched}
-use Rattle.confinement.proofs.Sleeping.{sleepers-dispatched}
+use Rattle.confinement.proofs.Own.{own-sleep, none-beyond}
+use Rattle.confinement.proofs.Plain.{plain_law}
+use Rattle.confinement.proofs.Sleeping.{sleepers-dispatched, each_on, on_each}
 use Rattle.confinement.proofs.Machine.{acts-next, acts-ticked, acts-dispatch}
 use Rattle.confinement.proofs.Events.{leaves-instruction}
 
@@ -36,7 +39,7 @@ still-by s (Step hart) none there = ap (λ (on : Option ℕ). (stepped (dispatch
 still-by s (Tick hart) none there = ap (λ (on : Option ℕ). (tick_of s on).state.queues) none
 
 -- all stand where they stood
-event_still : (s : State) (e : Event) → performer s e ≡ None → hart_in e < length s.queues.harts → (event_of s e).state.queues ≡ s.queues
+pub event_still : (s : State) (e : Event) → performer s e ≡ None → hart_in e < length s.queues.harts → (event_of s e).state.queues ≡ s.queues
 event_still s e = by s.halted
   where
     by : (b : Bool) → (if b then None else performer_by s e) ≡ None → hart_in e < length s.queues.harts → (if b then done s else event_by s e).state.queues ≡ s.queues
@@ -88,6 +91,10 @@ module _ (cut : Cut) (side : CutSide) (p : ℕ) (own : side_of cut Process p ≡
       let is = unless-halted s.halted (performer_by s e) p performs in
       subst (λ (b : Bool). Acts cut side (system_of s) (system_of (if b then done s else event_by s e).state)) (sym is.0) (acts-by s e is.1 holds)
 
+-- the law of how far a side reaches
+pub reach_law : ReachLaw
+reach_law cut side s e p own performs holds = event-acts cut side p own s e performs holds
+
 -- ---- both sides
 
 module _ (cut : Cut) where
@@ -101,7 +108,8 @@ module _ (cut : Cut) where
       process_slots = λ p i own. subst (λ b. MayHold cut b (slot_of (process_at w.store p) i)) own (each.process_slots p i);
       recipients = λ e own. subst (λ b. MayHold cut b (endpoint_at w.store e).recipient) own (each.recipients e);
     };
-    sleepers = holds.sleepers;
+    sleepers = λ on p there. inl (on_each cut (side_of cut Process on) (sleepers_of w.queues on) (holds.sleepers on) p there);
+    beyond = none-beyond cut holds.closed side w.store;
   }
 
   -- what may be held in an object: by this side as it is now, and by the other as it was
@@ -114,7 +122,7 @@ module _ (cut : Cut) where
       on false e = subst (λ v. MayHold cut (side_of cut kind n) (cap v)) (same (same_side-not _ _ e)) old
 
   -- a cut that holds does so after what one side does
-  pub holds-after : (side : CutSide) (w v : System) → Holds cut w → Acts cut side w v → Holds cut v
+  pub holds-after : (side : CutSide) (w v : System) → Holds cut w → KeepsApart cut side w v → Holds cut v
   holds-after side w v holds acts =
       let each = holds.each in
       let now = acts.holds.each in
@@ -131,13 +139,15 @@ module _ (cut : Cut) where
           recipients = λ n. each-after side Endpoint n (λ (x : EndpointValue). x.recipient) (endpoint_at w.store n) (endpoint_at v.store n)
               (now.recipients n) (λ other. let e = acts.spares Endpoint n other in cc (e)) (each.recipients n);
         };
-        sleepers = acts.holds.sleepers;
+        sleepers = λ on. each_on cut (side_of cut Process on) (sleepers_of v.queues on) (λ p there. own-sleep cut holds.closed p on (acts.holds.sleepers on p there));
+        closed = holds.closed;
       }
 
   holds-idle : (s t : State) → Holds cut (system_of s) → Idles s t → Holds cut (system_of t)
   holds-idle s t holds same = record {
     each = subst (λ (store : Store). EachMayHold cut store) (sym same.store) holds.each;
     sleepers = λ p. subst (λ (xs : List (List ℕ)). AllOn cut (side_of cut Process p) (get_or xs p [])) (sym same.sleepers) (holds.sleepers p);
+    closed = holds.closed;
   }
 
   -- ---- each event
@@ -145,7 +155,7 @@ module _ (cut : Cut) where
   -- what an event does that a process performs, or nobody
   abbrev pub Does : State → Option ℕ → State → Type 0
   Does s None t = Holds cut (system_of t) × Idles s t
-  Does s (Some p) t = Holds cut (system_of t) × Acts cut (side_of cut Process p) (system_of s) (system_of t)
+  Does s (Some p) t = Holds cut (system_of t) × KeepsApart cut (side_of cut Process p) (system_of s) (system_of t)
 
   -- each event
   pub event_does : (s : State) (e : Event) → Holds cut (system_of s) → Does s (performer s e) (event_of s e).state
@@ -155,7 +165,8 @@ module _ (cut : Cut) where
       on None is = let same = event-idle s e is in (holds-idle s (event_of s e).state holds same, same)
       on (Some p) is =
           let side = side_of cut Process p in
-          let acts = event-acts cut side p refl s e is (holds-for side (system_of s) holds) in
+          let before = holds-for side (system_of s) holds in
+          let acts = plain_law cut side (system_of s) (system_of (event_of s e).state) holds.closed before (event-acts cut side p refl s e is before) in
           (holds-after side (system_of s) (system_of (event_of s e).state) holds acts, acts)
 
   kept : (s : State) (e : Event) (t : State) (by : Option ℕ) → performer s e ≡ by → Does s by t → (performer s e ≡ None → hart_in e < length s.queues.harts → t.queues ≡ s.queues)

@@ -24,3 +24,10 @@ same_side-not Left Left e h = cc (e)
 same_side-not Left Right e h = cc (h)
 same_side-not Right Left e h = cc (h)
 same_side-not Right Right e h = cc (e)
+
+-- and it says so where they are
+pub same_side-false : (a b : CutSide) → a ≢ b → same_side a b ≡ false
+same_side-false Left Left other = absurd (other refl)
+same_side-false Left Right other = refl
+same_side-false Right Left other = refl
+same_side-false Right Right other = absurd (other refl)

@@ -1,16 +1,13 @@
--- Who sleeps on whose processes: each on one of his side, and what a process does leaves the sleepers of the other side.
-use Rattle.std.proofs.Common.{◌≡◌, ◌≢◌, ℕ, suc, inl, inr, Bool, true, false, ◌==◌, if◌then◌else◌, List, [], ◌∷◌, ◌++◌, map, length, get_or, set, Option, Some, None, refl, sym, ◌∙◌, ap, subst, eqb-true, get_or-set_other}
+-- Who sleeps on whose processes, and what becomes of it by each change of the queues.
+use Rattle.std.proofs.Common.{◌≡◌, ℕ, suc, ◌⊎◌, inl, inr, Bool, true, false, ◌==◌, if◌then◌else◌, List, [], ◌∷◌, ◌++◌, map, length, get_or, set, Option, Some, None, refl, sym, ◌∙◌, ap, subst, eqb-true}
 use Rattle.std.proofs.Math.ListN.{get_or-map}
 use Rattle.std.proofs.lemmas.Bool.{or_cases, or_left, or_right, eq-eqb}
-use Rattle.cap_format.specs.declared.kind.CapKind.{CapKind}
 use Rattle.cap_format.specs.declared.kind.CapKind.TheVariants.{Process}
 use Rattle.object_store.proofs.Lists.{get_or-set}
 use Rattle.schedules.specs.Queues.{QueuesValue, priorities, sleepers_of, without, left, asleep, highest_below, taken_from, dispatched_by, dispatched, hart_of, stands_in}
-use Rattle.schedules.specs.Ready.{readied_queues, unslept}
-use Rattle.schedules.proofs.Waking.{sleepers-readied}
+use Rattle.schedules.specs.Ready.{unslept}
 use Rattle.confinement.specs.declared.cut_side.CutSide.{CutSide}
-use Rattle.confinement.specs.Cut.{Cut, side_of, AllOn, SleepApart}
-use Rattle.confinement.specs.Acts.{SparesSleepers}
+use Rattle.confinement.specs.Cut.{Cut, side_of, AllOn}
 
 -- what holds of each element at its index holds after a write of what it holds of
 pub each_set : {A : Type 0} (P : ℕ → A → Type 0) (xs : List A) (i : ℕ) (y d : A) → P i y → ((j : ℕ) → P j (get_or xs j d)) → (j : ℕ) → P j (get_or (set xs i y) j d)
@@ -51,46 +48,57 @@ module _ (cut : Cut) where
   all_last side p [] all own = (own, tt)
   all_last side p (x ∷ xs) all own = (all.0, all_last side p xs all.1 own)
 
-  -- one leaves his place
-  pub apart-left : (q : QueuesValue) (p : ℕ) → SleepApart cut q → SleepApart cut (left q p)
-  apart-left q p apart n =
-      subst (λ (xs : List ℕ). AllOn cut (side_of cut Process n) xs) (sym (get_or-map (without p) q.sleepers n [])) (all_without (side_of cut Process n) p (sleepers_of q n) (apart n))
+-- ---- who sleeps where, after each change of the queues
 
-  -- one sleeps on another of his side
-  pub apart-asleep : (q : QueuesValue) (p on : ℕ) → side_of cut Process p ≡ side_of cut Process on → SleepApart cut q → SleepApart cut (asleep q p on)
-  apart-asleep q p on own apart =
-      each_set (λ n (xs : List ℕ). AllOn cut (side_of cut Process n) xs) q.sleepers on (sleepers_of q on ++ p ∷ []) [] (all_last (side_of cut Process on) p (sleepers_of q on) (apart on) own) apart
+-- whoever stands in a list without one stands in it
+stands-without : (p x : ℕ) (ps : List ℕ) → stands_in (without p ps) x ≡ true → stands_in ps x ≡ true
+stands-without p x [] there = there
+stands-without p x (y ∷ ys) there = by (y == p) (λ later. stands-without p x ys later) there
+  where
+    by : (b : Bool) → (stands_in (without p ys) x ≡ true → stands_in ys x ≡ true) → stands_in (if b then without p ys else y ∷ without p ys) x ≡ true → stands_in (y ∷ ys) x ≡ true
+    by true rest there = or_right (y == x) (stands_in ys x) (rest there)
+    by false rest there = elim (or_cases (y == x) (stands_in (without p ys) x) there) [
+      | inl here ↦ or_left (y == x) (stands_in ys x) here
+      | inr later ↦ or_right (y == x) (stands_in ys x) (rest later)
+    ]
 
-  -- nobody sleeps on one any more
-  pub apart-unslept : (q : QueuesValue) (on : ℕ) → SleepApart cut q → SleepApart cut (unslept q on)
-  apart-unslept q on apart = each_set (λ n (xs : List ℕ). AllOn cut (side_of cut Process n) xs) q.sleepers on [] [] tt apart
+-- and whoever stands in one with another behind is that or stands in it
+stands-last : (p x : ℕ) (ps : List ℕ) → stands_in (ps ++ p ∷ []) x ≡ true → (stands_in ps x ≡ true) ⊎ (p ≡ x)
+stands-last p x [] there = elim (or_cases (p == x) false there) [
+  | inl here ↦ inr (eqb-true p x here)
+  | inr none ↦ absurd (cc (none))
+]
+stands-last p x (y ∷ ys) there = elim (or_cases (y == x) (stands_in (ys ++ p ∷ []) x) there) [
+  | inl here ↦ inl (or_left (y == x) (stands_in ys x) here)
+  | inr later ↦ elim (stands-last p x ys later) [
+    | inl in_rest ↦ inl (or_right (y == x) (stands_in ys x) in_rest)
+    | inr last ↦ inr last
+  ]
+]
 
-  -- a hart takes a process
-  pub apart-dispatched : (q : QueuesValue) (hart : ℕ) → SleepApart cut q → SleepApart cut (dispatched q hart)
-  apart-dispatched q hart apart n = subst (λ (xs : List (List ℕ)). AllOn cut (side_of cut Process n) (get_or xs n [])) (sym (sleepers-dispatched q hart)) (apart n)
+-- one leaves his place
+pub asleep-left : (q : QueuesValue) (p on x : ℕ) → stands_in (sleepers_of (left q p) on) x ≡ true → stands_in (sleepers_of q on) x ≡ true
+asleep-left q p on x there =
+    stands-without p x (sleepers_of q on) (ap (λ (xs : List ℕ). stands_in xs x) (sym (get_or-map (without p) q.sleepers on [])) ∙ there)
 
-  -- one is made ready
-  pub apart-readied : (k : CapKind) (priority : ℕ) (q : QueuesValue) (p : ℕ) → SleepApart cut q → SleepApart cut (readied_queues k priority q p)
-  apart-readied k priority q p apart n = subst (λ (xs : List (List ℕ)). AllOn cut (side_of cut Process n) (get_or xs n [])) (sym (sleepers-readied k priority q p)) (apart n)
+-- nobody sleeps on one any more
+pub asleep-unslept : (q : QueuesValue) (woke on x : ℕ) → stands_in (sleepers_of (unslept q woke) on) x ≡ true → stands_in (sleepers_of q on) x ≡ true
+asleep-unslept q woke on x =
+    each_set (λ n (xs : List ℕ). stands_in xs x ≡ true → stands_in (sleepers_of q n) x ≡ true) q.sleepers woke [] [] (λ there. absurd (cc (there))) (λ n there. there) on
 
-module _ (cut : Cut) (side : CutSide) where
-  -- a process of this side stands in no list of the other side
-  without-other : (p : ℕ) (b : CutSide) (xs : List ℕ) → side_of cut Process p ≡ side → b ≢ side → AllOn cut b xs → xs ≡ without p xs
-  without-other p b [] own other all = refl
-  without-other p b (x ∷ xs) own other all = by (x == p) refl (without-other p b xs own other all.1)
-    where
-      by : (same : Bool) → (x == p) ≡ same → xs ≡ without p xs → x ∷ xs ≡ (if same then without p xs else x ∷ without p xs)
-      by true e rest = absurd (other (sym all.0 ∙ (ap (λ n. side_of cut Process n) (eqb-true x p e) ∙ own)))
-      by false e rest = ap (λ (ys : List ℕ). x ∷ ys) rest
+-- one sleeps on another
+pub asleep-asleep : (q : QueuesValue) (p at on x : ℕ) → stands_in (sleepers_of (asleep q p at) on) x ≡ true → (stands_in (sleepers_of q on) x ≡ true) ⊎ ((p ≡ x) × (at ≡ on))
+asleep-asleep q p at on x there = elim (get_or-set q.sleepers at on (sleepers_of q at ++ p ∷ []) []) [
+  | inl here ↦ elim (stands-last p x (sleepers_of q at) (ap (λ (xs : List ℕ). stands_in xs x) (sym here.1) ∙ there)) [
+    | inl before ↦ inl (subst (λ (n : ℕ). stands_in (sleepers_of q n) x ≡ true) (sym here.0) before)
+    | inr last ↦ inr (last, sym here.0)
+  ]
+  | inr other ↦ inl (ap (λ (xs : List ℕ). stands_in xs x) (sym other) ∙ there)
+]
 
-  -- one of this side leaves his place
-  pub spares-left : (q : QueuesValue) (p : ℕ) → side_of cut Process p ≡ side → SleepApart cut q → SparesSleepers cut side q (left q p)
-  spares-left q p own apart n other =
-      without-other p (side_of cut Process n) (sleepers_of q n) own other (apart n) ∙ sym (get_or-map (without p) q.sleepers n [])
-
-  -- one is the last to sleep on a process of this side, or nobody sleeps on it any more
-  pub spares-slept : (q : QueuesValue) (on : ℕ) (xs : List ℕ) → side_of cut Process on ≡ side → (n : ℕ) → side_of cut Process n ≢ side → sleepers_of q n ≡ get_or (set q.sleepers on xs) n []
-  spares-slept q on xs own n other = sym (get_or-set_other q.sleepers on n xs [] (λ same. other (ap (λ m. side_of cut Process m) same ∙ own)))
+-- where the lists are the same
+pub asleep-same : (q r : QueuesValue) → r.sleepers ≡ q.sleepers → (on x : ℕ) → stands_in (sleepers_of r on) x ≡ true → stands_in (sleepers_of q on) x ≡ true
+asleep-same q r same on x there = ap (λ (xs : List (List ℕ)). stands_in (get_or xs on []) x) (sym same) ∙ there
 
 module _ (cut : Cut) (side : CutSide) where
   -- all of a list are of this side where each that stands in it is

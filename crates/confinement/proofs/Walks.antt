@@ -5,7 +5,7 @@ use Rattle.std.proofs.Common.{◌≡◌, ℕ, zero, suc, ◌⊎◌, inl, inr, Bo
 use Rattle.std.proofs.lemmas.Bool.{and_parts}
 use Rattle.std.specs.Int.RustNames.{bit_or}
 use Rattle.cap_format.specs.declared.kind.CapKind.{CapKind}
-use Rattle.cap_format.specs.declared.kind.CapKind.TheVariants.{Page, CapPage, Gpt}
+use Rattle.cap_format.specs.declared.kind.CapKind.TheVariants.{Page, CapPage, Gpt, Entry}
 use Rattle.cap_format.specs.Kind.{is_counted, object_kind}
 use Rattle.cap_format.specs.Restr.{has}
 use Rattle.cap_format.specs.Capability.{Capability}
@@ -26,10 +26,10 @@ use Rattle.walk_meaning.proofs.Ways.{Way, gone}
 use Rattle.walk_meaning.proofs.Ways.Way.{BySlot, ByWindow, ByLocal}
 use Rattle.walk_meaning.proofs.Ends.{Serves, Reached, reached, HandledBy, handled}
 use Rattle.confinement.specs.declared.cut_side.CutSide.{CutSide}
-use Rattle.confinement.specs.Cut.{Cut, side_of, NamesOwn, MayCross, MayHold}
+use Rattle.confinement.specs.Cut.{Cut, side_of, NamesOwn, MayCross, MayCall, MayHold}
 use Rattle.confinement.specs.Acts.{MayHoldIf}
 use Rattle.confinement.specs.Reach.{ReadsWeakly, Reaches, Ends}
-use Rattle.confinement.proofs.Held.{has-left, has-right}
+use Rattle.confinement.proofs.Held.{has-left, has-right, is_entry}
 
 module _ (cut : Cut) (side : CutSide) where
   -- there is no such GPT, or it is of this side
@@ -58,6 +58,10 @@ module _ (cut : Cut) (side : CutSide) where
   weakly-more : (a b : ℕ) → Weakly a → Weakly (bit_or a b)
   weakly-more a b w = record { crosses = w.crosses; read_only = has-left a b 1 w.read_only; weak = has-left a b 4 w.weak; no_call = has-left a b 16 w.no_call }
 
+  -- no entry is of another kind
+  not_entry : (k : CapKind) → is_entry k ≡ false → (c : Capability) → c.kind ≡ k → c.kind ≡ Entry → ⊥
+  not_entry k other c e entry = let h = sym other ∙ (ap is_entry (sym e) ∙ ap is_entry entry) in cc (h)
+
   -- a GPT behind its guard: the walk is weak, or it is one of this side
   past_gpt : (c : Capability) (w : At) → c.kind ≡ Gpt → Meets c w → Weakly (past c w).restr.0 ⊎ ((side_of cut Gpt c.object ≡ side) × Inside c w)
   past_gpt c w k m = elim m.at [
@@ -65,9 +69,10 @@ module _ (cut : Cut) (side : CutSide) where
     | inr inside ↦ by inside inside.may.own
   ]
     where
-      by : Inside c w → NamesOwn cut side c ⊎ MayCross cut side c → Weakly (past c w).restr.0 ⊎ ((side_of cut Gpt c.object ≡ side) × Inside c w)
+      by : Inside c w → NamesOwn cut side c ⊎ (MayCross cut side c ⊎ MayCall cut side c) → Weakly (past c w).restr.0 ⊎ ((side_of cut Gpt c.object ≡ side) × Inside c w)
       by inside (inl own) = inr (subst (λ (j : CapKind). side_of cut (object_kind j) c.object ≡ side) k (own (ap (λ (j : CapKind). is_counted j) k)), inside)
-      by inside (inr cross) =
+      by inside (inr (inr call)) = absurd (not_entry Gpt refl c k call.0)
+      by inside (inr (inl cross)) =
           let h = sym (ap (λ (j : CapKind). harmless_kind j c.restr) k) ∙ cross.1 in
           let p = and_parts _ _ h in
           let q = and_parts _ _ p.0 in
@@ -155,13 +160,15 @@ module _ (cut : Cut) (side : CutSide) where
     inside-own : (c : Capability) (w : At) → Serves c.kind kind → MayHold cut side c → (side_of cut c.kind c.object ≡ side) ⊎ ReadsWeakly cut side (reached_place c (past c w))
     inside-own c w serves may = by serves may.own
       where
-        by : Serves c.kind kind → NamesOwn cut side c ⊎ MayCross cut side c → (side_of cut c.kind c.object ≡ side) ⊎ ReadsWeakly cut side (reached_place c (past c w))
+        by : Serves c.kind kind → NamesOwn cut side c ⊎ (MayCross cut side c ⊎ MayCall cut side c) → (side_of cut c.kind c.object ≡ side) ⊎ ReadsWeakly cut side (reached_place c (past c w))
         by (inl s) (inl own) = inl (ap (λ (j : CapKind). side_of cut j c.object) s.0 ∙ subst (λ (j : CapKind). side_of cut (object_kind j) c.object ≡ side) s.0 (own (ap (λ (j : CapKind). is_counted j) s.0)))
         by (inr s) (inl own) = inl (ap (λ (j : CapKind). side_of cut j c.object) s.0 ∙ subst (λ (j : CapKind). side_of cut (object_kind j) c.object ≡ side) s.0 (own (ap (λ (j : CapKind). is_counted j) s.0)))
-        by (inl s) (inr cross) =
+        by (inl s) (inr (inr call)) = absurd (not_entry Page refl c s.0 call.0)
+        by (inr s) (inr (inr call)) = absurd (not_entry CapPage refl c s.0 call.0)
+        by (inl s) (inr (inl cross)) =
             let h = sym (ap (λ (j : CapKind). harmless_kind j c.restr) s.0) ∙ cross.1 in
             inr (cross.0, has-right w.restr.0 c.restr 1 h, λ k. absurd (not_page c.kind s.0 k))
-        by (inr s) (inr cross) =
+        by (inr s) (inr (inl cross)) =
             let h = sym (ap (λ (j : CapKind). harmless_kind j c.restr) s.0) ∙ cross.1 in
             let p = and_parts _ _ h in
             inr (cross.0, has-right w.restr.0 c.restr 1 p.0, λ k. has-right w.restr.0 c.restr 4 p.1)

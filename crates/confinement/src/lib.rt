@@ -13,7 +13,7 @@
 //! Nothing here knows how a cut or a set is written or looked at, or who goes next.
 #![tactic(auto)]
 
-ghost use Rattle.confinement.specs.Laws.{AccessLaw, AnswerLaw, ChangeLaw, OperationLaw};
+ghost use Rattle.confinement.specs.Laws.{AccessLaw, AnswerLaw, ChangeLaw, OperationLaw, ReachLaw, PlainLaw};
 ghost use Rattle.confinement.specs.Separation.{Separation};
 
 pub mod authority;
@@ -28,7 +28,7 @@ pub fn access_law()
     ensures { AccessLaw }
 {}
 
-/// Who answers what a side holds is of that side.
+/// Who answers what a side holds is of that side, or one whom it may call.
 pub fn answer_law()
     ensures { AnswerLaw }
 {}
@@ -41,6 +41,17 @@ pub fn change_law()
 /// The changes of each operation are permitted, and the capability that it gives may be held.
 pub fn operation_law()
     ensures { OperationLaw }
+{}
+
+/// An event of a process of a side that the cut holds for leaves it so; of all that isn't of that side it changes nothing but
+/// those who may be told where it calls, and those who are woken.
+pub fn reach_law()
+    ensures { ReachLaw }
+{}
+
+/// Where nobody calls across, it changes nothing of all that isn't of that side.
+pub fn plain_law()
+    ensures { PlainLaw }
 {}
 
 /// Where a cut holds, then behind any events each event leaves the objects as they are that are not of the side of the

@@ -13,13 +13,14 @@ use Rattle.invocation.specs.Target.{called_by, called, callee}
 use Rattle.operations.specs.System.{System}
 use Rattle.fault_path.specs.Fault.{is_answer, handler_of}
 use Rattle.confinement.specs.declared.cut_side.CutSide.{CutSide}
-use Rattle.confinement.specs.Cut.{Cut, side_of, MayHold, EachHeldBy}
+use Rattle.confinement.specs.Cut.{Cut, side_of, MayHold, IsClosed, EachHeldBy}
 use Rattle.confinement.specs.Acts.{MayHoldIf}
-use Rattle.confinement.proofs.Held.{side-process, side-entry}
+use Rattle.confinement.proofs.Held.{side-process}
+use Rattle.confinement.proofs.Own.{own-entry}
 use Rattle.confinement.specs.isolation.Agree.{Agree}
 use Rattle.confinement.proofs.Isolating.Agreeing.{same-endpoint, same-process}
 
-module _ (cut : Cut) (side : CutSide) (w v : System) (each : EachHeldBy cut side w.store) (agree : Agree cut side w v) where
+module _ (cut : Cut) (side : CutSide) (w v : System) (closed : IsClosed cut) (each : EachHeldBy cut side w.store) (agree : Agree cut side w v) where
   -- ---- who answers
 
   same-asked : (e : ℕ) (k : CapKind) (c : Capability) → c.kind ≡ k → side_of cut Endpoint e ≡ side → MayHold cut side c
@@ -42,7 +43,7 @@ module _ (cut : Cut) (side : CutSide) (w v : System) (each : EachHeldBy cut side
       ∙ ap (entered_as v.store e payload) (same-endpoint cut side w v agree e own)
 
   same-answered : (k : CapKind) (c : Capability) → c.kind ≡ k → MayHold cut side c → answered w.store k c ≡ answered v.store k c
-  same-answered Entry c k may = same-entered c.object c.payload (side-entry cut side c k may)
+  same-answered Entry c k may = same-entered c.object c.payload (own-entry cut closed side c k may)
   same-answered _ c k may = refl
 
   -- who answers a capability that this side may hold
@@ -51,7 +52,7 @@ module _ (cut : Cut) (side : CutSide) (w v : System) (each : EachHeldBy cut side
   same-answerer c may = same-answered c.kind c refl may
 
   same-called : (k : CapKind) (c : Capability) → c.kind ≡ k → MayHold cut side c → called w.store k c ≡ called v.store k c
-  same-called Entry c k may = ap called_by (same-entered c.object c.payload (side-entry cut side c k may))
+  same-called Entry c k may = ap called_by (same-entered c.object c.payload (own-entry cut closed side c k may))
   same-called _ c k may = refl
 
   -- and what an invocation of it reaches

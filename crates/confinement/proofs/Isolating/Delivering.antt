@@ -21,7 +21,7 @@ use Rattle.fault_path.specs.Fault.{handler_of, fault_message, faulted, answered,
 use Rattle.confinement.specs.declared.cut_side.CutSide.{CutSide}
 use Rattle.confinement.specs.Cut.{Cut, side_of, MayHold}
 use Rattle.confinement.specs.Acts.{MayHoldIf}
-use Rattle.confinement.proofs.Own.{AllMayHold, AnswersOwn}
+use Rattle.confinement.proofs.Own.{AllMayHold, AnswersOwn, own-hears, own-await}
 use Rattle.confinement.proofs.Held.{may-own}
 use Rattle.confinement.proofs.Acting.{held-process}
 use Rattle.confinement.proofs.Answering.{answerer-own}
@@ -98,24 +98,25 @@ module _ (cut : Cut) (side : CutSide) where
   match-faulted w v m p code address own = match-state_left w v m p (Faulted code address) own
 
   match-answered : (w v : System) → Match cut side w v → (p : ℕ) (code : FaultCode) (address payload : ℕ) (answer : Answer) → side_of cut Process p ≡ side
-      → AnswersOwn cut side answer
+      → AnswersOwn cut side w.store answer
       → Match cut side (answered Meant w p code address payload answer) (answered Meant v p code address payload answer)
   unfolding answered
   match-answered w v m p code address payload Dead own answers = match-faulted w v m p code address own
-  match-answered w v m p code address payload (Busy q) own answers = match-waiting w v m p q own answers
+  match-answered w v m p code address payload (Busy q) own answers = match-waiting w v m p q own (own-await cut m.closed side q answers)
   match-answered w v m p code address payload (Open e q) own answers =
+      let both = own-hears cut m.closed side w.store e q answers in
       let cap = to_object Process p 0 in
       subst (λ (process : ProcessValue). Match cut side (answered Meant w p code address payload (Open e q)) (told_system Meant (faulted v p code address) e q (fault_message cap process code address payload)))
       (same-process cut side w v m.agree p own)
       (match-told (faulted w p code address) (faulted v p code address) (match-faulted w v m p code address own) e q (fault_message cap (process_at w.store p) code address payload)
-      answers.0 answers.1 (may-own cut side cap refl own, tt))
+      both.0 both.1 (may-own cut side cap refl own, tt))
 
   -- who hears a fault is the same
   pub same-heard : (w v : System) → Match cut side w v → (p : ℕ) (handler : Option Capability) → side_of cut Process p ≡ side → MayHoldIf cut side handler
       → heard_by w.store p handler ≡ heard_by v.store p handler
   same-heard w v m p handler own may =
-      same-answerer cut side w v m.holds.each m.agree (handler_of w.store p handler) (may-handler cut side w.store p handler m.holds.each own may)
-      ∙ ap (λ (c : Capability). answerer v.store c) (same-handler_of cut side w v m.holds.each m.agree p handler own may)
+      same-answerer cut side w v m.closed m.holds.each m.agree (handler_of w.store p handler) (may-handler cut side w.store p handler m.holds.each own may)
+      ∙ ap (λ (c : Capability). answerer v.store c) (same-handler_of cut side w v m.closed m.holds.each m.agree p handler own may)
 
   -- a fault of a process, with a handler that this side may hold
   pub match-fault : (w v : System) → Match cut side w v → (p : ℕ) (code : FaultCode) (address : ℕ) (handler : Option Capability) → side_of cut Process p ≡ side
@@ -123,6 +124,6 @@ module _ (cut : Cut) (side : CutSide) where
       → Match cut side (fault_of Meant w w.store p code address handler) (fault_of Meant v v.store p code address handler)
   match-fault w v m p code address handler own may =
       subst₂ (λ (c : Capability) (answer : Answer). Match cut side (fault_of Meant w w.store p code address handler) (answered Meant v p code address c.payload answer))
-      (same-handler_of cut side w v m.holds.each m.agree p handler own may) (same-heard w v m p handler own may)
+      (same-handler_of cut side w v m.closed m.holds.each m.agree p handler own may) (same-heard w v m p handler own may)
       (match-answered w v m p code address (handler_of w.store p handler).payload (heard_by w.store p handler) own
-      (answerer-own cut side w.store m.holds.each (handler_of w.store p handler) (may-handler cut side w.store p handler m.holds.each own may)))
+      (answerer-own cut side w.store m.holds.each m.holds.beyond (handler_of w.store p handler) (may-handler cut side w.store p handler m.holds.each own may)))

@@ -25,6 +25,7 @@ use Rattle.confinement.specs.declared.cut_side.CutSide.{CutSide}
 use Rattle.confinement.specs.Cut.{Cut, side_of}
 use Rattle.confinement.specs.Acts.{system_of}
 use Rattle.confinement.proofs.Events.{on_side, on_side-origins}
+use Rattle.confinement.proofs.Own.{own-hears, own-await}
 use Rattle.confinement.proofs.Isolating.Answering.{same-callee}
 use Rattle.confinement.proofs.Isolating.States.{Matches, EndsOwn, HitOwn, same-number_at, same-found, same-gathered, match-written, match-cap_stored, same-here, same-cap_access, same-data_access, place-here, hit-here, match-set_pc, match-set_registers, match-set_capreg, match-ticked}
 use Rattle.confinement.proofs.Isolating.Messaging.{Alike, SameString, alike-followed, alike-fault, alike-wait_on, alike-listen, alike-delivered, same-side, same-received}
@@ -83,7 +84,7 @@ module _ (cut : Cut) (on : CutSide) (alone : cut.weakly on ≡ false) where
     number = λ s p at kind hit size m own is e. in-both (λ i. number_at (s i) hit size) (same-number_at cut on (s true) (s false) m hit size (page-here (s true) (s false) p at kind hit m own is e));
     place = λ s p at kind m own. in-both (λ i. cap_access (s i) p at kind) (same-cap_access cut on alone p own (s true) (s false) m at kind);
     found = λ s p at place m own e. in-both (λ i. cap_found (s i) place) (same-found cut on (s true) (s false) m place (slot-here (s true) (s false) p at CapLoad place m own e));
-    answers = λ s c m may. in-both (λ i. callee (s i).store c) (same-callee cut on (system_of (s true)) (system_of (s false)) m.holds.each m.agree c may);
+    answers = λ s c m may. in-both (λ i. callee (s i).store c) (same-callee cut on (system_of (s true)) (system_of (s false)) m.closed m.holds.each m.agree c may);
     faulted = λ s p inv m own asks. in-both (λ i. (sent_side (s i) p inv).fault) (string-here (s true) (s false) p inv m own).fault;
     bytes = λ s p inv m own asks. in-both (λ i. gathered (s i).store (sent_side (s i) p inv).pieces) (same-bytes (s true) (s false) p inv m own);
   }
@@ -116,13 +117,14 @@ module _ (cut : Cut) (on : CutSide) (alone : cut.weakly on ≡ false) where
     page_is = λ s p at hit size value m own e. record { records = refl; state = match-written cut on (s true) (s false) m hit size value (page-here (s true) (s false) p at Put hit m own refl e) };
     cappage_is = λ s p at place c m own may e. record { records = refl; state = match-cap_stored cut on (s true) (s false) m place c (slot-here (s true) (s false) p at CapStore place m own e) may };
     ready_again = λ s p m own. record { records = refl; state = match-ticked cut on p own (s true) (s false) m };
-    halts = λ s m. record { records = refl; state = record { holds = m.holds; agree = m.agree } };
+    halts = λ s m. record { records = refl; state = record { closed = m.closed; holds = m.holds; agree = m.agree } };
     faults = λ s p code address handler m own word may. alike-fault cut on p own (s true) (s false) m code address handler may;
-    waits = λ s p q m own other. alike-wait_on cut on p own (s true) (s false) m q other;
+    waits = λ s p q m own other. alike-wait_on cut on p own (s true) (s false) m q (own-await cut m.closed on q other);
     listens = λ s p inv m own asks. alike-listen cut on p own (s true) (s false) m inv;
     sends = λ s p inv m own asks. record { records = (string-here (s true) (s false) p inv m own).records; state = m };
-    receives = λ s e q inv m heard asks. record { records = (same-received cut on alone q heard.1 (s true) (s false) m inv.length).records; state = m };
-    delivers = λ s p e q inv m own heard asks. alike-delivery (s true) (s false) p e q inv m own heard.0 heard.1;
+    receives = λ s e q inv m heard asks. record { records = (same-received cut on alone q (own-hears cut m.closed on (s true).store e q heard).1 (s true) (s false) m inv.length).records; state = m };
+    delivers = λ s p e q inv m own heard asks. let both = own-hears cut m.closed on (s true).store e q heard in
+        alike-delivery (s true) (s false) p e q inv m own both.0 both.1;
     memory = λ s p inv cap m own asks may memory. alike-memory_op cut on alone p own (s true) (s false) m inv cap may;
     control = λ s p inv cap m own asks may. alike-control_op cut on alone p own (s true) (s false) m inv cap may;
   }

@@ -1,6 +1,6 @@
 -- Two systems that match on one side: they agree on it, and the cut holds in the first. What a process of this side does in
 -- both leaves them so.
-use Rattle.std.proofs.Common.{◌≡◌, ℕ, List, [], ◌∷◌, ◌++◌, length, get_or, set, refl, sym, ◌∙◌, ap, ap₂, subst}
+use Rattle.std.proofs.Common.{◌≡◌, ℕ, inl, true, List, [], ◌∷◌, ◌++◌, length, get_or, set, refl, sym, ◌∙◌, ap, ap₂, subst}
 use Rattle.std.proofs.Math.ListN.{get_or-map}
 use Rattle.cap_format.specs.declared.kind.CapKind.TheVariants.{Page, CapPage, Gpt, Endpoint, Process}
 use Rattle.cap_format.specs.Capability.{Capability}
@@ -10,27 +10,29 @@ use Rattle.page_store.specs.CapPage.{cap_at}
 use Rattle.process_objects.specs.Process.{ProcessValue, slot_of}
 use Rattle.endpoint_objects.specs.declared.endpoint.Endpoint.{Endpoint as EndpointValue}
 use Rattle.object_store.specs.Store.{gpt_at, process_at, set_gpt, set_slot, set_header, with_items, with_page, with_cappage, with_process, with_endpoint}
-use Rattle.schedules.specs.Queues.{QueuesValue, sleepers_of, without, left, asleep}
+use Rattle.schedules.specs.Queues.{QueuesValue, sleepers_of, stands_in, without, left, asleep}
 use Rattle.schedules.specs.Ready.{readied, readied_process, readied_queues, readied_all, unslept, woken, runs_of, schedule_in}
 use Rattle.schedules.proofs.Waking.{sleepers-readied}
 use Rattle.operations.specs.System.{System, system, with_store, with_runs}
 use Rattle.confinement.specs.declared.cut_side.CutSide.{CutSide}
-use Rattle.confinement.specs.Cut.{Cut, side_of, MayHold, AllOn, SleepApart, HoldsFor}
+use Rattle.confinement.specs.Cut.{Cut, side_of, IsClosed, MayHold, AllOn, MaySleep, HoldsFor}
 use Rattle.confinement.specs.Acts.{Acts, ProcessHeld}
-use Rattle.confinement.proofs.Sleeping.{length-map_lists, apart-unslept, apart-asleep}
-use Rattle.confinement.proofs.Acting.{acts-process, acts-page, acts-cappage, acts-slot, acts-header, acts-endpoint, acts-left, held-process}
+use Rattle.confinement.proofs.Own.{own-sleep}
+use Rattle.confinement.proofs.Sleeping.{length-map_lists, asleep-unslept, asleep-same, each_on}
+use Rattle.confinement.proofs.Acting.{acts-process, acts-page, acts-cappage, acts-slot, acts-header, acts-endpoint, acts-left, acts-asleep, held-process}
 use Rattle.confinement.specs.isolation.Agree.{Agree}
 use Rattle.confinement.proofs.Isolating.Agreeing.{set_both, set_long, same-gpt, same-process, agree-process, agree-page, agree-cappage, agree-gpt, agree-endpoint, agree-queues}
 
--- the cut holds in the first, and both agree on this side
+-- nobody calls across, the cut holds in the first, and both agree on this side
 pub record Match (cut : Cut) (side : CutSide) (w v : System) : Type 0 where
+  pub closed : IsClosed cut
   pub holds : HoldsFor cut side w
   pub agree : Agree cut side w v
 
 module _ (cut : Cut) (side : CutSide) where
   -- what a process of this side may do of the first, and what leaves both agreeing
   pub match-after : (w v x y : System) → Match cut side w v → (HoldsFor cut side w → Acts cut side w x) → (Agree cut side w v → Agree cut side x y) → Match cut side x y
-  match-after w v x y m acts agrees = let done = acts m.holds in record { holds = done.holds; agree = agrees m.agree }
+  match-after w v x y m acts agrees = let done = acts m.holds in record { closed = m.closed; holds = done.holds; agree = agrees m.agree }
 
   module _ (w v : System) (m : Match cut side w v) where
     -- ---- objects
@@ -85,17 +87,17 @@ module _ (cut : Cut) (side : CutSide) where
     -- ---- queues
 
     -- queues in which each sleeps on one of his side, and the same on this side's processes
-    pub match-queues : (q r : QueuesValue) → SleepApart cut q → ((p : ℕ) → side_of cut Process p ≡ side → sleepers_of q p ≡ sleepers_of r p)
+    pub match-queues : (q r : QueuesValue) → ((on x : ℕ) → stands_in (sleepers_of q on) x ≡ true → MaySleep cut x on) → ((p : ℕ) → side_of cut Process p ≡ side → sleepers_of q p ≡ sleepers_of r p)
         → length q.sleepers ≡ length r.sleepers
         → Match cut side (system w.store q) (system v.store r)
-    match-queues q r apart sleep long =
-        record { holds = record { each = m.holds.each; sleepers = apart }; agree = agree-queues cut side w v m.agree q r sleep long }
+    match-queues q r asleep sleep long =
+        record { closed = m.closed; holds = record { each = m.holds.each; sleepers = asleep; beyond = m.holds.beyond }; agree = agree-queues cut side w v m.agree q r sleep long }
 
     -- the same lists of sleepers
     pub match-sleepers : (q r : QueuesValue) → q.sleepers ≡ w.queues.sleepers → r.sleepers ≡ v.queues.sleepers → Match cut side (system w.store q) (system v.store r)
     match-sleepers q r first second =
         match-queues q r
-        (λ n. subst (λ (xs : List (List ℕ)). AllOn cut (side_of cut Process n) (get_or xs n [])) (sym first) (m.holds.sleepers n))
+        (λ on x there. m.holds.sleepers on x (asleep-same w.queues q first on x there))
         (λ n own. ap (λ (xs : List (List ℕ)). get_or xs n []) first ∙ (m.agree.sleepers n own ∙ ap (λ (xs : List (List ℕ)). get_or xs n []) (sym second)))
         (ap (λ (xs : List (List ℕ)). length xs) first ∙ (m.agree.sizes.sleepers ∙ ap (λ (xs : List (List ℕ)). length xs) (sym second)))
 
@@ -117,14 +119,14 @@ module _ (cut : Cut) (side : CutSide) where
     pub match-asleep : (p on : ℕ) → side_of cut Process p ≡ side → side_of cut Process on ≡ side
         → Match cut side (system w.store (asleep w.queues p on)) (system v.store (asleep v.queues p on))
     match-asleep p on own asked =
-        match-queues (asleep w.queues p on) (asleep v.queues p on) (apart-asleep cut w.queues p on (own ∙ sym asked) m.holds.sleepers)
+        match-queues (asleep w.queues p on) (asleep v.queues p on) (acts-asleep cut side w p on own (inl (own ∙ sym asked)) m.holds).holds.sleepers
         (λ n here. same-set on n (sleepers_of w.queues on ++ p ∷ []) (sleepers_of v.queues on ++ p ∷ []) (ap (λ (xs : List ℕ). xs ++ p ∷ []) (m.agree.sleepers on asked)) here)
         (set_long w.queues.sleepers v.queues.sleepers on (sleepers_of w.queues on ++ p ∷ []) (sleepers_of v.queues on ++ p ∷ []) m.agree.sizes.sleepers)
 
     -- nobody sleeps on a process any more
     pub match-unslept : (on : ℕ) → Match cut side (system w.store (unslept w.queues on)) (system v.store (unslept v.queues on))
     match-unslept on =
-        match-queues (unslept w.queues on) (unslept v.queues on) (apart-unslept cut w.queues on m.holds.sleepers)
+        match-queues (unslept w.queues on) (unslept v.queues on) (λ at x there. m.holds.sleepers at x (asleep-unslept w.queues on at x there))
         (λ n here. same-set on n [] [] refl here) (set_long w.queues.sleepers v.queues.sleepers on [] [] m.agree.sizes.sleepers)
 
   -- ---- made ready
@@ -163,7 +165,7 @@ module _ (cut : Cut) (side : CutSide) where
       let x = system w.store (unslept w.queues on) in
       let y = system v.store (unslept v.queues on) in
       subst (λ (ps : List ℕ). Match cut side (with_runs w (woken f on (runs_of w.store w.queues))) (with_runs y (readied_all g ps (runs_of y.store y.queues)))) (m.agree.sleepers on own)
-      (match-readied_all x y (match-unslept w v m on) f g e (sleepers_of w.queues on) (subst (λ b. AllOn cut b (sleepers_of w.queues on)) own (m.holds.sleepers on)))
+      (match-readied_all x y (match-unslept w v m on) f g e (sleepers_of w.queues on) (each_on cut side (sleepers_of w.queues on) (λ x there. own-sleep cut m.closed x on (m.holds.sleepers on x there) ∙ own)))
 
   -- what the schedule slots of this side's processes hold
   pub same-schedule : (w v : System) → Match cut side w v → (p : ℕ) → side_of cut Process p ≡ side → schedule_in w.store p ≡ schedule_in v.store p

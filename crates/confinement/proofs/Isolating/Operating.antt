@@ -65,7 +65,7 @@ module _ (cut : Cut) (side : CutSide) where
     copy-as : (k : CapKind) → r.sent.kind ≡ k → SameRow (copy_as w.store k) (copy_as v.store k)
     copy-as Page k =
         ap (λ (page : List ℕ). settled (with_access (read_only c) false (does (PageIs c.object page ∷ []))))
-        (same-page cut side w v agree r.sent.object (names-kind cut side alone r.sent Page k refl sent))
+        (same-page cut side w v agree r.sent.object (names-kind cut side alone r.sent Page k refl refl sent))
     copy-as _ k = refl
 
     same-copy : SameRow (memory.copy_row w.store c r) (memory.copy_row v.store c r)
@@ -74,21 +74,21 @@ module _ (cut : Cut) (side : CutSide) where
 
     same-get : c.kind ≡ CapPage → SameRow (memory.get_row w.store c r) (memory.get_row v.store c r)
     unfolding memory.get_row
-    same-get k = rw (same-cappage cut side w v agree c.object (names-kind cut side alone c CapPage k refl may)) refl
+    same-get k = rw (same-cappage cut side w v agree c.object (names-kind cut side alone c CapPage k refl refl may)) refl
 
     same-set : c.kind ≡ CapPage → SameRow (memory.set_row w.store c r) (memory.set_row v.store c r)
     unfolding memory.set_row
-    same-set k = rw (same-cappage cut side w v agree c.object (names-kind cut side alone c CapPage k refl may)) refl
+    same-set k = rw (same-cappage cut side w v agree c.object (names-kind cut side alone c CapPage k refl refl may)) refl
 
     same-getslot : c.kind ≡ Gpt → SameRow (memory.getslot_row w.store c r) (memory.getslot_row v.store c r)
     unfolding memory.getslot_row
-    same-getslot k = rw (same-gpt cut side w v agree c.object (names-kind cut side alone c Gpt k refl may)) refl
+    same-getslot k = rw (same-gpt cut side w v agree c.object (names-kind cut side alone c Gpt k refl refl may)) refl
 
     same-getheader : c.kind ≡ Gpt → SameRow (memory.getheader_row w.store c) (memory.getheader_row v.store c)
     unfolding memory.getheader_row
     same-getheader k =
         ap (λ (x : GptValue). settled (with_access (opaque c) false (tells x.header.l2v (bit x.header.ha + 2 * bit x.header.bg) 0)))
-        (same-gpt cut side w v agree c.object (names-kind cut side alone c Gpt k refl may))
+        (same-gpt cut side w v agree c.object (names-kind cut side alone c Gpt k refl refl may))
 
     same-memory_own : (k : CapKind) → c.kind ≡ k → EachPair SameRow (memory.own_table w.store c r k) (memory.own_table v.store c r k)
     unfolding memory.own_table memory.page_table memory.cappage_table memory.gpt_table

@@ -125,7 +125,7 @@ module _ (cut : Cut) (side : CutSide) (alone : cut.weakly side ≡ false) where
         let turn : turn_of e m.process ≡ turn_of f n.process = cc (same) in
         let rest : turns cut side (event_of s e).state es ≡ turns cut side (event_of t f).state fs = cc (same) in
         let process = turn-process e f m.process n.process turn in
-        let alike = alike-turn cut side alone m.process m.own s t (record { holds = holds-for cut side (system_of s) both.first; agree = both.agree }) e f m.is (n.is ∙ ap Some (sym process)) (turn ∙ ap (turn_of f) (sym process)) in
+        let alike = alike-turn cut side alone m.process m.own s t (record { closed = both.first.closed; holds = holds-for cut side (system_of s) both.first; agree = both.agree }) e f m.is (n.is ∙ ap Some (sym process)) (turn ∙ ap (turn_of f) (sym process)) in
         let state = alike.state in
         let next = shown (event_of s e).state (event_of t f).state (record { first = holds-event cut s e both.first; second = holds-event cut t f both.second; agree = state.agree }) fs rest in
         record {
@@ -171,7 +171,7 @@ event_unseen cut side s e holds other = unseen cut side s e holds other
 -- the law of turns
 pub same_turn : SameTurn
 same_turn cut side s t e f p apart own first second turn =
-    let alike = alike-turn cut side apart.own_alone p own s t (record { holds = holds-for cut side (system_of s) apart.first; agree = apart.agree }) e f first second turn in
+    let alike = alike-turn cut side apart.own_alone p own s t (record { closed = apart.first.closed; holds = holds-for cut side (system_of s) apart.first; agree = apart.agree }) e f first second turn in
     let state = alike.state in
     record { records = alike.records; agree = state.agree }
 

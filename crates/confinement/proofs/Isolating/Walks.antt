@@ -22,20 +22,17 @@ use Rattle.walk_meaning.proofs.Ways.{Way, gone, step-headers}
 use Rattle.walk_meaning.proofs.Ways.Way.{BySlot, ByWindow, ByLocal}
 use Rattle.walk_meaning.proofs.Ends.{HandledBy, handled}
 use Rattle.confinement.specs.declared.cut_side.CutSide.{CutSide}
-use Rattle.confinement.specs.Cut.{Cut, side_of, NamesOwn, MayHold}
+use Rattle.confinement.specs.Cut.{Cut, side_of, MayHold}
+use Rattle.confinement.proofs.Held.{is_entry}
 
 module _ (cut : Cut) (side : CutSide) (alone : cut.weakly side ≡ false) where
-  -- what may be held names what is of this side
-  pub names-own : (c : Capability) → MayHold cut side c → NamesOwn cut side c
-  names-own c may = elim may.own [
-    | inl own ↦ own
-    | inr cross ↦ let e = sym alone ∙ cross.0 in absurd (cc (e))
+  -- a capability of a kind of objects that is no entry names one of this side
+  pub names-kind : (c : Capability) (k : CapKind) → c.kind ≡ k → is_counted k ≡ true → is_entry k ≡ false → MayHold cut side c → side_of cut (object_kind k) c.object ≡ side
+  names-kind c k e counted other may = elim may.own [
+    | inl own ↦ subst (λ (j : CapKind). side_of cut (object_kind j) c.object ≡ side) e (own (ap (λ (j : CapKind). is_counted j) e ∙ counted))
+    | inr (inl cross) ↦ let no_cross = sym alone ∙ cross.0 in absurd (cc (no_cross))
+    | inr (inr call) ↦ let entry = sym (ap is_entry e) ∙ ap is_entry call.0 in absurd (cc (entry, other))
   ]
-
-  -- a capability of a kind of objects names one of this side
-  pub names-kind : (c : Capability) (k : CapKind) → c.kind ≡ k → is_counted k ≡ true → MayHold cut side c → side_of cut (object_kind k) c.object ≡ side
-  names-kind c k e counted may =
-      subst (λ (j : CapKind). side_of cut (object_kind j) c.object ≡ side) e (names-own c may (ap (λ (j : CapKind). is_counted j) e ∙ counted))
 
   -- there is no such GPT, or it is of this side
   abbrev OnSide : Option ℕ → Type 0
@@ -50,7 +47,7 @@ module _ (cut : Cut) (side : CutSide) (alone : cut.weakly side ≡ false) where
     handler : OnSide w.handler
 
   own-gpt : (c : Capability) (w : At) → c.kind ≡ Gpt → Inside c w → side_of cut Gpt c.object ≡ side
-  own-gpt c w k inside = names-kind c Gpt k refl inside.may
+  own-gpt c w k inside = names-kind c Gpt k refl refl inside.may
 
   on-by : (b : Bool) (g : ℕ) (h : Option ℕ) → OnSide h → side_of cut Gpt g ≡ side → OnSide (if b then Some g else h)
   on-by true g h on own = own

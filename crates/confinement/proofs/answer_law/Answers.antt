@@ -2,4 +2,4 @@ use Rattle.confinement.proofs.Answering.{callee-own}
 use Rattle.confinement.proofs.answer_law.Goals as goal
 
 pub returns : goal.returns
-returns c cut side s cap each may = callee-own cut side s each cap may
+returns c cut side s cap each beyond may = callee-own cut side s each beyond cap may
