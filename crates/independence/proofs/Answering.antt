@@ -19,9 +19,9 @@ use Rattle.operations.specs.System.{System}
 use Rattle.fault_path.specs.Fault.{is_answer, handler_of, heard_by}
 use Rattle.confinement.specs.declared.cut_side.CutSide.{CutSide}
 use Rattle.confinement.specs.declared.cut_side.CutSide.TheVariants.{Left, Right}
-use Rattle.confinement.specs.Cut.{Cut, side_of, MayHold}
+use Rattle.confinement.specs.Cut.{Cut, IsClosed, side_of, MayHold}
 use Rattle.confinement.specs.Acts.{MayHoldIf}
-use Rattle.confinement.proofs.Held.{side-entry}
+use Rattle.confinement.proofs.Own.{own-entry}
 use Rattle.independence.proofs.Overlay.{Overlay}
 use Rattle.independence.proofs.Beside.{Beside, same-process, same-endpoint, held-process}
 
@@ -66,28 +66,28 @@ module _ (cut : Cut) where
       by true = tt
       by false = asked-right s run e (endpoint_at s e).recipient.kind (endpoint_at s e).recipient.object own
 
-  answered-right : (s : Store) → Run cut s → (k : CapKind) (c : Capability) → c.kind ≡ k → MayHold cut Right c → AnswersRight (answered s k c)
-  answered-right s run Entry c k may = entered-right s run c.object c.payload (side-entry cut Right c k may)
-  answered-right s run _ c k may = tt
+  answered-right : IsClosed cut → (s : Store) → Run cut s → (k : CapKind) (c : Capability) → c.kind ≡ k → MayHold cut Right c → AnswersRight (answered s k c)
+  answered-right closed s run Entry c k may = entered-right s run c.object c.payload (own-entry cut closed Right c k may)
+  answered-right closed s run _ c k may = tt
 
   -- who answers what the right may hold
-  pub answerer-right : (s : Store) → Run cut s → (c : Capability) → MayHold cut Right c → AnswersRight (answerer s c)
+  pub answerer-right : IsClosed cut → (s : Store) → Run cut s → (c : Capability) → MayHold cut Right c → AnswersRight (answerer s c)
   unfolding answerer
-  answerer-right s run c may = answered-right s run c.kind c refl may
+  answerer-right closed s run c may = answered-right closed s run c.kind c refl may
 
   called_by-right : (a : Answer) → AnswersRight a → CalleeRight (called_by a)
   called_by-right Dead own = tt
   called_by-right (Open e q) own = own
   called_by-right (Busy q) own = tt
 
-  called-right : (s : Store) → Run cut s → (k : CapKind) (c : Capability) → c.kind ≡ k → MayHold cut Right c → CalleeRight (called s k c)
-  called-right s run Entry c k may = called_by-right (entered s c.object c.payload) (entered-right s run c.object c.payload (side-entry cut Right c k may))
-  called-right s run _ c k may = may
+  called-right : IsClosed cut → (s : Store) → Run cut s → (k : CapKind) (c : Capability) → c.kind ≡ k → MayHold cut Right c → CalleeRight (called s k c)
+  called-right closed s run Entry c k may = called_by-right (entered s c.object c.payload) (entered-right s run c.object c.payload (own-entry cut closed Right c k may))
+  called-right closed s run _ c k may = may
 
   -- and what an invocation of it reaches
-  pub callee-right : (s : Store) → Run cut s → (c : Capability) → MayHold cut Right c → CalleeRight (callee s c)
+  pub callee-right : IsClosed cut → (s : Store) → Run cut s → (c : Capability) → MayHold cut Right c → CalleeRight (callee s c)
   unfolding callee
-  callee-right s run c may = called-right s run c.kind c refl may
+  callee-right closed s run c may = called-right closed s run c.kind c refl may
 
   -- the handler that is asked may be held
   pub may-handler : (s : Store) (p : ℕ) (handler : Option Capability) → MayHold cut Right (slot_of (process_at s p) 2) → MayHoldIf cut Right handler → MayHold cut Right (handler_of s p handler)

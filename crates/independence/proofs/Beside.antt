@@ -92,6 +92,7 @@ module _ (cut : Cut) (f : Overlay cut) (start : System) where
         stored w v b (object_name Process q ∷ []) (with_process w.store q x) (with_process v.store q y) (right, tt) (stays_process [] w.store q x)
         (record {
           strictly = apart.strictly;
+          closed = apart.closed;
           slots = apart.slots;
           cappages = apart.cappages;
           capregs = λ n i own. each_set (λ (n : ℕ) (z : ProcessValue). side_of cut Process n ≡ Right → MayHold cut Right (capreg_of z i)) w.store.contents.processes q x empty_process
@@ -106,7 +107,7 @@ module _ (cut : Cut) (f : Overlay cut) (start : System) where
         → Two (with_store w (with_page w.store n x)) (with_store v (with_page v.store n y))
     beside-page n x y e right =
         stored w v b (object_name Page n ∷ []) (with_page w.store n x) (with_page v.store n y) (right, tt) (stays_page [] w.store n x)
-        (record { strictly = apart.strictly; slots = apart.slots; cappages = apart.cappages; capregs = apart.capregs; process_slots = apart.process_slots })
+        (record { strictly = apart.strictly; closed = apart.closed; slots = apart.slots; cappages = apart.cappages; capregs = apart.capregs; process_slots = apart.process_slots })
         (ap₂ (λ (s : Store) (z : List ℕ). with_page s n z) b.store (sym e) ∙ over-with_page cut f w.store n x right)
 
     -- a capability page
@@ -116,6 +117,7 @@ module _ (cut : Cut) (f : Overlay cut) (start : System) where
         stored w v b (object_name CapPage n ∷ []) (with_cappage w.store n x) (with_cappage v.store n y) (right, tt) (stays_cappage [] w.store n x)
         (record {
           strictly = apart.strictly;
+          closed = apart.closed;
           slots = apart.slots;
           cappages = λ m i. each_set (λ (m : ℕ) (z : List Capability). MayHold cut Right (cap_at z i)) w.store.contents.cappages n x empty_cappage (held i) (λ m. apart.cappages m i) m;
           capregs = apart.capregs;
@@ -128,7 +130,7 @@ module _ (cut : Cut) (f : Overlay cut) (start : System) where
         → Two (with_store w (with_endpoint w.store n x)) (with_store v (with_endpoint v.store n y))
     beside-endpoint n x y e right =
         stored w v b (object_name Endpoint n ∷ []) (with_endpoint w.store n x) (with_endpoint v.store n y) (right, tt) (stays_endpoint [] w.store n x)
-        (record { strictly = apart.strictly; slots = apart.slots; cappages = apart.cappages; capregs = apart.capregs; process_slots = apart.process_slots })
+        (record { strictly = apart.strictly; closed = apart.closed; slots = apart.slots; cappages = apart.cappages; capregs = apart.capregs; process_slots = apart.process_slots })
         (ap₂ (λ (s : Store) (z : EndpointValue). with_endpoint s n z) b.store (sym e))
 
     beside-gpt : (g : ℕ) (x y : GptValue) → x ≡ y → side_of cut Gpt g ≡ Right → ((i : ℕ) → MayHold cut Right (gpt_slot_of x i))
@@ -137,6 +139,7 @@ module _ (cut : Cut) (f : Overlay cut) (start : System) where
         stored w v b (object_name Gpt g ∷ []) (with_items w.store (set_gpt w.store.items g x)) (with_items v.store (set_gpt v.store.items g y)) (right, tt) (stays_gpt [] w.store g x)
         (record {
           strictly = apart.strictly;
+          closed = apart.closed;
           slots = λ h i own. each_set (λ (h : ℕ) (z : GptValue). side_of cut Gpt h ≡ Right → MayHold cut Right (gpt_slot_of z i)) w.store.items.gpts g x empty_gpt
               (λ own. held i) (λ h own. apart.slots h i own) h own;
           cappages = apart.cappages;

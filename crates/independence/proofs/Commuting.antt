@@ -38,6 +38,7 @@ module _ (cut : Cut) where
   secluded-shape s t same secluded = let apart = secluded.apart in record {
     apart = record {
       strictly = apart.strictly;
+      closed = apart.closed;
       slots = λ g i right. subst (λ (o : Items). MayHold cut Right (slot_at o g i)) same.items (apart.slots g i right);
       cappages = λ n i. subst (λ (xs : List (List Capability)). MayHold cut Right (cap_at (get_or xs n empty_cappage) i)) same.cappages (apart.cappages n i);
       capregs = λ p i right. let one = same.processes p in subst (λ (cs : List Capability). MayHold cut Right (get_or cs i null)) one.capregs (apart.capregs p i right);
@@ -54,13 +55,14 @@ module _ (cut : Cut) where
 
   secluded-rewritten : (s : State) (rewrite : Rewrite) → IsPrivate cut rewrite → Secluded cut s → Secluded cut (rewritten s rewrite)
   secluded-rewritten s (PageIs n page) own secluded = let apart = secluded.apart in record {
-    apart = record { strictly = apart.strictly; slots = apart.slots; cappages = apart.cappages; capregs = apart.capregs; process_slots = apart.process_slots };
+    apart = record { strictly = apart.strictly; closed = apart.closed; slots = apart.slots; cappages = apart.cappages; capregs = apart.capregs; process_slots = apart.process_slots };
     running = secluded.running;
     harts = secluded.harts;
   }
   secluded-rewritten s (ProcessIs p value) own secluded = let apart = secluded.apart in record {
     apart = record {
       strictly = apart.strictly;
+      closed = apart.closed;
       slots = apart.slots;
       cappages = apart.cappages;
       capregs = λ q i right. subst (λ (x : ProcessValue). MayHold cut Right (capreg_of x i)) (sym (get_or-set_other s.store.contents.processes p q value empty_process (not-left Process p q own.0 right))) (apart.capregs q i right);

@@ -115,4 +115,4 @@ module _ (cut : Cut) (f : Overlay cut) (start : System) where
       subst₂ (λ (c : Capability) (answer : Answer). Two (fault_of Meant w w.store p code address handler) (answered Meant v p code address c.payload answer))
       (same-handler_of cut f start w v b run p handler right) (same-heard cut f start w v b run p handler right)
       (beside-answered w v b p code address (handler_of w.store p handler).payload (heard_by w.store p handler) right
-      (answerer-right cut w.store (run-now cut f start w v b run) (handler_of w.store p handler) (handler-right cut f start w v b run p handler right may)))
+      (answerer-right cut (let apart = b.apart in apart.closed) w.store (run-now cut f start w v b run) (handler_of w.store p handler) (handler-right cut f start w v b run p handler right may)))

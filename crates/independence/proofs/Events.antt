@@ -108,7 +108,8 @@ module _ (cut : Cut) (f : Overlay cut) (start : System) (run : Run cut start.sto
       may-read_own cut Right place.restr.0 (cap_at (cappage_at s.store place.number) (slot_in place)) (apart.cappages place.number (slot_in place))
 
   called-right : (s t : State) (c : Capability) (to : Callee) → Both cut f start s t → MayHold cut Right c → callee s.store c ≡ to → CalleeRight cut to
-  called-right s t c to b may e = subst (CalleeRight cut) e (callee-right cut s.store (run-now cut f start (system_of s) (system_of t) b.systems run) c may)
+  called-right s t c to b may e = let systems = b.systems in let apart = systems.apart in
+      subst (CalleeRight cut) e (callee-right cut apart.closed s.store (run-now cut f start (system_of s) (system_of t) b.systems run) c may)
 
   origins : Origins of_right
   origins = record {

@@ -9,13 +9,14 @@ use Rattle.object_store.specs.Store.{Store, slot_at, cappage_at, process_at}
 use Rattle.schedules.specs.Queues.{QueuesValue, ready_queue, sleepers_of, hart_of}
 use Rattle.machine_state.specs.State.{State, process, IsOnHart}
 use Rattle.confinement.specs.declared.cut_side.CutSide.TheVariants.{Left, Right}
-use Rattle.confinement.specs.Cut.{Cut, side_of, MayHold, AllOn}
+use Rattle.confinement.specs.Cut.{Cut, IsClosed, side_of, MayHold, AllOn}
 
 -- Each capability that stands on the right, or in a capability page, names nothing on the left, by whatever restrictions, and none
 -- is a Range; SysCtl and KernLog are there where the cut lets the right have them. Whatever else stands on the left is free. So are
--- the recipients of endpoints: nobody is given them, and nobody asks one but whether it receives.
+-- the recipients of endpoints: nobody is given them, and nobody asks one but whether it receives. Nobody calls across.
 pub record HeldApart (cut : Cut) (s : Store) : Type 0 where
   pub strictly : cut.weakly Right ≡ false
+  pub closed : IsClosed cut
   pub slots : (g i : ℕ) → side_of cut Gpt g ≡ Right → MayHold cut Right (slot_at s.items g i)
   pub cappages : (n i : ℕ) → MayHold cut Right (cap_at (cappage_at s n) i)
   pub capregs : (p i : ℕ) → side_of cut ProcessKind p ≡ Right → MayHold cut Right (capreg_of (process_at s p) i)
