@@ -15,7 +15,7 @@ use Rattle.schedules.specs.Queues.{hart_of, stands_in}
 use Rattle.machine_state.specs.State.{State, process}
 use Rattle.confinement.specs.declared.cut_side.CutSide.{CutSide}
 use Rattle.confinement.specs.declared.cut_side.CutSide.TheVariants.{Left, Right}
-use Rattle.confinement.specs.Cut.{Cut, side_of, MayHold, AllOn}
+use Rattle.confinement.specs.Cut.{Cut, closed_cut, side_of, MayHold, AllOn}
 use Rattle.independence.specs.Seclusion.{HeldApart, OnHarts, Secluded}
 use Rattle.quiet_runs.specs.Runs.{Watch}
 use Rattle.quiet_runs.specs.Reaching.{caps_of, names}
@@ -39,7 +39,7 @@ sides watch s p _ n = Right
 
 -- nothing crosses it; who may halt the machine, and who may read its log, is free
 abbrev pub own_cut : Watch → State → ℕ → Cut
-own_cut watch s p = record { side = sides watch s p; weakly = λ side. false; halts = λ side. true; logs = λ side. true }
+own_cut watch s p = record closed_cut (sides watch s p) { weakly = λ side. false }
 
 -- what isn't so is on the left
 left-is : (b : Bool) → right_if b ≡ Left → b ≡ false
@@ -155,7 +155,7 @@ module _ (watch : Watch) (s : State) (p : ℕ) where
         (false_from_ne_true _ (λ e. none-process far unranged q (holds-slot far refl s.store q i e)))
 
     held-apart : HeldApart (own_cut watch s p) s.store
-    held-apart = record { strictly = refl; slots = held-slots; cappages = held-cappages; capregs = held-capregs; process_slots = held-process_slots }
+    held-apart = record { strictly = refl; closed = record { calls = λ side e. refl; hears = λ side q. refl }; slots = held-slots; cappages = held-cappages; capregs = held-capregs; process_slots = held-process_slots }
 
   -- ---- who stands where
 

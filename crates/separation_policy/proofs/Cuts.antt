@@ -9,7 +9,7 @@ use Rattle.cap_format.specs.Weakening.{is_harmless}
 use Rattle.schedules.specs.Queues.{sleepers_of}
 use Rattle.operations.specs.System.{System}
 use Rattle.confinement.specs.declared.cut_side.CutSide.TheVariants.{Right}
-use Rattle.confinement.specs.Cut.{Cut, side_of, same_side, NamesOwn, MayCross, MayHold, Holds}
+use Rattle.confinement.specs.Cut.{Cut, side_of, same_side, NamesOwn, MayCross, MayCall, MayHold, Holds}
 use Rattle.confinement.proofs.Sleeping.{each_on}
 use Rattle.separation_policy.specs.Policy.{PolicyValue, domain_of, domain_named, may_write, MayName, MayStand, PolicyHolds, views, side_if, view_cut}
 use Rattle.separation_policy.specs.Policy.MayName.{Own, Read, Written, Shown}
@@ -38,7 +38,7 @@ module _ (policy : PolicyValue) (a : ℕ) where
 
     -- what it names is on the side of the object, or it may cross
     abbrev OwnOver : Type 0
-    OwnOver = NamesOwn cut (side_of cut kind n) c ⊎ MayCross cut (side_of cut kind n) c
+    OwnOver = NamesOwn cut (side_of cut kind n) c ⊎ (MayCross cut (side_of cut kind n) c ⊎ MayCall cut (side_of cut kind n) c)
 
     -- both are of the view, or neither is
     same-side : views policy a named ≡ views policy a home → OwnOver
@@ -50,7 +50,7 @@ module _ (policy : PolicyValue) (a : ℕ) where
 
     -- an object of no domain of the view may hold what is harmless
     outside : views policy a home ≡ false → is_harmless c ≡ true → OwnOver
-    outside away harmless = inr (ap (λ (x : Bool). same_side (side_if x) Right) away, harmless)
+    outside away harmless = inr (inl (ap (λ (x : Bool). same_side (side_if x) Right) away, harmless))
 
     -- and no page of the view that its domain writes, since then that is of the view
     away-writes : views policy a home ≡ false → may_write policy home named ≡ true → (views policy a named ≡ true) ⊎ (views policy a named ≡ false) → OwnOver
@@ -85,6 +85,7 @@ module _ (policy : PolicyValue) (a : ℕ) where
       recipients = λ e. view-held Endpoint e _ (each.recipients e);
     };
     sleepers = λ on. each_on cut (side_of cut Process on) (sleepers_of w.queues on) (λ p there. ap (λ (d : ℕ). side_if (views policy a d)) (holds.sleepers on p there));
+    closed = record { calls = λ side e. refl; hears = λ side q. refl };
   }
 
 -- the law of views as cuts

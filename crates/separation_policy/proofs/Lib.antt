@@ -6,3 +6,6 @@ pub mod Closing
 pub mod Allowing
 pub mod Theorems
 mod Ranges
+pub mod SendingHolding
+pub mod SendingRuns
+pub mod SendingViews

@@ -43,7 +43,7 @@ module _ (policy : PolicyValue) where
       by true e = let lt = written-made a b e in absurd (omega (arith, lt, past))
       by false e = refl
 
-  unmade_learns : (m b : ℕ) → count ≤ m → may_learn policy m b ≡ false
+  pub unmade_learns : (m b : ℕ) → count ≤ m → may_learn policy m b ≡ false
   unmade_learns m b past = or_false _ _ (unmade_reads m b past) (or_false _ _ (unmade-writes m b past) (unwritten b m past))
 
   -- ---- reading

@@ -5,3 +5,5 @@ pub mod ObjectDomains
 pub mod Closure
 pub mod Bounds
 pub mod Laws
+pub mod Sending
+pub mod SendingLaws

@@ -25,7 +25,7 @@ use Rattle.kernel_core.specs.Event.{performer, event_of}
 use Rattle.kernel_core.specs.Run.{run_state}
 use Rattle.confinement.specs.declared.cut_side.CutSide.{CutSide}
 use Rattle.confinement.specs.declared.cut_side.CutSide.TheVariants.{Left, Right}
-use Rattle.confinement.specs.Cut.{Cut, same_side, Holds}
+use Rattle.confinement.specs.Cut.{Cut, no_realm, same_side, Holds}
 use Rattle.confinement.specs.Acts.{SameSizes, system_of}
 use Rattle.confinement.specs.authority.Authority.{Authority}
 use Rattle.confinement.specs.authority.Within.{may_change, StaysWithin}
@@ -256,6 +256,9 @@ view_cut policy a = record {
   weakly = λ side. same_side side Right;
   halts = λ side. true;
   logs = λ side. true;
+  calls = λ side e. false;
+  hears = λ side q. false;
+  realm = λ q. no_realm;
 }
 
 -- Two systems are the same for domain `a`: each object of a domain of its view is the same, its age and state included;

@@ -11,6 +11,7 @@ mod laws;
 mod object_domains;
 mod policy;
 mod rights;
+mod sending;
 mod stage;
 
 pub use closure::Closure;
@@ -21,4 +22,8 @@ pub use laws::{
 };
 pub use policy::{DOMAIN_LIMIT, Domain, Policy};
 pub use rights::Rights;
+pub use sending::{
+    accept_law, deaf_law, domain_cut_law, send_integrity, send_law, send_noninterference,
+    send_view_law, silent_law,
+};
 pub use stage::Stage;
