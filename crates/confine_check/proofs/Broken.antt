@@ -6,7 +6,7 @@ use Rattle.cap_format.specs.declared.kind.CapKind.{CapKind}
 use Rattle.cap_format.specs.declared.kind.CapKind.TheVariants.{CapPage, Gpt, Endpoint, Process}
 use Rattle.object_store.specs.Store.{Store, size_of}
 use Rattle.machine_state.specs.State.{State}
-use Rattle.confinement.specs.Cut.{Cut, side_of, MayHold}
+use Rattle.confinement.specs.Cut.{Cut, IsClosed, side_of, MayHold}
 use Rattle.confine_check.specs.declared.verdict.Breach.{Breach}
 use Rattle.object_store.specs.Places.{cap_in, places_in}
 use Rattle.confine_check.specs.Breach.{breach_by, breach_in, breach_with, broken_by, first_from, found_by, may_hold, sleeper_of}
@@ -55,7 +55,7 @@ or_gives (Some b) y a e = inl e
 
 -- ---- one place
 
-module _ (cut : Cut) (s : Store) where
+module _ (cut : Cut) (closed : IsClosed cut) (s : Store) where
   abbrev May : CapKind → ℕ → ℕ → Type 0
   May kind n i = MayHold cut (side_of cut kind n) (cap_in s kind n i)
 
@@ -77,7 +77,7 @@ module _ (cut : Cut) (s : Store) where
       on : (b : Bool) → may_hold cut (side_of cut kind n) (cap_in s kind n i) ≡ b → (if b then None else Some (breach_with kind n i (cap_in s kind n i))) ≡ Some found
           → (found ≡ breach_with kind n i (cap_in s kind n i)) × (¬ (May kind n i))
       on true is e = absurd (cc (e))
-      on false is e = (cc, λ may. let bad = sym (may_hold-passes cut (side_of cut kind n) (cap_in s kind n i) may) ∙ is in cc)
+      on false is e = (cc, λ may. let bad = sym (may_hold-passes cut (side_of cut kind n) (cap_in s kind n i) closed may) ∙ is in cc)
 
   -- ---- the objects of a kind
 
@@ -185,8 +185,8 @@ module _ (cut : Cut) (s : Store) where
       ]
 
 -- a capability that is told of a state is the first that breaks the cut
-pub verdict_in-first : (cut : Cut) (s : State) (found : Breach) → verdict_in cut s ≡ broken_by found → IsFirstBreach cut s.store found
-verdict_in-first cut s found e = meant-first cut s.store found (by (meant_of cut s.store) (sleeper_of cut s.queues) e)
+pub verdict_in-first : (cut : Cut) → IsClosed cut → (s : State) (found : Breach) → verdict_in cut s ≡ broken_by found → IsFirstBreach cut s.store found
+verdict_in-first cut closed s found e = meant-first cut closed s.store found (by (meant_of cut s.store) (sleeper_of cut s.queues) e)
   where
     by : (o : Option Breach) (p : Option ℕ) → found_by o p ≡ broken_by found → o ≡ Some found
     by (Some other) p e = ap breach_in e

@@ -9,7 +9,7 @@ use Rattle.cap_format.specs.Kind.{is_counted, object_kind}
 use Rattle.cap_format.specs.Capability.{Capability, null, bare}
 use Rattle.cap_format.specs.Weakening.{is_harmless}
 use Rattle.confinement.specs.declared.cut_side.CutSide.{CutSide}
-use Rattle.confinement.specs.Cut.{Cut, side_of, same_side, NamesOwn, MayCross, MayHold, EachMayHold, AllOn, SleepApart}
+use Rattle.confinement.specs.Cut.{Cut, IsClosed, side_of, same_side, NamesOwn, MayCross, MayCall, MayHold, EachMayHold, AllOn, SleepApart}
 use Rattle.object_store.specs.Store.{Store, Items, size_of}
 use Rattle.schedules.specs.Queues.{QueuesValue, sleepers_of}
 use Rattle.object_store.specs.Meaning.{is_live, live, meaning, state_map}
@@ -18,6 +18,7 @@ use Rattle.confine_check.specs.declared.verdict.Verdict.TheVariants.{Yes}
 use Rattle.object_store.specs.Places.{places_in, cap_in}
 use Rattle.confine_check.specs.Breach.{first_from, is_range, is_sysctl, is_kernlog, may_share, may_hold, breach_at, breach_of_object, breach_of_kind, breach_of, found_by, across_at, least_on, sleeper_of}
 use Rattle.confine_check.specs.Full.{AreFull}
+use Rattle.confinement.proofs.Own.{uncalled}
 use Rattle.confinement.proofs.Held.{may-null}
 use Rattle.confinement.proofs.Sides.{same_side-tells, same_side-true}
 use Rattle.confine_check.proofs.Holding.{AllHave, each-has, has-all}
@@ -67,7 +68,7 @@ module _ (cut : Cut) (side : CutSide) (c : Capability) where
   tested range share counted own cross = if range then false else (if share then (if counted then own || cross else true) else false)
 
   -- of a kind that may be held, and naming what may be named
-  held-by : is_range c.kind ≡ false → may_share cut side c.kind ≡ true → NamesOwn cut side c ⊎ MayCross cut side c → MayHold cut side c
+  held-by : is_range c.kind ≡ false → may_share cut side c.kind ≡ true → NamesOwn cut side c ⊎ (MayCross cut side c ⊎ MayCall cut side c) → MayHold cut side c
   held-by r s own =
       let both = and_parts (cut.halts side || not (is_sysctl c.kind)) (cut.logs side || not (is_kernlog c.kind)) s in
       record {
@@ -84,7 +85,7 @@ module _ (cut : Cut) (side : CutSide) (c : Capability) where
   says false false counted own cross r s n o x e = absurd (cc (e))
   says false true false own cross r s n o x e = held-by r s (inl (λ h. let f = sym n ∙ h in absurd (cc (f))))
   says false true true true cross r s n o x e = held-by r s (inl (λ h. same_side-tells _ _ o))
-  says false true true false true r s n o x e = held-by r s (inr (let p = and_parts _ _ x in (p.0, p.1)))
+  says false true true false true r s n o x e = held-by r s (inr (inl (let p = and_parts _ _ x in (p.0, p.1))))
   says false true true false false r s n o x e = absurd (cc (e))
 
   -- what passes the test may be held
@@ -101,22 +102,23 @@ module _ (cut : Cut) (side : CutSide) (c : Capability) where
       (meets (cut.halts side) (is_sysctl c.kind) (λ e. m.halting (is_sysctl-kind c.kind e)))
       (meets (cut.logs side) (is_kernlog c.kind) (λ e. m.logging (is_kernlog-kind c.kind e)))
 
-  passes : (range share counted own cross : Bool) → is_range c.kind ≡ range → may_share cut side c.kind ≡ share → is_counted c.kind ≡ counted
+  passes : IsClosed cut → (range share counted own cross : Bool) → is_range c.kind ≡ range → may_share cut side c.kind ≡ share → is_counted c.kind ≡ counted
       → same_side (side_of cut (object_kind c.kind) c.object) side ≡ own → (cut.weakly side && is_harmless c) ≡ cross
       → MayHold cut side c → tested range share counted own cross ≡ true
-  passes true share counted own cross r s n o x m = absurd (m.no_range (is_range-kind c.kind r))
-  passes false false counted own cross r s n o x m = let e = sym s ∙ share-held m in absurd (cc (e))
-  passes false true false own cross r s n o x m = refl
-  passes false true true true cross r s n o x m = refl
-  passes false true true false true r s n o x m = refl
-  passes false true true false false r s n o x m = elim m.own [
+  passes closed true share counted own cross r s n o x m = absurd (m.no_range (is_range-kind c.kind r))
+  passes closed false false counted own cross r s n o x m = let e = sym s ∙ share-held m in absurd (cc (e))
+  passes closed false true false own cross r s n o x m = refl
+  passes closed false true true true cross r s n o x m = refl
+  passes closed false true true false true r s n o x m = refl
+  passes closed false true true false false r s n o x m = elim m.own [
     | inl own ↦ let e = sym o ∙ same_side-true _ _ (own n) in absurd (cc (e))
-    | inr weak ↦ let e = sym x ∙ both_true (cut.weakly side) (is_harmless c) weak.0 weak.1 in absurd (cc (e))
+    | inr (inl weak) ↦ let e = sym x ∙ both_true (cut.weakly side) (is_harmless c) weak.0 weak.1 in absurd (cc (e))
+    | inr (inr call) ↦ absurd (uncalled cut closed side c.object call.1)
   ]
 
   -- what may be held passes the test
-  pub may_hold-passes : MayHold cut side c → may_hold cut side c ≡ true
-  may_hold-passes m = passes (is_range c.kind) (may_share cut side c.kind) (is_counted c.kind) (same_side (side_of cut (object_kind c.kind) c.object) side) (cut.weakly side && is_harmless c) refl refl refl refl refl m
+  pub may_hold-passes : IsClosed cut → MayHold cut side c → may_hold cut side c ≡ true
+  may_hold-passes closed m = passes closed (is_range c.kind) (may_share cut side c.kind) (is_counted c.kind) (same_side (side_of cut (object_kind c.kind) c.object) side) (cut.weakly side && is_harmless c) refl refl refl refl refl m
 
 -- ---- stored capabilities and their meanings
 
@@ -194,7 +196,7 @@ if_true : (b : Bool) (v : Breach) → b ≡ true → (if b then None else Some v
 if_true true v e = refl
 if_true false v e = absurd (cc (e))
 
-module _ (cut : Cut) (s : Store) where
+module _ (cut : Cut) (closed : IsClosed cut) (s : Store) where
   -- a fact of each place of the objects of a kind
   abbrev pub PlacesMay : CapKind → Type 0
   PlacesMay kind = (n i : ℕ) → n < size_of s.items kind → i < places_in kind → MayHold cut (side_of cut kind n) (meaning s.items (cap_in s kind n i))
@@ -203,7 +205,7 @@ module _ (cut : Cut) (s : Store) where
   places-none kind all =
       each_none (breach_of_object cut s kind) (size_of s.items kind) 0 (λ n low high.
       each_none (breach_at cut s kind n) (places_in kind) 0 (λ i lower higher.
-      if_true _ _ (may_hold-passes cut (side_of cut kind n) (live s.items (cap_in s kind n i)) (may-live cut (side_of cut kind n) s.items (cap_in s kind n i) (all n i (omega (arith, high)) (omega (arith, higher)))))))
+      if_true _ _ (may_hold-passes cut (side_of cut kind n) (live s.items (cap_in s kind n i)) closed (may-live cut (side_of cut kind n) s.items (cap_in s kind n i) (all n i (omega (arith, high)) (omega (arith, higher)))))))
 
   none-places : (kind : CapKind) → breach_of_kind cut s kind ≡ None → PlacesMay kind
   none-places kind e n i there place =
@@ -280,8 +282,8 @@ module _ (cut : Cut) where
 
 -- the law of verdicts
 pub verdict_law : VerdictLaw
-verdict_law cut s q full = (
+verdict_law cut s q closed full = (
   λ e. let none = found-none (breach_of cut s) (sleeper_of cut q) e in
-      record { each = each-held cut s full (none-all cut s none.0); sleepers = none-apart cut q none.1 },
-  λ holds. none-found (breach_of cut s) (sleeper_of cut q) (all-none cut s (held-all cut s holds.each)) (apart-none cut q holds.sleepers),
+      record { each = each-held cut closed s full (none-all cut closed s none.0); sleepers = none-apart cut q none.1; closed = closed },
+  λ holds. none-found (breach_of cut s) (sleeper_of cut q) (all-none cut closed s (held-all cut closed s holds.each)) (apart-none cut q holds.sleepers),
 )

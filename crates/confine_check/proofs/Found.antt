@@ -11,7 +11,7 @@ use Rattle.object_store.specs.Store.{Items, Store, size_of, cappage_at, process_
 use Rattle.object_store.specs.Meaning.{is_live, live, meaning, state_map}
 use Rattle.object_store.proofs.Means.{slot_at-map_of, cappage_at-state_map, process_at-state_map, endpoint_at-state_map}
 use Rattle.machine_state.specs.State.{State}
-use Rattle.confinement.specs.Cut.{Cut, side_of, Holds}
+use Rattle.confinement.specs.Cut.{Cut, IsClosed, side_of, Holds}
 use Rattle.operations.specs.System.{system}
 use Rattle.schedules.specs.Queues.{QueuesValue}
 use Rattle.confine_check.specs.declared.verdict.Breach.{Breach}
@@ -114,10 +114,10 @@ meant-yes (CapabilityBreaks kind n i c) e = absurd (cc (e))
 meant-yes (Sleeper p) e = absurd (cc (e))
 
 -- nothing is found of a state exactly where the cut holds
-pub verdict_in-exactly : (cut : Cut) (s : Store) (q : QueuesValue) (halted : Bool) → AreFull s
+pub verdict_in-exactly : (cut : Cut) (s : Store) (q : QueuesValue) (halted : Bool) → IsClosed cut → AreFull s
     → (verdict_in cut (record { store = state_map s; queues = q; halted = halted }) ≡ Yes) ↔ Holds cut (system (state_map s) q)
-verdict_in-exactly cut s q halted full =
-    let law = verdict_law cut s q full in
+verdict_in-exactly cut s q halted closed full =
+    let law = verdict_law cut s q closed full in
     let same = verdict-meant cut s q halted in
     (λ yes. law.0 (meant-yes (verdict_of cut s q) (sym same ∙ yes)), λ holds. same ∙ ap meant (law.1 holds))
 

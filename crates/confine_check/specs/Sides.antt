@@ -6,7 +6,7 @@ use Rattle.cap_format.specs.declared.kind.CapKind.TheVariants.{Page, CapPage, Gp
 use Rattle.object_store.specs.declared.sizes.Sizes.{Sizes}
 use Rattle.confinement.specs.declared.cut_side.CutSide.{CutSide}
 use Rattle.confinement.specs.declared.cut_side.CutSide.TheVariants.{Left, Right}
-use Rattle.confinement.specs.Cut.{Sides, Cut, side_in, same_side}
+use Rattle.confinement.specs.Cut.{Sides, Cut, closed_cut, side_in, same_side}
 use Rattle.confine_check.specs.declared.block.Block.{Block}
 
 -- the sides of all objects, by the lists of the five kinds
@@ -16,7 +16,7 @@ sides_by_kind pages cappages gpts processes endpoints =
 
 -- the cut with these sides, over which harmless capabilities may lead both ways; each side may hold SysCtl and KernLog
 abbrev pub cut_of : Sides → Cut
-cut_of sides = record { side = side_in sides; weakly = λ side. true; halts = λ side. true; logs = λ side. true }
+cut_of sides = closed_cut (side_in sides)
 
 -- as many objects of each kind as a number of 16 bits counts
 pub record AreSized (sides : Sides) : Type 0 where
