@@ -39,7 +39,7 @@ sides watch s p _ n = Right
 
 -- nothing crosses it; who may halt the machine, and who may read its log, is free
 abbrev pub own_cut : Watch → State → ℕ → Cut
-own_cut watch s p = record closed_cut (sides watch s p) { weakly = λ side. false }
+own_cut watch s p = record (closed_cut (sides watch s p)) { weakly = λ side. false }
 
 -- what isn't so is on the left
 left-is : (b : Bool) → right_if b ≡ Left → b ≡ false
