@@ -9,7 +9,8 @@ use Rattle.listing_read.specs.Listing.{Listed, IsListed}
 use Rattle.listing_read.specs.Statement.{ListingValue}
 use Rattle.listing_read.specs.declared.place.Place.TheVariants.{Header}
 use Rattle.image_builder.specs.Boot.{booted}
-use Rattle.confinement.specs.Cut.{Sides}
+use Rattle.confinement.specs.Cut.{Sides, side_in}
+use Rattle.confinement.proofs.Own.{is-closed}
 use Rattle.confinement.proofs.Runs.{separation}
 use Rattle.confine_check.specs.declared.verdict.Breach.{Breach}
 use Rattle.confine_check.specs.declared.verdict.Verdict.TheVariants.{Yes}
@@ -49,7 +50,7 @@ decides s sides awake exactly = by (meant_of (cut_of sides) s.store) refl
           breach = λ kind n place c same. absurd (lines-differ sides kind n place c same);
         }
     by (Some found) is = record {
-      line = inr (found, refl, meant-first (cut_of sides) s.store found is);
+      line = inr (found, refl, meant-first (cut_of sides) (is-closed (side_in sides)) s.store found is);
       confined = λ same. absurd (lines-differ sides found.kind found.number found.place found.cap (sym same));
       breach = λ kind n place c same holds. let yes : broken_by found ≡ Yes = sym (finds (Some found) is) ∙ exactly.1 holds in cc (yes);
     }

@@ -8,7 +8,8 @@ use Rattle.cap_format.specs.Capability.{Capability, null}
 use Rattle.process_objects.specs.Process.{capreg_of, slot_of}
 use Rattle.object_store.specs.Store.{Store, size_of, process_at}
 use Rattle.kernel_core.specs.State.{State}
-use Rattle.confinement.specs.Cut.{Cut, Sides, side_of, MayHold, EachMayHold, AllOn}
+use Rattle.confinement.specs.Cut.{Cut, Sides, IsClosed, side_in, side_of, MayHold, EachMayHold, AllOn}
+use Rattle.confinement.proofs.Own.{is-closed}
 use Rattle.confinement.proofs.Held.{may-null}
 use Rattle.run_places.specs.Places.{HasPlaces}
 use Rattle.run_places.proofs.Reading.{slot-read, cap-read, capreg-read, process_slot-read, recipient-read}
@@ -47,7 +48,7 @@ found-none None p e = refl
 
 -- ---- capabilities
 
-module _ (cut : Cut) (s : Store) where
+module _ (cut : Cut) (closed : IsClosed cut) (s : Store) where
   -- a fact of each place of the objects of a kind
   abbrev PlacesMay : CapKind → Type 0
   PlacesMay kind = (n i : ℕ) → n < size_of s.items kind → i < places_in kind → MayHold cut (side_of cut kind n) (cap_in s kind n i)
@@ -56,7 +57,7 @@ module _ (cut : Cut) (s : Store) where
   places-none kind all =
       each_none (meant_of_object cut s kind) (size_of s.items kind) 0 (λ n low high.
       each_none (λ i. breach_by cut kind n i (cap_in s kind n i)) (places_in kind) 0 (λ i lower higher.
-      if_true _ _ (may_hold-passes cut (side_of cut kind n) (cap_in s kind n i) (all n i (omega (arith, high)) (omega (arith, higher))))))
+      if_true _ _ (may_hold-passes cut (side_of cut kind n) (cap_in s kind n i) closed (all n i (omega (arith, high)) (omega (arith, higher))))))
 
   none-places : (kind : CapKind) → meant_of_kind cut s kind ≡ None → PlacesMay kind
   none-places kind e n i there place =
@@ -136,13 +137,17 @@ module _ (cut : Cut) (s : Store) where
 pub finds-exactly : (s : State) (sides : Sides) → NobodySleeps s.queues → HasPlaces s.store → FindsExactly s sides
 finds-exactly s sides awake has = (
   λ yes. record {
-    each = each-held cut s.store has (none-all cut s.store (found-none (meant_of cut s.store) (sleeper_of cut s.queues) yes));
+    each = each-held cut closed s.store has (none-all cut closed s.store (found-none (meant_of cut s.store) (sleeper_of cut s.queues) yes));
     sleepers = λ on. subst (λ (xs : List ℕ). AllOn cut (side_of cut Process on) xs) (sym (awake on)) tt;
+    closed = closed;
   },
   λ holds.
-      ap (λ (o : Option Breach). found_by o (sleeper_of cut s.queues)) (all-none cut s.store (held-all cut s.store holds.each))
+      ap (λ (o : Option Breach). found_by o (sleeper_of cut s.queues)) (all-none cut closed s.store (held-all cut closed s.store holds.each))
       ∙ ap (found_by None) (awake-none cut s.queues awake),
 )
   where
     cut : Cut
     cut = cut_of sides
+
+    closed : IsClosed cut
+    closed = is-closed (side_in sides)

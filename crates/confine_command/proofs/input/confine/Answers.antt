@@ -1,6 +1,7 @@
 use Rattle.std.proofs.Common.{◌∙◌, ap, refl, subst, sym}
 use Rattle.kernel_core.specs.State.{State}
-use Rattle.confinement.specs.Cut.{Sides}
+use Rattle.confinement.specs.Cut.{Sides, side_in}
+use Rattle.confinement.proofs.Own.{is-closed}
 use Rattle.confine_check.specs.Sides.{all_right, cut_of}
 use Rattle.courses.proofs.Taken.{takes-listing, takes-same}
 use Rattle.courses.specs.Course.{cached}
@@ -29,5 +30,5 @@ pub returns-clause-decided : goal.returns-clause-decided
 returns-clause-decided g c = λ done.
     let comes = rw done at (returns-clause-course g c).comes in
     bytes-decided c.in-Ok.listing
-    (λ (sides : Sides). subst (λ (s : State). FindsExactly s sides) c.in-Ok-boot.ensures.state (c.verdict_in_law.ensures.exactly (cut_of sides)))
+    (λ (sides : Sides). subst (λ (s : State). FindsExactly s sides) c.in-Ok-boot.ensures.state (c.verdict_in_law.ensures.exactly (cut_of sides) (is-closed (side_in sides))))
     _ _ c.new-lines.result c.read_head.new.lines c.new-lines.ensures c.in-Ok.ensures.listed _ _ _ _ comes
