@@ -9,5 +9,6 @@ mod Judging
 mod Numbers
 mod Evers
 mod Musts
+mod Spending
 mod Telling
 pub mod One

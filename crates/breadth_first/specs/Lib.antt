@@ -5,6 +5,7 @@ pub mod Kept
 pub mod Marks
 pub mod Answer
 pub mod Told
+pub mod Spending
 pub mod Front
 pub mod Origins
 pub mod Trace

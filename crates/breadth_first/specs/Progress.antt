@@ -1,5 +1,5 @@
 -- How a search goes on: what it keeps, what becomes of a state that is found, and how it ends.
-use Rattle.std.specs.Prelude.{◌≡◌, ℕ, suc, ◌+◌, ◌*◌, ◌^◌, ◌<◌, ◌≤◌, ◌⊎◌, if◌then◌else◌, Bool, true, false, not, List, [], ◌∷◌, ◌++◌, length, map, All, Contains, Option, None, Some, IfSome, MatchOption, slice_get, slice_index_or}
+use Rattle.std.specs.Prelude.{◌≡◌, ℕ, suc, ◌+◌, ◌*◌, ◌^◌, ◌<◌, ◌≤◌, ◌⊎◌, if◌then◌else◌, Bool, true, false, not, List, [], ◌∷◌, ◌++◌, length, map, All, Contains, Option, None, Some, IfSome, MatchOption, Result, Ok, Err, slice_get, slice_index_or, ⊤}
 use Rattle.std.specs.List.{list_any}
 use Rattle.indexmap.specs.IndexSet.{insert_key}
 use Rattle.reaches_back.specs.Edges.{CanReach}
@@ -8,6 +8,7 @@ use Rattle.breadth_first.specs.Front.{Front}
 use Rattle.breadth_first.specs.Paths.{after, AreChoices, CanCome, MustCome}
 use Rattle.breadth_first.specs.Order.{trying, opened, reached}
 use Rattle.breadth_first.specs.Answer.{before, want_of, Holds, Misses, CanAlwaysCome, IsLost, IsAvoided}
+use Rattle.breadth_first.specs.Spending.{SpendsAtMost, opening_cost, opened_cost}
 use Rattle.breadth_first.specs.Origins.{AreOrigins}
 use Rattle.breadth_first.specs.declared.origins.Origin.{Origin}
 use Rattle.breadth_first.specs.declared.search.Added.{Added}
@@ -191,3 +192,67 @@ MayLose g states t number (Some (Avoided avoided)) = ⊥
 abbrev pub MayMiss : {S : Type 0} → System S → List S → ℕ → Want → ℕ → Option Missed → Type 0
 MayMiss g states most want number None = Holds g most want
 MayMiss g states most want number (Some missed) = (want_of missed ≡ number) × Misses g states want missed
+
+-- a search that keeps so many states and tried the choices of so many spent no more than these cost, and as many looks: one for
+-- the start, one for each state that it keeps, one by each test for each whose choices it tried, and so many more
+pub record HasSpent {S : Type 0} (g : System S) (limit : Option ℕ) (tests begun more parents kept spent : ℕ) : Type 0 where
+  pub room : IfSome limit (λ n. kept ≤ n)
+  pub few : parents ≤ kept
+  pub inside : kept ≤ length (opened g parents)
+  pub spends : SpendsAtMost (opened_cost g parents + (1 + more + kept + parents * tests) * g.look) begun spent
+
+-- it is no more than one look more, and of the numbers of parents and states this is known
+pub record SpendsTo {S : Type 0} (g : System S) (limit : Option ℕ) (tests begun spent : ℕ) (Known : ℕ → ℕ → Type 0) : Type 0 where
+  pub parents : ℕ
+  pub kept : ℕ
+  pub known : Known parents kept
+  pub has : HasSpent g limit tests begun 1 parents kept spent
+
+-- the last of the states whose choices were tried before it stopped
+abbrev pub StopsBehind : ℕ → Stop → Type 0
+StopsBehind parents (Bad property) = ⊤
+StopsBehind parents (NoRoom at choice) = parents ≡ at + 1
+
+-- the same of how it ended
+abbrev pub EndsBehind : ℕ → ℕ → End → Type 0
+EndsBehind kept parents (AllReached d) = parents ≡ kept
+EndsBehind kept parents (TooFar d at choice) = parents ≡ at + 1
+EndsBehind kept parents (Stopped d stop) = StopsBehind parents stop
+
+-- what was spent until a state was kept, or wasn't: a look if it is new
+abbrev pub AddSpends : {S X E : Type 0} → System S → ℕ → ℕ → Result X E → ℕ → ℕ → Type 0
+AddSpends g old new (Ok added) before after = (before ≤ after) × (after + old * g.look ≤ before + new * g.look)
+AddSpends g old new (Err error) before after = SpendsAtMost g.look before after
+
+-- all choices of the state with the index `at` cost no more, and each new state a look, and so many more; none is behind its turn
+pub record ChoicesSpend {S : Type 0} (g : System S) (limit : Option ℕ) (at old more new before after : ℕ) : Type 0 where
+  pub room : IfSome limit (λ n. new ≤ n)
+  pub few : at < new
+  pub inside : new ≤ length (opened g (suc at))
+  pub grows : before ≤ after
+  pub spends : after + old * g.look ≤ before + opening_cost g (slice_get (opened g at) at) g.choices + (new + more) * g.look
+
+-- what was spent until all choices of the state with the index `at` were tried, or one failed or ended that
+abbrev pub TrySpends : {S X E : Type 0} → System S → Option ℕ → ℕ → ℕ → ℕ → Result X E → ℕ → ℕ → Type 0
+TrySpends g limit at old new (Ok stop) before after = ChoicesSpend g limit at old 0 new before after
+TrySpends g limit at old new (Err error) before after = (kept : ℕ) × ChoicesSpend g limit at old 1 kept before after
+
+-- the same for one state more
+abbrev pub ExpandSpends : {S X E : Type 0} → System S → Option ℕ → ℕ → ℕ → ℕ → ℕ → Result X E → ℕ → Type 0
+ExpandSpends g limit tests begun parents kept (Ok stop) spent = HasSpent g limit tests begun 0 parents kept spent
+ExpandSpends g limit tests begun parents kept (Err error) spent = (some : ℕ) × HasSpent g limit tests begun 1 parents some spent
+
+-- for all of a level: all its states, or those before it stopped
+abbrev pub LevelStops : {S : Type 0} → System S → Option ℕ → ℕ → ℕ → ℕ → ℕ → Option Stop → ℕ → Type 0
+LevelStops g limit tests begun all new None spent = HasSpent g limit tests begun 0 all new spent
+LevelStops g limit tests begun all new (Some stop) spent = SpendsTo g limit tests begun spent (λ parents kept. (kept ≡ new) × StopsBehind parents stop)
+
+-- the same, or it failed
+abbrev pub LevelSpends : {S E : Type 0} → System S → Option ℕ → ℕ → ℕ → ℕ → ℕ → Result (Option Stop) E → ℕ → Type 0
+LevelSpends g limit tests begun all new (Ok stop) spent = LevelStops g limit tests begun all new stop spent
+LevelSpends g limit tests begun all new (Err error) spent = SpendsTo g limit tests begun spent (λ parents kept. ⊤)
+
+-- and for all levels
+abbrev pub WalkSpends : {S E : Type 0} → System S → Option ℕ → ℕ → ℕ → ℕ → Result End E → ℕ → Type 0
+WalkSpends g limit tests begun new (Ok end) spent = SpendsTo g limit tests begun spent (λ parents kept. (kept ≡ new) × EndsBehind kept parents end)
+WalkSpends g limit tests begun new (Err error) spent = SpendsTo g limit tests begun spent (λ parents kept. ⊤)

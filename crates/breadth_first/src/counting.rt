@@ -1,11 +1,12 @@
 //! Which of the states that were found pass a test.
 
-ghost use Rattle.std.specs.Prelude.{◌≡◌, ◌<◌, ℕ, true, false, not, map, length, count_by, All, IfOk, OnOk, MatchOption, slice_index_or, slice_get, Some};
+ghost use Rattle.std.specs.Prelude.{◌≡◌, ◌<◌, ◌*◌, ℕ, true, false, not, map, length, count_by, All, IfOk, OnOk, MatchOption, slice_index_or, slice_get, Some};
 ghost use Rattle.breadth_first.specs.Answer.{IsCount, AreCounts};
 ghost use Rattle.breadth_first.specs.Kept.{Keeps};
 ghost use Rattle.breadth_first.specs.Marks.{judged, number_of};
 ghost use Rattle.breadth_first.specs.declared.asked.Test.TheVariants.{Passes};
 ghost use Rattle.breadth_first.specs.Progress.{Searched, IsOpened, IsFirstMark};
+ghost use Rattle.breadth_first.specs.Spending.{SpendsAtMost};
 
 use crate::asked::Test;
 use crate::marks::{Marks, judge, no_marks};
@@ -47,6 +48,9 @@ impl<S: Space> Search<S> {
             (S.system space.new) (S.held space.new) (S.means space.new)) }
         ensures marks { IfOk result (λ lists. lists.items
             ≡ judged (S.system space.old) tests.now (map (S.means space.old) self.now.seen.keys)) }
+        ensures spends { SpendsAtMost
+            (length self.now.seen.keys * (length tests.now * (S.system space.old).look))
+            (S.spent space.old) (S.spent space.new) }
     {
         let mut lists = no_marks(alloc, tests.len())?;
         for index in 0..self.seen.len() {
@@ -65,10 +69,12 @@ impl<S: Space> Search<S> {
     ) -> Result<Count, AllocError>
         requires searched { Searched (S.system space.now) (S.held space.now) (S.means space.now)
             limit self.now.seen.keys self.now.origins.items }
-        requires opened { IsOpened (S.system space.now) (map (S.means space.now) self.now.seen.keys) }
+        requires opened { IsOpened (S.system space.now)
+            (map (S.means space.now) self.now.seen.keys) }
         requires many { length marks.now ≡ length self.now.seen.keys }
         ensures { IfOk result (λ count. (t : ℕ)
-            → marks.now ≡ map ((S.system space.now).test t) (map (S.means space.now) self.now.seen.keys)
+            → marks.now
+            ≡ map ((S.system space.now).test t) (map (S.means space.now) self.now.seen.keys)
             → IsCount (S.system space.now) (map (S.means space.now) self.now.seen.keys) t count) }
     {
         let states = count_marks(marks);
@@ -96,9 +102,11 @@ impl<S: Space> Search<S> {
     ) -> Result<Vec<Count>, AllocError>
         requires searched { Searched (S.system space.now) (S.held space.now) (S.means space.now)
             limit self.now.seen.keys self.now.origins.items }
-        requires opened { IsOpened (S.system space.now) (map (S.means space.now) self.now.seen.keys) }
+        requires opened { IsOpened (S.system space.now)
+            (map (S.means space.now) self.now.seen.keys) }
         requires marks { lists.now
-            ≡ judged (S.system space.now) (map Passes tests.now) (map (S.means space.now) self.now.seen.keys) }
+            ≡ judged (S.system space.now) (map Passes tests.now)
+            (map (S.means space.now) self.now.seen.keys) }
         ensures { IfOk result (λ counts. AreCounts (S.system space.now)
             (map (S.means space.now) self.now.seen.keys) tests.now counts.items) }
     {

@@ -30,10 +30,13 @@ impl<S: Space> Search<S> {
         requires many { length marks.now ≡ length self.now.seen.keys }
         requires edges { AreEdges (S.system space.now) (map (S.means space.now) self.now.seen.keys)
             (length self.now.seen.keys * (S.system space.now).choices) self.now.edges.ends.items }
-        ensures index { IfOk result (λ first. IfSome first (λ index. index < length self.now.seen.keys)) }
+        ensures index { IfOk result (λ first. IfSome first
+            (λ index. index < length self.now.seen.keys)) }
         ensures first { IfOk result (λ first. (t : ℕ)
-            → marks.now ≡ map ((S.system space.now).test t) (map (S.means space.now) self.now.seen.keys)
-            → IsFirstStuck (S.system space.now) (map (S.means space.now) self.now.seen.keys) t first) }
+            → marks.now
+            ≡ map ((S.system space.now).test t) (map (S.means space.now) self.now.seen.keys)
+            → IsFirstStuck (S.system space.now)
+            (map (S.means space.now) self.now.seen.keys) t first) }
     {
         let mut marks = marks.to_vec(alloc)?;
         let width = space.choices() as usize;
@@ -51,14 +54,17 @@ impl<S: Space> Search<S> {
     ) -> Result<Option<Missed>, AllocError>
         requires searched { Searched (S.system space.now) (S.held space.now) (S.means space.now)
             limit self.now.seen.keys self.now.origins.items }
-        requires opened { IsOpened (S.system space.now) (map (S.means space.now) self.now.seen.keys) }
+        requires opened { IsOpened (S.system space.now)
+            (map (S.means space.now) self.now.seen.keys) }
         requires all { AreAll (S.system space.now) (map (S.means space.now) self.now.seen.keys) }
         requires many { length marks.now ≡ length self.now.seen.keys }
         requires edges { AreEdges (S.system space.now) (map (S.means space.now) self.now.seen.keys)
             (length self.now.seen.keys * (S.system space.now).choices) self.now.edges.ends.items }
         ensures { IfOk result (λ missed. (t : ℕ)
-            → marks.now ≡ map ((S.system space.now).test t) (map (S.means space.now) self.now.seen.keys)
-            → MayLose (S.system space.now) (map (S.means space.now) self.now.seen.keys) t want missed) }
+            → marks.now
+            ≡ map ((S.system space.now).test t) (map (S.means space.now) self.now.seen.keys)
+            → MayLose (S.system space.now)
+            (map (S.means space.now) self.now.seen.keys) t want missed) }
     {
         let Some(index) = self.first_stuck(alloc, space, marks)? else {
             return Ok(None);

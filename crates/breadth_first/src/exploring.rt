@@ -1,12 +1,14 @@
 //! The search, from its start to its answer.
 
-ghost use Rattle.std.specs.Prelude.{◌≡◌, ◌<◌, ◌*◌, ◌++◌, List, ℕ, map, length, IfOk, OnOk, IfSome, All, Some};
+ghost use Rattle.std.specs.Prelude.{◌≡◌, ◌<◌, ◌+◌, ◌*◌, ◌++◌, List, ℕ, map, length, IfOk, OnOk, IfSome, All, Some};
 ghost use Rattle.breadth_first.specs.Answer.{IsAnswer, IsClosed, seen};
 ghost use Rattle.breadth_first.specs.Kept.{Keeps};
 ghost use Rattle.breadth_first.specs.Marks.{judged, goal_of, tests_of};
 ghost use Rattle.breadth_first.specs.declared.answer.Want.{Want};
 ghost use Rattle.breadth_first.specs.declared.asked.Test.TheVariants.{Passes};
 ghost use Rattle.breadth_first.specs.declared.levels.End.TheVariants.{AllReached};
+ghost use Rattle.breadth_first.specs.Spending.{SpendsAtMost, HasSize, SpendsFor};
+ghost use Rattle.breadth_first.specs.Progress.{StopsBehind, EndsBehind};
 ghost use Rattle.breadth_first.specs.Progress.{Searched, IsOpened, GoesOn, LeavesOutAt, MeetsLimit, Ends, AreEdges, EdgesAreKept};
 
 use crate::answering::tried_of;
@@ -34,14 +36,21 @@ impl<S: Space> Search<S> {
     ) -> Result<Explored, AllocError>
         requires searched { Searched (S.system space.old) (S.held space.old) (S.means space.old)
             limits.states self.now.seen.keys self.now.origins.items }
-        requires left { LeavesOutAt (S.system space.old) depth at choice (map (S.means space.old) self.now.seen.keys) }
-        requires limit { MeetsLimit (S.system space.old) limits depth (map (S.means space.old) self.now.seen.keys) }
+        requires left { LeavesOutAt (S.system space.old) depth at choice
+            (map (S.means space.old) self.now.seen.keys) }
+        requires limit { MeetsLimit (S.system space.old) limits depth
+            (map (S.means space.old) self.now.seen.keys) }
         requires counts { All (λ t. t < (S.system space.old).tests) counts.now }
         ensures keeps { OnOk result
             (Keeps (S.system space.old) (S.held space.old) (S.means space.old)
             (S.system space.new) (S.held space.new) (S.means space.new)) }
         ensures answer { IfOk result (λ answer. (wants : List Want)
             → IsAnswer (S.system space.old) limits wants counts.now answer) }
+        ensures size { IfOk result (HasSize (S.system space.old)
+            (length self.now.seen.keys) (at + 1)) }
+        ensures spends { SpendsAtMost
+            (length self.now.seen.keys * (length counts.now * (S.system space.old).look))
+            (S.spent space.old) (S.spent space.new) }
     {
         let tried = tried_of(at, space.choices()) + u64::from(choice) + 1;
         let size = Size {
@@ -68,14 +77,20 @@ impl<S: Space> Search<S> {
     ) -> Result<Explored, AllocError>
         requires searched { Searched (S.system space.now) (S.held space.now) (S.means space.now)
             limits.states self.now.seen.keys self.now.origins.items }
-        requires opened { IsOpened (S.system space.now) (map (S.means space.now) self.now.seen.keys) }
+        requires opened { IsOpened (S.system space.now)
+            (map (S.means space.now) self.now.seen.keys) }
         requires marks { lists.now
-            ≡ judged (S.system space.now) (tests_of wants.now ++ map Passes counts.now) (map (S.means space.now) self.now.seen.keys) }
+            ≡ judged (S.system space.now) (tests_of wants.now ++ map Passes counts.now)
+            (map (S.means space.now) self.now.seen.keys) }
         requires ended { IsClosed (S.system space.now) limits size }
-        requires seen { seen (S.system space.now) size ≡ map (S.means space.now) self.now.seen.keys }
-        requires edges { 0 < length wants.now → AreEdges (S.system space.now) (map (S.means space.now) self.now.seen.keys)
+        requires seen { seen (S.system space.now) size
+            ≡ map (S.means space.now) self.now.seen.keys }
+        requires edges { 0 < length wants.now
+            → AreEdges (S.system space.now) (map (S.means space.now) self.now.seen.keys)
             (length self.now.seen.keys * (S.system space.now).choices) self.now.edges.ends.items }
-        ensures { IfOk result (IsAnswer (S.system space.now) limits wants.now counts.now) }
+        ensures answer { IfOk result (IsAnswer (S.system space.now) limits wants.now counts.now) }
+        ensures size { IfOk result (HasSize (S.system space.now)
+            (length self.now.seen.keys) (length self.now.seen.keys)) }
     {
         let wanted = lists.len() - counts.len();
         let counts = self.counts(alloc, space, limits.states, counts, &lists[wanted..])?;
@@ -108,6 +123,11 @@ impl<S: Space> Search<S> {
             (S.system space.new) (S.held space.new) (S.means space.new)) }
         ensures answer { IfOk result (λ answer. (wants : List Want)
             → IsAnswer (S.system space.old) limits wants counts.now answer) }
+        ensures size { IfOk result (λ answer. (parents : ℕ) → StopsBehind parents stop
+            → HasSize (S.system space.old) (length self.now.seen.keys) parents answer) }
+        ensures spends { SpendsAtMost
+            (length self.now.seen.keys * (length counts.now * (S.system space.old).look))
+            (S.spent space.old) (S.spent space.new) }
     {
         match stop {
             Stop::Bad(property) => {
@@ -133,17 +153,26 @@ impl<S: Space> Search<S> {
     ) -> Result<Explored, AllocError>
         requires searched { Searched (S.system space.old) (S.held space.old) (S.means space.old)
             limits.states self.now.seen.keys self.now.origins.items }
-        requires ends { Ends (S.system space.old) limits (map (S.means space.old) self.now.seen.keys) end }
+        requires ends { Ends (S.system space.old) limits
+            (map (S.means space.old) self.now.seen.keys) end }
         requires wants { All (λ want. goal_of want < (S.system space.old).tests) wants.now }
         requires counts { All (λ t. t < (S.system space.old).tests) counts.now }
-        requires edges { EdgesAreKept (S.system space.old) (map (S.means space.old) self.now.seen.keys)
+        requires edges { EdgesAreKept (S.system space.old)
+            (map (S.means space.old) self.now.seen.keys)
             wants.now self.now.edges.ends.items end }
         requires marks { (d : ℕ) → end ≡ AllReached d → lists.now
-            ≡ judged (S.system space.old) (tests_of wants.now ++ map Passes counts.now) (map (S.means space.old) self.now.seen.keys) }
+            ≡ judged (S.system space.old) (tests_of wants.now ++ map Passes counts.now)
+            (map (S.means space.old) self.now.seen.keys) }
         ensures keeps { OnOk result
             (Keeps (S.system space.old) (S.held space.old) (S.means space.old)
             (S.system space.new) (S.held space.new) (S.means space.new)) }
         ensures answer { IfOk result (IsAnswer (S.system space.old) limits wants.now counts.now) }
+        ensures size { IfOk result (λ answer. (parents : ℕ)
+            → EndsBehind (length self.now.seen.keys) parents end
+            → HasSize (S.system space.old) (length self.now.seen.keys) parents answer) }
+        ensures spends { SpendsAtMost
+            (length self.now.seen.keys * (length counts.now * (S.system space.old).look))
+            (S.spent space.old) (S.spent space.new) }
     {
         match end {
             End::Stopped(depth, stop) => self.told_stop(alloc, space, limits, counts, depth, stop),
@@ -184,6 +213,8 @@ pub fn explore<S: Space, W: Watcher>(
     ensures keeps { OnOk result
         (Keeps (S.system space.old) (S.held space.old) (S.means space.old)
         (S.system space.new) (S.held space.new) (S.means space.new)) }
+    ensures spends { SpendsFor (S.system space.old) limits.now wants.now counts.now result
+        (S.spent space.old) (S.spent space.new) }
 {
     let mut search = Search {
         seen: IndexSet::new(alloc),

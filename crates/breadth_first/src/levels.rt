@@ -7,6 +7,7 @@ ghost use Rattle.breadth_first.specs.Kept.{Keeps};
 ghost use Rattle.breadth_first.specs.Marks.{judged, number_of};
 ghost use Rattle.breadth_first.specs.Order.{reached};
 ghost use Rattle.breadth_first.specs.Progress.{Searched, AreSafe, AreWithin, GoesOn, Ends, KeepsEdges};
+ghost use Rattle.breadth_first.specs.Progress.{HasSpent, LevelSpends, WalkSpends};
 
 use crate::asked::Test;
 use crate::marks::Marks;
@@ -44,13 +45,16 @@ impl<S: Space> Search<S> {
         requires searched { Searched (S.system space.old) (S.held space.old) (S.means space.old)
             limit self.old.seen.keys self.old.origins.items }
         requires from { from ≡ before (S.system space.old) depth }
-        requires reached { map (S.means space.old) self.old.seen.keys ≡ reached (S.system space.old) depth }
+        requires reached { map (S.means space.old) self.old.seen.keys
+            ≡ reached (S.system space.old) depth }
         requires safe { AreSafe (S.system space.old) (map (S.means space.old) self.old.seen.keys) }
-        requires edges { KeepsEdges (S.system space.old) (map (S.means space.old) self.old.seen.keys)
+        requires edges { KeepsEdges (S.system space.old)
+            (map (S.means space.old) self.old.seen.keys)
             (from * (S.system space.old).choices) self.old.edges.keeps self.old.edges.ends.items }
         requires tests { All (λ t. number_of t < (S.system space.old).tests) tests.now }
         requires marks { lists.old.items
-            ≡ judged (S.system space.old) tests.now (take from (map (S.means space.old) self.old.seen.keys)) }
+            ≡ judged (S.system space.old) tests.now
+            (take from (map (S.means space.old) self.old.seen.keys)) }
         ensures keeps { OnOk result
             (Keeps (S.system space.old) (S.held space.old) (S.means space.old)
             (S.system space.new) (S.held space.new) (S.means space.new)) }
@@ -67,6 +71,11 @@ impl<S: Space> Search<S> {
         ensures marks { IfOk result (λ stop. stop ≡ None → lists.new.items
             ≡ judged (S.system space.old) tests.now
             (take (length self.old.seen.keys) (map (S.means space.new) self.new.seen.keys))) }
+        ensures spends { (begun : ℕ)
+            → HasSpent (S.system space.old) limit (length tests.now) begun 0 from
+            (length self.old.seen.keys) (S.spent space.old)
+            → LevelSpends (S.system space.old) limit (length tests.now) begun
+            (length self.old.seen.keys) (length self.new.seen.keys) result (S.spent space.new) }
     {
         for at in from..self.seen.len() {
             if let Some(stop) = self.expand(space, limit, at, tests, lists)? {
@@ -95,12 +104,15 @@ impl<S: Space> Search<S> {
             limits.states self.old.seen.keys self.old.origins.items }
         requires met { limits.depth ≡ Some depth }
         requires from { from ≡ before (S.system space.old) depth }
-        requires within { AreWithin (S.system space.old) depth (map (S.means space.old) self.old.seen.keys) }
-        requires edges { KeepsEdges (S.system space.old) (map (S.means space.old) self.old.seen.keys)
+        requires within { AreWithin (S.system space.old) depth
+            (map (S.means space.old) self.old.seen.keys) }
+        requires edges { KeepsEdges (S.system space.old)
+            (map (S.means space.old) self.old.seen.keys)
             (from * (S.system space.old).choices) self.old.edges.keeps self.old.edges.ends.items }
         requires tests { All (λ t. number_of t < (S.system space.old).tests) tests.now }
         requires marks { lists.old.items
-            ≡ judged (S.system space.old) tests.now (take from (map (S.means space.old) self.old.seen.keys)) }
+            ≡ judged (S.system space.old) tests.now
+            (take from (map (S.means space.old) self.old.seen.keys)) }
         ensures keeps { OnOk result
             (Keeps (S.system space.old) (S.held space.old) (S.means space.old)
             (S.system space.new) (S.held space.new) (S.means space.new)) }
@@ -110,12 +122,18 @@ impl<S: Space> Search<S> {
         ensures ends { IfOk result (Ends (S.system space.old) limits
             (map (S.means space.new) self.new.seen.keys)) }
         ensures keeping { OnOk result (self.new.edges.keeps ≡ self.old.edges.keeps) }
-        ensures edges { IfOk result (λ end. (d : ℕ) → end ≡ AllReached d → KeepsEdges (S.system space.old)
+        ensures edges { IfOk result (λ end. (d : ℕ) → end ≡ AllReached d
+            → KeepsEdges (S.system space.old)
             (map (S.means space.new) self.new.seen.keys)
             (length self.new.seen.keys * (S.system space.old).choices)
             self.new.edges.keeps self.new.edges.ends.items) }
         ensures marks { IfOk result (λ end. (d : ℕ) → end ≡ AllReached d → lists.new.items
             ≡ judged (S.system space.old) tests.now (map (S.means space.new) self.new.seen.keys)) }
+        ensures spends { (begun : ℕ)
+            → HasSpent (S.system space.old) limits.states (length tests.now) begun 0 from
+            (length self.old.seen.keys) (S.spent space.old)
+            → WalkSpends (S.system space.old) limits.states (length tests.now) begun
+            (length self.new.seen.keys) result (S.spent space.new) }
     {
         let to = self.seen.len();
         let stop = self.level(space, Some(to), from, depth, tests, lists, watcher)?;
@@ -137,7 +155,8 @@ impl<S: Space> Search<S> {
     ) -> Result<End, AllocError>
         requires searched { Searched (S.system space.old) (S.held space.old) (S.means space.old)
             limits.states self.old.seen.keys self.old.origins.items }
-        requires start { map (S.means space.old) self.old.seen.keys ≡ (S.system space.old).start ∷ [] }
+        requires start { map (S.means space.old) self.old.seen.keys
+            ≡ (S.system space.old).start ∷ [] }
         requires safe { AreSafe (S.system space.old) (map (S.means space.old) self.old.seen.keys) }
         requires edges { self.old.edges.ends.items ≡ [] }
         requires tests { All (λ t. number_of t < (S.system space.old).tests) tests.now }
@@ -151,12 +170,18 @@ impl<S: Space> Search<S> {
         ensures ends { IfOk result (Ends (S.system space.old) limits
             (map (S.means space.new) self.new.seen.keys)) }
         ensures keeping { OnOk result (self.new.edges.keeps ≡ self.old.edges.keeps) }
-        ensures edges { IfOk result (λ end. (d : ℕ) → end ≡ AllReached d → KeepsEdges (S.system space.old)
+        ensures edges { IfOk result (λ end. (d : ℕ) → end ≡ AllReached d
+            → KeepsEdges (S.system space.old)
             (map (S.means space.new) self.new.seen.keys)
             (length self.new.seen.keys * (S.system space.old).choices)
             self.new.edges.keeps self.new.edges.ends.items) }
         ensures marks { IfOk result (λ end. (d : ℕ) → end ≡ AllReached d → lists.new.items
             ≡ judged (S.system space.old) tests.now (map (S.means space.new) self.new.seen.keys)) }
+        ensures spends { (begun : ℕ)
+            → HasSpent (S.system space.old) limits.states (length tests.now) begun 0 0
+            (length self.old.seen.keys) (S.spent space.old)
+            → WalkSpends (S.system space.old) limits.states (length tests.now) begun
+            (length self.new.seen.keys) result (S.spent space.new) }
     {
         let mut depth = 0;
         let mut from = 0;

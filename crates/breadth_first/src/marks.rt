@@ -1,8 +1,9 @@
 //! Marks: which states pass which tests.
 
-ghost use Rattle.std.specs.Prelude.{◌≡◌, ◌<◌, ◌++◌, ◌∷◌, [], List, length, replicate, All, IfOk, OnOk, slice_set, slice_index_or};
+ghost use Rattle.std.specs.Prelude.{◌≡◌, ◌<◌, ◌*◌, ◌++◌, ◌∷◌, [], List, length, replicate, All, IfOk, OnOk, slice_set, slice_index_or};
 ghost use Rattle.breadth_first.specs.Kept.{Keeps};
 ghost use Rattle.breadth_first.specs.Marks.{judged, is_as, number_of};
+ghost use Rattle.breadth_first.specs.Spending.{SpendsAtMost};
 
 use crate::Space;
 use crate::asked::Test;
@@ -76,6 +77,8 @@ fn is_so<S: Space>(space: &mut S, key: &S::Key, test: Test) -> Result<bool, Allo
     ensures keeps { OnOk result
         (Keeps (S.system space.old) (S.held space.old) (S.means space.old)
         (S.system space.new) (S.held space.new) (S.means space.new)) }
+    ensures spends { SpendsAtMost (S.system space.old).look
+        (S.spent space.old) (S.spent space.new) }
 {
     match test {
         Test::Passes(number) => space.passes(key, number),
@@ -98,7 +101,10 @@ pub(crate) fn judge<S: Space>(
         (S.system space.new) (S.held space.new) (S.means space.new)) }
     ensures marks { OnOk result ((states : List S.State)
         → lists.old.items ≡ judged (S.system space.old) tests.now states
-        → lists.new.items ≡ judged (S.system space.old) tests.now (states ++ S.means space.old key.now ∷ [])) }
+        → lists.new.items
+        ≡ judged (S.system space.old) tests.now (states ++ S.means space.old key.now ∷ [])) }
+    ensures spends { SpendsAtMost (length tests.now * (S.system space.old).look)
+        (S.spent space.old) (S.spent space.new) }
 {
     for place in 0..tests.len() {
         let so = is_so(space, key, tests[place])?;

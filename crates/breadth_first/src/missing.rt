@@ -44,13 +44,15 @@ impl<S: Space> Search<S> {
     ) -> Result<Option<Missed>, AllocError>
         requires searched { Searched (S.system space.now) (S.held space.now) (S.means space.now)
             limit self.now.seen.keys self.now.origins.items }
-        requires opened { IsOpened (S.system space.now) (map (S.means space.now) self.now.seen.keys) }
+        requires opened { IsOpened (S.system space.now)
+            (map (S.means space.now) self.now.seen.keys) }
         requires goals { length goals.now ≡ length self.now.seen.keys }
         requires firsts { length firsts.now ≡ length self.now.seen.keys }
         requires edges { AreEdges (S.system space.now) (map (S.means space.now) self.now.seen.keys)
             (length self.now.seen.keys * (S.system space.now).choices) self.now.edges.ends.items }
         ensures { IfOk result (λ missed. (t : ℕ) (first : S.State → Bool)
-            → goals.now ≡ map ((S.system space.now).test t) (map (S.means space.now) self.now.seen.keys)
+            → goals.now
+            ≡ map ((S.system space.now).test t) (map (S.means space.now) self.now.seen.keys)
             → firsts.now ≡ map first (map (S.means space.now) self.now.seen.keys)
             → MayAvoid (S.system space.now) (length self.now.seen.keys) first t want missed) }
     {
@@ -82,15 +84,19 @@ impl<S: Space> Search<S> {
     ) -> Result<Option<Missed>, AllocError>
         requires searched { Searched (S.system space.now) (S.held space.now) (S.means space.now)
             limit self.now.seen.keys self.now.origins.items }
-        requires opened { IsOpened (S.system space.now) (map (S.means space.now) self.now.seen.keys) }
+        requires opened { IsOpened (S.system space.now)
+            (map (S.means space.now) self.now.seen.keys) }
         requires all { AreAll (S.system space.now) (map (S.means space.now) self.now.seen.keys) }
-        requires goals { slice_get lists.now number ≡ Some (map ((S.system space.now).test (goal_of want))
+        requires goals { slice_get lists.now number
+            ≡ Some (map ((S.system space.now).test (goal_of want))
             (map (S.means space.now) self.now.seen.keys)) }
         requires firsts { (t : ℕ) → want ≡ MustAfter t → slice_get lists.now place
-            ≡ Some (map ((S.system space.now).first t) (map (S.means space.now) self.now.seen.keys)) }
+            ≡ Some (map ((S.system space.now).first t)
+            (map (S.means space.now) self.now.seen.keys)) }
         requires edges { AreEdges (S.system space.now) (map (S.means space.now) self.now.seen.keys)
             (length self.now.seen.keys * (S.system space.now).choices) self.now.edges.ends.items }
-        ensures { IfOk result (MayMiss (S.system space.now) (map (S.means space.now) self.now.seen.keys)
+        ensures { IfOk result (MayMiss (S.system space.now)
+            (map (S.means space.now) self.now.seen.keys)
             (length self.now.seen.keys) want number) }
     {
         let goals = list_at(lists, number);
@@ -118,11 +124,14 @@ impl<S: Space> Search<S> {
     ) -> Result<Option<Missed>, AllocError>
         requires searched { Searched (S.system space.now) (S.held space.now) (S.means space.now)
             limit self.now.seen.keys self.now.origins.items }
-        requires opened { IsOpened (S.system space.now) (map (S.means space.now) self.now.seen.keys) }
+        requires opened { IsOpened (S.system space.now)
+            (map (S.means space.now) self.now.seen.keys) }
         requires all { AreAll (S.system space.now) (map (S.means space.now) self.now.seen.keys) }
         requires marks { lists.now
-            ≡ judged (S.system space.now) (tests_of wants.now) (map (S.means space.now) self.now.seen.keys) }
-        requires edges { 0 < length wants.now → AreEdges (S.system space.now) (map (S.means space.now) self.now.seen.keys)
+            ≡ judged (S.system space.now) (tests_of wants.now)
+            (map (S.means space.now) self.now.seen.keys) }
+        requires edges { 0 < length wants.now
+            → AreEdges (S.system space.now) (map (S.means space.now) self.now.seen.keys)
             (length self.now.seen.keys * (S.system space.now).choices) self.now.edges.ends.items }
         ensures { IfOk result (IsMissed (S.system space.now)
             (map (S.means space.now) self.now.seen.keys) (length self.now.seen.keys) wants.now) }

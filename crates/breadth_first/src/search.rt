@@ -1,10 +1,11 @@
 //! The states that a search keeps, and how it tries the choices of one.
 
-ghost use Rattle.std.specs.Prelude.{◌≡◌, ◌<◌, ◌≤◌, ◌+◌, ◌*◌, ◌^◌, ◌↔◌, [], map, length, take, All, IfOk, OnOk, IfSome, IsTrue, Some, None};
+ghost use Rattle.std.specs.Prelude.{◌≡◌, ℕ, ◌<◌, ◌≤◌, ◌+◌, ◌*◌, ◌^◌, ◌↔◌, [], map, length, take, All, IfOk, OnOk, IfSome, IsTrue, Some, None};
 ghost use Rattle.breadth_first.specs.Kept.{Keeps};
 ghost use Rattle.breadth_first.specs.Marks.{judged, number_of};
 ghost use Rattle.breadth_first.specs.Order.{opened};
 ghost use Rattle.breadth_first.specs.Progress.{Searched, Adds, AreSafe, Begins, Expands, KeepsEdges};
+ghost use Rattle.breadth_first.specs.Progress.{HasSpent, AddSpends, TrySpends, ExpandSpends};
 
 use crate::Space;
 use crate::asked::Test;
@@ -77,6 +78,8 @@ impl<S: Space> Search<S> {
         ensures few { OnOk result (length self.new.seen.keys ≤ 2 ^ 32) }
         ensures room { OnOk result (IfSome limit (λ n. length self.new.seen.keys ≤ n)) }
         ensures edges { self.new.edges ≡ self.old.edges }
+        ensures spends { AddSpends (S.system space.old) (length self.old.seen.keys)
+            (length self.new.seen.keys) result (S.spent space.old) (S.spent space.new) }
     {
         let len = self.seen.len();
         if is_met(limit, len) {
@@ -111,9 +114,12 @@ impl<S: Space> Search<S> {
         ensures keeps { OnOk result
             (Keeps (S.system space.old) (S.held space.old) (S.means space.old)
             (S.system space.new) (S.held space.new) (S.means space.new)) }
-        ensures begins { IfOk result (Begins (S.system space.old) (S.held space.new) (S.means space.new)
-            limit self.new.seen.keys self.new.origins.items) }
+        ensures begins { IfOk result (Begins (S.system space.old)
+            (S.held space.new) (S.means space.new) limit self.new.seen.keys self.new.origins.items) }
         ensures edges { self.new.edges ≡ self.old.edges }
+        ensures spends { (tests : ℕ)
+            → ExpandSpends (S.system space.old) limit tests (S.spent space.old) 0
+            (length self.new.seen.keys) result (S.spent space.new) }
     {
         let key = space.start()?;
         let origin = Origin {
@@ -140,13 +146,16 @@ impl<S: Space> Search<S> {
         requires searched { Searched (S.system space.old) (S.held space.old) (S.means space.old)
             limit self.old.seen.keys self.old.origins.items }
         requires at { at < length self.old.seen.keys }
-        requires opened { map (S.means space.old) self.old.seen.keys ≡ opened (S.system space.old) at }
+        requires opened { map (S.means space.old) self.old.seen.keys
+            ≡ opened (S.system space.old) at }
         requires safe { AreSafe (S.system space.old) (map (S.means space.old) self.old.seen.keys) }
-        requires edges { KeepsEdges (S.system space.old) (map (S.means space.old) self.old.seen.keys)
+        requires edges { KeepsEdges (S.system space.old)
+            (map (S.means space.old) self.old.seen.keys)
             (at * (S.system space.old).choices) self.old.edges.keeps self.old.edges.ends.items }
         requires tests { All (λ t. number_of t < (S.system space.old).tests) tests.now }
         requires marks { lists.old.items
-            ≡ judged (S.system space.old) tests.now (take at (map (S.means space.old) self.old.seen.keys)) }
+            ≡ judged (S.system space.old) tests.now
+            (take at (map (S.means space.old) self.old.seen.keys)) }
         ensures keeps { OnOk result
             (Keeps (S.system space.old) (S.held space.old) (S.means space.old)
             (S.system space.new) (S.held space.new) (S.means space.new)) }
@@ -161,7 +170,13 @@ impl<S: Space> Search<S> {
             (at * (S.system space.old).choices + (S.system space.old).choices)
             self.new.edges.keeps self.new.edges.ends.items) }
         ensures marks { IfOk result (λ stop. stop ≡ None → lists.new.items
-            ≡ judged (S.system space.old) tests.now (take (at + 1) (map (S.means space.new) self.new.seen.keys))) }
+            ≡ judged (S.system space.old) tests.now
+            (take (at + 1) (map (S.means space.new) self.new.seen.keys))) }
+        ensures spends { (begun : ℕ)
+            → HasSpent (S.system space.old) limit (length tests.now) begun 0 at
+            (length self.old.seen.keys) (S.spent space.old)
+            → ExpandSpends (S.system space.old) limit (length tests.now) begun (at + 1)
+            (length self.new.seen.keys) result (S.spent space.new) }
     {
         judge(space, &self.seen[at], tests, lists)?;
         self.try_choices(space, limit, at)
@@ -177,9 +192,11 @@ impl<S: Space> Search<S> {
         requires searched { Searched (S.system space.old) (S.held space.old) (S.means space.old)
             limit self.old.seen.keys self.old.origins.items }
         requires at { at < length self.old.seen.keys }
-        requires opened { map (S.means space.old) self.old.seen.keys ≡ opened (S.system space.old) at }
+        requires opened { map (S.means space.old) self.old.seen.keys
+            ≡ opened (S.system space.old) at }
         requires safe { AreSafe (S.system space.old) (map (S.means space.old) self.old.seen.keys) }
-        requires edges { KeepsEdges (S.system space.old) (map (S.means space.old) self.old.seen.keys)
+        requires edges { KeepsEdges (S.system space.old)
+            (map (S.means space.old) self.old.seen.keys)
             (at * (S.system space.old).choices) self.old.edges.keeps self.old.edges.ends.items }
         ensures keeps { OnOk result
             (Keeps (S.system space.old) (S.held space.old) (S.means space.old)
@@ -194,6 +211,8 @@ impl<S: Space> Search<S> {
             (map (S.means space.new) self.new.seen.keys)
             (at * (S.system space.old).choices + (S.system space.old).choices)
             self.new.edges.keeps self.new.edges.ends.items) }
+        ensures spends { TrySpends (S.system space.old) limit at (length self.old.seen.keys)
+            (length self.new.seen.keys) result (S.spent space.old) (S.spent space.new) }
     {
         for choice in 0..space.choices() {
             let key = space.successor(&self.seen[at], choice)?;

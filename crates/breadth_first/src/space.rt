@@ -3,6 +3,7 @@
 ghost use Rattle.std.specs.Prelude.{◌≡◌, ◌<◌, ℕ, Bool, IfOk, OnOk};
 ghost use Rattle.breadth_first.specs.System.{System, IsEquality};
 ghost use Rattle.breadth_first.specs.Kept.{Keeps};
+ghost use Rattle.breadth_first.specs.Spending.{SpendsAtMost};
 
 use std::alloc::AllocError;
 use std::hash::Hash;
@@ -30,6 +31,9 @@ pub trait Space {
     /// The space stands at a state: the last call gave a key of it.
     ghost stands: { Self → State → Type 0 };
 
+    /// What the space has spent so far.
+    ghost spent: { Self → ℕ };
+
     /// How many choices there are, in each state.
     fn choices(&self) -> u32
         ensures { result ≡ (system self.now).choices };
@@ -41,7 +45,8 @@ pub trait Space {
         ensures stands { IfOk result (λ key. stands self.new (means self.new key)) }
         ensures keeps { OnOk result
             (Keeps (system self.old) (held self.old) (means self.old)
-            (system self.new) (held self.new) (means self.new)) };
+            (system self.new) (held self.new) (means self.new)) }
+        ensures spends { SpendsAtMost (system self.old).look (spent self.old) (spent self.new) };
 
     /// The key of the state to which a choice leads. The choices of one state are asked for in their
     /// order, one behind the other.
@@ -54,35 +59,43 @@ pub trait Space {
         ensures stands { IfOk result (λ key. stands self.new (means self.new key)) }
         ensures keeps { OnOk result
             (Keeps (system self.old) (held self.old) (means self.old)
-            (system self.new) (held self.new) (means self.new)) };
+            (system self.new) (held self.new) (means self.new)) }
+        ensures spends { SpendsAtMost ((system self.old).cost (means self.old from.now) choice)
+            (spent self.old) (spent self.new) };
 
     /// The first property that the state violates. Each new state is asked about once, just after the call
     /// that gave its key, so the space stands at it.
     fn violated(&mut self, key: &Self::Key) -> Result<Option<usize>, AllocError>
         requires held { held self.old key.now }
         requires stands { stands self.old (means self.old key.now) }
-        ensures value { IfOk result (λ property. property ≡ (system self.old).violated (means self.old key.now)) }
+        ensures value { IfOk result (λ property. property
+            ≡ (system self.old).violated (means self.old key.now)) }
         ensures keeps { OnOk result
             (Keeps (system self.old) (held self.old) (means self.old)
-            (system self.new) (held self.new) (means self.new)) };
+            (system self.new) (held self.new) (means self.new)) }
+        ensures spends { SpendsAtMost (system self.old).look (spent self.old) (spent self.new) };
 
     /// Whether the state passes a test.
     fn passes(&mut self, key: &Self::Key, test: usize) -> Result<bool, AllocError>
         requires held { held self.old key.now }
         requires test { test < (system self.old).tests }
-        ensures value { IfOk result (λ passes. passes ≡ (system self.old).test test (means self.old key.now)) }
+        ensures value { IfOk result (λ passes. passes
+            ≡ (system self.old).test test (means self.old key.now)) }
         ensures keeps { OnOk result
             (Keeps (system self.old) (held self.old) (means self.old)
-            (system self.new) (held self.new) (means self.new)) };
+            (system self.new) (held self.new) (means self.new)) }
+        ensures spends { SpendsAtMost (system self.old).look (spent self.old) (spent self.new) };
 
     /// Whether the state is one from which on the test has to be passed, where that is asked of some states.
     fn is_first(&mut self, key: &Self::Key, test: usize) -> Result<bool, AllocError>
         requires held { held self.old key.now }
         requires test { test < (system self.old).tests }
-        ensures value { IfOk result (λ first. first ≡ (system self.old).first test (means self.old key.now)) }
+        ensures value { IfOk result (λ first. first
+            ≡ (system self.old).first test (means self.old key.now)) }
         ensures keeps { OnOk result
             (Keeps (system self.old) (held self.old) (means self.old)
-            (system self.new) (held self.new) (means self.new)) };
+            (system self.new) (held self.new) (means self.new)) }
+        ensures spends { SpendsAtMost (system self.old).look (spent self.old) (spent self.new) };
 
     /// Two keys are equal exactly where they stand for the same state.
     ghost alike: { (space : Self) (a b : Self.Key) → held space a → held space b

@@ -1,11 +1,16 @@
-use Rattle.std.proofs.Common.{◌≡◌, ◌*◌, ◌<◌, length, map, All, ◌∷◌, [], true, not, sym, ap, ◌∙◌, subst, arith, IfOk}
+use Rattle.std.proofs.Common.{◌≡◌, ℕ, ◌+◌, ◌*◌, ◌<◌, refl, length-append, length, map, All, ◌∷◌, [], true, not, sym, ap, ◌∙◌, subst, arith, IfOk}
+use Rattle.std.specs.Prelude.{⊤}
 use Rattle.std.proofs.lemmas.List.{length-map}
+use Rattle.std.proofs.lemmas.Result.{IfOk-from_err}
 use Rattle.breadth_first.specs.Answer.{IsFound, IsAnswer}
-use Rattle.breadth_first.specs.Progress.{Begins, Ends, AreEdges}
+use Rattle.breadth_first.specs.Spending.{SpendsAtMost, HasSize}
+use Rattle.breadth_first.specs.Progress.{Begins, Ends, AreEdges, HasSpent, SpendsTo, EndsBehind}
 use Rattle.breadth_first.proofs.Keys.{keeps-trans}
 use Rattle.breadth_first.proofs.Steps.{searched-same, safe-same}
-use Rattle.breadth_first.proofs.Telling.{found-start, on-ok, not-empty}
-use Rattle.breadth_first.specs.Marks.{goal_of, number_of}
+use Rattle.breadth_first.proofs.Spending.{spends-nothing, spent-more, counted}
+use Rattle.breadth_first.proofs.Telling.{found-start, on-ok, ok-then, not-empty}
+use Rattle.breadth_first.specs.Marks.{goal_of, number_of, tests_of}
+use Rattle.breadth_first.specs.declared.asked.Test.TheVariants.{Passes}
 use Rattle.breadth_first.proofs.Judging.{empties, tests-within}
 use Rattle.breadth_first.proofs.exploring.explore.Goals as goal
 
@@ -89,3 +94,129 @@ pub walk-requires-clause-marks : goal.walk-requires-clause-marks
 walk-requires-clause-marks g c =
     let many : c.len.result ≡ length c.deref.result.now = omega (arith, c.len.ensures, c.in_ok-tests.tests.ok, ap length c.deref.ensures.value) in
     c.in_ok-lists.ensures ∙ empties c.deref.result.now c.len.result [] many
+
+pub returns-in_err-property-clause-spends : goal.returns-in_err-property-clause-spends
+returns-in_err-property-clause-spends g c =
+    let system = g.S.Space.system c.args.space.now in
+    let wants = c.args.wants.now in
+    let counts = c.args.counts.now in
+    let limit = c.args.limits.now.states in
+    let tests = length (tests_of wants) + length counts in
+    let failed = c.in_err-property.ensures.spends tests in
+    let has = failed.1 in
+    record {
+      kept = failed.0;
+      parents = 0;
+      size = IfOk-from_err c.from_residual.result (HasSize system failed.0 0) c.from_residual.ensures.0;
+      room = has.room;
+      few = has.few;
+      inside = has.inside;
+      spends = counted system limit wants counts tests (0) (failed.0) refl has (spends-nothing (failed.0 * (length counts * system.look)) (g.S.Space.spent c.begin.new.space));
+    }
+
+pub returns-in-Some-clause-spends : goal.returns-in-Some-clause-spends
+returns-in-Some-clause-spends g c =
+    let system = g.S.Space.system c.args.space.now in
+    let wants = c.args.wants.now in
+    let counts = c.args.counts.now in
+    let limit = c.args.limits.now.states in
+    let tests = length (tests_of wants) + length counts in
+    let has = spent-more system (c.in_ok-property.ensures.spends tests) in
+    record {
+      kept = length c.begin.new.self.seen.keys;
+      parents = 0;
+      size = tt;
+      room = has.room;
+      few = has.few;
+      inside = has.inside;
+      spends = counted system limit wants counts tests (0) (length c.begin.new.self.seen.keys) refl has (spends-nothing ((length c.begin.new.self.seen.keys) * (length counts * system.look)) (g.S.Space.spent c.begin.new.space));
+    }
+
+pub returns-in_err-tests-clause-spends : goal.returns-in_err-tests-clause-spends
+returns-in_err-tests-clause-spends g c =
+    let system = g.S.Space.system c.args.space.now in
+    let wants = c.args.wants.now in
+    let counts = c.args.counts.now in
+    let limit = c.args.limits.now.states in
+    let tests = length (tests_of wants) + length counts in
+    let has = spent-more system (c.in_ok-property.ensures.spends tests) in
+    record {
+      kept = length c.begin.new.self.seen.keys;
+      parents = 0;
+      size = IfOk-from_err c.from_residual-in_err-tests.result (HasSize system (length c.begin.new.self.seen.keys) 0) c.from_residual-in_err-tests.ensures.0;
+      room = has.room;
+      few = has.few;
+      inside = has.inside;
+      spends = counted system limit wants counts tests (0) (length c.begin.new.self.seen.keys) refl has (spends-nothing ((length c.begin.new.self.seen.keys) * (length counts * system.look)) (g.S.Space.spent c.begin.new.space));
+    }
+
+pub returns-in_err-lists-clause-spends : goal.returns-in_err-lists-clause-spends
+returns-in_err-lists-clause-spends g c =
+    let system = g.S.Space.system c.args.space.now in
+    let wants = c.args.wants.now in
+    let counts = c.args.counts.now in
+    let limit = c.args.limits.now.states in
+    let tests = length (tests_of wants) + length counts in
+    let has = spent-more system (c.in_ok-property.ensures.spends tests) in
+    record {
+      kept = length c.begin.new.self.seen.keys;
+      parents = 0;
+      size = IfOk-from_err c.from_residual-in_err-lists.result (HasSize system (length c.begin.new.self.seen.keys) 0) c.from_residual-in_err-lists.ensures.0;
+      room = has.room;
+      few = has.few;
+      inside = has.inside;
+      spends = counted system limit wants counts tests (0) (length c.begin.new.self.seen.keys) refl has (spends-nothing ((length c.begin.new.self.seen.keys) * (length counts * system.look)) (g.S.Space.spent c.begin.new.space));
+    }
+
+pub returns-in_err-end-clause-spends : goal.returns-in_err-end-clause-spends
+returns-in_err-end-clause-spends g c =
+    let system = g.S.Space.system c.args.space.now in
+    let wants = c.args.wants.now in
+    let counts = c.args.counts.now in
+    let limit = c.args.limits.now.states in
+    let tests = length (tests_of wants) + length counts in
+    let begun = g.S.Space.spent c.args.space.now in
+    let many : length c.deref.result.now ≡ tests = ap length (c.deref.ensures.value ∙ c.in_ok-tests.ensures) ∙ length-append (tests_of wants) (map Passes counts) ∙ ap (λ n. length (tests_of wants) + n) (length-map counts Passes) in
+    let h = g.S.Space.system c.begin.new.space in
+    let same = c.in_ok-property.ensures.keeps.system in
+    let has_then = subst (λ t. HasSpent t limit (length c.deref.result.now) begun 0 0 (length c.begin.new.self.seen.keys) (g.S.Space.spent c.begin.new.space)) (sym same) (c.in_ok-property.ensures.spends (length c.deref.result.now)) in
+    let to = subst (λ t. SpendsTo t limit (length c.deref.result.now) begun (g.S.Space.spent c.walk.new.space) (λ parents kept. ⊤)) same (c.in_err-end.ensures.spends begun has_then) in
+    let has = subst (λ n. HasSpent system limit n begun 1 to.parents to.kept (g.S.Space.spent c.walk.new.space)) many to.has in
+    record {
+      kept = to.kept;
+      parents = to.parents;
+      size = IfOk-from_err c.from_residual-in_err-end.result (HasSize system to.kept to.parents) c.from_residual-in_err-end.ensures.0;
+      room = has.room;
+      few = has.few;
+      inside = has.inside;
+      spends = counted system limit wants counts tests (to.parents) (to.kept) refl has (spends-nothing (to.kept * (length counts * system.look)) (g.S.Space.spent c.walk.new.space));
+    }
+
+pub returns-clause-spends : goal.returns-clause-spends
+returns-clause-spends g c =
+    let system = g.S.Space.system c.args.space.now in
+    let wants = c.args.wants.now in
+    let counts = c.args.counts.now in
+    let limit = c.args.limits.now.states in
+    let tests = length (tests_of wants) + length counts in
+    let begun = g.S.Space.spent c.args.space.now in
+    let many : length c.deref.result.now ≡ tests = ap length (c.deref.ensures.value ∙ c.in_ok-tests.ensures) ∙ length-append (tests_of wants) (map Passes counts) ∙ ap (λ n. length (tests_of wants) + n) (length-map counts Passes) in
+    let h = g.S.Space.system c.begin.new.space in
+    let same = c.in_ok-property.ensures.keeps.system in
+    let has_then = subst (λ t. HasSpent t limit (length c.deref.result.now) begun 0 0 (length c.begin.new.self.seen.keys) (g.S.Space.spent c.begin.new.space)) (sym same) (c.in_ok-property.ensures.spends (length c.deref.result.now)) in
+    let keys = length c.walk.new.self.seen.keys in
+    let both = c.in_ok-end.ensures.keeps.system ∙ same in
+    let to = subst (λ t. SpendsTo t limit (length c.deref.result.now) begun (g.S.Space.spent c.walk.new.space) (λ parents kept. (kept ≡ keys) × EndsBehind kept parents c.in_ok-end.end)) same (c.in_ok-end.ensures.spends begun has_then) in
+    let has_to = subst (λ n. HasSpent system limit n begun 1 to.parents to.kept (g.S.Space.spent c.walk.new.space)) many to.has in
+    let has = subst (λ n. HasSpent system limit tests begun 1 to.parents n (g.S.Space.spent c.walk.new.space)) to.known.0 has_to in
+    let behind = subst (λ n. EndsBehind n to.parents c.in_ok-end.end) to.known.0 to.known.1 in
+    let sizes = subst (λ t. IfOk c.answer.result (λ answer. (parents : ℕ) → EndsBehind keys parents c.in_ok-end.end → HasSize t keys parents answer)) both c.answer.ensures.size in
+    record {
+      kept = keys;
+      parents = to.parents;
+      size = ok-then c.answer.result sizes (λ answer is. is to.parents behind);
+      room = has.room;
+      few = has.few;
+      inside = has.inside;
+      spends = counted system limit wants counts tests (to.parents) (keys) refl has (subst (λ t. SpendsAtMost (keys * (length counts * t.look)) (g.S.Space.spent c.walk.new.space) (g.S.Space.spent c.answer.new.space)) both c.answer.ensures.spends);
+    }

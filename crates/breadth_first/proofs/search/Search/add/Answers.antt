@@ -1,7 +1,8 @@
-use Rattle.std.proofs.Common.{◌≡◌, map, Some, true, false, not, Bool, refl, sym, ap, ◌∙◌, subst, rules, is_some}
-use Rattle.std.proofs.lemmas.List.{length-map}
+use Rattle.std.proofs.Common.{◌≡◌, ◌+◌, ◌++◌, ◌∷◌, [], if◌then◌else◌, length, map, Some, true, false, not, Bool, refl, sym, ap, ◌∙◌, subst, arith, rules, is_some}
+use Rattle.std.proofs.lemmas.List.{length-map, length_push}
 use Rattle.std.specs.List.{list_any}
 use Rattle.breadth_first.proofs.Keys.{keeps-all, any-map, seen-position, seen-stored, stored-means, held-news, held-at, added-then, kept-there, kept-new}
+use Rattle.breadth_first.proofs.Spending.{spends-nothing, adds-same, adds-one, add-failed}
 use Rattle.breadth_first.proofs.search.Search.add.Goals as goal
 
 not-false : (b : Bool) → false ≡ not b → b ≡ true
@@ -92,3 +93,42 @@ returns-in-None-clause-adds g c =
     let kept = kept-new (g.S.Space.system s) (g.met.S.Space.decides s) (g.S.Space.held s) (g.S.Space.means s) g.S.Key.PartialEq.eq (g.met.S.Space.alike s) c.args.key c.requires.held keys more c.requires.all c.in_ok-index.ensures.keys none
     c.args.self.now.origins.items c.args.origin c.in_ok-index.index c.in_ok-index.ensures.stored (ap (g.S.Space.system s).violated (sym is) ∙ sym c.in_ok-property.ensures.value ∙ c.in-None.is) c.in_ok-property.ensures.keeps in
     record { states = kept.states; at = kept.at; safe = kept.safe; came = c.in_ok-push.ensures.items ∙ kept.came }
+
+pub returns-in_default-clause-spends : goal.returns-in_default-clause-spends
+returns-in_default-clause-spends g c = adds-same (g.S.Space.system c.args.space.now).look (length c.args.self.now.seen.keys) (length c.args.self.now.seen.keys) (g.S.Space.spent c.args.space.now) refl
+
+pub returns-then-is_met-clause-spends : goal.returns-then-is_met-clause-spends
+returns-then-is_met-clause-spends g c = adds-same (g.S.Space.system c.args.space.now).look (length c.args.self.now.seen.keys) (length c.args.self.now.seen.keys) (g.S.Space.spent c.args.space.now) refl
+
+pub returns-then-len-clause-spends : goal.returns-then-len-clause-spends
+returns-then-len-clause-spends g c = spends-nothing _ _
+
+pub returns-in_err-index-clause-spends : goal.returns-in_err-index-clause-spends
+returns-in_err-index-clause-spends g c = add-failed (g.S.Space.system c.args.space.now) (length c.args.self.now.seen.keys) _ c.from_residual.result c.from_residual.ensures.0 (spends-nothing _ _)
+
+pub returns-in_err-push-clause-spends : goal.returns-in_err-push-clause-spends
+returns-in_err-push-clause-spends g c = add-failed (g.S.Space.system c.args.space.now) (length c.args.self.now.seen.keys) _ c.from_residual-in_err-push.result c.from_residual-in_err-push.ensures.0 (spends-nothing _ _)
+
+pub returns-in_err-property-clause-spends : goal.returns-in_err-property-clause-spends
+returns-in_err-property-clause-spends g c = add-failed (g.S.Space.system c.args.space.now) (length c.args.self.now.seen.keys) _ c.from_residual-in_err-property.result c.from_residual-in_err-property.ensures.0 c.violated.ensures.spends
+
+pub returns-then-not-new-clause-spends : goal.returns-then-not-new-clause-spends
+returns-then-not-new-clause-spends g c =
+    let keys = c.args.self.now.seen.keys in
+    let some = not-false (list_any (g.S.Key.PartialEq.eq c.args.key) keys) (sym c.if-not-new.true ∙ c.in_ok-index.ensures.added) in
+    adds-same (g.S.Space.system c.args.space.now).look (length keys) (length c.insert_full.new.self.keys) (g.S.Space.spent c.args.space.now)
+    (ap length (c.in_ok-index.ensures.keys ∙ ap (λ b. if b then keys else keys ++ c.args.key ∷ []) some))
+
+pub returns-in-Some-2-clause-spends : goal.returns-in-Some-2-clause-spends
+returns-in-Some-2-clause-spends g c =
+    let keys = c.args.self.now.seen.keys in
+    let none = not-true (list_any (g.S.Key.PartialEq.eq c.args.key) keys) (sym c.if-not-new.false ∙ c.in_ok-index.ensures.added) in
+    adds-one (g.S.Space.system c.args.space.now).look (length keys) (length c.insert_full.new.self.keys)
+    (ap length (c.in_ok-index.ensures.keys ∙ ap (λ b. if b then keys else keys ++ c.args.key ∷ []) none) ∙ length_push keys c.args.key) c.violated.ensures.spends
+
+pub returns-in-None-clause-spends : goal.returns-in-None-clause-spends
+returns-in-None-clause-spends g c =
+    let keys = c.args.self.now.seen.keys in
+    let none = not-true (list_any (g.S.Key.PartialEq.eq c.args.key) keys) (sym c.if-not-new.false ∙ c.in_ok-index.ensures.added) in
+    adds-one (g.S.Space.system c.args.space.now).look (length keys) (length c.insert_full.new.self.keys)
+    (ap length (c.in_ok-index.ensures.keys ∙ ap (λ b. if b then keys else keys ++ c.args.key ∷ []) none) ∙ length_push keys c.args.key) c.violated.ensures.spends

@@ -1,7 +1,9 @@
 use Rattle.std.proofs.Common.{◌≡◌, ◌*◌, length, map, sym, ap, ◌∙◌, subst, arith, inl}
 use Rattle.std.proofs.lemmas.List.{length-map}
-use Rattle.breadth_first.specs.Progress.{Ends, AreEdges}
+use Rattle.breadth_first.specs.Spending.{HasSize}
+use Rattle.breadth_first.specs.Progress.{Ends, AreEdges, EndsBehind}
 use Rattle.breadth_first.proofs.Keys.{keeps-refl}
+use Rattle.breadth_first.proofs.Spending.{spends-nothing}
 use Rattle.breadth_first.proofs.Telling.{within-opened, closed-seen, room-of, ok-then, on-ok-any}
 use Rattle.breadth_first.proofs.search.Search.answer.Goals as goal
 
@@ -66,7 +68,7 @@ pub returns-in-TooFar-clause-answer : goal.returns-in-TooFar-clause-answer
 returns-in-TooFar-clause-answer g c = ok-then c.told_open.result c.told_open.ensures.answer (λ a is. is c.args.wants.now)
 
 pub returns-in-AllReached-clause-answer : goal.returns-in-AllReached-clause-answer
-returns-in-AllReached-clause-answer g c = c.told_closed.ensures
+returns-in-AllReached-clause-answer g c = c.told_closed.ensures.answer
 
 pub told_closed-requires-clause-marks : goal.told_closed-requires-clause-marks
 told_closed-requires-clause-marks g c = c.requires.marks c.in-AllReached.depth c.in-AllReached.is
@@ -87,3 +89,28 @@ told_open-requires-clause-limit g c =
     let states = map (g.S.Space.means c.args.space.now) c.args.self.now.seen.keys in
     let ends = subst (Ends (g.S.Space.system c.args.space.now) c.args.limits states) c.in-TooFar.is c.requires.ends in
     inl (ends.1, ends.0)
+
+pub returns-in-Stopped-clause-size : goal.returns-in-Stopped-clause-size
+returns-in-Stopped-clause-size g c =
+    ok-then c.told_stop.result c.told_stop.ensures.size (λ answer is parents behind. is parents (subst (EndsBehind (length c.args.self.now.seen.keys) parents) c.in-Stopped.is behind))
+
+pub returns-in-Stopped-clause-spends : goal.returns-in-Stopped-clause-spends
+returns-in-Stopped-clause-spends g c = c.told_stop.ensures.spends
+
+pub returns-in-TooFar-clause-size : goal.returns-in-TooFar-clause-size
+returns-in-TooFar-clause-size g c =
+    let kept = length c.args.self.now.seen.keys in
+    ok-then c.told_open.result c.told_open.ensures.size (λ answer is parents behind.
+    subst (λ n. HasSize (g.S.Space.system c.args.space.now) kept n answer) (sym (subst (EndsBehind kept parents) c.in-TooFar.is behind)) is)
+
+pub returns-in-TooFar-clause-spends : goal.returns-in-TooFar-clause-spends
+returns-in-TooFar-clause-spends g c = c.told_open.ensures.spends
+
+pub returns-in-AllReached-clause-size : goal.returns-in-AllReached-clause-size
+returns-in-AllReached-clause-size g c =
+    let kept = length c.args.self.now.seen.keys in
+    ok-then c.told_closed.result c.told_closed.ensures.size (λ answer is parents behind.
+    subst (λ n. HasSize (g.S.Space.system c.args.space.now) kept n answer) (sym (subst (EndsBehind kept parents) c.in-AllReached.is behind)) is)
+
+pub returns-in-AllReached-clause-spends : goal.returns-in-AllReached-clause-spends
+returns-in-AllReached-clause-spends g c = spends-nothing _ _

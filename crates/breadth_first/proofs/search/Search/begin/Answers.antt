@@ -1,8 +1,11 @@
-use Rattle.std.proofs.Common.{◌≡◌, ℕ, ◌<◌, ◌≤◌, length, IfSome, Option, Some, None, ap, subst, arith}
+use Rattle.std.proofs.Common.{◌≡◌, ℕ, ◌+◌, ◌*◌, ◌<◌, ◌≤◌, length, map, IfSome, Option, Some, None, sym, ap, subst, arith}
+use Rattle.std.proofs.lemmas.List.{length-map}
 use Rattle.breadth_first.specs.declared.origins.Origin.{Origin}
+use Rattle.breadth_first.specs.Spending.{SpendsAtMost}
 use Rattle.breadth_first.specs.Progress.{Begun}
 use Rattle.breadth_first.proofs.Keys.{keeps-trans}
 use Rattle.breadth_first.proofs.Steps.{begun}
+use Rattle.breadth_first.proofs.Spending.{adds-long, open-failed, begun-failed, begun-spent}
 use Rattle.breadth_first.proofs.search.Search.begin.Goals as goal
 
 room-none : (limit : Option ℕ) (m : ℕ) → m ≡ 0 → IfSome limit (λ n. m ≤ n)
@@ -49,3 +52,39 @@ unreachable-requires g c =
     let met : c.args.limit ≡ Some 0 = subst steps c.in-Full.is step in
     let some : 0 < 0 = subst (λ o. IfSome o (λ n. 0 < n)) met c.requires.room in
     omega arith
+
+pub returns-in_err-key-clause-spends : goal.returns-in_err-key-clause-spends
+returns-in_err-key-clause-spends g c tests =
+    open-failed (g.S.Space.system c.args.space.now) c.args.limit tests (g.S.Space.spent c.args.space.now) 0 (length c.args.self.now.seen.keys) 0 c.from_residual.result c.from_residual.ensures.0
+    (begun-failed (g.S.Space.system c.args.space.now) (g.met.S.Space.decides c.args.space.now) c.args.limit tests (record { grows = c.start.ensures.spends.grows; few = omega (arith, c.start.ensures.spends.few) }))
+
+pub returns-in_err-add-clause-spends : goal.returns-in_err-add-clause-spends
+returns-in_err-add-clause-spends g c tests =
+    let start = c.start.ensures.spends in
+    let add = subst (λ t. SpendsAtMost t.look (g.S.Space.spent c.start.new.self) (g.S.Space.spent c.add.new.space)) c.in_ok-key.ensures.keeps.system c.in_err-add.ensures.spends in
+    open-failed (g.S.Space.system c.args.space.now) c.args.limit tests (g.S.Space.spent c.args.space.now) 0 (length c.add.new.self.seen.keys) 0 c.from_residual-in_err-add.result c.from_residual-in_err-add.ensures.0
+    (begun-failed (g.S.Space.system c.args.space.now) (g.met.S.Space.decides c.args.space.now) c.args.limit tests (record { grows = omega (arith, start.grows, add.grows); few = omega (arith, start.few, add.few) }))
+
+pub returns-in-At-clause-spends : goal.returns-in-At-clause-spends
+returns-in-At-clause-spends g c tests =
+    let origin : Origin = record { parent = 0; choice = 0 } in
+    let h = g.S.Space.system c.start.new.self in
+    let adds = adds-long h c.args.limit (map (g.S.Space.means c.start.new.self) c.args.self.now.seen.keys) (g.S.Space.means c.start.new.self c.in_ok-key.key) (map (g.S.Space.means c.add.new.space) c.add.new.self.seen.keys)
+    c.args.self.now.origins.items origin c.add.new.self.origins.items c.in_ok-add.field-0 c.in_ok-add.ensures.adds in
+    let was = length-map c.args.self.now.seen.keys (g.S.Space.means c.start.new.self) in
+    let now = length-map c.add.new.self.seen.keys (g.S.Space.means c.add.new.space) in
+    begun-spent (g.S.Space.system c.args.space.now) (g.met.S.Space.decides c.args.space.now) c.args.limit tests (length c.args.self.now.seen.keys) (length c.add.new.self.seen.keys) (ap length c.requires.seen) (omega (arith, adds.2, was, now)) c.in_ok-add.ensures.room
+    c.start.ensures.spends
+    (subst (λ t. ((g.S.Space.spent c.start.new.self) ≤ (g.S.Space.spent c.add.new.space)) × ((g.S.Space.spent c.add.new.space) + (length c.args.self.now.seen.keys) * t.look ≤ (g.S.Space.spent c.start.new.self) + (length c.add.new.self.seen.keys) * t.look)) c.in_ok-key.ensures.keeps.system c.in_ok-add.ensures.spends)
+
+pub returns-in-Violates-clause-spends : goal.returns-in-Violates-clause-spends
+returns-in-Violates-clause-spends g c tests =
+    let origin : Origin = record { parent = 0; choice = 0 } in
+    let h = g.S.Space.system c.start.new.self in
+    let adds = adds-long h c.args.limit (map (g.S.Space.means c.start.new.self) c.args.self.now.seen.keys) (g.S.Space.means c.start.new.self c.in_ok-key.key) (map (g.S.Space.means c.add.new.space) c.add.new.self.seen.keys)
+    c.args.self.now.origins.items origin c.add.new.self.origins.items c.in_ok-add.field-0 c.in_ok-add.ensures.adds in
+    let was = length-map c.args.self.now.seen.keys (g.S.Space.means c.start.new.self) in
+    let now = length-map c.add.new.self.seen.keys (g.S.Space.means c.add.new.space) in
+    begun-spent (g.S.Space.system c.args.space.now) (g.met.S.Space.decides c.args.space.now) c.args.limit tests (length c.args.self.now.seen.keys) (length c.add.new.self.seen.keys) (ap length c.requires.seen) (omega (arith, adds.2, was, now)) c.in_ok-add.ensures.room
+    c.start.ensures.spends
+    (subst (λ t. ((g.S.Space.spent c.start.new.self) ≤ (g.S.Space.spent c.add.new.space)) × ((g.S.Space.spent c.add.new.space) + (length c.args.self.now.seen.keys) * t.look ≤ (g.S.Space.spent c.start.new.self) + (length c.add.new.self.seen.keys) * t.look)) c.in_ok-key.ensures.keeps.system c.in_ok-add.ensures.spends)

@@ -3,12 +3,13 @@ use Rattle.std.proofs.lemmas.List.{length-map}
 use Rattle.breadth_first.specs.Front.{Front}
 use Rattle.breadth_first.specs.Marks.{judged}
 use Rattle.breadth_first.specs.Order.{opened}
-use Rattle.breadth_first.specs.Progress.{Expands, AreSafe, KeepsEdges}
+use Rattle.breadth_first.specs.Progress.{Expands, AreSafe, KeepsEdges, TrySpends}
 use Rattle.breadth_first.proofs.Keys.{keeps-refl, keeps-trans, keeps-map, held-at}
 use Rattle.breadth_first.proofs.Judging.{judged-next, lists-many, front-first}
 use Rattle.breadth_first.proofs.Order.{opened-step}
 use Rattle.breadth_first.proofs.Steps.{searched-keeps, searched-same, safe-same, opened-same, expands-same}
 use Rattle.breadth_first.proofs.Telling.{ok-then, on-ok}
+use Rattle.breadth_first.proofs.Spending.{open-failed, expand-failed, expand-tried}
 use Rattle.breadth_first.proofs.search.Search.expand.Goals as goal
 
 pub judge-requires-clause-held : goal.judge-requires-clause-held
@@ -74,3 +75,18 @@ returns-clause-marks g c =
     let all = subst (Expands system c.args.limit c.args.at news) none (expands-same c.args.limit c.args.at news stop c.in_ok-judge.ensures.keeps.system is) in
     let front = subst (λ l. Front l news) (sym c.requires.opened) (subst (λ l. Front (opened system c.args.at) l) (sym all.0) (opened-step system (g.met.S.Space.decides s) c.args.at)) in
     marks ∙ ap (judged system c.args.tests.now) (sym (front-first (c.args.at + 1) front within)))
+
+pub returns-in_err-judge-clause-spends : goal.returns-in_err-judge-clause-spends
+returns-in_err-judge-clause-spends g c begun has =
+    let s = c.args.space.now in
+    let kept = length c.args.self.now.seen.keys in
+    open-failed (g.S.Space.system s) c.args.limit (length c.args.tests.now) begun (c.args.at + 1) kept kept c.from_residual.result c.from_residual.ensures.0
+    (expand-failed (g.S.Space.system s) (g.met.S.Space.decides s) c.args.limit (length c.args.tests.now) begun c.args.at kept c.requires.at has c.judge.ensures.spends)
+
+pub returns-clause-spends : goal.returns-clause-spends
+returns-clause-spends g c begun has =
+    let s = c.args.space.now in
+    let kept = length c.args.self.now.seen.keys in
+    let new = length c.try_choices.new.self.seen.keys in
+    let tried = subst (λ t. TrySpends t c.args.limit c.args.at kept new c.try_choices.result (g.S.Space.spent c.judge.new.space) (g.S.Space.spent c.try_choices.new.space)) c.in_ok-judge.ensures.keeps.system c.try_choices.ensures.spends in
+    expand-tried (g.S.Space.system s) (g.met.S.Space.decides s) c.args.limit (length c.args.tests.now) begun c.args.at kept new c.try_choices.result (g.S.Space.spent c.try_choices.new.space) has c.judge.ensures.spends tried

@@ -1,14 +1,16 @@
-use Rattle.std.proofs.Common.{map, sym, ap, ◌∙◌, subst, arith, ◌<◌, All}
+use Rattle.std.proofs.Common.{◌+◌, ◌*◌, length, map, sym, ap, ◌∙◌, subst, arith, ◌<◌, All}
 use Rattle.std.proofs.lemmas.List.{length-map, take_all}
 use Rattle.breadth_first.specs.Marks.{judged, number_of}
 use Rattle.breadth_first.proofs.Keys.{keeps-refl, keeps-trans, held-at}
+use Rattle.breadth_first.specs.Spending.{SpendsAtMost}
+use Rattle.breadth_first.proofs.Spending.{spends-nothing, spends-step, spends-within}
 use Rattle.breadth_first.proofs.Judging.{judged-none, judged-next, lists-many}
 use Rattle.breadth_first.proofs.search.Search.judged.Goals as goal
 
 pub loop-index-init : goal.loop-index-init
 loop-index-init g c =
     let s = c.args.space.now in
-    record { keeps = keeps-refl (g.S.Space.system s) (g.S.Space.held s) (g.S.Space.means s); marks = c.in_ok-lists.ensures ∙ judged-none (g.S.Space.system s) c.args.tests.now }
+    record { keeps = keeps-refl (g.S.Space.system s) (g.S.Space.held s) (g.S.Space.means s); marks = c.in_ok-lists.ensures ∙ judged-none (g.S.Space.system s) c.args.tests.now; spends = spends-nothing (0 * (length c.args.tests.now * (g.S.Space.system s).look)) (g.S.Space.spent s) }
 
 pub judge-requires-clause-held : goal.judge-requires-clause-held
 judge-requires-clause-held g c =
@@ -28,6 +30,8 @@ loop-index-preserved g c =
     record {
       keeps = keeps-trans l.invariant.keeps c.in_ok-judge.ensures.keeps;
       marks = judged-next l.invariant.keeps keys c.args.tests.now l.index c.index.result.now c.index.ensures there l.lists.items c.judge.new.lists.items l.invariant.marks c.in_ok-judge.ensures.marks;
+      spends = spends-step (length c.args.tests.now * (g.S.Space.system c.args.space.now).look) l.index l.invariant.spends
+          (subst (λ t. SpendsAtMost (length c.args.tests.now * t.look) (g.S.Space.spent l.space) (g.S.Space.spent c.judge.new.space)) l.invariant.keeps.system c.judge.ensures.spends);
     }
 
 pub returns-clause-keeps : goal.returns-clause-keeps
@@ -38,3 +42,17 @@ returns-clause-marks g c =
     let s = c.args.space.now in
     let keys = c.args.self.now.seen.keys in
     c.loop-index.invariant.marks ∙ ap (judged (g.S.Space.system s) c.args.tests.now) (take_all c.loop-index.index (map (g.S.Space.means s) keys) (omega (arith, c.loop-index-test.false, c.len-index-end.ensures.len, length-map keys (g.S.Space.means s))))
+
+pub returns-in_err-lists-clause-spends : goal.returns-in_err-lists-clause-spends
+returns-in_err-lists-clause-spends g c = spends-nothing _ _
+
+pub returns-in_err-judge-clause-spends : goal.returns-in_err-judge-clause-spends
+returns-in_err-judge-clause-spends g c =
+    let l = c.loop-index in
+    let look = length c.args.tests.now * (g.S.Space.system c.args.space.now).look in
+    spends-within look (l.index + 1) (length c.args.self.now.seen.keys) (omega (arith, c.loop-index-test.true, c.len-index-end.ensures.len))
+    (spends-step look l.index l.invariant.spends (subst (λ t. SpendsAtMost (length c.args.tests.now * t.look) (g.S.Space.spent l.space) (g.S.Space.spent c.judge.new.space)) l.invariant.keeps.system c.judge.ensures.spends))
+
+pub returns-clause-spends : goal.returns-clause-spends
+returns-clause-spends g c =
+    spends-within (length c.args.tests.now * (g.S.Space.system c.args.space.now).look) c.loop-index.index (length c.args.self.now.seen.keys) (omega (arith, c.loop-index.auto.index-end, c.len-index-end.ensures.len)) c.loop-index.invariant.spends

@@ -1,11 +1,12 @@
-use Rattle.std.proofs.Common.{◌≡◌, suc, ◌+◌, ◌*◌, ◌<◌, ◌≤◌, length, map, take, All, Some, None, refl, sym, ap, ◌∙◌, subst, arith}
+use Rattle.std.proofs.Common.{◌≡◌, ℕ, suc, ◌+◌, ◌*◌, ◌<◌, ◌≤◌, length, map, take, All, Some, None, refl, sym, ap, ◌∙◌, subst, arith}
 use Rattle.std.proofs.lemmas.List.{length-map}
 use Rattle.breadth_first.specs.Answer.{before}
 use Rattle.breadth_first.specs.Marks.{judged, number_of}
 use Rattle.breadth_first.specs.Order.{opened, reached}
-use Rattle.breadth_first.specs.Progress.{Expands, KeepsEdges}
+use Rattle.breadth_first.specs.Progress.{Expands, KeepsEdges, HasSpent}
 use Rattle.breadth_first.proofs.Keys.{keeps-refl, keeps-trans}
 use Rattle.breadth_first.proofs.Steps.{reached-before, before-within, level-turn, goes_on-stop, goes_on-none, searched-same, opened-same, safe-same, expands-same}
+use Rattle.breadth_first.proofs.Spending.{spent-more, level-failed, stops-behind}
 use Rattle.breadth_first.proofs.search.Search.level.Goals as goal
 
 some-none : {X : Type 0} {x : X} → Some x ≡ None → ⊥
@@ -22,6 +23,7 @@ loop-at-init g c =
       keeping = refl;
       edges = c.requires.edges;
       marks = c.requires.marks;
+      spends = λ begun has. has;
     }
 
 pub expand-requires-clause-searched : goal.expand-requires-clause-searched
@@ -74,6 +76,8 @@ loop-at-preserved g c =
           subst (λ n. KeepsEdges (g.S.Space.system c.args.space.now) (map (g.S.Space.means c.expand.new.space) c.expand.new.self.seen.keys) n c.expand.new.self.edges.keeps c.expand.new.self.edges.ends.items) sum
           (subst (λ t. KeepsEdges t (map (g.S.Space.means c.expand.new.space) c.expand.new.self.seen.keys) (c.loop-at.at * t.choices + t.choices) c.expand.new.self.edges.keeps c.expand.new.self.edges.ends.items) inv.keeps.system (c.in_ok-stop.ensures.edges c.in_default.is)));
       marks = c.in_ok-stop.ensures.marks c.in_default.is ∙ ap (λ t. judged t c.args.tests.now (take (c.loop-at.at + 1) (map (g.S.Space.means c.expand.new.space) c.expand.new.self.seen.keys))) inv.keeps.system;
+      spends = λ begun has. subst (λ t. (begun : ℕ) → HasSpent t c.args.limit (length c.args.tests.now) begun 0 c.loop-at.at (length c.loop-at.self.seen.keys) (g.S.Space.spent c.loop-at.space)
+          → HasSpent t c.args.limit (length c.args.tests.now) begun 0 (c.loop-at.at + 1) (length c.expand.new.self.seen.keys) (g.S.Space.spent c.expand.new.space)) inv.keeps.system c.in_ok-stop.ensures.spends begun (inv.spends begun has);
     }
 
 pub returns-clause-keeps : goal.returns-clause-keeps
@@ -131,3 +135,45 @@ returns-clause-marks g c _ =
     let last : c.loop-at.at ≡ length keys =
     omega (arith, few, c.loop-at-test.false, c.loop-at.auto.at-end, c.requires.from, c.len-at-end.ensures.len, ap length c.requires.reached, length-map keys (g.S.Space.means c.args.space.now)) in
     inv.marks ∙ ap (λ n. judged (g.S.Space.system c.args.space.now) c.args.tests.now (take n (map (g.S.Space.means c.loop-at.space) c.loop-at.self.seen.keys))) last
+
+pub returns-in_err-stop-clause-spends : goal.returns-in_err-stop-clause-spends
+returns-in_err-stop-clause-spends g c begun has =
+    let inv = c.loop-at.invariant in
+    let limit = c.args.limit in
+    let tests = length c.args.tests.now in
+    let at = c.loop-at.at in
+    let kept = length c.loop-at.self.seen.keys in
+    let before = g.S.Space.spent c.loop-at.space in
+    let after = g.S.Space.spent c.expand.new.space in
+    let failed = subst (λ t. (begun : ℕ) → HasSpent t limit tests begun 0 at kept before → (some : ℕ) × HasSpent t limit tests begun 1 (at + 1) some after) inv.keeps.system c.in_err-stop.ensures.spends begun (inv.spends begun has) in
+    level-failed (g.S.Space.system c.args.space.now) limit tests begun (length c.args.self.now.seen.keys) (length c.expand.new.self.seen.keys) c.from_residual.result c.from_residual.ensures.0
+    (record { parents = at + 1; kept = failed.0; known = tt; has = failed.1 })
+
+pub returns-in-Some-clause-spends : goal.returns-in-Some-clause-spends
+returns-in-Some-clause-spends g c begun has =
+    let inv = c.loop-at.invariant in
+    let limit = c.args.limit in
+    let tests = length c.args.tests.now in
+    let at = c.loop-at.at in
+    let kept = length c.loop-at.self.seen.keys in
+    let before = g.S.Space.spent c.loop-at.space in
+    let after = g.S.Space.spent c.expand.new.space in
+    let system = g.S.Space.system c.args.space.now in
+    let news = map (g.S.Space.means c.expand.new.space) c.expand.new.self.seen.keys in
+    let x = expands-same limit at news c.in_ok-stop.field-0 inv.keeps.system c.in_ok-stop.ensures.expands in
+    let gone = subst (λ t. (begun : ℕ) → HasSpent t limit tests begun 0 at kept before → HasSpent t limit tests begun 0 (at + 1) (length c.expand.new.self.seen.keys) after) inv.keeps.system c.in_ok-stop.ensures.spends begun (inv.spends begun has) in
+    record {
+      parents = at + 1;
+      kept = length c.expand.new.self.seen.keys;
+      known = (refl, stops-behind system (g.met.S.Space.decides c.args.space.now) limit at news c.in-Some.stop (subst (Expands system limit at news) c.in-Some.is x));
+      has = spent-more system gone;
+    }
+
+pub returns-clause-spends : goal.returns-clause-spends
+returns-clause-spends g c begun has =
+    let inv = c.loop-at.invariant in
+    let keys = c.args.self.now.seen.keys in
+    let few = before-within (g.S.Space.system c.args.space.now) (g.met.S.Space.decides c.args.space.now) c.args.depth in
+    let last : c.loop-at.at ≡ length keys =
+    omega (arith, few, c.loop-at-test.false, c.loop-at.auto.at-end, c.requires.from, c.len-at-end.ensures.len, ap length c.requires.reached, length-map keys (g.S.Space.means c.args.space.now)) in
+    subst (λ n. HasSpent (g.S.Space.system c.args.space.now) c.args.limit (length c.args.tests.now) begun 0 n (length c.loop-at.self.seen.keys) (g.S.Space.spent c.loop-at.space)) last (inv.spends begun has)

@@ -6,6 +6,9 @@ use Rattle.breadth_first.proofs.Keys.{keeps-map}
 use Rattle.breadth_first.proofs.Steps.{searched-keeps}
 use Rattle.breadth_first.proofs.Counts.{opened-keeps}
 use Rattle.breadth_first.proofs.Judging.{judged-keeps, tests-within}
+use Rattle.breadth_first.specs.Spending.{SpendsAtMost}
+use Rattle.breadth_first.specs.declared.asked.Test.TheVariants.{Passes}
+use Rattle.breadth_first.proofs.Spending.{spends-nothing}
 use Rattle.breadth_first.specs.Marks.{judged, goal_of, number_of}
 use Rattle.std.proofs.lemmas.List.Elements.{All-nil}
 use Rattle.breadth_first.proofs.Endings.{open-left}
@@ -80,3 +83,30 @@ pub judged-requires-clause-tests : goal.judged-requires-clause-tests
 judged-requires-clause-tests g c =
     let most = (g.S.Space.system c.args.space.now).tests in
     subst (All (λ t. number_of t < most)) (sym (c.deref.ensures.value ∙ c.in_ok-tests.ensures)) (tests-within most [] (All-nil (λ want. goal_of want < most)) c.args.counts.now c.requires.counts)
+
+pub returns-clause-size : goal.returns-clause-size
+returns-clause-size g c =
+    let s = c.args.space.now in
+    let product : c.tried_of.result ≡ c.args.at * (g.S.Space.system s).choices = c.tried_of.ensures.value ∙ ap (λ n. c.args.at * n) c.choices.ensures in
+    (c.len.ensures.len, omega (arith, product, c.from.ensures))
+
+pub returns-in_err-tests-clause-spends : goal.returns-in_err-tests-clause-spends
+returns-in_err-tests-clause-spends g c = spends-nothing _ _
+
+pub returns-in_err-lists-clause-spends : goal.returns-in_err-lists-clause-spends
+returns-in_err-lists-clause-spends g c =
+    let keys = c.args.self.now.seen.keys in
+    let many : length c.deref.result.now ≡ length c.args.counts.now = ap length (c.deref.ensures.value ∙ c.in_ok-tests.ensures) ∙ length-map c.args.counts.now Passes in
+    subst (λ n. SpendsAtMost (length keys * (n * (g.S.Space.system c.args.space.now).look)) (g.S.Space.spent c.args.space.now) (g.S.Space.spent c.judged.new.space)) many c.judged.ensures.spends
+
+pub returns-in_err-counts-clause-spends : goal.returns-in_err-counts-clause-spends
+returns-in_err-counts-clause-spends g c =
+    let keys = c.args.self.now.seen.keys in
+    let many : length c.deref.result.now ≡ length c.args.counts.now = ap length (c.deref.ensures.value ∙ c.in_ok-tests.ensures) ∙ length-map c.args.counts.now Passes in
+    subst (λ n. SpendsAtMost (length keys * (n * (g.S.Space.system c.args.space.now).look)) (g.S.Space.spent c.args.space.now) (g.S.Space.spent c.judged.new.space)) many c.judged.ensures.spends
+
+pub returns-clause-spends : goal.returns-clause-spends
+returns-clause-spends g c =
+    let keys = c.args.self.now.seen.keys in
+    let many : length c.deref.result.now ≡ length c.args.counts.now = ap length (c.deref.ensures.value ∙ c.in_ok-tests.ensures) ∙ length-map c.args.counts.now Passes in
+    subst (λ n. SpendsAtMost (length keys * (n * (g.S.Space.system c.args.space.now).look)) (g.S.Space.spent c.args.space.now) (g.S.Space.spent c.judged.new.space)) many c.judged.ensures.spends

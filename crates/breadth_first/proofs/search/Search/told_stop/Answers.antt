@@ -1,7 +1,9 @@
 use Rattle.std.proofs.Common.{◌≡◌, ◌-◌, length, map, refl, sym, ap, ◌∙◌, subst, arith, Some, inr}
 use Rattle.std.proofs.lemmas.List.{length-map, length_push}
-use Rattle.breadth_first.specs.Progress.{GoesOn, IsFull}
-use Rattle.breadth_first.proofs.Telling.{found-last, room-of}
+use Rattle.breadth_first.specs.Spending.{HasSize}
+use Rattle.breadth_first.specs.Progress.{GoesOn, IsFull, StopsBehind}
+use Rattle.breadth_first.proofs.Spending.{spends-nothing}
+use Rattle.breadth_first.proofs.Telling.{found-last, room-of, ok-then}
 use Rattle.breadth_first.proofs.search.Search.told_stop.Goals as goal
 
 pub overflow_sub-len : goal.overflow_sub-len
@@ -40,3 +42,20 @@ told_open-requires-clause-limit g c =
     let states = map (g.S.Space.means c.args.space.now) c.args.self.now.seen.keys in
     let full = subst (λ stop. GoesOn (g.S.Space.system c.args.space.now) c.args.limits.states c.args.depth states (Some stop)) c.in-NoRoom.is c.requires.stopped in
     inr (full.2.met, c.requires.below)
+
+pub returns-in_ok-path-in-Bad-clause-size : goal.returns-in_ok-path-in-Bad-clause-size
+returns-in_ok-path-in-Bad-clause-size g c parents behind = tt
+
+pub returns-in_ok-path-in-Bad-clause-spends : goal.returns-in_ok-path-in-Bad-clause-spends
+returns-in_ok-path-in-Bad-clause-spends g c = spends-nothing _ _
+
+pub returns-in_err-path-in-Bad-clause-spends : goal.returns-in_err-path-in-Bad-clause-spends
+returns-in_err-path-in-Bad-clause-spends g c = spends-nothing _ _
+
+pub returns-in-NoRoom-clause-size : goal.returns-in-NoRoom-clause-size
+returns-in-NoRoom-clause-size g c =
+    ok-then c.told_open.result c.told_open.ensures.size (λ answer is parents behind.
+    subst (λ n. HasSize (g.S.Space.system c.args.space.now) (length c.args.self.now.seen.keys) n answer) (sym (subst (StopsBehind parents) c.in-NoRoom.is behind)) is)
+
+pub returns-in-NoRoom-clause-spends : goal.returns-in-NoRoom-clause-spends
+returns-in-NoRoom-clause-spends g c = c.told_open.ensures.spends

@@ -1,10 +1,12 @@
-use Rattle.std.proofs.Common.{◌≡◌, suc, ◌+◌, ◌*◌, ◌<◌, map, ◌++◌, ◌∷◌, [], if◌then◌else◌, Some, None, refl, sym, ap, ◌∙◌, subst, arith}
+use Rattle.std.proofs.Common.{◌≡◌, suc, ◌+◌, ◌*◌, ◌<◌, ◌≤◌, length, map, ◌++◌, ◌∷◌, [], if◌then◌else◌, Some, None, refl, sym, ap, ◌∙◌, subst, arith}
 use Rattle.std.proofs.lemmas.List.{length-map}
 use Rattle.std.proofs.lemmas.Option.{slice_get_within}
 use Rattle.breadth_first.specs.declared.origins.Origin.{Origin}
+use Rattle.breadth_first.specs.Spending.{SpendsAtMost}
 use Rattle.breadth_first.specs.Progress.{Steps, Tries, Adds, KeepsEdges}
 use Rattle.breadth_first.proofs.Keys.{keeps-refl, keeps-trans, keeps-all, held-at}
 use Rattle.breadth_first.proofs.Steps.{step-taken, adds-taken, edges-taken, tried-all, tries-none, tries-index}
+use Rattle.breadth_first.proofs.Spending.{spends-nothing, tried-none, tried-choice, tried-add, choices-spend, try-failed, tries-opened, adds-opened, cost-taken}
 use Rattle.breadth_first.proofs.search.Search.try_choices.Goals as goal
 
 some-none : {X : Type 0} {x : X} → Some x ≡ None → ⊥
@@ -19,6 +21,7 @@ loop-choice-init g c =
       keeping = refl;
       edges = (let e : c.args.at * (g.S.Space.system s).choices ≡ c.args.at * (g.S.Space.system s).choices + 0 = omega arith in
           subst (λ n. KeepsEdges (g.S.Space.system s) (map (g.S.Space.means s) c.args.self.now.seen.keys) n c.args.self.now.edges.keeps c.args.self.now.edges.ends.items) e c.requires.edges);
+      spends = tried-none (g.S.Space.system s) c.args.at (length c.args.self.now.seen.keys) (g.S.Space.spent s);
     }
 
 pub index-requires : goal.index-requires
@@ -110,6 +113,11 @@ loop-choice-preserved g c =
           inv.tries within c.in-At.index kept c.loop-choice.self.edges.keeps c.note.new.self.keeps c.loop-choice.self.edges.ends.items c.note.new.self.ends.items inv.edges
           (c.in_ok-note-in-At.ensures.keeps ∙ ap (λ e. e.keeps) c.add.ensures.edges)
           (c.in_ok-note-in-At.ensures.ends ∙ ap (λ e. if e.keeps then e.ends.items ++ c.in-At.index ∷ [] else e.ends.items) c.add.ensures.edges)));
+      spends = (let cost = cost-taken (g.S.Space.system c.args.space.now) (g.met.S.Space.decides c.args.space.now) c.args.limit c.args.at c.loop-choice.choice c.loop-choice.self.seen.keys c.loop-choice.self.origins.items inv.keeps.system inv.tries c.index.result.now c.index.ensures in
+          tried-add (g.S.Space.system c.args.space.now) c.args.at (c.loop-choice.choice + 1)
+          (tried-choice (g.S.Space.system c.args.space.now) c.args.at c.loop-choice.choice inv.tries.parent inv.tries.state inv.spends
+          (subst (λ n. SpendsAtMost n (g.S.Space.spent c.loop-choice.space) (g.S.Space.spent c.successor.new.self)) cost c.successor.ensures.spends))
+          (subst (λ t. ((g.S.Space.spent c.successor.new.self) ≤ (g.S.Space.spent c.add.new.space)) × ((g.S.Space.spent c.add.new.space) + (length c.loop-choice.self.seen.keys) * t.look ≤ (g.S.Space.spent c.successor.new.self) + (length c.add.new.self.seen.keys) * t.look)) (c.in_ok-key.ensures.keeps.system ∙ inv.keeps.system) c.in_ok-index.ensures.spends));
     }
 
 pub returns-clause-keeps : goal.returns-clause-keeps
@@ -152,3 +160,96 @@ returns-in-Violates-clause-edges g c e = absurd (some-none e)
 
 pub returns-in-Full-clause-edges : goal.returns-in-Full-clause-edges
 returns-in-Full-clause-edges g c e = absurd (some-none e)
+
+pub returns-in-Violates-clause-spends : goal.returns-in-Violates-clause-spends
+returns-in-Violates-clause-spends g c =
+    let s = c.args.space.now in
+    let system = g.S.Space.system s in
+    let l = c.loop-choice in
+    let inv = l.invariant in
+    let within : l.choice < system.choices = omega (arith, c.choices-choice-end.ensures, c.loop-choice-test.true) in
+    let cost = cost-taken system (g.met.S.Space.decides s) c.args.limit c.args.at l.choice l.self.seen.keys l.self.origins.items inv.keeps.system inv.tries c.index.result.now c.index.ensures in
+    let made = tried-choice system c.args.at l.choice inv.tries.parent inv.tries.state inv.spends (subst (λ n. SpendsAtMost n (g.S.Space.spent l.space) (g.S.Space.spent c.successor.new.self)) cost c.successor.ensures.spends) in
+    let there = tries-opened system (g.met.S.Space.decides s) c.args.limit c.args.at l.choice l.self.seen.keys l.self.origins.items (omega (arith, within)) inv.tries in
+    let origin : Origin = record { parent = c.args.at; choice = l.choice } in
+    let taken = adds-taken system (g.met.S.Space.decides s) (g.S.Space.held c.add.new.space) (g.S.Space.means c.add.new.space) c.args.limit c.args.at l.choice l.self.seen.keys c.add.new.self.seen.keys l.self.origins.items c.add.new.self.origins.items origin
+    inv.keeps.system inv.tries c.in_ok-key.ensures.keeps c.index.result.now c.in_ok-key.key c.index.ensures c.in_ok-key.ensures.means c.in_ok-index.field-0 c.in_ok-index.ensures.adds in
+    let more = adds-opened system (g.met.S.Space.decides s) (g.S.Space.means c.add.new.space) c.args.limit c.args.at l.choice l.self.seen.keys c.add.new.self.seen.keys l.self.origins.items c.add.new.self.origins.items origin within inv.tries c.in_ok-index.field-0 taken in
+    let add = subst (λ t. ((g.S.Space.spent c.successor.new.self) ≤ (g.S.Space.spent c.add.new.space)) × ((g.S.Space.spent c.add.new.space) + (length l.self.seen.keys) * t.look ≤ (g.S.Space.spent c.successor.new.self) + (length c.add.new.self.seen.keys) * t.look)) (c.in_ok-key.ensures.keeps.system ∙ inv.keeps.system) c.in_ok-index.ensures.spends in
+    let tried = tried-add system c.args.at (l.choice + 1) made add in
+    choices-spend system c.args.limit c.args.at (l.choice + 1) (length c.args.self.now.seen.keys) (length c.add.new.self.seen.keys) 0 (omega (arith, within)) c.in_ok-index.ensures.room more.0 more.1 tried (spends-nothing (0 * system.look) (g.S.Space.spent c.add.new.space))
+
+pub returns-in-Full-clause-spends : goal.returns-in-Full-clause-spends
+returns-in-Full-clause-spends g c =
+    let s = c.args.space.now in
+    let system = g.S.Space.system s in
+    let l = c.loop-choice in
+    let inv = l.invariant in
+    let within : l.choice < system.choices = omega (arith, c.choices-choice-end.ensures, c.loop-choice-test.true) in
+    let cost = cost-taken system (g.met.S.Space.decides s) c.args.limit c.args.at l.choice l.self.seen.keys l.self.origins.items inv.keeps.system inv.tries c.index.result.now c.index.ensures in
+    let made = tried-choice system c.args.at l.choice inv.tries.parent inv.tries.state inv.spends (subst (λ n. SpendsAtMost n (g.S.Space.spent l.space) (g.S.Space.spent c.successor.new.self)) cost c.successor.ensures.spends) in
+    let there = tries-opened system (g.met.S.Space.decides s) c.args.limit c.args.at l.choice l.self.seen.keys l.self.origins.items (omega (arith, within)) inv.tries in
+    let origin : Origin = record { parent = c.args.at; choice = l.choice } in
+    let taken = adds-taken system (g.met.S.Space.decides s) (g.S.Space.held c.add.new.space) (g.S.Space.means c.add.new.space) c.args.limit c.args.at l.choice l.self.seen.keys c.add.new.self.seen.keys l.self.origins.items c.add.new.self.origins.items origin
+    inv.keeps.system inv.tries c.in_ok-key.ensures.keeps c.index.result.now c.in_ok-key.key c.index.ensures c.in_ok-key.ensures.means c.in_ok-index.field-0 c.in_ok-index.ensures.adds in
+    let more = adds-opened system (g.met.S.Space.decides s) (g.S.Space.means c.add.new.space) c.args.limit c.args.at l.choice l.self.seen.keys c.add.new.self.seen.keys l.self.origins.items c.add.new.self.origins.items origin within inv.tries c.in_ok-index.field-0 taken in
+    let add = subst (λ t. ((g.S.Space.spent c.successor.new.self) ≤ (g.S.Space.spent c.add.new.space)) × ((g.S.Space.spent c.add.new.space) + (length l.self.seen.keys) * t.look ≤ (g.S.Space.spent c.successor.new.self) + (length c.add.new.self.seen.keys) * t.look)) (c.in_ok-key.ensures.keeps.system ∙ inv.keeps.system) c.in_ok-index.ensures.spends in
+    let tried = tried-add system c.args.at (l.choice + 1) made add in
+    choices-spend system c.args.limit c.args.at (l.choice + 1) (length c.args.self.now.seen.keys) (length c.add.new.self.seen.keys) 0 (omega (arith, within)) c.in_ok-index.ensures.room more.0 more.1 tried (spends-nothing (0 * system.look) (g.S.Space.spent c.add.new.space))
+
+pub returns-in_err-note-in-At-clause-spends : goal.returns-in_err-note-in-At-clause-spends
+returns-in_err-note-in-At-clause-spends g c =
+    let s = c.args.space.now in
+    let system = g.S.Space.system s in
+    let l = c.loop-choice in
+    let inv = l.invariant in
+    let within : l.choice < system.choices = omega (arith, c.choices-choice-end.ensures, c.loop-choice-test.true) in
+    let cost = cost-taken system (g.met.S.Space.decides s) c.args.limit c.args.at l.choice l.self.seen.keys l.self.origins.items inv.keeps.system inv.tries c.index.result.now c.index.ensures in
+    let made = tried-choice system c.args.at l.choice inv.tries.parent inv.tries.state inv.spends (subst (λ n. SpendsAtMost n (g.S.Space.spent l.space) (g.S.Space.spent c.successor.new.self)) cost c.successor.ensures.spends) in
+    let there = tries-opened system (g.met.S.Space.decides s) c.args.limit c.args.at l.choice l.self.seen.keys l.self.origins.items (omega (arith, within)) inv.tries in
+    let origin : Origin = record { parent = c.args.at; choice = l.choice } in
+    let taken = adds-taken system (g.met.S.Space.decides s) (g.S.Space.held c.add.new.space) (g.S.Space.means c.add.new.space) c.args.limit c.args.at l.choice l.self.seen.keys c.add.new.self.seen.keys l.self.origins.items c.add.new.self.origins.items origin
+    inv.keeps.system inv.tries c.in_ok-key.ensures.keeps c.index.result.now c.in_ok-key.key c.index.ensures c.in_ok-key.ensures.means c.in_ok-index.field-0 c.in_ok-index.ensures.adds in
+    let more = adds-opened system (g.met.S.Space.decides s) (g.S.Space.means c.add.new.space) c.args.limit c.args.at l.choice l.self.seen.keys c.add.new.self.seen.keys l.self.origins.items c.add.new.self.origins.items origin within inv.tries c.in_ok-index.field-0 taken in
+    let add = subst (λ t. ((g.S.Space.spent c.successor.new.self) ≤ (g.S.Space.spent c.add.new.space)) × ((g.S.Space.spent c.add.new.space) + (length l.self.seen.keys) * t.look ≤ (g.S.Space.spent c.successor.new.self) + (length c.add.new.self.seen.keys) * t.look)) (c.in_ok-key.ensures.keeps.system ∙ inv.keeps.system) c.in_ok-index.ensures.spends in
+    let tried = tried-add system c.args.at (l.choice + 1) made add in
+    try-failed system c.args.limit c.args.at (length c.args.self.now.seen.keys) _ (length c.add.new.self.seen.keys) c.from_residual-in_err-note-in-At.result c.from_residual-in_err-note-in-At.ensures.0
+    (choices-spend system c.args.limit c.args.at (l.choice + 1) (length c.args.self.now.seen.keys) (length c.add.new.self.seen.keys) 1 (omega (arith, within)) c.in_ok-index.ensures.room more.0 more.1 tried (spends-nothing (1 * system.look) (g.S.Space.spent c.add.new.space)))
+
+pub returns-in_err-index-clause-spends : goal.returns-in_err-index-clause-spends
+returns-in_err-index-clause-spends g c =
+    let s = c.args.space.now in
+    let system = g.S.Space.system s in
+    let l = c.loop-choice in
+    let inv = l.invariant in
+    let within : l.choice < system.choices = omega (arith, c.choices-choice-end.ensures, c.loop-choice-test.true) in
+    let cost = cost-taken system (g.met.S.Space.decides s) c.args.limit c.args.at l.choice l.self.seen.keys l.self.origins.items inv.keeps.system inv.tries c.index.result.now c.index.ensures in
+    let made = tried-choice system c.args.at l.choice inv.tries.parent inv.tries.state inv.spends (subst (λ n. SpendsAtMost n (g.S.Space.spent l.space) (g.S.Space.spent c.successor.new.self)) cost c.successor.ensures.spends) in
+    let there = tries-opened system (g.met.S.Space.decides s) c.args.limit c.args.at l.choice l.self.seen.keys l.self.origins.items (omega (arith, within)) inv.tries in
+    let add = subst (λ t. SpendsAtMost t.look (g.S.Space.spent c.successor.new.self) (g.S.Space.spent c.add.new.space)) (c.in_ok-key.ensures.keeps.system ∙ inv.keeps.system) c.in_err-index.ensures.spends in
+    let look : SpendsAtMost (1 * system.look) (g.S.Space.spent c.successor.new.self) (g.S.Space.spent c.add.new.space) = record { grows = add.grows; few = omega (arith, add.few) } in
+    try-failed system c.args.limit c.args.at (length c.args.self.now.seen.keys) _ (length l.self.seen.keys) c.from_residual-in_err-index.result c.from_residual-in_err-index.ensures.0
+    (choices-spend system c.args.limit c.args.at (l.choice + 1) (length c.args.self.now.seen.keys) (length l.self.seen.keys) 1 (omega (arith, within)) inv.tries.searched.room there.0 there.1 made look)
+
+pub returns-in_err-key-clause-spends : goal.returns-in_err-key-clause-spends
+returns-in_err-key-clause-spends g c =
+    let s = c.args.space.now in
+    let system = g.S.Space.system s in
+    let l = c.loop-choice in
+    let inv = l.invariant in
+    let within : l.choice < system.choices = omega (arith, c.choices-choice-end.ensures, c.loop-choice-test.true) in
+    let cost = cost-taken system (g.met.S.Space.decides s) c.args.limit c.args.at l.choice l.self.seen.keys l.self.origins.items inv.keeps.system inv.tries c.index.result.now c.index.ensures in
+    let made = tried-choice system c.args.at l.choice inv.tries.parent inv.tries.state inv.spends (subst (λ n. SpendsAtMost n (g.S.Space.spent l.space) (g.S.Space.spent c.successor.new.self)) cost c.successor.ensures.spends) in
+    let there = tries-opened system (g.met.S.Space.decides s) c.args.limit c.args.at l.choice l.self.seen.keys l.self.origins.items (omega (arith, within)) inv.tries in
+    try-failed system c.args.limit c.args.at (length c.args.self.now.seen.keys) _ (length l.self.seen.keys) c.from_residual.result c.from_residual.ensures.0
+    (choices-spend system c.args.limit c.args.at (l.choice + 1) (length c.args.self.now.seen.keys) (length l.self.seen.keys) 1 (omega (arith, within)) inv.tries.searched.room there.0 there.1 made (spends-nothing (1 * system.look) (g.S.Space.spent c.successor.new.self)))
+
+pub returns-clause-spends : goal.returns-clause-spends
+returns-clause-spends g c =
+    let s = c.args.space.now in
+    let system = g.S.Space.system s in
+    let l = c.loop-choice in
+    let inv = l.invariant in
+    let last : l.choice ≡ system.choices = omega (arith, c.choices-choice-end.ensures, c.loop-choice-test.false, l.auto.choice-end) in
+    let there = tries-opened system (g.met.S.Space.decides s) c.args.limit c.args.at l.choice l.self.seen.keys l.self.origins.items (omega (arith, last)) inv.tries in
+    choices-spend system c.args.limit c.args.at l.choice (length c.args.self.now.seen.keys) (length l.self.seen.keys) 0 (omega (arith, last)) inv.tries.searched.room there.0 there.1 inv.spends (spends-nothing (0 * system.look) (g.S.Space.spent l.space))

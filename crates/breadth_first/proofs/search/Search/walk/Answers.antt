@@ -1,14 +1,16 @@
 use Rattle.std.proofs.Common.{◌≡◌, ℕ, suc, ◌+◌, ◌*◌, ◌<◌, ◌≤◌, length, map, take, All, Option, IfSome, IfOk, Some, None, refl, sym, ap, ◌∙◌, subst, arith, true≢false}
+use Rattle.std.specs.Prelude.{⊤}
 use Rattle.std.proofs.lemmas.List.{length-map, take_all}
 use Rattle.breadth_first.specs.Answer.{before}
 use Rattle.breadth_first.specs.Marks.{judged, number_of}
 use Rattle.breadth_first.specs.Order.{reached}
-use Rattle.breadth_first.specs.Progress.{GoesOn, AreWithin, Ends, KeepsEdges}
+use Rattle.breadth_first.specs.Progress.{GoesOn, AreWithin, Ends, KeepsEdges, HasSpent, SpendsTo, LevelStops, WalkSpends}
 use Rattle.breadth_first.specs.declared.search.Stop.{Stop}
 use Rattle.breadth_first.specs.declared.levels.End.TheVariants.{AllReached, Stopped}
 use Rattle.breadth_first.proofs.Keys.{keeps-refl, keeps-trans}
 use Rattle.breadth_first.proofs.Steps.{edges-none, within-start, within-more, all-reached, below-limit, searched-same, safe-same, goes_on-same}
 use Rattle.breadth_first.proofs.Telling.{on-ok}
+use Rattle.breadth_first.proofs.Spending.{spent-more, walk-failed}
 use Rattle.breadth_first.proofs.search.Search.walk.Goals as goal
 
 stopped-all : {d e : ℕ} {stop : Stop} → Stopped d stop ≡ AllReached e → ⊥
@@ -37,6 +39,7 @@ levels-init g c =
           subst (λ n. KeepsEdges (g.S.Space.system s) (map (g.S.Space.means s) c.args.self.now.seen.keys) n c.args.self.now.edges.keeps c.args.self.now.edges.ends.items) none
           (edges-none (g.S.Space.system s) (map (g.S.Space.means s) c.args.self.now.seen.keys) c.args.self.now.edges.keeps c.args.self.now.edges.ends.items c.requires.edges));
       marks = c.requires.marks;
+      spends = λ begun has. has;
     }
 
 pub level-requires-clause-searched : goal.level-requires-clause-searched
@@ -88,6 +91,10 @@ levels-preserved g c =
       marks = c.in_ok-stop.ensures.marks c.in_default.is
           ∙ ap (λ t. judged t c.args.tests.now (take (length c.levels.self.seen.keys) (map (g.S.Space.means c.level.new.space) c.level.new.self.seen.keys))) c.levels.invariant.keeps.system
           ∙ ap (λ n. judged (g.S.Space.system c.args.space.now) c.args.tests.now (take n (map (g.S.Space.means c.level.new.space) c.level.new.self.seen.keys))) (sym c.len-to.ensures.len);
+      spends = λ begun has. subst (λ n. HasSpent (g.S.Space.system c.args.space.now) c.args.limits.states (length c.args.tests.now) begun 0 n (length c.level.new.self.seen.keys) (g.S.Space.spent c.level.new.space)) (sym c.len-to.ensures.len)
+          (subst (λ stop. LevelStops (g.S.Space.system c.args.space.now) c.args.limits.states (length c.args.tests.now) begun (length c.levels.self.seen.keys) (length c.level.new.self.seen.keys) stop (g.S.Space.spent c.level.new.space)) c.in_default.is
+          (subst (λ t. (begun : ℕ) → HasSpent t c.args.limits.states (length c.args.tests.now) begun 0 c.levels.from (length c.levels.self.seen.keys) (g.S.Space.spent c.levels.space)
+          → LevelStops t c.args.limits.states (length c.args.tests.now) begun (length c.levels.self.seen.keys) (length c.level.new.self.seen.keys) c.in_ok-stop.field-0 (g.S.Space.spent c.level.new.space)) c.levels.invariant.keeps.system c.in_ok-stop.ensures.spends begun (c.levels.invariant.spends begun has)));
     }
 
 pub levels-smaller : goal.levels-smaller
@@ -204,3 +211,52 @@ returns-then-is_met-clause-marks g c =
     let states = map (g.S.Space.means c.last_level.new.space) c.last_level.new.self.seen.keys in
     subst (λ t. IfOk c.last_level.result (λ end. (d : ℕ) → end ≡ AllReached d → c.last_level.new.lists.items ≡ judged t c.args.tests.now states))
     c.levels.invariant.keeps.system c.last_level.ensures.marks
+
+pub returns-in_err-stop-clause-spends : goal.returns-in_err-stop-clause-spends
+returns-in_err-stop-clause-spends g c begun has =
+    let inv = c.levels.invariant in
+    let limit = c.args.limits.states in
+    let tests = length c.args.tests.now in
+    let kept = length c.levels.self.seen.keys in
+    let before = g.S.Space.spent c.levels.space in
+    let after = g.S.Space.spent c.level.new.space in
+    let new = length c.level.new.self.seen.keys in
+    walk-failed (g.S.Space.system c.args.space.now) limit tests begun new c.from_residual.result c.from_residual.ensures.0
+    (subst (λ t. (begun : ℕ) → HasSpent t limit tests begun 0 c.levels.from kept before → SpendsTo t limit tests begun after (λ parents kept. ⊤)) inv.keeps.system c.in_err-stop.ensures.spends begun (inv.spends begun has))
+
+pub returns-in-Some-clause-spends : goal.returns-in-Some-clause-spends
+returns-in-Some-clause-spends g c begun has =
+    let inv = c.levels.invariant in
+    let limit = c.args.limits.states in
+    let tests = length c.args.tests.now in
+    let kept = length c.levels.self.seen.keys in
+    let before = g.S.Space.spent c.levels.space in
+    let after = g.S.Space.spent c.level.new.space in
+    let new = length c.level.new.self.seen.keys in
+    let system = g.S.Space.system c.args.space.now in
+    let went = subst (λ t. (begun : ℕ) → HasSpent t limit tests begun 0 c.levels.from kept before → LevelStops t limit tests begun kept new c.in_ok-stop.field-0 after) inv.keeps.system c.in_ok-stop.ensures.spends begun (inv.spends begun has) in
+    subst (λ stop. LevelStops system limit tests begun kept new stop after) c.in-Some.is went
+
+pub returns-then-len-to-clause-spends : goal.returns-then-len-to-clause-spends
+returns-then-len-to-clause-spends g c begun has =
+    let inv = c.levels.invariant in
+    let limit = c.args.limits.states in
+    let tests = length c.args.tests.now in
+    let kept = length c.levels.self.seen.keys in
+    let before = g.S.Space.spent c.levels.space in
+    let after = g.S.Space.spent c.level.new.space in
+    let new = length c.level.new.self.seen.keys in
+    let system = g.S.Space.system c.args.space.now in
+    let went = subst (λ t. (begun : ℕ) → HasSpent t limit tests begun 0 c.levels.from kept before → LevelStops t limit tests begun kept new c.in_ok-stop.field-0 after) inv.keeps.system c.in_ok-stop.ensures.spends begun (inv.spends begun has) in
+    let all = subst (λ stop. LevelStops system limit tests begun kept new stop after) c.in_default.is went in
+    record { parents = kept; kept = new; known = (refl, sym c.len-to.ensures.len ∙ sym c.if-len-to.true ∙ c.len.ensures.len); has = spent-more system all }
+
+pub returns-then-is_met-clause-spends : goal.returns-then-is_met-clause-spends
+returns-then-is_met-clause-spends g c begun has =
+    let inv = c.levels.invariant in
+    let limit = c.args.limits.states in
+    let tests = length c.args.tests.now in
+    let kept = length c.levels.self.seen.keys in
+    let before = g.S.Space.spent c.levels.space in
+    let new = length c.last_level.new.self.seen.keys in
+    subst (λ t. (begun : ℕ) → HasSpent t limit tests begun 0 c.levels.from kept before → WalkSpends t limit tests begun new c.last_level.result (g.S.Space.spent c.last_level.new.space)) inv.keeps.system c.last_level.ensures.spends begun (inv.spends begun has)
