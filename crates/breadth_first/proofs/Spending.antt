@@ -1,5 +1,5 @@
 -- What a search spends: sums of what its steps do.
-use Rattle.std.proofs.Common.{◌≡◌, ℕ, zero, suc, ◌+◌, ◌*◌, ◌-◌, ◌<◌, ◌≤◌, ◌⊎◌, inl, inr, Bool, true, false, if◌then◌else◌, List, ◌∷◌, [], ◌++◌, length, map, slice_get, Option, None, Some, IfSome, Result, Ok, Err, refl, sym, ap, ◌∙◌, subst, arith, true≢false}
+use Rattle.std.proofs.Common.{◌≡◌, ℕ, zero, suc, ◌+◌, ◌*◌, ◌-◌, ◌<◌, ◌≤◌, Bool, true, false, if◌then◌else◌, List, ◌∷◌, [], ◌++◌, length, map, slice_get, Option, None, Some, IfSome, Result, Ok, Err, sym, ap, ◌∙◌, subst, arith, true≢false}
 use Rattle.std.specs.Prelude.{⊤}
 use Rattle.std.proofs.Math.Nat.{mul-le-mul_right}
 use Rattle.std.proofs.lemmas.List.{length-map, length_push}
@@ -10,7 +10,7 @@ use Rattle.std.specs.Option.{option_map}
 use Rattle.indexmap.specs.IndexSet.{insert_key}
 use Rattle.breadth_first.specs.System.{System, IsEquality}
 use Rattle.breadth_first.specs.Marks.{tests_of}
-use Rattle.breadth_first.specs.Order.{trying, opened}
+use Rattle.breadth_first.specs.Order.{opened}
 use Rattle.breadth_first.specs.Spending.{SpendsAtMost, choices_cost, opening_cost, opened_cost, looks}
 use Rattle.breadth_first.specs.Progress.{Tries, Adds, Expands, HasSpent, SpendsTo, StopsBehind, ChoicesSpend, AddSpends, TrySpends, ExpandSpends, LevelSpends, WalkSpends}
 use Rattle.breadth_first.specs.declared.origins.Origin.{Origin}

@@ -13,6 +13,8 @@ use crate::marks::{Marks, judge, no_marks};
 use crate::search::Search;
 use crate::{Count, Space};
 use std::alloc::{AllocError, Global};
+use std::sync::ledger::Ledger;
+use steps::Steps;
 
 /// How many are marked.
 fn count_marks(marks: &[bool]) -> usize
@@ -35,11 +37,12 @@ pub(crate) fn first_mark(marks: &[bool], wanted: bool) -> Option<usize>
 
 impl<S: Space> Search<S> {
     /// Whether each state passes each of the tests: the space is brought to each state once.
-    pub(crate) fn judged(
+    pub(crate) fn judged<L: Ledger>(
         &self,
         alloc: Global,
         space: &mut S,
         tests: &[Test],
+        spent: &mut Steps<L>,
     ) -> Result<Vec<Marks>, AllocError>
         requires all { All (S.held space.old) self.now.seen.keys }
         requires tests { All (λ t. number_of t < (S.system space.old).tests) tests.now }
@@ -50,11 +53,11 @@ impl<S: Space> Search<S> {
             ≡ judged (S.system space.old) tests.now (map (S.means space.old) self.now.seen.keys)) }
         ensures spends { SpendsAtMost
             (length self.now.seen.keys * (length tests.now * (S.system space.old).look))
-            (S.spent space.old) (S.spent space.new) }
+            spent.old spent.new }
     {
         let mut lists = no_marks(alloc, tests.len())?;
         for index in 0..self.seen.len() {
-            judge(space, &self.seen[index], tests, &mut lists)?;
+            judge(space, &self.seen[index], tests, &mut lists, spent)?;
         }
         Ok(lists)
     }

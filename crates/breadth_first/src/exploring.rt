@@ -20,11 +20,13 @@ use crate::search::{Search, Stop};
 use crate::{Explored, Limits, Size, Space, Want, Watcher};
 use indexmap::IndexSet;
 use std::alloc::{AllocError, Global};
+use std::sync::ledger::Ledger;
+use steps::Steps;
 
 impl<S: Space> Search<S> {
     /// The answer where a limit ended the search: a choice of a state that `depth` choices lead to, with the index `at`, leads
     /// to a state that isn't kept.
-    fn told_open(
+    fn told_open<L: Ledger>(
         &self,
         alloc: Global,
         space: &mut S,
@@ -33,6 +35,7 @@ impl<S: Space> Search<S> {
         depth: usize,
         at: usize,
         choice: u32,
+        spent: &mut Steps<L>,
     ) -> Result<Explored, AllocError>
         requires searched { Searched (S.system space.old) (S.held space.old) (S.means space.old)
             limits.states self.now.seen.keys self.now.origins.items }
@@ -50,7 +53,7 @@ impl<S: Space> Search<S> {
             (length self.now.seen.keys) (at + 1)) }
         ensures spends { SpendsAtMost
             (length self.now.seen.keys * (length counts.now * (S.system space.old).look))
-            (S.spent space.old) (S.spent space.new) }
+            spent.old spent.new }
     {
         let tried = tried_of(at, space.choices()) + u64::from(choice) + 1;
         let size = Size {
@@ -59,7 +62,7 @@ impl<S: Space> Search<S> {
             depth,
         };
         let tests = tests_for(alloc, &[], counts)?;
-        let lists = self.judged(alloc, space, &tests)?;
+        let lists = self.judged(alloc, space, &tests, spent)?;
         let counts = self.counts(alloc, space, limits.states, counts, &lists)?;
         Ok(Explored::Open { size, counts })
     }
@@ -103,7 +106,7 @@ impl<S: Space> Search<S> {
     }
 
     /// The answer where the search stopped while it tried the choices of states that `depth` choices lead to.
-    fn told_stop(
+    fn told_stop<L: Ledger>(
         &self,
         alloc: Global,
         space: &mut S,
@@ -111,6 +114,7 @@ impl<S: Space> Search<S> {
         counts: &[usize],
         depth: usize,
         stop: Stop,
+        spent: &mut Steps<L>,
     ) -> Result<Explored, AllocError>
         requires searched { Searched (S.system space.old) (S.held space.old) (S.means space.old)
             limits.states self.now.seen.keys self.now.origins.items }
@@ -127,7 +131,7 @@ impl<S: Space> Search<S> {
             → HasSize (S.system space.old) (length self.now.seen.keys) parents answer) }
         ensures spends { SpendsAtMost
             (length self.now.seen.keys * (length counts.now * (S.system space.old).look))
-            (S.spent space.old) (S.spent space.new) }
+            spent.old spent.new }
     {
         match stop {
             Stop::Bad(property) => {
@@ -135,13 +139,13 @@ impl<S: Space> Search<S> {
                 Ok(Explored::Found { property, path })
             }
             Stop::NoRoom { at, choice } => {
-                self.told_open(alloc, space, limits, counts, depth, at, choice)
+                self.told_open(alloc, space, limits, counts, depth, at, choice, spent)
             }
         }
     }
 
     /// The answer to how the search ended.
-    fn answer(
+    fn answer<L: Ledger>(
         &self,
         alloc: Global,
         space: &mut S,
@@ -150,6 +154,7 @@ impl<S: Space> Search<S> {
         counts: &[usize],
         lists: &[Marks],
         end: End,
+        spent: &mut Steps<L>,
     ) -> Result<Explored, AllocError>
         requires searched { Searched (S.system space.old) (S.held space.old) (S.means space.old)
             limits.states self.now.seen.keys self.now.origins.items }
@@ -172,12 +177,14 @@ impl<S: Space> Search<S> {
             → HasSize (S.system space.old) (length self.now.seen.keys) parents answer) }
         ensures spends { SpendsAtMost
             (length self.now.seen.keys * (length counts.now * (S.system space.old).look))
-            (S.spent space.old) (S.spent space.new) }
+            spent.old spent.new }
     {
         match end {
-            End::Stopped(depth, stop) => self.told_stop(alloc, space, limits, counts, depth, stop),
+            End::Stopped(depth, stop) => {
+                self.told_stop(alloc, space, limits, counts, depth, stop, spent)
+            }
             End::TooFar { depth, at, choice } => {
-                self.told_open(alloc, space, limits, counts, depth, at, choice)
+                self.told_open(alloc, space, limits, counts, depth, at, choice, spent)
             }
             End::AllReached(depth) => {
                 let states = self.seen.len();
@@ -198,13 +205,14 @@ impl<S: Space> Search<S> {
 /// `wants` are what has to come, judged in their order where the search closes; `counts` are the tests of which is told how
 /// many states pass. An error is want of memory, or there were more than 2^32 states, or, where a want is `Must` or
 /// `MustAfter`, 2^31 or more.
-pub fn explore<S: Space, W: Watcher>(
+pub fn explore<S: Space, W: Watcher, L: Ledger>(
     alloc: Global,
     space: &mut S,
     limits: &Limits,
     wants: &[Want],
     counts: &[usize],
     watcher: &mut W,
+    spent: &mut Steps<L>,
 ) -> Result<Explored, AllocError>
     requires room { IfSome limits.now.states (λ n. 0 < n) }
     requires wants { All (λ want. goal_of want < (S.system space.old).tests) wants.now }
@@ -214,14 +222,14 @@ pub fn explore<S: Space, W: Watcher>(
         (Keeps (S.system space.old) (S.held space.old) (S.means space.old)
         (S.system space.new) (S.held space.new) (S.means space.new)) }
     ensures spends { SpendsFor (S.system space.old) limits.now wants.now counts.now result
-        (S.spent space.old) (S.spent space.new) }
+        spent.old spent.new }
 {
     let mut search = Search {
         seen: IndexSet::new(alloc),
         origins: Vec::new(alloc),
         edges: Edges::new(alloc, !wants.is_empty()),
     };
-    if let Some(property) = search.begin(space, limits.states)? {
+    if let Some(property) = search.begin(space, limits.states, spent)? {
         return Ok(Explored::Found {
             property,
             path: Vec::new(alloc),
@@ -229,6 +237,6 @@ pub fn explore<S: Space, W: Watcher>(
     }
     let tests = tests_for(alloc, wants, counts)?;
     let mut lists = no_marks(alloc, tests.len())?;
-    let end = search.walk(space, *limits, &tests, &mut lists, watcher)?;
-    search.answer(alloc, space, *limits, wants, counts, &lists, end)
+    let end = search.walk(space, *limits, &tests, &mut lists, watcher, spent)?;
+    search.answer(alloc, space, *limits, wants, counts, &lists, end, spent)
 }

@@ -14,6 +14,8 @@ use crate::marks::Marks;
 use crate::search::{Search, Stop, is_met};
 use crate::{Limits, Space, Watcher};
 use std::alloc::AllocError;
+use std::sync::ledger::Ledger;
+use steps::Steps;
 
 /// How a search ended.
 pub(crate) enum End {
@@ -32,7 +34,7 @@ pub(crate) enum End {
 
 impl<S: Space> Search<S> {
     /// Tries all choices of each state from the index `from` on.
-    pub(crate) fn level<W: Watcher>(
+    pub(crate) fn level<W: Watcher, L: Ledger>(
         &mut self,
         space: &mut S,
         limit: Option<usize>,
@@ -41,6 +43,7 @@ impl<S: Space> Search<S> {
         tests: &[Test],
         lists: &mut Vec<Marks>,
         watcher: &mut W,
+        spent: &mut Steps<L>,
     ) -> Result<Option<Stop>, AllocError>
         requires searched { Searched (S.system space.old) (S.held space.old) (S.means space.old)
             limit self.old.seen.keys self.old.origins.items }
@@ -73,12 +76,12 @@ impl<S: Space> Search<S> {
             (take (length self.old.seen.keys) (map (S.means space.new) self.new.seen.keys))) }
         ensures spends { (begun : ℕ)
             → HasSpent (S.system space.old) limit (length tests.now) begun 0 from
-            (length self.old.seen.keys) (S.spent space.old)
+            (length self.old.seen.keys) spent.old
             → LevelSpends (S.system space.old) limit (length tests.now) begun
-            (length self.old.seen.keys) (length self.new.seen.keys) result (S.spent space.new) }
+            (length self.old.seen.keys) (length self.new.seen.keys) result spent.new }
     {
         for at in from..self.seen.len() {
-            if let Some(stop) = self.expand(space, limit, at, tests, lists)? {
+            if let Some(stop) = self.expand(space, limit, at, tests, lists, spent)? {
                 return Ok(Some(stop));
             }
             let tried = (at as u64)
@@ -90,7 +93,7 @@ impl<S: Space> Search<S> {
     }
 
     /// Tries the choices of the states that as many lead to as the limit allows, and keeps no new state.
-    fn last_level<W: Watcher>(
+    fn last_level<W: Watcher, L: Ledger>(
         &mut self,
         space: &mut S,
         limits: Limits,
@@ -99,6 +102,7 @@ impl<S: Space> Search<S> {
         tests: &[Test],
         lists: &mut Vec<Marks>,
         watcher: &mut W,
+        spent: &mut Steps<L>,
     ) -> Result<End, AllocError>
         requires searched { Searched (S.system space.old) (S.held space.old) (S.means space.old)
             limits.states self.old.seen.keys self.old.origins.items }
@@ -131,12 +135,12 @@ impl<S: Space> Search<S> {
             ≡ judged (S.system space.old) tests.now (map (S.means space.new) self.new.seen.keys)) }
         ensures spends { (begun : ℕ)
             → HasSpent (S.system space.old) limits.states (length tests.now) begun 0 from
-            (length self.old.seen.keys) (S.spent space.old)
+            (length self.old.seen.keys) spent.old
             → WalkSpends (S.system space.old) limits.states (length tests.now) begun
-            (length self.new.seen.keys) result (S.spent space.new) }
+            (length self.new.seen.keys) result spent.new }
     {
         let to = self.seen.len();
-        let stop = self.level(space, Some(to), from, depth, tests, lists, watcher)?;
+        let stop = self.level(space, Some(to), from, depth, tests, lists, watcher, spent)?;
         match stop {
             None => Ok(End::AllReached(depth)),
             Some(Stop::NoRoom { at, choice }) => Ok(End::TooFar { depth, at, choice }),
@@ -145,13 +149,14 @@ impl<S: Space> Search<S> {
     }
 
     /// Goes on from the start, level by level.
-    pub(crate) fn walk<W: Watcher>(
+    pub(crate) fn walk<W: Watcher, L: Ledger>(
         &mut self,
         space: &mut S,
         limits: Limits,
         tests: &[Test],
         lists: &mut Vec<Marks>,
         watcher: &mut W,
+        spent: &mut Steps<L>,
     ) -> Result<End, AllocError>
         requires searched { Searched (S.system space.old) (S.held space.old) (S.means space.old)
             limits.states self.old.seen.keys self.old.origins.items }
@@ -179,15 +184,15 @@ impl<S: Space> Search<S> {
             ≡ judged (S.system space.old) tests.now (map (S.means space.new) self.new.seen.keys)) }
         ensures spends { (begun : ℕ)
             → HasSpent (S.system space.old) limits.states (length tests.now) begun 0 0
-            (length self.old.seen.keys) (S.spent space.old)
+            (length self.old.seen.keys) spent.old
             → WalkSpends (S.system space.old) limits.states (length tests.now) begun
-            (length self.new.seen.keys) result (S.spent space.new) }
+            (length self.new.seen.keys) result spent.new }
     {
         let mut depth = 0;
         let mut from = 0;
         'levels: loop {
             if is_met(limits.depth, depth) {
-                return self.last_level(space, limits, from, depth, tests, lists, watcher);
+                return self.last_level(space, limits, from, depth, tests, lists, watcher, spent);
             }
             let to = self.seen.len();
             if let Some(stop) = self.level(
@@ -198,6 +203,7 @@ impl<S: Space> Search<S> {
                 tests,
                 lists,
                 watcher,
+                spent,
             )? {
                 return Ok(End::Stopped(depth, stop));
             }

@@ -9,6 +9,8 @@ use crate::Space;
 use crate::asked::Test;
 use std::alloc::{AllocError, Global};
 use std::marker::Model;
+use std::sync::ledger::Ledger;
+use steps::Steps;
 
 /// Of states, in their order, whether they pass a test.
 #[derive(Drop)]
@@ -69,7 +71,12 @@ fn note(lists: &mut Vec<Marks>, place: usize, mark: bool) -> Result<(), AllocErr
 }
 
 /// Whether a state is as a test asks.
-fn is_so<S: Space>(space: &mut S, key: &S::Key, test: Test) -> Result<bool, AllocError>
+fn is_so<S: Space, L: Ledger>(
+    space: &mut S,
+    key: &S::Key,
+    test: Test,
+    spent: &mut Steps<L>,
+) -> Result<bool, AllocError>
     requires held { S.held space.old key.now }
     requires test { number_of test < (S.system space.old).tests }
     ensures value { IfOk result (λ so. so
@@ -78,20 +85,21 @@ fn is_so<S: Space>(space: &mut S, key: &S::Key, test: Test) -> Result<bool, Allo
         (Keeps (S.system space.old) (S.held space.old) (S.means space.old)
         (S.system space.new) (S.held space.new) (S.means space.new)) }
     ensures spends { SpendsAtMost (S.system space.old).look
-        (S.spent space.old) (S.spent space.new) }
+        spent.old spent.new }
 {
     match test {
-        Test::Passes(number) => space.passes(key, number),
-        Test::IsFirst(number) => space.is_first(key, number),
+        Test::Passes(number) => space.passes(key, number, spent),
+        Test::IsFirst(number) => space.is_first(key, number, spent),
     }
 }
 
 /// Judges one more state by each of the tests.
-pub(crate) fn judge<S: Space>(
+pub(crate) fn judge<S: Space, L: Ledger>(
     space: &mut S,
     key: &S::Key,
     tests: &[Test],
     lists: &mut Vec<Marks>,
+    spent: &mut Steps<L>,
 ) -> Result<(), AllocError>
     requires held { S.held space.old key.now }
     requires tests { All (λ t. number_of t < (S.system space.old).tests) tests.now }
@@ -104,10 +112,10 @@ pub(crate) fn judge<S: Space>(
         → lists.new.items
         ≡ judged (S.system space.old) tests.now (states ++ S.means space.old key.now ∷ [])) }
     ensures spends { SpendsAtMost (length tests.now * (S.system space.old).look)
-        (S.spent space.old) (S.spent space.new) }
+        spent.old spent.new }
 {
     for place in 0..tests.len() {
-        let so = is_so(space, key, tests[place])?;
+        let so = is_so(space, key, tests[place], spent)?;
         note(lists, place, so)?;
     }
     Ok(())

@@ -14,6 +14,8 @@ use crate::marks::{Marks, judge};
 use crate::origins::Origin;
 use indexmap::IndexSet;
 use std::alloc::AllocError;
+use std::sync::ledger::Ledger;
+use steps::Steps;
 
 /// What became of a state that was found.
 pub(crate) enum Added {
@@ -55,12 +57,13 @@ pub(crate) fn is_met(limit: Option<usize>, count: usize) -> bool
 
 impl<S: Space> Search<S> {
     /// Keeps a state if it is new and there is room.
-    pub(crate) fn add(
+    pub(crate) fn add<L: Ledger>(
         &mut self,
         space: &mut S,
         limit: Option<usize>,
         key: S::Key,
         origin: Origin,
+        spent: &mut Steps<L>,
     ) -> Result<Added, AllocError>
         requires held { S.held space.old key }
         requires stands { S.stands space.old (S.means space.old key) }
@@ -79,7 +82,7 @@ impl<S: Space> Search<S> {
         ensures room { OnOk result (IfSome limit (λ n. length self.new.seen.keys ≤ n)) }
         ensures edges { self.new.edges ≡ self.old.edges }
         ensures spends { AddSpends (S.system space.old) (length self.old.seen.keys)
-            (length self.new.seen.keys) result (S.spent space.old) (S.spent space.new) }
+            (length self.new.seen.keys) result spent.old spent.new }
     {
         let len = self.seen.len();
         if is_met(limit, len) {
@@ -96,17 +99,18 @@ impl<S: Space> Search<S> {
             return Ok(Added::At(index));
         }
         self.origins.push(origin)?;
-        match space.violated(&self.seen[index])? {
+        match space.violated(&self.seen[index], spent)? {
             Some(property) => Ok(Added::Violates(property)),
             None => Ok(Added::At(index)),
         }
     }
 
     /// Keeps the start, or tells the property that it violates.
-    pub(crate) fn begin(
+    pub(crate) fn begin<L: Ledger>(
         &mut self,
         space: &mut S,
         limit: Option<usize>,
+        spent: &mut Steps<L>,
     ) -> Result<Option<usize>, AllocError>
         requires seen { self.old.seen.keys ≡ [] }
         requires origins { self.old.origins.items ≡ [] }
@@ -118,15 +122,15 @@ impl<S: Space> Search<S> {
             (S.held space.new) (S.means space.new) limit self.new.seen.keys self.new.origins.items) }
         ensures edges { self.new.edges ≡ self.old.edges }
         ensures spends { (tests : ℕ)
-            → ExpandSpends (S.system space.old) limit tests (S.spent space.old) 0
-            (length self.new.seen.keys) result (S.spent space.new) }
+            → ExpandSpends (S.system space.old) limit tests spent.old 0
+            (length self.new.seen.keys) result spent.new }
     {
-        let key = space.start()?;
+        let key = space.start(spent)?;
         let origin = Origin {
             parent: 0,
             choice: 0,
         };
-        match self.add(space, limit, key, origin)? {
+        match self.add(space, limit, key, origin, spent)? {
             Added::At(_) => Ok(None),
             Added::Violates(property) => Ok(Some(property)),
             Added::Full => unreachable!(),
@@ -135,13 +139,14 @@ impl<S: Space> Search<S> {
 
     /// Judges the state with the index `at` by each of the tests, and then tries all its choices: they start there, so that
     /// the space is brought to it once for both.
-    pub(crate) fn expand(
+    pub(crate) fn expand<L: Ledger>(
         &mut self,
         space: &mut S,
         limit: Option<usize>,
         at: usize,
         tests: &[Test],
         lists: &mut Vec<Marks>,
+        spent: &mut Steps<L>,
     ) -> Result<Option<Stop>, AllocError>
         requires searched { Searched (S.system space.old) (S.held space.old) (S.means space.old)
             limit self.old.seen.keys self.old.origins.items }
@@ -174,20 +179,21 @@ impl<S: Space> Search<S> {
             (take (at + 1) (map (S.means space.new) self.new.seen.keys))) }
         ensures spends { (begun : ℕ)
             → HasSpent (S.system space.old) limit (length tests.now) begun 0 at
-            (length self.old.seen.keys) (S.spent space.old)
+            (length self.old.seen.keys) spent.old
             → ExpandSpends (S.system space.old) limit (length tests.now) begun (at + 1)
-            (length self.new.seen.keys) result (S.spent space.new) }
+            (length self.new.seen.keys) result spent.new }
     {
-        judge(space, &self.seen[at], tests, lists)?;
-        self.try_choices(space, limit, at)
+        judge(space, &self.seen[at], tests, lists, spent)?;
+        self.try_choices(space, limit, at, spent)
     }
 
     /// Tries all choices of the state with the index `at`.
-    fn try_choices(
+    fn try_choices<L: Ledger>(
         &mut self,
         space: &mut S,
         limit: Option<usize>,
         at: usize,
+        spent: &mut Steps<L>,
     ) -> Result<Option<Stop>, AllocError>
         requires searched { Searched (S.system space.old) (S.held space.old) (S.means space.old)
             limit self.old.seen.keys self.old.origins.items }
@@ -212,15 +218,15 @@ impl<S: Space> Search<S> {
             (at * (S.system space.old).choices + (S.system space.old).choices)
             self.new.edges.keeps self.new.edges.ends.items) }
         ensures spends { TrySpends (S.system space.old) limit at (length self.old.seen.keys)
-            (length self.new.seen.keys) result (S.spent space.old) (S.spent space.new) }
+            (length self.new.seen.keys) result spent.old spent.new }
     {
         for choice in 0..space.choices() {
-            let key = space.successor(&self.seen[at], choice)?;
+            let key = space.successor(&self.seen[at], choice, spent)?;
             let origin = Origin {
                 parent: at as u32,
                 choice,
             };
-            match self.add(space, limit, key, origin)? {
+            match self.add(space, limit, key, origin, spent)? {
                 Added::At(index) => self.edges.note(index)?,
                 Added::Violates(property) => return Ok(Some(Stop::Bad(property))),
                 Added::Full => return Ok(Some(Stop::NoRoom { at, choice })),

@@ -1,17 +1,19 @@
 //! What a search asks of whatever has states.
 
-ghost use Rattle.std.specs.Prelude.{◌≡◌, ◌<◌, ℕ, Bool, IfOk, OnOk};
+ghost use Rattle.std.specs.Prelude.{◌≡◌, ◌<◌, Bool, IfOk, OnOk};
 ghost use Rattle.breadth_first.specs.System.{System, IsEquality};
 ghost use Rattle.breadth_first.specs.Kept.{Keeps};
 ghost use Rattle.breadth_first.specs.Spending.{SpendsAtMost};
 
 use std::alloc::AllocError;
 use std::hash::Hash;
+use std::sync::ledger::Ledger;
+use steps::Steps;
 
 /// States, and the choices that lead from one to the next.
 ///
 /// A state is kept by a key. The space may change while it is asked, but each key that it gave goes on
-/// standing for its state.
+/// standing for its state. What a call spends is counted by a counter that it is handed.
 pub trait Space {
     /// What is kept of a state.
     type Key: Eq + Hash + Drop;
@@ -31,26 +33,28 @@ pub trait Space {
     /// The space stands at a state: the last call gave a key of it.
     ghost stands: { Self → State → Type 0 };
 
-    /// What the space has spent so far.
-    ghost spent: { Self → ℕ };
-
     /// How many choices there are, in each state.
     fn choices(&self) -> u32
         ensures { result ≡ (system self.now).choices };
 
     /// The key of the start.
-    fn start(&mut self) -> Result<Self::Key, AllocError>
+    fn start<L: Ledger>(&mut self, spent: &mut Steps<L>) -> Result<Self::Key, AllocError>
         ensures held { IfOk result (held self.new) }
         ensures means { IfOk result (λ key. means self.new key ≡ (system self.old).start) }
         ensures stands { IfOk result (λ key. stands self.new (means self.new key)) }
         ensures keeps { OnOk result
             (Keeps (system self.old) (held self.old) (means self.old)
             (system self.new) (held self.new) (means self.new)) }
-        ensures spends { SpendsAtMost (system self.old).look (spent self.old) (spent self.new) };
+        ensures spends { SpendsAtMost (system self.old).look spent.old spent.new };
 
     /// The key of the state to which a choice leads. The choices of one state are asked for in their
     /// order, one behind the other.
-    fn successor(&mut self, from: &Self::Key, choice: u32) -> Result<Self::Key, AllocError>
+    fn successor<L: Ledger>(
+        &mut self,
+        from: &Self::Key,
+        choice: u32,
+        spent: &mut Steps<L>,
+    ) -> Result<Self::Key, AllocError>
         requires held { held self.old from.now }
         requires choice { choice < (system self.old).choices }
         ensures held { IfOk result (held self.new) }
@@ -61,11 +65,15 @@ pub trait Space {
             (Keeps (system self.old) (held self.old) (means self.old)
             (system self.new) (held self.new) (means self.new)) }
         ensures spends { SpendsAtMost ((system self.old).cost (means self.old from.now) choice)
-            (spent self.old) (spent self.new) };
+            spent.old spent.new };
 
     /// The first property that the state violates. Each new state is asked about once, just after the call
     /// that gave its key, so the space stands at it.
-    fn violated(&mut self, key: &Self::Key) -> Result<Option<usize>, AllocError>
+    fn violated<L: Ledger>(
+        &mut self,
+        key: &Self::Key,
+        spent: &mut Steps<L>,
+    ) -> Result<Option<usize>, AllocError>
         requires held { held self.old key.now }
         requires stands { stands self.old (means self.old key.now) }
         ensures value { IfOk result (λ property. property
@@ -73,10 +81,15 @@ pub trait Space {
         ensures keeps { OnOk result
             (Keeps (system self.old) (held self.old) (means self.old)
             (system self.new) (held self.new) (means self.new)) }
-        ensures spends { SpendsAtMost (system self.old).look (spent self.old) (spent self.new) };
+        ensures spends { SpendsAtMost (system self.old).look spent.old spent.new };
 
     /// Whether the state passes a test.
-    fn passes(&mut self, key: &Self::Key, test: usize) -> Result<bool, AllocError>
+    fn passes<L: Ledger>(
+        &mut self,
+        key: &Self::Key,
+        test: usize,
+        spent: &mut Steps<L>,
+    ) -> Result<bool, AllocError>
         requires held { held self.old key.now }
         requires test { test < (system self.old).tests }
         ensures value { IfOk result (λ passes. passes
@@ -84,10 +97,15 @@ pub trait Space {
         ensures keeps { OnOk result
             (Keeps (system self.old) (held self.old) (means self.old)
             (system self.new) (held self.new) (means self.new)) }
-        ensures spends { SpendsAtMost (system self.old).look (spent self.old) (spent self.new) };
+        ensures spends { SpendsAtMost (system self.old).look spent.old spent.new };
 
     /// Whether the state is one from which on the test has to be passed, where that is asked of some states.
-    fn is_first(&mut self, key: &Self::Key, test: usize) -> Result<bool, AllocError>
+    fn is_first<L: Ledger>(
+        &mut self,
+        key: &Self::Key,
+        test: usize,
+        spent: &mut Steps<L>,
+    ) -> Result<bool, AllocError>
         requires held { held self.old key.now }
         requires test { test < (system self.old).tests }
         ensures value { IfOk result (λ first. first
@@ -95,7 +113,7 @@ pub trait Space {
         ensures keeps { OnOk result
             (Keeps (system self.old) (held self.old) (means self.old)
             (system self.new) (held self.new) (means self.new)) }
-        ensures spends { SpendsAtMost (system self.old).look (spent self.old) (spent self.new) };
+        ensures spends { SpendsAtMost (system self.old).look spent.old spent.new };
 
     /// Two keys are equal exactly where they stand for the same state.
     ghost alike: { (space : Self) (a b : Self.Key) → held space a → held space b

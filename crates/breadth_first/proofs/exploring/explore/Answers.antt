@@ -111,7 +111,7 @@ returns-in_err-property-clause-spends g c =
       room = has.room;
       few = has.few;
       inside = has.inside;
-      spends = counted system limit wants counts tests (0) (failed.0) refl has (spends-nothing (failed.0 * (length counts * system.look)) (g.S.Space.spent c.begin.new.space));
+      spends = counted system limit wants counts tests (0) (failed.0) refl has (spends-nothing (failed.0 * (length counts * system.look)) c.begin.new.spent);
     }
 
 pub returns-in-Some-clause-spends : goal.returns-in-Some-clause-spends
@@ -129,7 +129,7 @@ returns-in-Some-clause-spends g c =
       room = has.room;
       few = has.few;
       inside = has.inside;
-      spends = counted system limit wants counts tests (0) (length c.begin.new.self.seen.keys) refl has (spends-nothing ((length c.begin.new.self.seen.keys) * (length counts * system.look)) (g.S.Space.spent c.begin.new.space));
+      spends = counted system limit wants counts tests (0) (length c.begin.new.self.seen.keys) refl has (spends-nothing ((length c.begin.new.self.seen.keys) * (length counts * system.look)) c.begin.new.spent);
     }
 
 pub returns-in_err-tests-clause-spends : goal.returns-in_err-tests-clause-spends
@@ -147,7 +147,7 @@ returns-in_err-tests-clause-spends g c =
       room = has.room;
       few = has.few;
       inside = has.inside;
-      spends = counted system limit wants counts tests (0) (length c.begin.new.self.seen.keys) refl has (spends-nothing ((length c.begin.new.self.seen.keys) * (length counts * system.look)) (g.S.Space.spent c.begin.new.space));
+      spends = counted system limit wants counts tests (0) (length c.begin.new.self.seen.keys) refl has (spends-nothing ((length c.begin.new.self.seen.keys) * (length counts * system.look)) c.begin.new.spent);
     }
 
 pub returns-in_err-lists-clause-spends : goal.returns-in_err-lists-clause-spends
@@ -165,7 +165,7 @@ returns-in_err-lists-clause-spends g c =
       room = has.room;
       few = has.few;
       inside = has.inside;
-      spends = counted system limit wants counts tests (0) (length c.begin.new.self.seen.keys) refl has (spends-nothing ((length c.begin.new.self.seen.keys) * (length counts * system.look)) (g.S.Space.spent c.begin.new.space));
+      spends = counted system limit wants counts tests (0) (length c.begin.new.self.seen.keys) refl has (spends-nothing ((length c.begin.new.self.seen.keys) * (length counts * system.look)) c.begin.new.spent);
     }
 
 pub returns-in_err-end-clause-spends : goal.returns-in_err-end-clause-spends
@@ -175,13 +175,13 @@ returns-in_err-end-clause-spends g c =
     let counts = c.args.counts.now in
     let limit = c.args.limits.now.states in
     let tests = length (tests_of wants) + length counts in
-    let begun = g.S.Space.spent c.args.space.now in
+    let begun = c.args.spent.now in
     let many : length c.deref.result.now ≡ tests = ap length (c.deref.ensures.value ∙ c.in_ok-tests.ensures) ∙ length-append (tests_of wants) (map Passes counts) ∙ ap (λ n. length (tests_of wants) + n) (length-map counts Passes) in
     let h = g.S.Space.system c.begin.new.space in
     let same = c.in_ok-property.ensures.keeps.system in
-    let has_then = subst (λ t. HasSpent t limit (length c.deref.result.now) begun 0 0 (length c.begin.new.self.seen.keys) (g.S.Space.spent c.begin.new.space)) (sym same) (c.in_ok-property.ensures.spends (length c.deref.result.now)) in
-    let to = subst (λ t. SpendsTo t limit (length c.deref.result.now) begun (g.S.Space.spent c.walk.new.space) (λ parents kept. ⊤)) same (c.in_err-end.ensures.spends begun has_then) in
-    let has = subst (λ n. HasSpent system limit n begun 1 to.parents to.kept (g.S.Space.spent c.walk.new.space)) many to.has in
+    let has_then = subst (λ t. HasSpent t limit (length c.deref.result.now) begun 0 0 (length c.begin.new.self.seen.keys) c.begin.new.spent) (sym same) (c.in_ok-property.ensures.spends (length c.deref.result.now)) in
+    let to = subst (λ t. SpendsTo t limit (length c.deref.result.now) begun c.walk.new.spent (λ parents kept. ⊤)) same (c.in_err-end.ensures.spends begun has_then) in
+    let has = subst (λ n. HasSpent system limit n begun 1 to.parents to.kept c.walk.new.spent) many to.has in
     record {
       kept = to.kept;
       parents = to.parents;
@@ -189,7 +189,7 @@ returns-in_err-end-clause-spends g c =
       room = has.room;
       few = has.few;
       inside = has.inside;
-      spends = counted system limit wants counts tests (to.parents) (to.kept) refl has (spends-nothing (to.kept * (length counts * system.look)) (g.S.Space.spent c.walk.new.space));
+      spends = counted system limit wants counts tests (to.parents) (to.kept) refl has (spends-nothing (to.kept * (length counts * system.look)) c.walk.new.spent);
     }
 
 pub returns-clause-spends : goal.returns-clause-spends
@@ -199,16 +199,16 @@ returns-clause-spends g c =
     let counts = c.args.counts.now in
     let limit = c.args.limits.now.states in
     let tests = length (tests_of wants) + length counts in
-    let begun = g.S.Space.spent c.args.space.now in
+    let begun = c.args.spent.now in
     let many : length c.deref.result.now ≡ tests = ap length (c.deref.ensures.value ∙ c.in_ok-tests.ensures) ∙ length-append (tests_of wants) (map Passes counts) ∙ ap (λ n. length (tests_of wants) + n) (length-map counts Passes) in
     let h = g.S.Space.system c.begin.new.space in
     let same = c.in_ok-property.ensures.keeps.system in
-    let has_then = subst (λ t. HasSpent t limit (length c.deref.result.now) begun 0 0 (length c.begin.new.self.seen.keys) (g.S.Space.spent c.begin.new.space)) (sym same) (c.in_ok-property.ensures.spends (length c.deref.result.now)) in
+    let has_then = subst (λ t. HasSpent t limit (length c.deref.result.now) begun 0 0 (length c.begin.new.self.seen.keys) c.begin.new.spent) (sym same) (c.in_ok-property.ensures.spends (length c.deref.result.now)) in
     let keys = length c.walk.new.self.seen.keys in
     let both = c.in_ok-end.ensures.keeps.system ∙ same in
-    let to = subst (λ t. SpendsTo t limit (length c.deref.result.now) begun (g.S.Space.spent c.walk.new.space) (λ parents kept. (kept ≡ keys) × EndsBehind kept parents c.in_ok-end.end)) same (c.in_ok-end.ensures.spends begun has_then) in
-    let has_to = subst (λ n. HasSpent system limit n begun 1 to.parents to.kept (g.S.Space.spent c.walk.new.space)) many to.has in
-    let has = subst (λ n. HasSpent system limit tests begun 1 to.parents n (g.S.Space.spent c.walk.new.space)) to.known.0 has_to in
+    let to = subst (λ t. SpendsTo t limit (length c.deref.result.now) begun c.walk.new.spent (λ parents kept. (kept ≡ keys) × EndsBehind kept parents c.in_ok-end.end)) same (c.in_ok-end.ensures.spends begun has_then) in
+    let has_to = subst (λ n. HasSpent system limit n begun 1 to.parents to.kept c.walk.new.spent) many to.has in
+    let has = subst (λ n. HasSpent system limit tests begun 1 to.parents n c.walk.new.spent) to.known.0 has_to in
     let behind = subst (λ n. EndsBehind n to.parents c.in_ok-end.end) to.known.0 to.known.1 in
     let sizes = subst (λ t. IfOk c.answer.result (λ answer. (parents : ℕ) → EndsBehind keys parents c.in_ok-end.end → HasSize t keys parents answer)) both c.answer.ensures.size in
     record {
@@ -218,5 +218,5 @@ returns-clause-spends g c =
       room = has.room;
       few = has.few;
       inside = has.inside;
-      spends = counted system limit wants counts tests (to.parents) (keys) refl has (subst (λ t. SpendsAtMost (keys * (length counts * t.look)) (g.S.Space.spent c.walk.new.space) (g.S.Space.spent c.answer.new.space)) both c.answer.ensures.spends);
+      spends = counted system limit wants counts tests (to.parents) (keys) refl has (subst (λ t. SpendsAtMost (keys * (length counts * t.look)) c.walk.new.spent c.answer.new.spent) both c.answer.ensures.spends);
     }

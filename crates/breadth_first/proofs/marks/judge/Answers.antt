@@ -1,4 +1,4 @@
-use Rattle.std.proofs.Common.{◌+◌, ◌*◌, ◌≤◌, length, get_or, ap, ◌∙◌, subst, arith}
+use Rattle.std.proofs.Common.{◌+◌, ◌*◌, length, get_or, ap, ◌∙◌, subst, arith}
 use Rattle.std.proofs.lemmas.List.{length-set}
 use Rattle.breadth_first.specs.declared.asked.Test.{Test}
 use Rattle.breadth_first.specs.declared.asked.Test.TheVariants.{Passes}
@@ -11,7 +11,7 @@ use Rattle.breadth_first.proofs.marks.judge.Goals as goal
 pub loop-place-init : goal.loop-place-init
 loop-place-init g c =
     let s = c.args.space.now in
-    record { keeps = keeps-refl (g.S.Space.system s) (g.S.Space.held s) (g.S.Space.means s); many = c.requires.many; marks = λ states are. are; spends = spends-nothing (0 * (g.S.Space.system s).look) (g.S.Space.spent s) }
+    record { keeps = keeps-refl (g.S.Space.system s) (g.S.Space.held s) (g.S.Space.means s); many = c.requires.many; marks = λ states are. are; spends = spends-nothing (0 * (g.S.Space.system s).look) c.args.spent.now }
 
 pub is_so-requires-clause-held : goal.is_so-requires-clause-held
 is_so-requires-clause-held g c = c.loop-place.invariant.keeps.still c.args.key.now c.requires.held
@@ -32,7 +32,7 @@ loop-place-preserved g c =
       keeps = keeps-trans l.invariant.keeps c.in_ok-so.ensures.keeps;
       many = ap length c.in_ok-note.ensures ∙ length-set l.lists.items l.place _ ∙ l.invariant.many;
       marks = λ states are. marked-step (g.S.Space.system s) c.args.tests.now states (g.S.Space.means s c.args.key.now) l.place (Passes 0) l.lists.items c.note.new.lists.items c.in_ok-so.so c.loop-place-test.true (l.invariant.marks states are) is c.in_ok-note.ensures;
-      spends = spends-step (g.S.Space.system s).look l.place l.invariant.spends (subst (λ t. SpendsAtMost t.look (g.S.Space.spent l.space) (g.S.Space.spent c.is_so.new.space)) l.invariant.keeps.system c.is_so.ensures.spends);
+      spends = spends-step (g.S.Space.system s).look l.place l.invariant.spends (subst (λ t. SpendsAtMost t.look l.spent c.is_so.new.spent) l.invariant.keeps.system c.is_so.ensures.spends);
     }
 
 pub returns-clause-keeps : goal.returns-clause-keeps
@@ -48,14 +48,14 @@ returns-in_err-so-clause-spends g c =
     let l = c.loop-place in
     let look = (g.S.Space.system c.args.space.now).look in
     spends-within look (l.place + 1) (length c.args.tests.now) (omega (arith, c.loop-place-test.true))
-    (spends-step look l.place l.invariant.spends (subst (λ t. SpendsAtMost t.look (g.S.Space.spent l.space) (g.S.Space.spent c.is_so.new.space)) l.invariant.keeps.system c.is_so.ensures.spends))
+    (spends-step look l.place l.invariant.spends (subst (λ t. SpendsAtMost t.look l.spent c.is_so.new.spent) l.invariant.keeps.system c.is_so.ensures.spends))
 
 pub returns-in_err-note-clause-spends : goal.returns-in_err-note-clause-spends
 returns-in_err-note-clause-spends g c =
     let l = c.loop-place in
     let look = (g.S.Space.system c.args.space.now).look in
     spends-within look (l.place + 1) (length c.args.tests.now) (omega (arith, c.loop-place-test.true))
-    (spends-step look l.place l.invariant.spends (subst (λ t. SpendsAtMost t.look (g.S.Space.spent l.space) (g.S.Space.spent c.is_so.new.space)) l.invariant.keeps.system c.is_so.ensures.spends))
+    (spends-step look l.place l.invariant.spends (subst (λ t. SpendsAtMost t.look l.spent c.is_so.new.spent) l.invariant.keeps.system c.is_so.ensures.spends))
 
 pub returns-clause-spends : goal.returns-clause-spends
 returns-clause-spends g c =

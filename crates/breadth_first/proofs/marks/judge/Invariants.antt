@@ -10,5 +10,5 @@ invariant-loop-place g l = record {
   keeps : Keeps (g.S.Space.system l.fn.space) (g.S.Space.held l.fn.space) (g.S.Space.means l.fn.space) (g.S.Space.system l.space) (g.S.Space.held l.space) (g.S.Space.means l.space);
   many : length l.lists.items ≡ length l.tests;
   marks : (states : List g.S.Space.State) → l.fn.lists.items ≡ judged (g.S.Space.system l.fn.space) l.tests states → l.lists.items ≡ marked (g.S.Space.system l.fn.space) l.tests states (g.S.Space.means l.fn.space l.key) l.place;
-  spends : SpendsAtMost (l.place * (g.S.Space.system l.fn.space).look) (g.S.Space.spent l.fn.space) (g.S.Space.spent l.space);
+  spends : SpendsAtMost (l.place * (g.S.Space.system l.fn.space).look) l.fn.spent l.spent;
 }

@@ -1,4 +1,4 @@
-use Rattle.std.proofs.Common.{◌≡◌, ◌+◌, ◌++◌, ◌∷◌, [], if◌then◌else◌, length, map, Some, true, false, not, Bool, refl, sym, ap, ◌∙◌, subst, arith, rules, is_some}
+use Rattle.std.proofs.Common.{◌≡◌, ◌++◌, ◌∷◌, [], if◌then◌else◌, length, map, Some, true, false, not, Bool, refl, sym, ap, ◌∙◌, subst, rules, is_some}
 use Rattle.std.proofs.lemmas.List.{length-map, length_push}
 use Rattle.std.specs.List.{list_any}
 use Rattle.breadth_first.proofs.Keys.{keeps-all, any-map, seen-position, seen-stored, stored-means, held-news, held-at, added-then, kept-there, kept-new}
@@ -95,10 +95,10 @@ returns-in-None-clause-adds g c =
     record { states = kept.states; at = kept.at; safe = kept.safe; came = c.in_ok-push.ensures.items ∙ kept.came }
 
 pub returns-in_default-clause-spends : goal.returns-in_default-clause-spends
-returns-in_default-clause-spends g c = adds-same (g.S.Space.system c.args.space.now).look (length c.args.self.now.seen.keys) (length c.args.self.now.seen.keys) (g.S.Space.spent c.args.space.now) refl
+returns-in_default-clause-spends g c = adds-same (g.S.Space.system c.args.space.now).look (length c.args.self.now.seen.keys) (length c.args.self.now.seen.keys) c.args.spent.now refl
 
 pub returns-then-is_met-clause-spends : goal.returns-then-is_met-clause-spends
-returns-then-is_met-clause-spends g c = adds-same (g.S.Space.system c.args.space.now).look (length c.args.self.now.seen.keys) (length c.args.self.now.seen.keys) (g.S.Space.spent c.args.space.now) refl
+returns-then-is_met-clause-spends g c = adds-same (g.S.Space.system c.args.space.now).look (length c.args.self.now.seen.keys) (length c.args.self.now.seen.keys) c.args.spent.now refl
 
 pub returns-then-len-clause-spends : goal.returns-then-len-clause-spends
 returns-then-len-clause-spends g c = spends-nothing _ _
@@ -116,7 +116,7 @@ pub returns-then-not-new-clause-spends : goal.returns-then-not-new-clause-spends
 returns-then-not-new-clause-spends g c =
     let keys = c.args.self.now.seen.keys in
     let some = not-false (list_any (g.S.Key.PartialEq.eq c.args.key) keys) (sym c.if-not-new.true ∙ c.in_ok-index.ensures.added) in
-    adds-same (g.S.Space.system c.args.space.now).look (length keys) (length c.insert_full.new.self.keys) (g.S.Space.spent c.args.space.now)
+    adds-same (g.S.Space.system c.args.space.now).look (length keys) (length c.insert_full.new.self.keys) c.args.spent.now
     (ap length (c.in_ok-index.ensures.keys ∙ ap (λ b. if b then keys else keys ++ c.args.key ∷ []) some))
 
 pub returns-in-Some-2-clause-spends : goal.returns-in-Some-2-clause-spends

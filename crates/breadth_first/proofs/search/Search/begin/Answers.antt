@@ -1,4 +1,4 @@
-use Rattle.std.proofs.Common.{◌≡◌, ℕ, ◌+◌, ◌*◌, ◌<◌, ◌≤◌, length, map, IfSome, Option, Some, None, sym, ap, subst, arith}
+use Rattle.std.proofs.Common.{◌≡◌, ℕ, ◌+◌, ◌*◌, ◌<◌, ◌≤◌, length, map, IfSome, Option, Some, None, ap, subst, arith}
 use Rattle.std.proofs.lemmas.List.{length-map}
 use Rattle.breadth_first.specs.declared.origins.Origin.{Origin}
 use Rattle.breadth_first.specs.Spending.{SpendsAtMost}
@@ -55,14 +55,14 @@ unreachable-requires g c =
 
 pub returns-in_err-key-clause-spends : goal.returns-in_err-key-clause-spends
 returns-in_err-key-clause-spends g c tests =
-    open-failed (g.S.Space.system c.args.space.now) c.args.limit tests (g.S.Space.spent c.args.space.now) 0 (length c.args.self.now.seen.keys) 0 c.from_residual.result c.from_residual.ensures.0
+    open-failed (g.S.Space.system c.args.space.now) c.args.limit tests c.args.spent.now 0 (length c.args.self.now.seen.keys) 0 c.from_residual.result c.from_residual.ensures.0
     (begun-failed (g.S.Space.system c.args.space.now) (g.met.S.Space.decides c.args.space.now) c.args.limit tests (record { grows = c.start.ensures.spends.grows; few = omega (arith, c.start.ensures.spends.few) }))
 
 pub returns-in_err-add-clause-spends : goal.returns-in_err-add-clause-spends
 returns-in_err-add-clause-spends g c tests =
     let start = c.start.ensures.spends in
-    let add = subst (λ t. SpendsAtMost t.look (g.S.Space.spent c.start.new.self) (g.S.Space.spent c.add.new.space)) c.in_ok-key.ensures.keeps.system c.in_err-add.ensures.spends in
-    open-failed (g.S.Space.system c.args.space.now) c.args.limit tests (g.S.Space.spent c.args.space.now) 0 (length c.add.new.self.seen.keys) 0 c.from_residual-in_err-add.result c.from_residual-in_err-add.ensures.0
+    let add = subst (λ t. SpendsAtMost t.look c.start.new.spent c.add.new.spent) c.in_ok-key.ensures.keeps.system c.in_err-add.ensures.spends in
+    open-failed (g.S.Space.system c.args.space.now) c.args.limit tests c.args.spent.now 0 (length c.add.new.self.seen.keys) 0 c.from_residual-in_err-add.result c.from_residual-in_err-add.ensures.0
     (begun-failed (g.S.Space.system c.args.space.now) (g.met.S.Space.decides c.args.space.now) c.args.limit tests (record { grows = omega (arith, start.grows, add.grows); few = omega (arith, start.few, add.few) }))
 
 pub returns-in-At-clause-spends : goal.returns-in-At-clause-spends
@@ -75,7 +75,7 @@ returns-in-At-clause-spends g c tests =
     let now = length-map c.add.new.self.seen.keys (g.S.Space.means c.add.new.space) in
     begun-spent (g.S.Space.system c.args.space.now) (g.met.S.Space.decides c.args.space.now) c.args.limit tests (length c.args.self.now.seen.keys) (length c.add.new.self.seen.keys) (ap length c.requires.seen) (omega (arith, adds.2, was, now)) c.in_ok-add.ensures.room
     c.start.ensures.spends
-    (subst (λ t. ((g.S.Space.spent c.start.new.self) ≤ (g.S.Space.spent c.add.new.space)) × ((g.S.Space.spent c.add.new.space) + (length c.args.self.now.seen.keys) * t.look ≤ (g.S.Space.spent c.start.new.self) + (length c.add.new.self.seen.keys) * t.look)) c.in_ok-key.ensures.keeps.system c.in_ok-add.ensures.spends)
+    (subst (λ t. (c.start.new.spent ≤ c.add.new.spent) × (c.add.new.spent + (length c.args.self.now.seen.keys) * t.look ≤ c.start.new.spent + (length c.add.new.self.seen.keys) * t.look)) c.in_ok-key.ensures.keeps.system c.in_ok-add.ensures.spends)
 
 pub returns-in-Violates-clause-spends : goal.returns-in-Violates-clause-spends
 returns-in-Violates-clause-spends g c tests =
@@ -87,4 +87,4 @@ returns-in-Violates-clause-spends g c tests =
     let now = length-map c.add.new.self.seen.keys (g.S.Space.means c.add.new.space) in
     begun-spent (g.S.Space.system c.args.space.now) (g.met.S.Space.decides c.args.space.now) c.args.limit tests (length c.args.self.now.seen.keys) (length c.add.new.self.seen.keys) (ap length c.requires.seen) (omega (arith, adds.2, was, now)) c.in_ok-add.ensures.room
     c.start.ensures.spends
-    (subst (λ t. ((g.S.Space.spent c.start.new.self) ≤ (g.S.Space.spent c.add.new.space)) × ((g.S.Space.spent c.add.new.space) + (length c.args.self.now.seen.keys) * t.look ≤ (g.S.Space.spent c.start.new.self) + (length c.add.new.self.seen.keys) * t.look)) c.in_ok-key.ensures.keeps.system c.in_ok-add.ensures.spends)
+    (subst (λ t. (c.start.new.spent ≤ c.add.new.spent) × (c.add.new.spent + (length c.args.self.now.seen.keys) * t.look ≤ c.start.new.spent + (length c.add.new.self.seen.keys) * t.look)) c.in_ok-key.ensures.keeps.system c.in_ok-add.ensures.spends)

@@ -88,5 +88,5 @@ returns-clause-spends g c begun has =
     let s = c.args.space.now in
     let kept = length c.args.self.now.seen.keys in
     let new = length c.try_choices.new.self.seen.keys in
-    let tried = subst (λ t. TrySpends t c.args.limit c.args.at kept new c.try_choices.result (g.S.Space.spent c.judge.new.space) (g.S.Space.spent c.try_choices.new.space)) c.in_ok-judge.ensures.keeps.system c.try_choices.ensures.spends in
-    expand-tried (g.S.Space.system s) (g.met.S.Space.decides s) c.args.limit (length c.args.tests.now) begun c.args.at kept new c.try_choices.result (g.S.Space.spent c.try_choices.new.space) has c.judge.ensures.spends tried
+    let tried = subst (λ t. TrySpends t c.args.limit c.args.at kept new c.try_choices.result c.judge.new.spent c.try_choices.new.spent) c.in_ok-judge.ensures.keeps.system c.try_choices.ensures.spends in
+    expand-tried (g.S.Space.system s) (g.met.S.Space.decides s) c.args.limit (length c.args.tests.now) begun c.args.at kept new c.try_choices.result c.try_choices.new.spent has c.judge.ensures.spends tried

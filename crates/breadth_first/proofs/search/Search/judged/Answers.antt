@@ -10,7 +10,7 @@ use Rattle.breadth_first.proofs.search.Search.judged.Goals as goal
 pub loop-index-init : goal.loop-index-init
 loop-index-init g c =
     let s = c.args.space.now in
-    record { keeps = keeps-refl (g.S.Space.system s) (g.S.Space.held s) (g.S.Space.means s); marks = c.in_ok-lists.ensures ∙ judged-none (g.S.Space.system s) c.args.tests.now; spends = spends-nothing (0 * (length c.args.tests.now * (g.S.Space.system s).look)) (g.S.Space.spent s) }
+    record { keeps = keeps-refl (g.S.Space.system s) (g.S.Space.held s) (g.S.Space.means s); marks = c.in_ok-lists.ensures ∙ judged-none (g.S.Space.system s) c.args.tests.now; spends = spends-nothing (0 * (length c.args.tests.now * (g.S.Space.system s).look)) c.args.spent.now }
 
 pub judge-requires-clause-held : goal.judge-requires-clause-held
 judge-requires-clause-held g c =
@@ -31,7 +31,7 @@ loop-index-preserved g c =
       keeps = keeps-trans l.invariant.keeps c.in_ok-judge.ensures.keeps;
       marks = judged-next l.invariant.keeps keys c.args.tests.now l.index c.index.result.now c.index.ensures there l.lists.items c.judge.new.lists.items l.invariant.marks c.in_ok-judge.ensures.marks;
       spends = spends-step (length c.args.tests.now * (g.S.Space.system c.args.space.now).look) l.index l.invariant.spends
-          (subst (λ t. SpendsAtMost (length c.args.tests.now * t.look) (g.S.Space.spent l.space) (g.S.Space.spent c.judge.new.space)) l.invariant.keeps.system c.judge.ensures.spends);
+          (subst (λ t. SpendsAtMost (length c.args.tests.now * t.look) l.spent c.judge.new.spent) l.invariant.keeps.system c.judge.ensures.spends);
     }
 
 pub returns-clause-keeps : goal.returns-clause-keeps
@@ -51,7 +51,7 @@ returns-in_err-judge-clause-spends g c =
     let l = c.loop-index in
     let look = length c.args.tests.now * (g.S.Space.system c.args.space.now).look in
     spends-within look (l.index + 1) (length c.args.self.now.seen.keys) (omega (arith, c.loop-index-test.true, c.len-index-end.ensures.len))
-    (spends-step look l.index l.invariant.spends (subst (λ t. SpendsAtMost (length c.args.tests.now * t.look) (g.S.Space.spent l.space) (g.S.Space.spent c.judge.new.space)) l.invariant.keeps.system c.judge.ensures.spends))
+    (spends-step look l.index l.invariant.spends (subst (λ t. SpendsAtMost (length c.args.tests.now * t.look) l.spent c.judge.new.spent) l.invariant.keeps.system c.judge.ensures.spends))
 
 pub returns-clause-spends : goal.returns-clause-spends
 returns-clause-spends g c =

@@ -8,5 +8,5 @@ abbrev pub invariant-loop-index : goal.invariant-loop-index
 invariant-loop-index g l = record {
   keeps : Keeps (g.S.Space.system l.fn.space) (g.S.Space.held l.fn.space) (g.S.Space.means l.fn.space) (g.S.Space.system l.space) (g.S.Space.held l.space) (g.S.Space.means l.space);
   marks : l.lists.items ≡ judged (g.S.Space.system l.fn.space) l.tests (take l.index (map (g.S.Space.means l.fn.space) l.self.seen.keys));
-  spends : SpendsAtMost (l.index * (length l.tests * (g.S.Space.system l.fn.space).look)) (g.S.Space.spent l.fn.space) (g.S.Space.spent l.space);
+  spends : SpendsAtMost (l.index * (length l.tests * (g.S.Space.system l.fn.space).look)) l.fn.spent l.spent;
 }

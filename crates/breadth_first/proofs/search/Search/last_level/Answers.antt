@@ -1,4 +1,4 @@
-use Rattle.std.proofs.Common.{◌≡◌, ℕ, ◌+◌, ◌≤◌, ◌*◌, length, map, Some, refl, sym, ap, ◌∙◌, subst, arith, rules}
+use Rattle.std.proofs.Common.{◌≡◌, ◌≤◌, ◌*◌, length, map, Some, refl, sym, ap, ◌∙◌, subst, arith, rules}
 use Rattle.std.proofs.lemmas.List.{length-map}
 use Rattle.breadth_first.specs.Progress.{GoesOn, KeepsEdges, LevelStops}
 use Rattle.breadth_first.specs.declared.search.Stop.TheVariants.{Bad, NoRoom}
@@ -90,7 +90,7 @@ returns-in-None-clause-spends g c begun has =
       length-map c.args.self.now.seen.keys (g.S.Space.means c.args.space.now),
       length-map c.level.new.self.seen.keys (g.S.Space.means c.level.new.space),
     ) in
-    let went = subst (λ stop. LevelStops s (Some c.len-to.result) tests begun kept new stop (g.S.Space.spent c.level.new.space)) c.in-None.is (c.in_ok-stop.ensures.spends begun (spent-limit s room has)) in
+    let went = subst (λ stop. LevelStops s (Some c.len-to.result) tests begun kept new stop c.level.new.spent) c.in-None.is (c.in_ok-stop.ensures.spends begun (spent-limit s room has)) in
     record {
       parents = kept;
       kept = new;
@@ -106,7 +106,7 @@ returns-in-Some-NoRoom-clause-spends g c begun has =
     let new = length c.level.new.self.seen.keys in
     let room : kept ≤ c.len-to.result = omega (arith, c.len-to.ensures.len) in
     let is : c.in_ok-stop.stop ≡ Some (NoRoom c.in-Some-NoRoom.at c.in-Some-NoRoom.choice) = search rules in
-    let to = subst (λ stop. LevelStops s (Some c.len-to.result) tests begun kept new stop (g.S.Space.spent c.level.new.space)) is (c.in_ok-stop.ensures.spends begun (spent-limit s room has)) in
+    let to = subst (λ stop. LevelStops s (Some c.len-to.result) tests begun kept new stop c.level.new.spent) is (c.in_ok-stop.ensures.spends begun (spent-limit s room has)) in
     record {
       parents = to.parents;
       kept = to.kept;

@@ -76,8 +76,8 @@ loop-at-preserved g c =
           subst (λ n. KeepsEdges (g.S.Space.system c.args.space.now) (map (g.S.Space.means c.expand.new.space) c.expand.new.self.seen.keys) n c.expand.new.self.edges.keeps c.expand.new.self.edges.ends.items) sum
           (subst (λ t. KeepsEdges t (map (g.S.Space.means c.expand.new.space) c.expand.new.self.seen.keys) (c.loop-at.at * t.choices + t.choices) c.expand.new.self.edges.keeps c.expand.new.self.edges.ends.items) inv.keeps.system (c.in_ok-stop.ensures.edges c.in_default.is)));
       marks = c.in_ok-stop.ensures.marks c.in_default.is ∙ ap (λ t. judged t c.args.tests.now (take (c.loop-at.at + 1) (map (g.S.Space.means c.expand.new.space) c.expand.new.self.seen.keys))) inv.keeps.system;
-      spends = λ begun has. subst (λ t. (begun : ℕ) → HasSpent t c.args.limit (length c.args.tests.now) begun 0 c.loop-at.at (length c.loop-at.self.seen.keys) (g.S.Space.spent c.loop-at.space)
-          → HasSpent t c.args.limit (length c.args.tests.now) begun 0 (c.loop-at.at + 1) (length c.expand.new.self.seen.keys) (g.S.Space.spent c.expand.new.space)) inv.keeps.system c.in_ok-stop.ensures.spends begun (inv.spends begun has);
+      spends = λ begun has. subst (λ t. (begun : ℕ) → HasSpent t c.args.limit (length c.args.tests.now) begun 0 c.loop-at.at (length c.loop-at.self.seen.keys) c.loop-at.spent
+          → HasSpent t c.args.limit (length c.args.tests.now) begun 0 (c.loop-at.at + 1) (length c.expand.new.self.seen.keys) c.expand.new.spent) inv.keeps.system c.in_ok-stop.ensures.spends begun (inv.spends begun has);
     }
 
 pub returns-clause-keeps : goal.returns-clause-keeps
@@ -143,8 +143,8 @@ returns-in_err-stop-clause-spends g c begun has =
     let tests = length c.args.tests.now in
     let at = c.loop-at.at in
     let kept = length c.loop-at.self.seen.keys in
-    let before = g.S.Space.spent c.loop-at.space in
-    let after = g.S.Space.spent c.expand.new.space in
+    let before = c.loop-at.spent in
+    let after = c.expand.new.spent in
     let failed = subst (λ t. (begun : ℕ) → HasSpent t limit tests begun 0 at kept before → (some : ℕ) × HasSpent t limit tests begun 1 (at + 1) some after) inv.keeps.system c.in_err-stop.ensures.spends begun (inv.spends begun has) in
     level-failed (g.S.Space.system c.args.space.now) limit tests begun (length c.args.self.now.seen.keys) (length c.expand.new.self.seen.keys) c.from_residual.result c.from_residual.ensures.0
     (record { parents = at + 1; kept = failed.0; known = tt; has = failed.1 })
@@ -156,8 +156,8 @@ returns-in-Some-clause-spends g c begun has =
     let tests = length c.args.tests.now in
     let at = c.loop-at.at in
     let kept = length c.loop-at.self.seen.keys in
-    let before = g.S.Space.spent c.loop-at.space in
-    let after = g.S.Space.spent c.expand.new.space in
+    let before = c.loop-at.spent in
+    let after = c.expand.new.spent in
     let system = g.S.Space.system c.args.space.now in
     let news = map (g.S.Space.means c.expand.new.space) c.expand.new.self.seen.keys in
     let x = expands-same limit at news c.in_ok-stop.field-0 inv.keeps.system c.in_ok-stop.ensures.expands in
@@ -176,4 +176,4 @@ returns-clause-spends g c begun has =
     let few = before-within (g.S.Space.system c.args.space.now) (g.met.S.Space.decides c.args.space.now) c.args.depth in
     let last : c.loop-at.at ≡ length keys =
     omega (arith, few, c.loop-at-test.false, c.loop-at.auto.at-end, c.requires.from, c.len-at-end.ensures.len, ap length c.requires.reached, length-map keys (g.S.Space.means c.args.space.now)) in
-    subst (λ n. HasSpent (g.S.Space.system c.args.space.now) c.args.limit (length c.args.tests.now) begun 0 n (length c.loop-at.self.seen.keys) (g.S.Space.spent c.loop-at.space)) last (inv.spends begun has)
+    subst (λ n. HasSpent (g.S.Space.system c.args.space.now) c.args.limit (length c.args.tests.now) begun 0 n (length c.loop-at.self.seen.keys) c.loop-at.spent) last (inv.spends begun has)

@@ -97,16 +97,16 @@ pub returns-in_err-lists-clause-spends : goal.returns-in_err-lists-clause-spends
 returns-in_err-lists-clause-spends g c =
     let keys = c.args.self.now.seen.keys in
     let many : length c.deref.result.now ≡ length c.args.counts.now = ap length (c.deref.ensures.value ∙ c.in_ok-tests.ensures) ∙ length-map c.args.counts.now Passes in
-    subst (λ n. SpendsAtMost (length keys * (n * (g.S.Space.system c.args.space.now).look)) (g.S.Space.spent c.args.space.now) (g.S.Space.spent c.judged.new.space)) many c.judged.ensures.spends
+    subst (λ n. SpendsAtMost (length keys * (n * (g.S.Space.system c.args.space.now).look)) c.args.spent.now c.judged.new.spent) many c.judged.ensures.spends
 
 pub returns-in_err-counts-clause-spends : goal.returns-in_err-counts-clause-spends
 returns-in_err-counts-clause-spends g c =
     let keys = c.args.self.now.seen.keys in
     let many : length c.deref.result.now ≡ length c.args.counts.now = ap length (c.deref.ensures.value ∙ c.in_ok-tests.ensures) ∙ length-map c.args.counts.now Passes in
-    subst (λ n. SpendsAtMost (length keys * (n * (g.S.Space.system c.args.space.now).look)) (g.S.Space.spent c.args.space.now) (g.S.Space.spent c.judged.new.space)) many c.judged.ensures.spends
+    subst (λ n. SpendsAtMost (length keys * (n * (g.S.Space.system c.args.space.now).look)) c.args.spent.now c.judged.new.spent) many c.judged.ensures.spends
 
 pub returns-clause-spends : goal.returns-clause-spends
 returns-clause-spends g c =
     let keys = c.args.self.now.seen.keys in
     let many : length c.deref.result.now ≡ length c.args.counts.now = ap length (c.deref.ensures.value ∙ c.in_ok-tests.ensures) ∙ length-map c.args.counts.now Passes in
-    subst (λ n. SpendsAtMost (length keys * (n * (g.S.Space.system c.args.space.now).look)) (g.S.Space.spent c.args.space.now) (g.S.Space.spent c.judged.new.space)) many c.judged.ensures.spends
+    subst (λ n. SpendsAtMost (length keys * (n * (g.S.Space.system c.args.space.now).look)) c.args.spent.now c.judged.new.spent) many c.judged.ensures.spends

@@ -21,7 +21,7 @@ loop-choice-init g c =
       keeping = refl;
       edges = (let e : c.args.at * (g.S.Space.system s).choices ≡ c.args.at * (g.S.Space.system s).choices + 0 = omega arith in
           subst (λ n. KeepsEdges (g.S.Space.system s) (map (g.S.Space.means s) c.args.self.now.seen.keys) n c.args.self.now.edges.keeps c.args.self.now.edges.ends.items) e c.requires.edges);
-      spends = tried-none (g.S.Space.system s) c.args.at (length c.args.self.now.seen.keys) (g.S.Space.spent s);
+      spends = tried-none (g.S.Space.system s) c.args.at (length c.args.self.now.seen.keys) c.args.spent.now;
     }
 
 pub index-requires : goal.index-requires
@@ -116,8 +116,8 @@ loop-choice-preserved g c =
       spends = (let cost = cost-taken (g.S.Space.system c.args.space.now) (g.met.S.Space.decides c.args.space.now) c.args.limit c.args.at c.loop-choice.choice c.loop-choice.self.seen.keys c.loop-choice.self.origins.items inv.keeps.system inv.tries c.index.result.now c.index.ensures in
           tried-add (g.S.Space.system c.args.space.now) c.args.at (c.loop-choice.choice + 1)
           (tried-choice (g.S.Space.system c.args.space.now) c.args.at c.loop-choice.choice inv.tries.parent inv.tries.state inv.spends
-          (subst (λ n. SpendsAtMost n (g.S.Space.spent c.loop-choice.space) (g.S.Space.spent c.successor.new.self)) cost c.successor.ensures.spends))
-          (subst (λ t. ((g.S.Space.spent c.successor.new.self) ≤ (g.S.Space.spent c.add.new.space)) × ((g.S.Space.spent c.add.new.space) + (length c.loop-choice.self.seen.keys) * t.look ≤ (g.S.Space.spent c.successor.new.self) + (length c.add.new.self.seen.keys) * t.look)) (c.in_ok-key.ensures.keeps.system ∙ inv.keeps.system) c.in_ok-index.ensures.spends));
+          (subst (λ n. SpendsAtMost n c.loop-choice.spent c.successor.new.spent) cost c.successor.ensures.spends))
+          (subst (λ t. (c.successor.new.spent ≤ c.add.new.spent) × (c.add.new.spent + (length c.loop-choice.self.seen.keys) * t.look ≤ c.successor.new.spent + (length c.add.new.self.seen.keys) * t.look)) (c.in_ok-key.ensures.keeps.system ∙ inv.keeps.system) c.in_ok-index.ensures.spends));
     }
 
 pub returns-clause-keeps : goal.returns-clause-keeps
@@ -169,15 +169,15 @@ returns-in-Violates-clause-spends g c =
     let inv = l.invariant in
     let within : l.choice < system.choices = omega (arith, c.choices-choice-end.ensures, c.loop-choice-test.true) in
     let cost = cost-taken system (g.met.S.Space.decides s) c.args.limit c.args.at l.choice l.self.seen.keys l.self.origins.items inv.keeps.system inv.tries c.index.result.now c.index.ensures in
-    let made = tried-choice system c.args.at l.choice inv.tries.parent inv.tries.state inv.spends (subst (λ n. SpendsAtMost n (g.S.Space.spent l.space) (g.S.Space.spent c.successor.new.self)) cost c.successor.ensures.spends) in
+    let made = tried-choice system c.args.at l.choice inv.tries.parent inv.tries.state inv.spends (subst (λ n. SpendsAtMost n l.spent c.successor.new.spent) cost c.successor.ensures.spends) in
     let there = tries-opened system (g.met.S.Space.decides s) c.args.limit c.args.at l.choice l.self.seen.keys l.self.origins.items (omega (arith, within)) inv.tries in
     let origin : Origin = record { parent = c.args.at; choice = l.choice } in
     let taken = adds-taken system (g.met.S.Space.decides s) (g.S.Space.held c.add.new.space) (g.S.Space.means c.add.new.space) c.args.limit c.args.at l.choice l.self.seen.keys c.add.new.self.seen.keys l.self.origins.items c.add.new.self.origins.items origin
     inv.keeps.system inv.tries c.in_ok-key.ensures.keeps c.index.result.now c.in_ok-key.key c.index.ensures c.in_ok-key.ensures.means c.in_ok-index.field-0 c.in_ok-index.ensures.adds in
     let more = adds-opened system (g.met.S.Space.decides s) (g.S.Space.means c.add.new.space) c.args.limit c.args.at l.choice l.self.seen.keys c.add.new.self.seen.keys l.self.origins.items c.add.new.self.origins.items origin within inv.tries c.in_ok-index.field-0 taken in
-    let add = subst (λ t. ((g.S.Space.spent c.successor.new.self) ≤ (g.S.Space.spent c.add.new.space)) × ((g.S.Space.spent c.add.new.space) + (length l.self.seen.keys) * t.look ≤ (g.S.Space.spent c.successor.new.self) + (length c.add.new.self.seen.keys) * t.look)) (c.in_ok-key.ensures.keeps.system ∙ inv.keeps.system) c.in_ok-index.ensures.spends in
+    let add = subst (λ t. (c.successor.new.spent ≤ c.add.new.spent) × (c.add.new.spent + (length l.self.seen.keys) * t.look ≤ c.successor.new.spent + (length c.add.new.self.seen.keys) * t.look)) (c.in_ok-key.ensures.keeps.system ∙ inv.keeps.system) c.in_ok-index.ensures.spends in
     let tried = tried-add system c.args.at (l.choice + 1) made add in
-    choices-spend system c.args.limit c.args.at (l.choice + 1) (length c.args.self.now.seen.keys) (length c.add.new.self.seen.keys) 0 (omega (arith, within)) c.in_ok-index.ensures.room more.0 more.1 tried (spends-nothing (0 * system.look) (g.S.Space.spent c.add.new.space))
+    choices-spend system c.args.limit c.args.at (l.choice + 1) (length c.args.self.now.seen.keys) (length c.add.new.self.seen.keys) 0 (omega (arith, within)) c.in_ok-index.ensures.room more.0 more.1 tried (spends-nothing (0 * system.look) c.add.new.spent)
 
 pub returns-in-Full-clause-spends : goal.returns-in-Full-clause-spends
 returns-in-Full-clause-spends g c =
@@ -187,15 +187,15 @@ returns-in-Full-clause-spends g c =
     let inv = l.invariant in
     let within : l.choice < system.choices = omega (arith, c.choices-choice-end.ensures, c.loop-choice-test.true) in
     let cost = cost-taken system (g.met.S.Space.decides s) c.args.limit c.args.at l.choice l.self.seen.keys l.self.origins.items inv.keeps.system inv.tries c.index.result.now c.index.ensures in
-    let made = tried-choice system c.args.at l.choice inv.tries.parent inv.tries.state inv.spends (subst (λ n. SpendsAtMost n (g.S.Space.spent l.space) (g.S.Space.spent c.successor.new.self)) cost c.successor.ensures.spends) in
+    let made = tried-choice system c.args.at l.choice inv.tries.parent inv.tries.state inv.spends (subst (λ n. SpendsAtMost n l.spent c.successor.new.spent) cost c.successor.ensures.spends) in
     let there = tries-opened system (g.met.S.Space.decides s) c.args.limit c.args.at l.choice l.self.seen.keys l.self.origins.items (omega (arith, within)) inv.tries in
     let origin : Origin = record { parent = c.args.at; choice = l.choice } in
     let taken = adds-taken system (g.met.S.Space.decides s) (g.S.Space.held c.add.new.space) (g.S.Space.means c.add.new.space) c.args.limit c.args.at l.choice l.self.seen.keys c.add.new.self.seen.keys l.self.origins.items c.add.new.self.origins.items origin
     inv.keeps.system inv.tries c.in_ok-key.ensures.keeps c.index.result.now c.in_ok-key.key c.index.ensures c.in_ok-key.ensures.means c.in_ok-index.field-0 c.in_ok-index.ensures.adds in
     let more = adds-opened system (g.met.S.Space.decides s) (g.S.Space.means c.add.new.space) c.args.limit c.args.at l.choice l.self.seen.keys c.add.new.self.seen.keys l.self.origins.items c.add.new.self.origins.items origin within inv.tries c.in_ok-index.field-0 taken in
-    let add = subst (λ t. ((g.S.Space.spent c.successor.new.self) ≤ (g.S.Space.spent c.add.new.space)) × ((g.S.Space.spent c.add.new.space) + (length l.self.seen.keys) * t.look ≤ (g.S.Space.spent c.successor.new.self) + (length c.add.new.self.seen.keys) * t.look)) (c.in_ok-key.ensures.keeps.system ∙ inv.keeps.system) c.in_ok-index.ensures.spends in
+    let add = subst (λ t. (c.successor.new.spent ≤ c.add.new.spent) × (c.add.new.spent + (length l.self.seen.keys) * t.look ≤ c.successor.new.spent + (length c.add.new.self.seen.keys) * t.look)) (c.in_ok-key.ensures.keeps.system ∙ inv.keeps.system) c.in_ok-index.ensures.spends in
     let tried = tried-add system c.args.at (l.choice + 1) made add in
-    choices-spend system c.args.limit c.args.at (l.choice + 1) (length c.args.self.now.seen.keys) (length c.add.new.self.seen.keys) 0 (omega (arith, within)) c.in_ok-index.ensures.room more.0 more.1 tried (spends-nothing (0 * system.look) (g.S.Space.spent c.add.new.space))
+    choices-spend system c.args.limit c.args.at (l.choice + 1) (length c.args.self.now.seen.keys) (length c.add.new.self.seen.keys) 0 (omega (arith, within)) c.in_ok-index.ensures.room more.0 more.1 tried (spends-nothing (0 * system.look) c.add.new.spent)
 
 pub returns-in_err-note-in-At-clause-spends : goal.returns-in_err-note-in-At-clause-spends
 returns-in_err-note-in-At-clause-spends g c =
@@ -205,16 +205,16 @@ returns-in_err-note-in-At-clause-spends g c =
     let inv = l.invariant in
     let within : l.choice < system.choices = omega (arith, c.choices-choice-end.ensures, c.loop-choice-test.true) in
     let cost = cost-taken system (g.met.S.Space.decides s) c.args.limit c.args.at l.choice l.self.seen.keys l.self.origins.items inv.keeps.system inv.tries c.index.result.now c.index.ensures in
-    let made = tried-choice system c.args.at l.choice inv.tries.parent inv.tries.state inv.spends (subst (λ n. SpendsAtMost n (g.S.Space.spent l.space) (g.S.Space.spent c.successor.new.self)) cost c.successor.ensures.spends) in
+    let made = tried-choice system c.args.at l.choice inv.tries.parent inv.tries.state inv.spends (subst (λ n. SpendsAtMost n l.spent c.successor.new.spent) cost c.successor.ensures.spends) in
     let there = tries-opened system (g.met.S.Space.decides s) c.args.limit c.args.at l.choice l.self.seen.keys l.self.origins.items (omega (arith, within)) inv.tries in
     let origin : Origin = record { parent = c.args.at; choice = l.choice } in
     let taken = adds-taken system (g.met.S.Space.decides s) (g.S.Space.held c.add.new.space) (g.S.Space.means c.add.new.space) c.args.limit c.args.at l.choice l.self.seen.keys c.add.new.self.seen.keys l.self.origins.items c.add.new.self.origins.items origin
     inv.keeps.system inv.tries c.in_ok-key.ensures.keeps c.index.result.now c.in_ok-key.key c.index.ensures c.in_ok-key.ensures.means c.in_ok-index.field-0 c.in_ok-index.ensures.adds in
     let more = adds-opened system (g.met.S.Space.decides s) (g.S.Space.means c.add.new.space) c.args.limit c.args.at l.choice l.self.seen.keys c.add.new.self.seen.keys l.self.origins.items c.add.new.self.origins.items origin within inv.tries c.in_ok-index.field-0 taken in
-    let add = subst (λ t. ((g.S.Space.spent c.successor.new.self) ≤ (g.S.Space.spent c.add.new.space)) × ((g.S.Space.spent c.add.new.space) + (length l.self.seen.keys) * t.look ≤ (g.S.Space.spent c.successor.new.self) + (length c.add.new.self.seen.keys) * t.look)) (c.in_ok-key.ensures.keeps.system ∙ inv.keeps.system) c.in_ok-index.ensures.spends in
+    let add = subst (λ t. (c.successor.new.spent ≤ c.add.new.spent) × (c.add.new.spent + (length l.self.seen.keys) * t.look ≤ c.successor.new.spent + (length c.add.new.self.seen.keys) * t.look)) (c.in_ok-key.ensures.keeps.system ∙ inv.keeps.system) c.in_ok-index.ensures.spends in
     let tried = tried-add system c.args.at (l.choice + 1) made add in
     try-failed system c.args.limit c.args.at (length c.args.self.now.seen.keys) _ (length c.add.new.self.seen.keys) c.from_residual-in_err-note-in-At.result c.from_residual-in_err-note-in-At.ensures.0
-    (choices-spend system c.args.limit c.args.at (l.choice + 1) (length c.args.self.now.seen.keys) (length c.add.new.self.seen.keys) 1 (omega (arith, within)) c.in_ok-index.ensures.room more.0 more.1 tried (spends-nothing (1 * system.look) (g.S.Space.spent c.add.new.space)))
+    (choices-spend system c.args.limit c.args.at (l.choice + 1) (length c.args.self.now.seen.keys) (length c.add.new.self.seen.keys) 1 (omega (arith, within)) c.in_ok-index.ensures.room more.0 more.1 tried (spends-nothing (1 * system.look) c.add.new.spent))
 
 pub returns-in_err-index-clause-spends : goal.returns-in_err-index-clause-spends
 returns-in_err-index-clause-spends g c =
@@ -224,10 +224,10 @@ returns-in_err-index-clause-spends g c =
     let inv = l.invariant in
     let within : l.choice < system.choices = omega (arith, c.choices-choice-end.ensures, c.loop-choice-test.true) in
     let cost = cost-taken system (g.met.S.Space.decides s) c.args.limit c.args.at l.choice l.self.seen.keys l.self.origins.items inv.keeps.system inv.tries c.index.result.now c.index.ensures in
-    let made = tried-choice system c.args.at l.choice inv.tries.parent inv.tries.state inv.spends (subst (λ n. SpendsAtMost n (g.S.Space.spent l.space) (g.S.Space.spent c.successor.new.self)) cost c.successor.ensures.spends) in
+    let made = tried-choice system c.args.at l.choice inv.tries.parent inv.tries.state inv.spends (subst (λ n. SpendsAtMost n l.spent c.successor.new.spent) cost c.successor.ensures.spends) in
     let there = tries-opened system (g.met.S.Space.decides s) c.args.limit c.args.at l.choice l.self.seen.keys l.self.origins.items (omega (arith, within)) inv.tries in
-    let add = subst (λ t. SpendsAtMost t.look (g.S.Space.spent c.successor.new.self) (g.S.Space.spent c.add.new.space)) (c.in_ok-key.ensures.keeps.system ∙ inv.keeps.system) c.in_err-index.ensures.spends in
-    let look : SpendsAtMost (1 * system.look) (g.S.Space.spent c.successor.new.self) (g.S.Space.spent c.add.new.space) = record { grows = add.grows; few = omega (arith, add.few) } in
+    let add = subst (λ t. SpendsAtMost t.look c.successor.new.spent c.add.new.spent) (c.in_ok-key.ensures.keeps.system ∙ inv.keeps.system) c.in_err-index.ensures.spends in
+    let look : SpendsAtMost (1 * system.look) c.successor.new.spent c.add.new.spent = record { grows = add.grows; few = omega (arith, add.few) } in
     try-failed system c.args.limit c.args.at (length c.args.self.now.seen.keys) _ (length l.self.seen.keys) c.from_residual-in_err-index.result c.from_residual-in_err-index.ensures.0
     (choices-spend system c.args.limit c.args.at (l.choice + 1) (length c.args.self.now.seen.keys) (length l.self.seen.keys) 1 (omega (arith, within)) inv.tries.searched.room there.0 there.1 made look)
 
@@ -239,10 +239,10 @@ returns-in_err-key-clause-spends g c =
     let inv = l.invariant in
     let within : l.choice < system.choices = omega (arith, c.choices-choice-end.ensures, c.loop-choice-test.true) in
     let cost = cost-taken system (g.met.S.Space.decides s) c.args.limit c.args.at l.choice l.self.seen.keys l.self.origins.items inv.keeps.system inv.tries c.index.result.now c.index.ensures in
-    let made = tried-choice system c.args.at l.choice inv.tries.parent inv.tries.state inv.spends (subst (λ n. SpendsAtMost n (g.S.Space.spent l.space) (g.S.Space.spent c.successor.new.self)) cost c.successor.ensures.spends) in
+    let made = tried-choice system c.args.at l.choice inv.tries.parent inv.tries.state inv.spends (subst (λ n. SpendsAtMost n l.spent c.successor.new.spent) cost c.successor.ensures.spends) in
     let there = tries-opened system (g.met.S.Space.decides s) c.args.limit c.args.at l.choice l.self.seen.keys l.self.origins.items (omega (arith, within)) inv.tries in
     try-failed system c.args.limit c.args.at (length c.args.self.now.seen.keys) _ (length l.self.seen.keys) c.from_residual.result c.from_residual.ensures.0
-    (choices-spend system c.args.limit c.args.at (l.choice + 1) (length c.args.self.now.seen.keys) (length l.self.seen.keys) 1 (omega (arith, within)) inv.tries.searched.room there.0 there.1 made (spends-nothing (1 * system.look) (g.S.Space.spent c.successor.new.self)))
+    (choices-spend system c.args.limit c.args.at (l.choice + 1) (length c.args.self.now.seen.keys) (length l.self.seen.keys) 1 (omega (arith, within)) inv.tries.searched.room there.0 there.1 made (spends-nothing (1 * system.look) c.successor.new.spent))
 
 pub returns-clause-spends : goal.returns-clause-spends
 returns-clause-spends g c =
@@ -252,4 +252,4 @@ returns-clause-spends g c =
     let inv = l.invariant in
     let last : l.choice ≡ system.choices = omega (arith, c.choices-choice-end.ensures, c.loop-choice-test.false, l.auto.choice-end) in
     let there = tries-opened system (g.met.S.Space.decides s) c.args.limit c.args.at l.choice l.self.seen.keys l.self.origins.items (omega (arith, last)) inv.tries in
-    choices-spend system c.args.limit c.args.at l.choice (length c.args.self.now.seen.keys) (length l.self.seen.keys) 0 (omega (arith, last)) inv.tries.searched.room there.0 there.1 inv.spends (spends-nothing (0 * system.look) (g.S.Space.spent l.space))
+    choices-spend system c.args.limit c.args.at l.choice (length c.args.self.now.seen.keys) (length l.self.seen.keys) 0 (omega (arith, last)) inv.tries.searched.room there.0 there.1 inv.spends (spends-nothing (0 * system.look) l.spent)

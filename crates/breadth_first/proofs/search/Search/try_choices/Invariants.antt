@@ -10,5 +10,5 @@ invariant-loop-choice g l = record {
   tries : Tries (g.S.Space.system l.fn.space) (g.S.Space.held l.space) (g.S.Space.means l.space) l.limit l.at l.choice l.self.seen.keys l.self.origins.items;
   keeping : l.self.edges.keeps ≡ l.fn.self.edges.keeps;
   edges : KeepsEdges (g.S.Space.system l.fn.space) (map (g.S.Space.means l.space) l.self.seen.keys) (l.at * (g.S.Space.system l.fn.space).choices + l.choice) l.self.edges.keeps l.self.edges.ends.items;
-  spends : TriedSpend (g.S.Space.system l.fn.space) l.at l.choice (length l.fn.self.seen.keys) (length l.self.seen.keys) (g.S.Space.spent l.fn.space) (g.S.Space.spent l.space);
+  spends : TriedSpend (g.S.Space.system l.fn.space) l.at l.choice (length l.fn.self.seen.keys) (length l.self.seen.keys) l.fn.spent l.spent;
 }

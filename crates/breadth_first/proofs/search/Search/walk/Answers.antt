@@ -91,10 +91,10 @@ levels-preserved g c =
       marks = c.in_ok-stop.ensures.marks c.in_default.is
           ∙ ap (λ t. judged t c.args.tests.now (take (length c.levels.self.seen.keys) (map (g.S.Space.means c.level.new.space) c.level.new.self.seen.keys))) c.levels.invariant.keeps.system
           ∙ ap (λ n. judged (g.S.Space.system c.args.space.now) c.args.tests.now (take n (map (g.S.Space.means c.level.new.space) c.level.new.self.seen.keys))) (sym c.len-to.ensures.len);
-      spends = λ begun has. subst (λ n. HasSpent (g.S.Space.system c.args.space.now) c.args.limits.states (length c.args.tests.now) begun 0 n (length c.level.new.self.seen.keys) (g.S.Space.spent c.level.new.space)) (sym c.len-to.ensures.len)
-          (subst (λ stop. LevelStops (g.S.Space.system c.args.space.now) c.args.limits.states (length c.args.tests.now) begun (length c.levels.self.seen.keys) (length c.level.new.self.seen.keys) stop (g.S.Space.spent c.level.new.space)) c.in_default.is
-          (subst (λ t. (begun : ℕ) → HasSpent t c.args.limits.states (length c.args.tests.now) begun 0 c.levels.from (length c.levels.self.seen.keys) (g.S.Space.spent c.levels.space)
-          → LevelStops t c.args.limits.states (length c.args.tests.now) begun (length c.levels.self.seen.keys) (length c.level.new.self.seen.keys) c.in_ok-stop.field-0 (g.S.Space.spent c.level.new.space)) c.levels.invariant.keeps.system c.in_ok-stop.ensures.spends begun (c.levels.invariant.spends begun has)));
+      spends = λ begun has. subst (λ n. HasSpent (g.S.Space.system c.args.space.now) c.args.limits.states (length c.args.tests.now) begun 0 n (length c.level.new.self.seen.keys) c.level.new.spent) (sym c.len-to.ensures.len)
+          (subst (λ stop. LevelStops (g.S.Space.system c.args.space.now) c.args.limits.states (length c.args.tests.now) begun (length c.levels.self.seen.keys) (length c.level.new.self.seen.keys) stop c.level.new.spent) c.in_default.is
+          (subst (λ t. (begun : ℕ) → HasSpent t c.args.limits.states (length c.args.tests.now) begun 0 c.levels.from (length c.levels.self.seen.keys) c.levels.spent
+          → LevelStops t c.args.limits.states (length c.args.tests.now) begun (length c.levels.self.seen.keys) (length c.level.new.self.seen.keys) c.in_ok-stop.field-0 c.level.new.spent) c.levels.invariant.keeps.system c.in_ok-stop.ensures.spends begun (c.levels.invariant.spends begun has)));
     }
 
 pub levels-smaller : goal.levels-smaller
@@ -218,8 +218,8 @@ returns-in_err-stop-clause-spends g c begun has =
     let limit = c.args.limits.states in
     let tests = length c.args.tests.now in
     let kept = length c.levels.self.seen.keys in
-    let before = g.S.Space.spent c.levels.space in
-    let after = g.S.Space.spent c.level.new.space in
+    let before = c.levels.spent in
+    let after = c.level.new.spent in
     let new = length c.level.new.self.seen.keys in
     walk-failed (g.S.Space.system c.args.space.now) limit tests begun new c.from_residual.result c.from_residual.ensures.0
     (subst (λ t. (begun : ℕ) → HasSpent t limit tests begun 0 c.levels.from kept before → SpendsTo t limit tests begun after (λ parents kept. ⊤)) inv.keeps.system c.in_err-stop.ensures.spends begun (inv.spends begun has))
@@ -230,8 +230,8 @@ returns-in-Some-clause-spends g c begun has =
     let limit = c.args.limits.states in
     let tests = length c.args.tests.now in
     let kept = length c.levels.self.seen.keys in
-    let before = g.S.Space.spent c.levels.space in
-    let after = g.S.Space.spent c.level.new.space in
+    let before = c.levels.spent in
+    let after = c.level.new.spent in
     let new = length c.level.new.self.seen.keys in
     let system = g.S.Space.system c.args.space.now in
     let went = subst (λ t. (begun : ℕ) → HasSpent t limit tests begun 0 c.levels.from kept before → LevelStops t limit tests begun kept new c.in_ok-stop.field-0 after) inv.keeps.system c.in_ok-stop.ensures.spends begun (inv.spends begun has) in
@@ -243,8 +243,8 @@ returns-then-len-to-clause-spends g c begun has =
     let limit = c.args.limits.states in
     let tests = length c.args.tests.now in
     let kept = length c.levels.self.seen.keys in
-    let before = g.S.Space.spent c.levels.space in
-    let after = g.S.Space.spent c.level.new.space in
+    let before = c.levels.spent in
+    let after = c.level.new.spent in
     let new = length c.level.new.self.seen.keys in
     let system = g.S.Space.system c.args.space.now in
     let went = subst (λ t. (begun : ℕ) → HasSpent t limit tests begun 0 c.levels.from kept before → LevelStops t limit tests begun kept new c.in_ok-stop.field-0 after) inv.keeps.system c.in_ok-stop.ensures.spends begun (inv.spends begun has) in
@@ -257,6 +257,6 @@ returns-then-is_met-clause-spends g c begun has =
     let limit = c.args.limits.states in
     let tests = length c.args.tests.now in
     let kept = length c.levels.self.seen.keys in
-    let before = g.S.Space.spent c.levels.space in
+    let before = c.levels.spent in
     let new = length c.last_level.new.self.seen.keys in
-    subst (λ t. (begun : ℕ) → HasSpent t limit tests begun 0 c.levels.from kept before → WalkSpends t limit tests begun new c.last_level.result (g.S.Space.spent c.last_level.new.space)) inv.keeps.system c.last_level.ensures.spends begun (inv.spends begun has)
+    subst (λ t. (begun : ℕ) → HasSpent t limit tests begun 0 c.levels.from kept before → WalkSpends t limit tests begun new c.last_level.result c.last_level.new.spent) inv.keeps.system c.last_level.ensures.spends begun (inv.spends begun has)

@@ -16,7 +16,7 @@ invariant-levels g l = record {
   keeping : l.self.edges.keeps ≡ l.fn.self.edges.keeps;
   edges : KeepsEdges (g.S.Space.system l.fn.space) (map (g.S.Space.means l.space) l.self.seen.keys) (l.from * (g.S.Space.system l.fn.space).choices) l.self.edges.keeps l.self.edges.ends.items;
   marks : l.lists.items ≡ judged (g.S.Space.system l.fn.space) l.tests (take l.from (map (g.S.Space.means l.space) l.self.seen.keys));
-  spends : (begun : ℕ) → HasSpent (g.S.Space.system l.fn.space) l.limits.states (length l.tests) begun 0 0 (length l.fn.self.seen.keys) (g.S.Space.spent l.fn.space) → HasSpent (g.S.Space.system l.fn.space) l.limits.states (length l.tests) begun 0 l.from (length l.self.seen.keys) (g.S.Space.spent l.space);
+  spends : (begun : ℕ) → HasSpent (g.S.Space.system l.fn.space) l.limits.states (length l.tests) begun 0 0 (length l.fn.self.seen.keys) l.fn.spent → HasSpent (g.S.Space.system l.fn.space) l.limits.states (length l.tests) begun 0 l.from (length l.self.seen.keys) l.spent;
 }
 
 abbrev pub decreases-levels : goal.decreases-levels
