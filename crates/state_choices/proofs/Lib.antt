@@ -1,3 +1,4 @@
 pub mod Performed
 mod Quiet
 mod Counting
+pub mod Slots

@@ -30,7 +30,7 @@ module _ (watch : Watch) (hart : ℕ) where
   quiet_within-suc most s = refl
 
   -- one, and those after it
-  quiet-more : (most : ℕ) (s : State) → is_quiet watch s hart ≡ true → quiet_within (suc most) watch s hart ≡ suc (quiet_within most watch (after_step s hart) hart)
+  pub quiet-more : (most : ℕ) (s : State) → is_quiet watch s hart ≡ true → quiet_within (suc most) watch s hart ≡ suc (quiet_within most watch (after_step s hart) hart)
   quiet-more most s is = quiet_within-suc most s ∙ ap (counted_if most s) is
 
   -- none, where the next isn't quiet

@@ -1,5 +1,5 @@
 //! What a choice of a question does to a machine.
-ghost use Rattle.std.specs.Prelude.{◌≡◌, ◌<◌, ◌≤◌, ◌||◌, not, suc, is_some, IfOk, OnOk};
+ghost use Rattle.std.specs.Prelude.{◌≡◌, ◌+◌, ◌<◌, ◌≤◌, ◌||◌, not, suc, is_some, IfOk, OnOk};
 ghost use Rattle.std.specs.List.{All};
 ghost use Rattle.schedules.specs.Queues.{hart_of};
 ghost use Rattle.machine_state.specs.Machine.{hart_in};
@@ -12,6 +12,7 @@ ghost use Rattle.quiet_finding.specs.Watched.{watch_of};
 ghost use Rattle.questions.specs.Choice.{AreChoices, IsChoiceOf, after_choice, counted_choice, counted_path};
 ghost use Rattle.state_parts.specs.Space.{Held, state_in};
 ghost use Rattle.state_parts.specs.States.{GrowTables};
+ghost use Rattle.state_choices.specs.Slots.{choice_slots, looks_slots, made_slots, path_slots, reaching_slots, steps_slots};
 ghost use Rattle.state_choices.specs.Steps.{after_steps};
 
 use crate::looks::{Looks, kept_of};
@@ -47,6 +48,9 @@ pub fn chosen<L: Ledger>(
     ensures means { IfOk result (λ key. state_in states.new.tables key
         ≡ after_choice (watch_of watched.now) (state_in states.old.tables from.now) choice) }
     ensures stands { IfOk result (λ key. state_of states.new.machine ≡ state_in states.new.tables key) }
+    ensures least { fetches.old ≤ fetches.new }
+    ensures most { fetches.new ≤ fetches.old
+        + choice_slots (watch_of watched.now) (state_in states.old.tables from.now) choice }
 {
     states.go(from, fetches)?;
     choose(alloc, states, choice, watched, looks, records, fetches)?;
@@ -70,6 +74,9 @@ fn choose<L: Ledger>(
         ≡ counted_choice (watch_of watched.now) (state_of states.old.machine) choice) }
     ensures state { OnOk result (state_of states.new.machine
         ≡ after_choice (watch_of watched.now) (state_of states.old.machine) choice) }
+    ensures least { fetches.old ≤ fetches.new }
+    ensures most { fetches.new ≤ fetches.old
+        + made_slots (watch_of watched.now) (state_of states.old.machine) choice }
 {
     match choice {
         Choice::Steps { hart, times } => {
@@ -103,6 +110,9 @@ fn run<L: Ledger>(
         ≡ suc (quiet_steps (watch_of watched.now) (after_step (state_of states.old.machine) hart) hart)) }
     ensures state { IfOk result (λ times.
         state_of states.new.machine ≡ after_steps hart times (state_of states.old.machine)) }
+    ensures least { fetches.old ≤ fetches.new }
+    ensures most { fetches.new ≤ fetches.old
+        + made_slots (watch_of watched.now) (state_of states.old.machine) (Choice.Run hart) }
 {
     states.perform(Event::Step(hart), records, fetches)?;
     let more = go_on(alloc, states, hart, watched, looks, records, fetches)?;
@@ -126,6 +136,10 @@ fn go_on<L: Ledger>(
     ensures few { IfOk result (λ steps. steps ≤ 4096) }
     ensures state { IfOk result (λ steps.
         state_of states.new.machine ≡ after_steps hart steps (state_of states.old.machine)) }
+    ensures least { fetches.old ≤ fetches.new }
+    ensures most { let s = state_of states.old.machine in
+        let times = quiet_steps (watch_of watched.now) s hart in
+        fetches.new ≤ fetches.old + (reaching_slots s + looks_slots hart times s) }
 {
     let machine = states.machine();
     if is_idle(machine, hart) {
@@ -166,6 +180,9 @@ fn perform_quiet<L: Ledger>(
     ensures few { IfOk result (λ steps. steps ≤ 4096) }
     ensures state { IfOk result (λ steps.
         state_of states.new.machine ≡ after_steps hart steps (state_of states.old.machine)) }
+    ensures least { fetches.old ≤ fetches.new }
+    ensures most { let s = state_of states.old.machine in
+        fetches.new ≤ fetches.old + looks_slots hart (quiet_steps (watch_of watched.now) s hart) s }
 {
     held_law();
     'quiet: for performed in 0..QUIET_MOST {
@@ -196,6 +213,9 @@ fn perform_steps<L: Ledger>(
     requires { hart < states.old.tables.sizes.harts }
     ensures tables { states.new.tables ≡ states.old.tables }
     ensures state { OnOk result (state_of states.new.machine ≡ after_steps hart times (state_of states.old.machine)) }
+    ensures least { fetches.old ≤ fetches.new }
+    ensures most { fetches.new ≤ fetches.old
+        + steps_slots hart times (state_of states.old.machine) }
 {
     'steps: for performed in 0..times {
         states.perform(Event::Step(hart), records, fetches)?;
@@ -219,6 +239,9 @@ pub fn counted<L: Ledger>(
     ensures tables { states.new.tables ≡ states.old.tables }
     ensures counted { IfOk result (λ counted. counted.items
         ≡ counted_path (watch_of watched.now) choices.now (state_of states.old.machine) path.now) }
+    ensures least { fetches.old ≤ fetches.new }
+    ensures most { fetches.new ≤ fetches.old
+        + path_slots (watch_of watched.now) choices.now (state_of states.old.machine) path.now }
 {
     let mut counted = Vec::new(alloc);
     'each: for place in 0..path.len() {

@@ -1,6 +1,8 @@
 //! What is kept of looks whether steps are quiet.
-ghost use Rattle.std.specs.Prelude.{◌≡◌, IfOk, None};
+ghost use Rattle.std.specs.Prelude.{◌≡◌, ◌+◌, ◌*◌, ◌≤◌, IfOk, None};
+ghost use Rattle.cap_format.specs.declared.kind.CapKind.TheVariants.{Gpt};
 ghost use Rattle.object_store.specs.Meaning.{state_map};
+ghost use Rattle.object_store.specs.Store.{size_of};
 ghost use Rattle.quiet_finding.specs.Reaching.{IsReaching};
 
 use cap_format::OutOfMemory;
@@ -42,7 +44,10 @@ pub(crate) fn kept_of<L: Ledger>(
     objects: &Objects,
     fetches: &mut Steps<L>,
 ) -> Result<KeptReaching, OutOfMemory>
-    ensures { IfOk result (λ kept. IsReaching (state_map objects.now) kept.reaching) }
+    ensures reaching { IfOk result (λ kept. IsReaching (state_map objects.now) kept.reaching) }
+    ensures least { fetches.old ≤ fetches.new }
+    ensures most { let gpts = size_of objects.now.items Gpt in
+        fetches.new ≤ fetches.old + (16 * gpts + 16 * gpts * (gpts + 2)) }
 {
     if let Some(last) = kept {
         if last.is_of(objects, fetches) {

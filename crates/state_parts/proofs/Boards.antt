@@ -1,18 +1,21 @@
 -- Objects that are those of the desk, but for those that are named.
-use Rattle.std.proofs.Common.{◌≡◌, ℕ, suc, ◌<◌, ◌≤◌, ◌⊎◌, inl, inr, List, [], ◌∷◌, get_or, length, slice_get, refl, sym, ap, ◌∙◌, subst, arith}
+use Rattle.std.proofs.Common.{◌≡◌, ℕ, suc, ◌*◌, ◌<◌, ◌≤◌, ◌⊎◌, inl, inr, List, [], ◌∷◌, get_or, length, slice_get, refl, sym, ap, ◌∙◌, subst, arith}
 use Rattle.std.proofs.lemmas.List.Elements.{All-cons, All-head, All-tail}
 use Rattle.cap_format.specs.declared.kind.CapKind.{CapKind}
+use Rattle.cap_format.specs.declared.kind.CapKind.TheVariants.{Gpt}
 use Rattle.object_store.specs.Store.{Store, size_of, sizes_of}
 use Rattle.object_store.specs.Object.{ObjectName, ObjectValue, object_name, SameObject, IsAmong, Stays, IsEven}
 use Rattle.object_store.specs.Saved.{AreThere}
 use Rattle.std.proofs.lemmas.Bool.{cases_lt}
 use Rattle.object_store.proofs.Restored.{size_of_same}
 use Rattle.object_store.proofs.Stays.{stays_within}
-use Rattle.state_parts.specs.Keys.{AreAll, named_in, objects_of, Reads}
-use Rattle.state_parts.specs.Looking.{no_name, AreMarked, HasAll, IsMore}
+use Rattle.machine_state.specs.Taking.{slots_taken}
+use Rattle.state_parts.specs.Keys.{AreAll, HasGptsOnce, named_in, objects_of, Reads}
+use Rattle.state_parts.specs.Looking.{no_name, AreMarked, IsMore}
 use Rattle.state_parts.specs.Marking.{AddsThere, HasThere}
 use Rattle.state_parts.specs.Board.{IsBoard}
-use Rattle.state_parts.proofs.Whole.{named_or_past, past_same}
+use Rattle.state_parts.proofs.Whole.{named_or_past, names_there, past_same}
+use Rattle.state_parts.proofs.Once.{once_none, slots_few}
 use Rattle.state_parts.proofs.Brought.{stays_all, reads_at, there_in, bring_end}
 
 -- objects are there where each of their names is that of one
@@ -40,15 +43,26 @@ board_more m desk names old new all more board = record {
   sizes = board.sizes;
   there = there_more desk names old new all more board.there;
   stays = stays_within old new desk m more.before board.stays;
+  once = more.once board.once;
 }
 
 -- where all are named any object may have changed
-pub board_all : (m : Store) (desk : Store) (names changed : List ObjectName) → IsEven m → IsEven desk → sizes_of m ≡ sizes_of desk → AreAll (sizes_of desk) names → HasAll names changed → AreThere desk changed → IsBoard m desk changed
-board_all m desk names changed even even_too sizes all has there = record {
+pub board_all : (m : Store) (desk : Store) (names : List ObjectName) → IsEven m → IsEven desk → sizes_of m ≡ sizes_of desk → AreAll (sizes_of desk) names → IsBoard m desk names
+board_all m desk names even even_too sizes all = record {
   sizes = sizes;
-  there = there;
-  stays = stays_within names changed desk m has.each (stays_all desk m names even_too even (sym sizes) all);
+  there = names_there desk names all;
+  stays = stays_all desk m names even_too even (sym sizes) all;
+  once = all.once;
 }
+
+-- where none is named the objects are those of the desk
+pub board_none : (m desk : Store) (names : List ObjectName) → m ≡ desk → names ≡ [] → IsBoard m desk names
+board_none m desk names same none = rw (same, none) (record {
+  sizes = refl;
+  there = there_of desk [] (λ kind n among. elim among [ ]);
+  stays = record { same = λ kind n. inr refl };
+  once = once_none;
+})
 
 -- the place of a name
 pub among_index : (names : List ObjectName) (kind : CapKind) (n : ℕ) → IsAmong kind n names → (k : ℕ) × (k < length names) × (get_or names k no_name ≡ object_name kind n)
@@ -102,12 +116,25 @@ brought_same T names old new desk target same even even_too sizes all reads_old 
 
 -- ---- an event
 
+-- what is marked is there, where that was which is marked already
+pub there_adds : (s : Store) (old new : List ObjectName) → AddsThere s old new → AreThere s old → AreThere s new
+there_adds s old new adds there = there_of s new (λ kind n among. by kind n (adds.there kind n among))
+  where
+    by : (kind : CapKind) (n : ℕ) → IsAmong kind n old ⊎ (n < size_of s.items kind) → n < size_of s.items kind
+    by kind n (inl before) = among_there s old kind n there before
+    by kind n (inr here) = here
+
+-- no GPT is read twice
+pub slots_there : (s : Store) (names : List ObjectName) → AreThere s names → HasGptsOnce names → slots_taken names ≤ 16 * size_of s.items Gpt
+slots_there s names there once = slots_few s names (λ n among. among_there s names Gpt n there among) once
+
 -- with more names, each of an object that is there
 pub board_adds : (m desk : Store) (old new : List ObjectName) → AddsThere m old new → IsBoard m desk old → IsBoard m desk new
 board_adds m desk old new adds board = record {
   sizes = board.sizes;
   there = there_of desk new (λ kind n among. by kind n (adds.there kind n among));
   stays = stays_within old new desk m adds.before board.stays;
+  once = adds.once board.once;
 }
   where
     by : (kind : CapKind) (n : ℕ) → IsAmong kind n old ⊎ (n < size_of m.items kind) → n < size_of desk.items kind
@@ -120,6 +147,7 @@ board_after m t desk marked changed even even_too sizes has stays board = record
   sizes = sizes ∙ board.sizes;
   there = board.there;
   stays = record { same = λ kind n. by kind n (stays.same kind n) };
+  once = board.once;
 }
   where
     later : (kind : CapKind) (n : ℕ) → SameObject kind n m t → IsAmong kind n marked ⊎ SameObject kind n desk m → IsAmong kind n marked ⊎ SameObject kind n desk t

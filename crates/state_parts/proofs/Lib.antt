@@ -3,6 +3,7 @@ pub mod Brought
 pub mod Looked
 pub mod Kept
 pub mod Ends
+pub mod Once
 pub mod Marked
 pub mod Boards
 pub mod Unchanged

@@ -1,7 +1,7 @@
 -- Names that are marked, and the names of all objects.
-use Rattle.std.proofs.Common.{◌≡◌, ◌≢◌, ℕ, zero, suc, ◌+◌, ◌<◌, ◌≤◌, ◌⊎◌, inl, inr, List, [], ◌∷◌, ◌++◌, take, get_or, length, refl, sym, ap, ◌∙◌, subst, arith}
+use Rattle.std.proofs.Common.{◌≡◌, ◌≢◌, ℕ, zero, suc, ◌+◌, ◌<◌, ◌⊎◌, inl, inr, List, [], ◌∷◌, ◌++◌, take, get_or, length, refl, sym, ap, ◌∙◌, subst, arith}
 use Rattle.std.proofs.lemmas.Bool.{cases_eq}
-use Rattle.std.proofs.lemmas.List.{map-append, take_all, take_more, get_or-map, length-map}
+use Rattle.std.proofs.lemmas.List.{map-append, take_more, get_or-map, length-map}
 use Rattle.cap_format.specs.declared.kind.CapKind.{CapKind}
 use Rattle.cap_format.specs.declared.kind.CapKind.TheVariants.{Page, CapPage, Gpt, Endpoint, Process}
 use Rattle.object_store.specs.declared.sizes.Sizes.{Sizes}
@@ -15,16 +15,7 @@ use Rattle.object_store.specs.Store.{Store, size_of, count_of}
 use Rattle.event_reach.specs.Reach.{Covers}
 use Rattle.state_parts.specs.Looking.{no_name, HasAll, IsMore, IsMarked, AreMarked}
 use Rattle.state_parts.specs.Marking.{AddsThere, HasThere, HaveCounts}
-
--- what is among two lists is among one of them
-pub among_split : (kind : CapKind) (n : ℕ) (names others : List ObjectName) → IsAmong kind n (names ++ others) → IsAmong kind n names ⊎ IsAmong kind n others
-among_split kind n [] others here = inr here
-among_split kind n (name ∷ names) others (inl here) = inl (inl here)
-among_split kind n (name ∷ names) others (inr later) = by (among_split kind n names others later)
-  where
-    by : IsAmong kind n names ⊎ IsAmong kind n others → IsAmong kind n (name ∷ names) ⊎ IsAmong kind n others
-    by (inl here) = inl (inr here)
-    by (inr there) = inr there
+use Rattle.state_parts.proofs.Once.{among_split, numbered_there, once_push, once_all}
 
 -- the names of a list and of one more
 pub names_push : (names : List Name) (name : Name) → names_of (names ++ name ∷ []) ≡ names_of names ++ name_of name ∷ []
@@ -34,13 +25,14 @@ names_push names name = map-append name_of names (name ∷ [])
 
 -- none more
 pub more_none : (names marked : List ObjectName) → IsMore names marked marked
-more_none names marked = record { before = λ kind n here. here; among = λ kind n here. inl here }
+more_none names marked = record { before = λ kind n here. here; among = λ kind n here. inl here; once = λ has. has }
 
 -- one more
-pub more_push : (kind : CapKind) (number : ℕ) (marked : List Name) → IsMore (object_name kind number ∷ []) (names_of marked) (names_of (marked ++ record { kind = kind; number = number } ∷ []))
-more_push kind number marked = rw (names_push marked (record { kind = kind; number = number })) (record {
+pub more_push : (kind : CapKind) (number : ℕ) (marked : List Name) → (IsAmong kind number (names_of marked) → ⊥) → IsMore (object_name kind number ∷ []) (names_of marked) (names_of (marked ++ record { kind = kind; number = number } ∷ []))
+more_push kind number marked new = rw (names_push marked (record { kind = kind; number = number })) (record {
   before = λ k n here. among_front k n (names_of marked) (object_name kind number ∷ []) here;
   among = λ k n here. among_split k n (names_of marked) (object_name kind number ∷ []) here;
+  once = once_push kind number (names_of marked) new;
 })
 
 -- it is there then
@@ -80,6 +72,7 @@ pub more_then : (names : List ObjectName) (kind : CapKind) (number : ℕ) (a b c
 more_then names kind number a b c named first second = record {
   before = λ k n here. second.before k n (first.before k n here);
   among = λ k n here. by k n (second.among k n here);
+  once = λ has. second.once (first.once has);
 }
   where
     by : (k : CapKind) (n : ℕ) → IsAmong k n b ⊎ IsAmong k n (object_name kind number ∷ []) → IsAmong k n a ⊎ IsAmong k n names
@@ -113,19 +106,9 @@ among_numbered kind (suc count) n there = by (cases_eq n count) (among_numbered 
     by (inl last) before = among_back kind n (numbered kind count) (object_name kind count ∷ []) (inl (refl, last))
     by (inr other) before = among_front kind n (numbered kind count) (object_name kind count ∷ []) (before (omega (arith, there, other)))
 
--- no other is
-numbered_there : (kind k : CapKind) (count n : ℕ) → IsAmong k n (numbered kind count) → (k ≡ kind) × (n < count)
-numbered_there kind k zero n among = elim among [ ]
-numbered_there kind k (suc count) n among = by (among_split k n (numbered kind count) (object_name kind count ∷ []) among) (numbered_there kind k count n)
-  where
-    by : IsAmong k n (numbered kind count) ⊎ IsAmong k n (object_name kind count ∷ []) → (IsAmong k n (numbered kind count) → (k ≡ kind) × (n < count)) → (k ≡ kind) × (n < suc count)
-    by (inl before) rest = let is = rest before in let below : n < count = is.1 in (is.0, omega (arith, below))
-    by (inr (inl here)) rest = let same : n ≡ count = here.1 in (here.0, omega (arith, same))
-    by (inr (inr none)) rest = elim none [ ]
-
 -- the names of the five kinds are all there are
 pub all_numbered : (sizes : Sizes) → AreAll sizes ([] ++ numbered Page sizes.pages ++ numbered CapPage sizes.cappages ++ numbered Gpt sizes.gpts ++ numbered Process sizes.processes ++ numbered Endpoint sizes.endpoints)
-all_numbered sizes = record { all = all; there = there }
+all_numbered sizes = record { all = all; there = there; once = once_all sizes.pages sizes.cappages sizes.gpts sizes.processes sizes.endpoints }
   where
     all : (kind : CapKind) (n : ℕ) → n < size_in sizes kind → IsAmong kind n ([] ++ numbered Page sizes.pages ++ numbered CapPage sizes.cappages ++ numbered Gpt sizes.gpts ++ numbered Process sizes.processes ++ numbered Endpoint sizes.endpoints)
     all Page n within = among_front Page n ([] ++ numbered Page sizes.pages ++ numbered CapPage sizes.cappages ++ numbered Gpt sizes.gpts ++ numbered Process sizes.processes) (numbered Endpoint sizes.endpoints) (among_front Page n ([] ++ numbered Page sizes.pages ++ numbered CapPage sizes.cappages ++ numbered Gpt sizes.gpts) (numbered Process sizes.processes) (among_front Page n ([] ++ numbered Page sizes.pages ++ numbered CapPage sizes.cappages) (numbered Gpt sizes.gpts) (among_front Page n ([] ++ numbered Page sizes.pages) (numbered CapPage sizes.cappages) (among_numbered Page sizes.pages n within))))
@@ -160,47 +143,16 @@ all_numbered sizes = record { all = all; there = there }
         five (inl before) = four (among_split k n ([] ++ numbered Page sizes.pages ++ numbered CapPage sizes.cappages ++ numbered Gpt sizes.gpts) (numbered Process sizes.processes) before)
         five (inr here) = of_kind Endpoint k sizes.endpoints n refl here
 
--- ---- all are marked
-
--- the first of some names are among all of them
-among_take : (names : List Name) (i : ℕ) (kind : CapKind) (n : ℕ) → IsAmong kind n (names_of (take i names)) → IsAmong kind n (names_of names)
-among_take [] zero kind n among = among
-among_take [] (suc i) kind n among = among
-among_take (name ∷ names) zero kind n among = elim among [ ]
-among_take (name ∷ names) (suc i) kind n (inl here) = inl here
-among_take (name ∷ names) (suc i) kind n (inr later) = inr (among_take names i kind n later)
-
--- the first of these names were added
-pub more_take : (names old new : List Name) (i : ℕ) → new ≡ old ++ take i names → IsMore (names_of names) (names_of old) (names_of new)
-more_take names old new i same = rw (same, map-append name_of old (take i names)) (record {
-  before = λ k n here. among_front k n (names_of old) (names_of (take i names)) here;
-  among = λ k n here. by k n (among_split k n (names_of old) (names_of (take i names)) here);
-})
-  where
-    by : (k : CapKind) (n : ℕ) → IsAmong k n (names_of old) ⊎ IsAmong k n (names_of (take i names)) → IsAmong k n (names_of old) ⊎ IsAmong k n (names_of names)
-    by k n (inl here) = inl here
-    by k n (inr there) = inr (among_take names i k n there)
-
--- all were added
-pub has_all : (names old new : List Name) (i : ℕ) → length names ≤ i → new ≡ old ++ take i names → HasAll (names_of names) (names_of new)
-has_all names old new i past same = record { each = λ k n here. by k n (among_back k n (names_of old) (names_of names) here) }
-  where
-    whole : names_of new ≡ names_of old ++ names_of names
-    whole = ap names_of same ∙ map-append name_of old (take i names) ∙ ap (λ xs. names_of old ++ names_of xs) (take_all i names past)
-
-    by : (k : CapKind) (n : ℕ) → IsAmong k n (names_of old ++ names_of names) → IsAmong k n (names_of new)
-    by k n here = let Named : List ObjectName → Type 0 = λ xs. IsAmong k n xs in subst Named (sym whole) here
-
 -- ---- marked before an event
 
 module _ (s : Store) where
   -- nothing is added
   pub adds_none : (marked : List ObjectName) → AddsThere s marked marked
-  adds_none marked = record { before = λ kind n here. here; there = λ kind n here. inl here }
+  adds_none marked = record { before = λ kind n here. here; there = λ kind n here. inl here; once = λ has. has }
 
   -- one that is there
   pub adds_one : (kind : CapKind) (number : ℕ) (old new : List ObjectName) → number < size_of s.items kind → IsMore (object_name kind number ∷ []) old new → AddsThere s old new
-  adds_one kind number old new there more = record { before = more.before; there = λ k n here. by k n (more.among k n here) }
+  adds_one kind number old new there more = record { before = more.before; there = λ k n here. by k n (more.among k n here); once = more.once }
     where
       by : (k : CapKind) (n : ℕ) → IsAmong k n old ⊎ IsAmong k n (object_name kind number ∷ []) → IsAmong k n old ⊎ (n < size_of s.items k)
       by k n (inl before) = inl before
@@ -209,7 +161,7 @@ module _ (s : Store) where
 
   -- one after the other
   pub adds_then : (a b c : List ObjectName) → AddsThere s a b → AddsThere s b c → AddsThere s a c
-  adds_then a b c first second = record { before = λ k n here. second.before k n (first.before k n here); there = λ k n here. by k n (second.there k n here) }
+  adds_then a b c first second = record { before = λ k n here. second.before k n (first.before k n here); there = λ k n here. by k n (second.there k n here); once = λ has. second.once (first.once has) }
     where
       by : (k : CapKind) (n : ℕ) → IsAmong k n b ⊎ (n < size_of s.items k) → IsAmong k n a ⊎ (n < size_of s.items k)
       by k n (inl before) = first.there k n before

@@ -7,6 +7,7 @@ use Rattle.cap_format.specs.declared.kind.CapKind.TheVariants.{Process}
 use Rattle.cap_format.specs.declared.fault.FaultCode.{FaultCode}
 use Rattle.object_store.specs.Store.{Store as Objects, size_of, sizes_of}
 use Rattle.object_store.specs.Object.{ObjectName, IsAmong}
+use Rattle.object_store.specs.Saved.{AreThere}
 use Rattle.object_store.proofs.Same.{size_in_store}
 use Rattle.object_store.proofs.Restored.{size_of_same}
 use Rattle.schedules.specs.Queues.{hart_of, dispatched_by}
@@ -38,11 +39,11 @@ use Rattle.kernel_core.specs.Event.{decoded_to, fetched_from, instruction, stepp
 use Rattle.event_reach.specs.declared.plain.PlainInsn.{PlainInsn}
 use Rattle.event_reach.specs.Plain.{stored_names}
 use Rattle.state_parts.specs.Keys.{AreAll}
-use Rattle.state_parts.specs.Looking.{HasAll, IsMore}
+use Rattle.state_parts.specs.Looking.{HasAll}
 use Rattle.state_parts.specs.Marking.{AddsThere, HasThere}
 use Rattle.state_parts.specs.Shown.{shown_load, shown_store, shown_effect, shown_insn, shown_plain, IsStepOf, IsShown}
 use Rattle.state_parts.proofs.Marked.{has_then, has_both}
-use Rattle.state_parts.proofs.Boards.{among_index}
+use Rattle.state_parts.proofs.Boards.{among_index, among_there}
 
 -- a part of an instruction of process `p` that names no process: it names the page of the store, and leaves the queues and
 -- whether the machine is halted
@@ -185,19 +186,19 @@ marked_sizes s t names marked (Some i) sizes has = has_sizes s t (stored_names i
 
 -- and so with what is added
 pub adds_sizes : (s t : Objects) (old new : List ObjectName) → sizes_of t ≡ sizes_of s → AddsThere t old new → AddsThere s old new
-adds_sizes s t old new sizes adds = record { before = adds.before; there = λ kind n among. by kind n (adds.there kind n among) }
+adds_sizes s t old new sizes adds = record { before = adds.before; there = λ kind n among. by kind n (adds.there kind n among); once = adds.once }
   where
     by : (kind : CapKind) (n : ℕ) → IsAmong kind n old ⊎ (n < size_of t.items kind) → IsAmong kind n old ⊎ (n < size_of s.items kind)
     by kind n (inl before) = inl before
     by kind n (inr there) = inr (subst (λ (k : ℕ). n < k) (size_of_same t s sizes kind) there)
 
--- all names are of objects that are there
-pub adds_all : (s : Objects) (names old new : List ObjectName) → AreAll (sizes_of s) names → IsMore names old new → AddsThere s old new
-adds_all s names old new all more = record { before = more.before; there = λ kind n among. by kind n (more.among kind n among) }
-  where
-    by : (kind : CapKind) (n : ℕ) → IsAmong kind n old ⊎ IsAmong kind n names → IsAmong kind n old ⊎ (n < size_of s.items kind)
-    by kind n (inl before) = inl before
-    by kind n (inr named) = inr (subst (λ (k : ℕ). n < k) (size_in_store s kind) (all.there kind n named))
+-- all names are of objects that are there, and so was what is marked already
+pub adds_all : (s : Objects) (names old : List ObjectName) → AreAll (sizes_of s) names → AreThere s old → AddsThere s old names
+adds_all s names old all known = record {
+  before = λ kind n among. all.all kind n (subst (λ (k : ℕ). n < k) (sym (size_in_store s kind)) (among_there s old kind n known among));
+  there = λ kind n among. inr (subst (λ (k : ℕ). n < k) (size_in_store s kind) (all.there kind n among));
+  once = λ has. all.once;
+}
 
 -- where a process is, some object is named
 pub some_named : (s : Objects) (p : ℕ) (names : List Name) → AreAll (sizes_of s) (names_of names) → p < size_of s.items Process → 1 ≤ length names

@@ -1,6 +1,8 @@
 -- Stores by the values of their objects.
-use Rattle.std.specs.Prelude.{◌≡◌, ℕ, zero, suc, ◌<◌, List, [], ◌∷◌, ◌++◌, map, Some, slice_get, slice_index_or}
+use Rattle.std.specs.Prelude.{◌≡◌, ℕ, zero, suc, ◌<◌, ◌==◌, List, [], ◌∷◌, ◌++◌, map, Some, slice_get, slice_index_or}
+use Rattle.std.specs.List.{IsDistinct}
 use Rattle.cap_format.specs.declared.kind.CapKind.{CapKind}
+use Rattle.cap_format.specs.declared.kind.CapKind.TheVariants.{Gpt}
 use Rattle.object_store.specs.declared.sizes.Sizes.{Sizes}
 use Rattle.object_store.specs.Sizes.{size_in}
 use Rattle.object_store.specs.Store.{Store, empty_store}
@@ -8,10 +10,25 @@ use Rattle.object_store.specs.Object.{ObjectName, ObjectValue, object_name, obje
 use Rattle.object_store.specs.Object.ObjectValue.{OfNone}
 use Rattle.object_store.specs.Saved.{Saved, restored}
 
--- these are the names of all objects there are, and of no other
+-- the number of a GPT, and none of any other object
+abbrev pub gpt_numbers : CapKind → ℕ → List ℕ
+gpt_numbers Gpt n = n ∷ []
+gpt_numbers kind n = []
+
+-- the numbers of the GPTs that are named
+abbrev pub gpts_of : List ObjectName → List ℕ
+gpts_of [] = []
+gpts_of (name ∷ names) = gpt_numbers name.kind name.number ++ gpts_of names
+
+-- no GPT is named twice
+pub record HasGptsOnce (names : List ObjectName) : Type 0 where
+  pub once : IsDistinct ◌==◌ (gpts_of names)
+
+-- these are the names of all objects there are, and of no other, and no GPT is named twice
 pub record AreAll (sizes : Sizes) (names : List ObjectName) : Type 0 where
   pub all : (kind : CapKind) (n : ℕ) → n < size_in sizes kind → IsAmong kind n names
   pub there : (kind : CapKind) (n : ℕ) → IsAmong kind n names → n < size_in sizes kind
+  pub once : HasGptsOnce names
 
 -- the names of so many objects of a kind
 abbrev pub numbered : CapKind → ℕ → List ObjectName

@@ -9,5 +9,6 @@ pub mod Looking
 pub mod Marking
 pub mod Shown
 pub mod Space
+pub mod Slots
 pub mod Board
 pub mod States

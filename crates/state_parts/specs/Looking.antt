@@ -8,7 +8,7 @@ use Rattle.object_store.specs.Store.{Store, sizes_of}
 use Rattle.object_store.specs.Object.{ObjectName, ObjectValue, object_name, IsAmong, IsEven}
 use Rattle.object_store.specs.Object.ObjectValue.{OfPage, OfCapPage, OfGpt, OfProcess, OfEndpoint, OfNone}
 use Rattle.object_parts.specs.Live.{IsInRanges}
-use Rattle.state_parts.specs.Keys.{named_in, objects_of, Reads}
+use Rattle.state_parts.specs.Keys.{named_in, objects_of, Reads, HasGptsOnce}
 
 -- the name of no object
 abbrev pub no_name : ObjectName
@@ -41,10 +41,11 @@ pub record IsPut (n : ℕ) (names : List ObjectName) (name : ObjectName) (number
 pub record AreMarked (n : ℕ) (names : List ObjectName) (old new : List ℕ) (marked : List ObjectName) : Type 0 where
   pub each : (k : ℕ) → k < n → IsAmong (slice_index_or names k no_name).kind (slice_index_or names k no_name).number marked ⊎ (slice_index old k ≡ slice_index new k)
 
--- names were added, all of them among these
+-- names were added, all of them among these, and no GPT is named twice where none was
 pub record IsMore (names old new : List ObjectName) : Type 0 where
   pub before : (kind : CapKind) (n : ℕ) → IsAmong kind n old → IsAmong kind n new
   pub among : (kind : CapKind) (n : ℕ) → IsAmong kind n new → IsAmong kind n old ⊎ IsAmong kind n names
+  pub once : HasGptsOnce old → HasGptsOnce new
 
 -- the store to which these numbers lead
 pub record IsTarget (table : List ObjectValue) (names : List ObjectName) (numbers : List ℕ) (wanted : Sizes) (s : Store) : Type 0 where

@@ -4,11 +4,13 @@ use Rattle.cap_format.specs.declared.kind.CapKind.{CapKind}
 use Rattle.object_store.specs.Store.{Store, size_of, count_of}
 use Rattle.object_store.specs.Object.{ObjectName, IsAmong}
 use Rattle.machine_state.specs.State.{State}
+use Rattle.state_parts.specs.Keys.{HasGptsOnce}
 
--- names were added, each of an object that is there
+-- names were added, each of an object that is there, and no GPT is named twice where none was
 pub record AddsThere (s : Store) (old new : List ObjectName) : Type 0 where
   pub before : (kind : CapKind) (n : ℕ) → IsAmong kind n old → IsAmong kind n new
   pub there : (kind : CapKind) (n : ℕ) → IsAmong kind n new → IsAmong kind n old ⊎ (n < size_of s.items kind)
+  pub once : HasGptsOnce old → HasGptsOnce new
 
 -- each of these objects that is there is among those that are marked
 pub record HasThere (s : Store) (names marked : List ObjectName) : Type 0 where

@@ -1,9 +1,10 @@
 //! A machine on which events are tried, with the objects from which they start.
-ghost use Rattle.std.specs.Prelude.{◌≡◌, ◌<◌, map, IsTrue, IfOk, OnOk, OnErr};
+ghost use Rattle.std.specs.Prelude.{◌≡◌, ◌+◌, ◌*◌, ◌<◌, ◌≤◌, map, IsTrue, IfOk, OnOk, OnErr};
 ghost use Rattle.cap_format.specs.Capability.{IsCapability};
+ghost use Rattle.cap_format.specs.declared.kind.CapKind.TheVariants.{Gpt};
 ghost use Rattle.object_store.specs.Ahead.{EachCapability};
 ghost use Rattle.object_store.specs.Object.{IsEven};
-ghost use Rattle.object_store.specs.Store.{sizes_of, empty_store};
+ghost use Rattle.object_store.specs.Store.{size_of, sizes_of, empty_store};
 ghost use Rattle.machine_state.specs.Machine.{IsMachine, hart_in};
 ghost use Rattle.machine_state.specs.State.{state_of};
 ghost use Rattle.machine_state.specs.Taking.{names_of};
@@ -14,6 +15,7 @@ ghost use Rattle.object_parts.specs.Table.{Grows};
 ghost use Rattle.state_parts.specs.Keys.{AreAll, objects_of, values_of, Reads, store_by};
 ghost use Rattle.state_parts.specs.Looking.{IsTarget, AreRanged};
 ghost use Rattle.state_parts.specs.Marking.{StandsStill};
+ghost use Rattle.state_parts.specs.Slots.{event_slots};
 ghost use Rattle.state_parts.specs.Standing.{standing_at};
 ghost use Rattle.state_parts.specs.StandingLaws.{standing_in};
 
@@ -104,7 +106,8 @@ impl Board {
     }
 
     /// Brings the machine to a state: to the objects of these numbers, and to this standing, which it is known to have where
-    /// nobody came or left (`stays`). Where memory is wanting the objects from which events start stay as they are.
+    /// nobody came or left (`stays`). Where memory is wanting the objects from which events start stay as they are. Each slot
+    /// of a GPT is read once at most.
     pub fn go<L: Ledger>(
         &mut self,
         table: &Table<Part>,
@@ -126,6 +129,8 @@ impl Board {
         ensures halted { OnOk result (self.new.machine.halted ≡ standing.now.halted) }
         ensures err { OnErr result (self.new.desk ≡ self.old.desk) }
         ensures stays { OnErr result (self.new.machine ≡ self.old.machine) }
+        ensures least { fetches.old ≤ fetches.new }
+        ensures most { fetches.new ≤ fetches.old + 16 * size_of self.old.desk.items Gpt }
     {
         // Sizes that are read tell that there are as many objects as counts.
         let _sizes = self.desk.sizes();
@@ -166,6 +171,8 @@ impl Board {
             (objects_of (names_of names.now) (live_store self.now.machine.objects))) }
         ensures ranged { IfOk result (λ found.
             AreRanged (objects_of (names_of names.now) (live_store self.now.machine.objects))) }
+        ensures least { fetches.old ≤ fetches.new }
+        ensures most { fetches.new ≤ fetches.old + 16 * size_of self.now.machine.objects.items Gpt }
     {
         let objects = self.machine.objects();
         let changed = self.changed.as_slice();
@@ -195,6 +202,8 @@ impl Board {
         ensures err { OnErr result (state_of self.new.machine ≡ state_of self.old.machine) }
         ensures sizes { sizes_of self.new.machine.objects ≡ sizes_of self.old.machine.objects }
         ensures desk { self.new.desk ≡ self.old.desk }
+        ensures least { fetches.old ≤ fetches.new }
+        ensures most { fetches.new ≤ fetches.old + event_slots (state_of self.old.machine) event }
     {
         let still = perform_event(
             &mut self.machine,

@@ -5,7 +5,7 @@ ghost use Rattle.object_store.specs.Object.{ObjectName, ObjectValue, object_name
 ghost use Rattle.machine_state.specs.Taking.{names_of};
 ghost use Rattle.object_parts.specs.Objects.{object_in, kind_in};
 ghost use Rattle.state_parts.specs.Keys.{AreAll, objects_of, values_of, Reads, store_by};
-ghost use Rattle.state_parts.specs.Looking.{AreMarked, HasAll, IsMarked, IsMore, IsTarget, kind_of};
+ghost use Rattle.state_parts.specs.Looking.{AreMarked, IsMarked, IsMore, IsTarget, kind_of};
 
 use crate::key::same_numbers;
 use crate::marking::mark_name;
@@ -39,10 +39,9 @@ fn mark_one(marked: &mut Vec<Name>, name: Name, old: u32, new: u32) -> Result<()
     Ok(())
 }
 
-/// Marks all names. Where memory is wanting some are marked.
+/// Adds all names to those that are marked. Where memory is wanting some are added.
 pub(crate) fn mark_all(marked: &mut Vec<Name>, names: &[Name]) -> Result<(), OutOfMemory>
-    ensures grows { IsMore (names_of names.now) (names_of marked.old.items) (names_of marked.new.items) }
-    ensures all { OnOk result (HasAll (names_of names.now) (names_of marked.new.items)) }
+    ensures { OnOk result (marked.new.items ≡ marked.old.items ++ names.now) }
 {
     for i in 0..names.len() {
         marked.push(names[i])?;

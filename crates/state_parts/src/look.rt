@@ -1,9 +1,9 @@
 //! Looking up the numbers of a machine's parts.
-ghost use Rattle.std.specs.Prelude.{◌≡◌, ◌<◌, map, length, ◌↔◌, IfOk, IsTrue};
+ghost use Rattle.std.specs.Prelude.{◌≡◌, ◌+◌, ◌<◌, ◌≤◌, map, length, ◌↔◌, IfOk, IsTrue};
 ghost use Rattle.object_store.specs.Store.{size_of};
 ghost use Rattle.object_store.specs.Object.{object_name, IsAmong};
-ghost use Rattle.object_store.specs.Saved.{AreThere};
-ghost use Rattle.machine_state.specs.Taking.{name_of, names_of};
+ghost use Rattle.object_store.specs.Saved.{AreThere, slots_copied};
+ghost use Rattle.machine_state.specs.Taking.{name_of, names_of, slots_taken};
 ghost use Rattle.object_parts.specs.Live.{live_store};
 ghost use Rattle.object_parts.specs.Objects.{object_in};
 ghost use Rattle.object_parts.specs.Table.{Grows};
@@ -37,6 +37,8 @@ pub(crate) fn look<L: Ledger>(
     ensures grows { Grows (map object_in table.old) (map object_in table.new) }
     ensures reads { IfOk result (λ found. Reads (map object_in table.new) found.items (objects_of (names_of names.now) (live_store objects.now))) }
     ensures ranged { IfOk result (λ found. AreRanged (objects_of (names_of names.now) (live_store objects.now))) }
+    ensures least { fetches.old ≤ fetches.new }
+    ensures most { fetches.new ≤ fetches.old + slots_taken (names_of changed.now) }
 {
     let mut found = copy_numbers(alloc, numbers)?;
     'each: for i in 0..changed.len() {
@@ -77,6 +79,8 @@ pub(crate) fn look_anew<L: Ledger>(
     ensures grows { Grows (map object_in table.old) (map object_in table.new) }
     ensures reads { IfOk result (λ found. Reads (map object_in table.new) found.items (objects_of (names_of names.now) (live_store objects.now))) }
     ensures ranged { IfOk result (λ found. AreRanged (objects_of (names_of names.now) (live_store objects.now))) }
+    ensures least { fetches.old ≤ fetches.new }
+    ensures most { fetches.new ≤ fetches.old + slots_taken (names_of names.now) }
 {
     let mut found = Vec::with_capacity(alloc, names.len())?;
     for i in 0..names.len() {
@@ -97,6 +101,7 @@ fn new_look<L: Ledger>(
     requires { name.number < size_of objects.now.items name.kind }
     ensures grows { Grows (map object_in table.old) (map object_in table.new) }
     ensures reads { IfOk result (λ found. ReadsLive (map object_in table.new) (live_store objects.now) (object_name name.kind name.number) found) }
+    ensures counted { fetches.new ≡ fetches.old + slots_copied name.kind }
 {
     number_of_part(alloc, table, objects, name.kind, name.number, fetches)
 }

@@ -1,5 +1,5 @@
 //! Marking what an event may change, before it is performed.
-ghost use Rattle.std.specs.Prelude.{◌≡◌, ◌<◌, ◌∷◌, [], ℕ, IsTrue, IfOk, OnOk};
+ghost use Rattle.std.specs.Prelude.{◌≡◌, ◌+◌, ◌<◌, ◌≤◌, ◌∷◌, [], ℕ, IsTrue, IfOk, OnOk};
 ghost use Rattle.cap_format.specs.declared.kind.CapKind.TheVariants.{Page, Process};
 ghost use Rattle.object_store.specs.Store.{size_of};
 ghost use Rattle.object_store.specs.Object.{object_name, IsAmong};
@@ -13,6 +13,7 @@ ghost use Rattle.event_reach.specs.Plain.{plain_names, IsThere};
 ghost use Rattle.event_reach.specs.Reach.{names_of as reached_names};
 ghost use Rattle.state_parts.specs.Looking.{HasAll, IsMore};
 ghost use Rattle.state_parts.specs.Marking.{AddsThere, HasThere, StandsStill};
+ghost use Rattle.state_parts.specs.Slots.{a_look};
 
 use crate::look::is_named;
 use cap_format::{CapKind, OutOfMemory};
@@ -44,6 +45,8 @@ pub(crate) fn mark_event<L: Ledger>(
         OnOk result (HasThere machine.old.objects changed (names_of marked.new.items)) }
     ensures still { let s = state_of machine.old in
         IfOk result (λ still. IsTrue still → StandsStill s (event_of s event).state) }
+    ensures least { fetches.old ≤ fetches.new }
+    ensures most { fetches.new ≤ fetches.old + a_look }
 {
     match plain_of_event(machine, event, fetches) {
         Some(plain) => {

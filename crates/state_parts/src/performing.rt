@@ -3,6 +3,7 @@ ghost use Rattle.std.specs.Prelude.{◌≡◌, ◌<◌, ◌≤◌, ◌+◌, ◌�
 ghost use Rattle.cap_format.specs.declared.kind.CapKind.TheVariants.{Page};
 ghost use Rattle.object_store.specs.Store.{sizes_of};
 ghost use Rattle.object_store.specs.Object.{object_name, Stays};
+ghost use Rattle.object_store.specs.Saved.{AreThere};
 ghost use Rattle.machine_state.specs.Machine.{hart_in};
 ghost use Rattle.machine_state.specs.State.{state_of};
 ghost use Rattle.machine_state.specs.Outcome.{process_name};
@@ -12,8 +13,10 @@ ghost use Rattle.std.specs.Vec.{vec_len, vec_capacity};
 ghost use Rattle.state_parts.specs.Keys.{AreAll};
 ghost use Rattle.state_parts.specs.Looking.{HasAll, IsMore};
 ghost use Rattle.state_parts.specs.Marking.{AddsThere, HasThere, StandsStill};
+ghost use Rattle.event_reach.specs.FreshWalks.{walked};
 ghost use Rattle.event_reach.specs.Plain.{stored_names};
 ghost use Rattle.state_parts.specs.Shown.{IsStepOf, IsShown};
+ghost use Rattle.state_parts.specs.Slots.{event_slots};
 
 use crate::fetched::{Fetched, note_fetch, note_stumble, seems_plain};
 use crate::look::is_named;
@@ -26,6 +29,7 @@ use map_cache::MapCache;
 use object_store::Objects;
 use std::sync::ledger::Ledger;
 use steps::Steps;
+use undo_economy::walks_at_most;
 
 /// Performs an event, marks all that it may change, and tells whether the queues and the harts are sure to have stayed.
 /// Where memory is wanting it wasn't performed, and some is marked.
@@ -43,6 +47,7 @@ pub(crate) fn perform_event<L: Ledger>(
 ) -> Result<bool, OutOfMemory>
     requires hart { hart_in event < machine.old.objects.harts }
     requires all { AreAll (sizes_of machine.old.objects) (names_of names.now) }
+    requires known { AreThere machine.old.objects (names_of marked.old.items) }
     ensures state { OnOk result (state_of machine.new ≡ (event_of (state_of machine.old) event).state) }
     ensures still { let s = state_of machine.old in
         IfOk result (λ still. IsTrue still → StandsStill s (event_of s event).state) }
@@ -54,6 +59,8 @@ pub(crate) fn perform_event<L: Ledger>(
     ensures stays { let changed = (event_of (state_of machine.old) event).changed in
         OnOk result (Stays changed machine.old.objects machine.new.objects) }
     ensures sizes { sizes_of machine.new.objects ≡ sizes_of machine.old.objects }
+    ensures least { fetches.old ≤ fetches.new }
+    ensures most { fetches.new ≤ fetches.old + event_slots (state_of machine.old) event }
 {
     if let Some(p) = stepping(machine, event) {
         if seems_plain(machine, p, fetched.as_slice()) {
@@ -105,8 +112,11 @@ fn perform_marked<L: Ledger>(
     ensures stays { let changed = (event_of (state_of machine.old) event).changed in
         OnOk result (Stays changed machine.old.objects machine.new.objects) }
     ensures sizes { sizes_of machine.new.objects ≡ sizes_of machine.old.objects }
+    ensures least { fetches.old ≤ fetches.new }
+    ensures most { fetches.new ≤ fetches.old + event_slots (state_of machine.old) event }
 {
     let still = mark_event(machine, event, marked, fetches)?;
+    walks_at_most();
     kernel_core::event_into(machine, event, records, fetches);
     Ok(still)
 }
@@ -124,6 +134,7 @@ fn perform_plainly<L: Ledger>(
     requires hart { hart_in event < machine.old.objects.harts }
     requires step { IsStepOf p machine.old event }
     requires all { AreAll (sizes_of machine.old.objects) (names_of names.now) }
+    requires known { AreThere machine.old.objects (names_of marked.old.items) }
     ensures state { OnOk result (state_of machine.new ≡ (event_of (state_of machine.old) event).state) }
     ensures still { let s = state_of machine.old in
         IfOk result (λ still. IsTrue still → StandsStill s (event_of s event).state) }
@@ -135,6 +146,8 @@ fn perform_plainly<L: Ledger>(
     ensures stays { let changed = (event_of (state_of machine.old) event).changed in
         OnOk result (Stays changed machine.old.objects machine.new.objects) }
     ensures sizes { sizes_of machine.new.objects ≡ sizes_of machine.old.objects }
+    ensures least { fetches.old ≤ fetches.new }
+    ensures most { fetches.new ≤ fetches.old + event_slots (state_of machine.old) event }
 {
     mark_process(machine.objects(), p, names, marked)?;
     let shown = perform_shown(machine, event, p, records, fetches);
@@ -173,9 +186,13 @@ fn perform_shown<L: Ledger>(
     ensures stays { let changed = (event_of (state_of machine.old) event).changed in
         Stays changed machine.old.objects machine.new.objects }
     ensures sizes { sizes_of machine.new.objects ≡ sizes_of machine.old.objects }
+    ensures least { fetches.old ≤ fetches.new }
+    ensures most { fetches.new ≤ fetches.old
+        + walked (event_of (state_of machine.old) event).touches }
 {
     let regs = *machine.registers(p);
     let pc = machine.pc(p);
+    walks_at_most();
     kernel_core::event_into(machine, event, records, fetches);
     plain_shown(records, p, &regs, pc)
 }
@@ -183,6 +200,7 @@ fn perform_shown<L: Ledger>(
 /// Marks the page of the store that was shown, or all objects where nothing was shown. There is room for their names.
 fn mark_shown(objects: &Objects, shown: Option<PlainInsn>, names: &[Name], marked: &mut Vec<Name>)
     requires all { AreAll (sizes_of objects.now) (names_of names.now) }
+    requires known { AreThere objects.now (names_of marked.old.items) }
     requires some { 1 ≤ length names.now }
     requires room { vec_len marked.old + length names.now ≤ vec_capacity marked.old }
     ensures adds { AddsThere objects.now (names_of marked.old.items) (names_of marked.new.items) }
@@ -194,7 +212,7 @@ fn mark_shown(objects: &Objects, shown: Option<PlainInsn>, names: &[Name], marke
             Some(page) => mark_page(objects, page, marked),
             None => {}
         },
-        None => add_all(marked, names),
+        None => write_all(marked, names),
     }
 }
 
@@ -227,12 +245,13 @@ fn add_name(marked: &mut Vec<Name>, name: Name)
     marked.push_reserved(name);
 }
 
-/// Marks all objects. There is room for their names.
-fn add_all(marked: &mut Vec<Name>, names: &[Name])
-    requires { vec_len marked.old + length names.now ≤ vec_capacity marked.old }
-    ensures more { IsMore (names_of names.now) (names_of marked.old.items) (names_of marked.new.items) }
+/// Marks all objects, each once. There is room for their names.
+fn write_all(marked: &mut Vec<Name>, names: &[Name])
+    requires { length names.now ≤ vec_capacity marked.old }
+    ensures items { marked.new.items ≡ names.now }
     ensures all { HasAll (names_of names.now) (names_of marked.new.items) }
 {
+    marked.clear();
     'each: for i in 0..names.len() {
         marked.push_reserved(names[i]);
     }

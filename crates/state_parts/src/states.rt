@@ -1,10 +1,12 @@
 //! The states of a machine that were seen.
-ghost use Rattle.std.specs.Prelude.{◌≡◌, ◌<◌, Some, map, slice_get, IsTrue, IfOk, OnOk, OnErr};
-ghost use Rattle.object_store.specs.Store.{sizes_of};
+ghost use Rattle.std.specs.Prelude.{◌≡◌, ◌+◌, ◌*◌, ◌<◌, ◌≤◌, Some, map, slice_get, IsTrue, IfOk, OnOk, OnErr};
+ghost use Rattle.cap_format.specs.declared.kind.CapKind.TheVariants.{Gpt};
+ghost use Rattle.object_store.specs.Store.{size_of, sizes_of};
 ghost use Rattle.machine_state.specs.Machine.{hart_in};
 ghost use Rattle.machine_state.specs.State.{state_of};
 ghost use Rattle.kernel_core.specs.Event.{event_of};
 ghost use Rattle.state_parts.specs.Space.{Held, state_in};
+ghost use Rattle.state_parts.specs.Slots.{event_slots};
 ghost use Rattle.state_parts.specs.Standing.{standing_at};
 ghost use Rattle.state_parts.specs.States.{GrowTables};
 
@@ -59,7 +61,7 @@ impl Model for States {
 }
 
 impl States {
-    /// A machine of which no state was seen yet.
+    /// A machine of which no state was seen yet. Each slot of a GPT is read once at most.
     pub fn new<L: Ledger>(
         alloc: Global,
         machine: Machine<MapCache>,
@@ -67,6 +69,8 @@ impl States {
     ) -> Result<States, OutOfMemory>
         ensures machine { IfOk result (λ states. states.machine ≡ machine) }
         ensures sizes { IfOk result (λ states. states.tables.sizes ≡ sizes_of machine.objects) }
+        ensures least { fetches.old ≤ fetches.new }
+        ensures most { fetches.new ≤ fetches.old + 16 * size_of machine.objects.items Gpt }
     {
         let sizes = machine.objects().sizes();
         let names = all_names(alloc, sizes)?;
@@ -97,12 +101,14 @@ impl States {
         self.board.machine()
     }
 
-    /// The key of the state in which the machine is.
+    /// The key of the state in which the machine is. Each slot of a GPT is read once at most.
     pub fn key<L: Ledger>(&mut self, fetches: &mut Steps<L>) -> Result<Key, OutOfMemory>
         ensures grows { GrowTables self.old.tables self.new.tables }
         ensures machine { self.new.machine ≡ self.old.machine }
         ensures held { IfOk result (Held self.new.tables) }
         ensures means { IfOk result (λ key. state_in self.new.tables key ≡ state_of self.old.machine) }
+        ensures least { fetches.old ≤ fetches.new }
+        ensures most { fetches.new ≤ fetches.old + 16 * self.old.tables.sizes.gpts }
     {
         let machine = self.board.machine();
         machine.tell_kept();
@@ -130,13 +136,16 @@ impl States {
         Ok(Key { parts, standing })
     }
 
-    /// Brings the machine to the state of a key. Where memory is wanting it stays where it is.
+    /// Brings the machine to the state of a key. Where memory is wanting it stays where it is. Each slot of a GPT is read once
+    /// at most.
     pub fn go<L: Ledger>(&mut self, key: &Key, fetches: &mut Steps<L>) -> Result<(), OutOfMemory>
         requires { Held self.old.tables key.now }
         ensures grows { GrowTables self.old.tables self.new.tables }
         ensures tables { self.new.tables ≡ self.old.tables }
         ensures state { OnOk result (state_of self.new.machine ≡ state_in self.old.tables key.now) }
         ensures err { OnErr result (self.new.machine ≡ self.old.machine) }
+        ensures least { fetches.old ≤ fetches.new }
+        ensures most { fetches.new ≤ fetches.old + 16 * self.old.tables.sizes.gpts }
     {
         self.parts.tell_apart();
         self.standings.tell_apart();
@@ -195,6 +204,8 @@ impl States {
         ensures tables { self.new.tables ≡ self.old.tables }
         ensures state { OnOk result (state_of self.new.machine ≡ (event_of (state_of self.old.machine) event).state) }
         ensures err { OnErr result (state_of self.new.machine ≡ state_of self.old.machine) }
+        ensures least { fetches.old ≤ fetches.new }
+        ensures most { fetches.new ≤ fetches.old + event_slots (state_of self.old.machine) event }
     {
         self.parts.tell_apart();
         self.standings.tell_apart();

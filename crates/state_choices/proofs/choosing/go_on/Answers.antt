@@ -1,5 +1,6 @@
-use Rattle.std.proofs.Common.{◌∙◌, ◌||◌, not, is_some, sym, ap, subst}
-use Rattle.object_store.specs.Store.{Store}
+use Rattle.std.proofs.Common.{◌∙◌, ℕ, ◌+◌, ◌*◌, ◌||◌, not, is_some, sym, ap, subst, arith}
+use Rattle.cap_format.specs.declared.kind.CapKind.TheVariants.{Gpt}
+use Rattle.object_store.specs.Store.{Store, size_of}
 use Rattle.object_store.specs.Meaning.{state_map}
 use Rattle.schedules.specs.Queues.{hart_of}
 use Rattle.map_cache.specs.Cache.{CacheValue}
@@ -24,8 +25,23 @@ pub perform_quiet-steps-requires-clause-reaching : goal.perform_quiet-steps-requ
 perform_quiet-steps-requires-clause-reaching g c =
     subst (λ (r : ReachingValue). IsReaching (state_of c.args.states.now.machine).store r) (sym c.reaching.ensures)
     (subst (λ (s : Store). IsReaching (state_map s) c.in_ok-kept.kept.reaching)
-    (c.objects.ensures ∙ ap (λ (m : MachineValue CacheValue). m.objects) c.machine-machine.ensures.value) c.in_ok-kept.ensures)
+    (c.objects.ensures ∙ ap (λ (m : MachineValue CacheValue). m.objects) c.machine-machine.ensures.value) c.in_ok-kept.ensures.reaching)
 
 pub perform_quiet-steps-requires-clause-walks : goal.perform_quiet-steps-requires-clause-walks
 perform_quiet-steps-requires-clause-walks g c =
     none-kept (state_of c.args.states.now.machine) c.args.hart c.forget.new.self c.forget.ensures.fetch c.forget.ensures.load c.forget.ensures.store
+
+pub returns-in_err-kept-clause-most : goal.returns-in_err-kept-clause-most
+returns-in_err-kept-clause-most g c =
+    let kept = c.kept_of.ensures.most in
+    let Reads : Store → ℕ = λ o. 16 * size_of o.items Gpt + 16 * size_of o.items Gpt * (size_of o.items Gpt + 2) in
+    let same = ap Reads (c.objects.ensures ∙ ap (λ (m : MachineValue CacheValue). m.objects) c.machine-machine.ensures.value) in
+    omega (arith, kept, same)
+
+pub returns-clause-most : goal.returns-clause-most
+returns-clause-most g c =
+    let kept = c.kept_of.ensures.most in
+    let Reads : Store → ℕ = λ o. 16 * size_of o.items Gpt + 16 * size_of o.items Gpt * (size_of o.items Gpt + 2) in
+    let same = ap Reads (c.objects.ensures ∙ ap (λ (m : MachineValue CacheValue). m.objects) c.machine-machine.ensures.value) in
+    let reads = c.perform_quiet-steps.ensures.most in
+    omega (arith, kept, same, reads)

@@ -10,6 +10,7 @@ use Rattle.quiet_finding.specs.Watched.{watch_of}
 use Rattle.state_parts.specs.Space.{TablesValue}
 use Rattle.state_choices.specs.Steps.{after_steps}
 use Rattle.state_choices.proofs.Quiet.{gone-all, gone-more, gone-none, gone-quiet, gone-state, stays_after, walks_after}
+use Rattle.state_choices.proofs.Slots.{looks_slots-next}
 use Rattle.state_choices.proofs.choosing.perform_quiet.Goals as goal
 
 pub quiet-init : goal.quiet-init
@@ -18,6 +19,8 @@ quiet-init g c = record {
   reaching = c.requires.reaching;
   walks = c.requires.walks;
   gone = gone-none (watch_of c.args.watched.now) c.args.hart 4096 (state_of c.args.states.now.machine);
+  least = omega arith;
+  slots = omega arith;
 }
 
 pub is_quiet-requires-clause-hart : goal.is_quiet-requires-clause-hart
@@ -62,6 +65,13 @@ quiet-preserved g c =
     let s = state_of c.quiet.states.machine in
     let t = state_of c.perform.new.self.machine in
     let next = ap (λ (m : MachineValue CacheValue). is_quiet w (state_of m) c.args.hart) (sym c.machine.ensures.value) ∙ sym c.is_quiet.ensures.value ∙ c.if-not-is_quiet.false in
+    let slots = looks_slots-next w c.args.hart 4096 c.quiet.performed s t c.quiet-test.true next c.in_ok-perform.ensures.state in
+    let looked = c.is_quiet.ensures.most in
+    let looks = c.is_quiet.ensures.least in
+    let read = c.perform.ensures.most in
+    let reads = c.perform.ensures.least in
+    let first = c.quiet.invariant.least in
+    let before = c.quiet.invariant.slots in
     record {
       tables = c.perform.ensures.tables ∙ c.quiet.invariant.tables;
       reaching = stays_after w c.args.hart c.held_law.ensures s t c.args.reaching.now next c.in_ok-perform.ensures.state c.quiet.invariant.reaching;
@@ -70,6 +80,8 @@ quiet-preserved g c =
       gone =
           gone-more w c.args.hart 4096 (state_of c.args.states.now.machine) s t c.quiet.performed c.quiet.invariant.gone c.quiet-test.true next
           c.in_ok-perform.ensures.state;
+      least = omega (arith, looks, reads, first);
+      slots = omega (arith, looked, read, before, slots);
     }
 
 pub returns-clause-tables : goal.returns-clause-tables
@@ -85,3 +97,23 @@ returns-clause-state g c =
     let end : c.quiet.performed ≡ 4096 = omega arith in
     gone-state (watch_of c.args.watched.now) c.args.hart 4096 (state_of c.args.states.now.machine) (state_of c.quiet.states.machine) c.quiet.performed c.quiet.invariant.gone
     ∙ ap (λ (n : ℕ). after_steps c.args.hart n (state_of c.args.states.now.machine)) end
+
+pub returns-then-not-is_quiet-clause-most : goal.returns-then-not-is_quiet-clause-most
+returns-then-not-is_quiet-clause-most g c =
+    let looked = c.is_quiet.ensures.most in
+    let before = c.quiet.invariant.slots in
+    omega (arith, looked, before)
+
+pub returns-in_err-perform-clause-most : goal.returns-in_err-perform-clause-most
+returns-in_err-perform-clause-most g c =
+    let w = watch_of c.args.watched.now in
+    let s = state_of c.quiet.states.machine in
+    let next = ap (λ (m : MachineValue CacheValue). is_quiet w (state_of m) c.args.hart) (sym c.machine.ensures.value) ∙ sym c.is_quiet.ensures.value ∙ c.if-not-is_quiet.false in
+    let slots = looks_slots-next w c.args.hart 4096 c.quiet.performed s _ c.quiet-test.true next refl in
+    let looked = c.is_quiet.ensures.most in
+    let read = c.perform.ensures.most in
+    let before = c.quiet.invariant.slots in
+    omega (arith, looked, read, before, slots)
+
+pub returns-clause-most : goal.returns-clause-most
+returns-clause-most g c = let before = c.quiet.invariant.slots in omega (arith, before)

@@ -1,8 +1,8 @@
-use Rattle.std.proofs.Common.{ℕ, ◌+◌, List, drop, get_or, map, length, sym, ap, ◌∙◌, subst}
+use Rattle.std.proofs.Common.{ℕ, ◌+◌, List, drop, get_or, map, length, refl, sym, ap, ◌∙◌, subst, arith}
 use Rattle.std.proofs.lemmas.List.{length-map}
 use Rattle.cap_format.specs.declared.kind.CapKind.TheVariants.{Null}
 use Rattle.machine_state.specs.Taking.{name_of, names_of}
-use Rattle.machine_state.proofs.Taken.{name_by, name_there, names_next, names_end}
+use Rattle.machine_state.proofs.Taken.{name_by, name_there, names_next, names_end, slots_next}
 use Rattle.object_store.specs.Object.{ObjectName}
 use Rattle.object_parts.specs.Live.{live_store}
 use Rattle.object_parts.specs.Objects.{object_in}
@@ -18,16 +18,20 @@ each-init g c =
     let copied = c.in_ok-found.ensures in
     let Known : List ℕ → Type 0 = λ xs. AreKnown T (live_store c.args.objects.now) (names_of c.args.changed.now) names xs in
     record {
-      grows = grown_none T;
-      many = ap length copied ∙ c.requires.many ∙ sym (length-map c.args.names.now name_of);
-      known = subst Known (sym copied) c.requires.known;
+      given = record {
+        grows = grown_none T;
+        many = ap length copied ∙ c.requires.many ∙ sym (length-map c.args.names.now name_of);
+        known = subst Known (sym copied) c.requires.known;
+      };
+      least = omega arith;
+      counted = refl;
     }
 
 pub new_look-requires : goal.new_look-requires
 new_look-requires g c = name_there c.args.objects.now c.args.changed.now c.each.i (name_by Null 0) c.each-test.true c.requires.there
 
 pub put_number-requires : goal.put_number-requires
-put_number-requires g c = c.each.invariant.many ∙ length-map c.args.names.now name_of
+put_number-requires g c = c.each.invariant.given.many ∙ length-map c.args.names.now name_of
 
 pub each-preserved : goal.each-preserved
 each-preserved g c =
@@ -41,10 +45,15 @@ each-preserved g c =
     let rest = names_of (drop (l.i + 1) c.args.changed.now) in
     let Left : List ObjectName → Type 0 = λ xs. AreGiven old T s xs names l.found.items in
     let Put : ℕ → Type 0 = λ n. IsPut n names name c.in_ok-number.number l.found.items c.put_number.new.numbers.items in
-    given_more old T grown s name rest names l.found.items c.put_number.new.numbers.items c.in_ok-number.number
-    (subst Left (names_next c.args.changed.now l.i (name_by Null 0) c.each-test.true) l.invariant)
-    c.new_look.ensures.grows c.in_ok-number.ensures.reads
-    (subst Put (sym (length-map c.args.names.now name_of)) c.put_number.ensures)
+    record {
+      given =
+          given_more old T grown s name rest names l.found.items c.put_number.new.numbers.items c.in_ok-number.number
+          (subst Left (names_next c.args.changed.now l.i (name_by Null 0) c.each-test.true) l.invariant.given)
+          c.new_look.ensures.grows c.in_ok-number.ensures.reads
+          (subst Put (sym (length-map c.args.names.now name_of)) c.put_number.ensures);
+      least = let read = c.new_look.ensures.counted in let before = l.invariant.least in omega (arith, read, before);
+      counted = let read = c.new_look.ensures.counted in let slots = slots_next c.args.changed.now l.i (name_by Null 0) c.each-test.true in let before = l.invariant.counted in omega (arith, read, slots, before);
+    }
 
 pub returns-clause-reads : goal.returns-clause-reads
 returns-clause-reads g c =
@@ -53,7 +62,7 @@ returns-clause-reads g c =
     let s = live_store c.args.objects.now in
     let names = names_of c.args.names.now in
     let Known : List ObjectName → Type 0 = λ xs. AreKnown T s xs names l.found.items in
-    (given_all T s names l.found.items l.invariant.many (subst Known (names_end c.args.changed.now l.i c.each-test.false) l.invariant.known)).0
+    (given_all T s names l.found.items l.invariant.given.many (subst Known (names_end c.args.changed.now l.i c.each-test.false) l.invariant.given.known)).0
 
 pub returns-clause-ranged : goal.returns-clause-ranged
 returns-clause-ranged g c =
@@ -62,4 +71,23 @@ returns-clause-ranged g c =
     let s = live_store c.args.objects.now in
     let names = names_of c.args.names.now in
     let Known : List ObjectName → Type 0 = λ xs. AreKnown T s xs names l.found.items in
-    (given_all T s names l.found.items l.invariant.many (subst Known (names_end c.args.changed.now l.i c.each-test.false) l.invariant.known)).1
+    (given_all T s names l.found.items l.invariant.given.many (subst Known (names_end c.args.changed.now l.i c.each-test.false) l.invariant.given.known)).1
+
+pub returns-clause-most : goal.returns-clause-most
+returns-clause-most g c = let before = c.each.invariant.counted in omega (arith, before)
+
+pub returns-clause-least : goal.returns-clause-least
+returns-clause-least g c = c.each.invariant.least
+
+pub returns-in_err-number-clause-most : goal.returns-in_err-number-clause-most
+returns-in_err-number-clause-most g c =
+    let read = c.new_look.ensures.counted in
+    let slots = slots_next c.args.changed.now c.each.i (name_by Null 0) c.each-test.true in
+    let before = c.each.invariant.counted in
+    omega (arith, read, slots, before)
+
+pub returns-in_err-number-clause-least : goal.returns-in_err-number-clause-least
+returns-in_err-number-clause-least g c =
+    let read = c.new_look.ensures.counted in
+    let least = c.each.invariant.least in
+    omega (arith, read, least)

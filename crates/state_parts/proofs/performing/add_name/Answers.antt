@@ -1,8 +1,9 @@
-use Rattle.std.proofs.Common.{◌∷◌, [], List, sym, subst}
+use Rattle.std.proofs.Common.{◌∷◌, [], List, sym, ◌∙◌, subst}
 use Rattle.object_store.specs.Object.{object_name, IsAmong}
 use Rattle.machine_state.specs.declared.taking.Name.{Name}
 use Rattle.machine_state.specs.Taking.{names_of}
 use Rattle.state_parts.specs.Looking.{HasAll, IsMore}
+use Rattle.state_parts.proofs.Once.{apart}
 use Rattle.state_parts.proofs.Marked.{more_none, more_push, has_push, has_one}
 use Rattle.state_parts.proofs.performing.add_name.Goals as goal
 
@@ -17,7 +18,10 @@ returns-then-is_named-clause-has c =
 pub returns-clause-grows : goal.returns-clause-grows
 returns-clause-grows c =
     let More : List Name → Type 0 = λ xs. IsMore (object_name c.args.name.kind c.args.name.number ∷ []) (names_of c.args.marked.now.items) (names_of xs) in
-    subst More (sym c.push_reserved.ensures.items) (more_push c.args.name.kind c.args.name.number c.args.marked.now.items)
+    let Among : List Name → Type 0 = λ xs. IsAmong c.args.name.kind c.args.name.number (names_of xs) in
+    subst More (sym c.push_reserved.ensures.items)
+    (more_push c.args.name.kind c.args.name.number c.args.marked.now.items
+    (λ among. apart (sym c.if-is_named.false ∙ c.is_named.ensures.1 (subst Among (sym c.as_slice.ensures.value) among))))
 
 pub returns-clause-has : goal.returns-clause-has
 returns-clause-has c =

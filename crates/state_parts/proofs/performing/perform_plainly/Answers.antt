@@ -1,6 +1,7 @@
 use Rattle.std.proofs.Common.{◌∷◌, [], sym, ap, ◌∙◌, subst}
 use Rattle.object_store.specs.Store.{Store, sizes_of}
 use Rattle.object_store.specs.declared.sizes.Sizes.{Sizes}
+use Rattle.object_store.proofs.Restored.{there_same}
 use Rattle.machine_state.specs.Outcome.{process_name}
 use Rattle.machine_state.specs.State.{state_of}
 use Rattle.machine_state.specs.Taking.{names_of}
@@ -8,6 +9,7 @@ use Rattle.kernel_core.specs.Event.{event_of}
 use Rattle.state_parts.specs.Keys.{AreAll}
 use Rattle.state_parts.specs.Marking.{AddsThere, HasThere}
 use Rattle.state_parts.proofs.Marked.{adds_then}
+use Rattle.state_parts.proofs.Boards.{there_adds}
 use Rattle.state_parts.proofs.Shown.{adds_sizes, has_shown, marked_sizes, some_named}
 use Rattle.state_parts.proofs.performing.perform_plainly.Goals as goal
 
@@ -15,6 +17,14 @@ pub mark_shown-requires-clause-all : goal.mark_shown-requires-clause-all
 mark_shown-requires-clause-all g c =
     let All_of : Sizes → Type 0 = λ z. AreAll z (names_of c.args.names.now) in
     subst All_of (sym (ap sizes_of c.objects-2.ensures ∙ c.perform_shown-shown.ensures.sizes)) c.requires.all
+
+pub mark_shown-requires-clause-known : goal.mark_shown-requires-clause-known
+mark_shown-requires-clause-known g c =
+    let s = c.args.machine.now.objects in
+    let mid = names_of c.mark_process.new.marked.items in
+    let First : Store → Type 0 = λ o. AddsThere o (names_of c.args.marked.now.items) mid in
+    there_same c.objects-2.result.now s mid (ap sizes_of c.objects-2.ensures ∙ c.perform_shown-shown.ensures.sizes)
+    (there_adds s (names_of c.args.marked.now.items) mid (subst First c.objects.ensures c.mark_process.ensures.adds) c.requires.known)
 
 pub mark_shown-requires-clause-some : goal.mark_shown-requires-clause-some
 mark_shown-requires-clause-some g c = some_named c.args.machine.now.objects c.args.p c.args.names.now c.requires.all c.requires.step.there

@@ -3,6 +3,7 @@ use Rattle.std.specs.Prelude.{IfSome}
 use Rattle.machine_state.specs.declared.record.Record.{Record}
 use Rattle.machine_state.specs.State.{state_of, pc_of}
 use Rattle.kernel_core.specs.Event.{event_of}
+use Rattle.event_reach.proofs.Spent.{fetched_walked}
 use Rattle.event_reach.specs.declared.plain.PlainInsn.{PlainInsn}
 use Rattle.state_parts.specs.Shown.{shown_plain, IsShown}
 use Rattle.state_parts.proofs.Shown.{event_shown}
@@ -22,3 +23,6 @@ returns-clause-shown g c =
     (subst OfRecords (sym c.event_into.ensures.records)
     (subst OfPc (sym c.pc-pc.ensures.value)
     (subst OfRegs (sym c.registers.ensures) (event_shown m c.args.event p c.requires.step))))
+
+pub returns-clause-most : goal.returns-clause-most
+returns-clause-most g c = fetched_walked _ _ _ _ _ _ _ c.walks_at_most.ensures.cached c.event_into.ensures.counted

@@ -1,18 +1,21 @@
-use Rattle.std.proofs.Common.{◌≡◌, ℕ, List, map, length, sym, ap, ◌∙◌, subst}
+use Rattle.std.proofs.Common.{◌≡◌, ◌*◌, ◌≤◌, ℕ, List, map, length, sym, ap, ◌∙◌, subst, arith}
 use Rattle.std.proofs.lemmas.List.{length-map}
-use Rattle.object_store.specs.Store.{Store, sizes_of}
+use Rattle.cap_format.specs.declared.kind.CapKind.TheVariants.{Gpt}
+use Rattle.object_store.specs.Store.{Store, size_of, sizes_of}
 use Rattle.object_store.specs.Object.{ObjectName, ObjectValue, Stays, IsEven}
 use Rattle.object_store.specs.Saved.{AreThere}
 use Rattle.object_store.proofs.Same.{even_store}
 use Rattle.object_store.proofs.Restored.{there_same}
 use Rattle.machine_state.specs.declared.taking.Name.{Name}
-use Rattle.machine_state.specs.Taking.{name_of, names_of}
+use Rattle.machine_state.specs.Taking.{name_of, names_of, slots_taken}
 use Rattle.object_parts.specs.Objects.{object_in}
 use Rattle.state_parts.specs.Keys.{AreAll, objects_of, values_of, Reads, store_by}
-use Rattle.state_parts.specs.Board.{IsBoard}
+use Rattle.state_parts.specs.Board.{BoardValue, IsBoard}
 use Rattle.state_parts.specs.Looking.{AreMarked, IsMore, IsTarget}
 use Rattle.state_parts.proofs.Unchanged.{numbers_many}
-use Rattle.state_parts.proofs.Boards.{board_more, brought_stays}
+use Rattle.state_parts.proofs.Boards.{board_more, board_none, brought_stays, slots_there}
+use Rattle.state_parts.specs.declared.board.Board.TheInside.{Inside}
+use Rattle.state_parts.proofs.board.Board.go.Goals.{then-stays, else-stays}
 use Rattle.state_parts.proofs.board.Board.go.Goals as goal
 
 pub invariant_of-self : goal.invariant_of-self
@@ -88,3 +91,28 @@ take_objects_alone-requires-clause-others g c =
     let Others : List Name → Type 0 = λ xs. Stays (names_of xs) c.bring_all.new.objects i.machine.objects in
     subst Others (sym c.as_slice-changed.ensures.value)
     (others_brought (map object_in c.args.table.now) c.args.names.now c.bring_all.new.marked.items (names_of i.changed.items) c.args.old.now c.args.new.now i.machine.objects i.desk c.bring_all.new.objects (even_store i.desk c.sizes-sizes.ensures.sized) all c.bring_all.ensures.grows c.in_ok-bring_all.ensures.each c.self.invariant old new c.in_ok-bring_all.ensures.objects)
+
+-- what is marked has no more slots than all GPTs have
+slots_marked : (here desk : Store) (names changed marked : List ObjectName) → AreAll (sizes_of desk) names → IsMore names changed marked → IsBoard here desk changed → slots_taken marked ≤ 16 * size_of desk.items Gpt
+slots_marked here desk names changed marked all more board = let is = board_more here desk names changed marked all more board in slots_there desk marked is.there is.once
+
+pub invariant_of-self-2 : goal.invariant_of-self-2
+invariant_of-self-2 g c =
+    let none = ap names_of c.clear.ensures.items in
+    let now = c.if-stays.self-inside in
+    elim c.if-stays.branch [
+      | then-stays w ↦ board_none now.machine.objects now.desk (names_of c.clear.new.self.items) (ap (λ (b : Inside). b.machine.objects) w.self-inside-is ∙ w.take_objects_alone.ensures.objects ∙ sym (ap (λ (b : Inside). b.desk) w.self-inside-is)) none
+      | else-stays w ↦ board_none now.machine.objects now.desk (names_of c.clear.new.self.items) (ap (λ (b : Inside). b.machine.objects) w.self-inside-is ∙ w.take_objects.ensures.objects ∙ sym (ap (λ (b : Inside). b.desk) w.self-inside-is)) none
+    ]
+
+pub returns-clause-most : goal.returns-clause-most
+returns-clause-most g c =
+    let i = c.self.inside in
+    let all = rw (← c.self.view_is) at c.requires.all in
+    let few = slots_marked i.machine.objects i.desk (names_of c.args.names.now) (names_of i.changed.items) (names_of c.bring_all.new.marked.items) all c.bring_all.ensures.grows c.self.invariant in
+    let slices = ap (λ (xs : List Name). slots_taken (names_of xs)) c.as_slice-changed.ensures.value in
+    let view = ap (λ (b : BoardValue). size_of b.desk.items Gpt) c.self.view_is in
+    elim c.if-stays.branch [
+      | then-stays w ↦ let read = w.take_objects_alone.ensures.counted in let is = w.fetches-is in omega (arith, few, slices, view, read, is)
+      | else-stays w ↦ let read = w.take_objects.ensures.counted in let is = w.fetches-is in omega (arith, few, slices, view, read, is)
+    ]

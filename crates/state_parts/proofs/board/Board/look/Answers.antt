@@ -1,11 +1,12 @@
-use Rattle.std.proofs.Common.{◌≡◌, List, IfOk, map, sym, ap, ◌∙◌, subst}
+use Rattle.std.proofs.Common.{◌≡◌, ◌+◌, ◌≤◌, List, IfOk, map, sym, ap, ◌∙◌, subst, arith}
 use Rattle.std.proofs.lemmas.List.{length-map}
-use Rattle.object_store.specs.Store.{Store}
+use Rattle.cap_format.specs.declared.kind.CapKind.TheVariants.{Gpt}
+use Rattle.object_store.specs.Store.{Store, size_of}
 use Rattle.object_store.specs.Saved.{AreThere}
 use Rattle.object_store.proofs.Stays.{stays_turned}
 use Rattle.object_store.proofs.Restored.{there_same}
 use Rattle.machine_state.specs.declared.taking.Name.{Name}
-use Rattle.machine_state.specs.Taking.{name_of, names_of}
+use Rattle.machine_state.specs.Taking.{name_of, names_of, slots_taken}
 use Rattle.object_parts.specs.Live.{live_store}
 use Rattle.object_parts.specs.Objects.{object_in}
 use Rattle.state_parts.specs.Board.{BoardValue}
@@ -13,6 +14,7 @@ use Rattle.state_parts.specs.Keys.{objects_of, Reads}
 use Rattle.state_parts.specs.Looking.{AreKnown, AreRanged}
 use Rattle.state_parts.specs.Marking.{HaveCounts}
 use Rattle.state_parts.proofs.Whole.{names_there}
+use Rattle.state_parts.proofs.Boards.{slots_there}
 use Rattle.state_parts.proofs.Unchanged.{counts_stay, known_but, numbers_many}
 use Rattle.state_parts.proofs.board.Board.look.Goals as goal
 
@@ -85,3 +87,23 @@ returns-clause-ranged g c =
     let here : c.objects-objects.result.now ≡ c.args.self.now.machine.objects = c.objects-objects.ensures ∙ ap (λ (b : BoardValue). b.machine.objects) c.self.view_is in
     let Is : Store → Type 0 = λ s. IfOk c.look_anew.result (λ found. AreRanged (objects_of (names_of c.args.names.now) (live_store s))) in
     subst Is here c.look_anew.ensures.ranged
+
+pub returns-then-counts_same-clause-most : goal.returns-then-counts_same-clause-most
+returns-then-counts_same-clause-most g c =
+    let i = c.self.inside in
+    let names = names_of i.changed.items in
+    let few = slots_there i.machine.objects names (there_same i.machine.objects i.desk names c.self.invariant.sizes c.self.invariant.there) c.self.invariant.once in
+    let Most : List Name → Type 0 = λ xs. c.look.new.fetches ≤ c.args.fetches.now + slots_taken (names_of xs) in
+    let read = subst Most c.as_slice-changed.ensures.value c.look.ensures.most in
+    let view = ap (λ (b : BoardValue). size_of b.machine.objects.items Gpt) c.self.view_is in
+    omega (arith, few, read, view)
+
+pub returns-clause-most : goal.returns-clause-most
+returns-clause-most g c =
+    let i = c.self.inside in
+    let names = names_of c.args.names.now in
+    let all = rw (← c.self.view_is) at c.requires.all in
+    let few = slots_there i.machine.objects names (there_same i.machine.objects i.desk names c.self.invariant.sizes (names_there i.desk names all)) all.once in
+    let read = c.look_anew.ensures.most in
+    let view = ap (λ (b : BoardValue). size_of b.machine.objects.items Gpt) c.self.view_is in
+    omega (arith, few, read, view)

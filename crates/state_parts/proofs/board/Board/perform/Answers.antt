@@ -1,12 +1,14 @@
-use Rattle.std.proofs.Common.{sym, subst}
+use Rattle.std.proofs.Common.{sym, ap, subst, arith}
 use Rattle.object_store.specs.Store.{Store}
 use Rattle.object_store.specs.declared.sizes.Sizes.{Sizes}
 use Rattle.object_store.proofs.Same.{even_store}
+use Rattle.object_store.proofs.Restored.{there_same}
 use Rattle.machine_state.specs.State.{state_of}
 use Rattle.machine_state.specs.Taking.{names_of}
 use Rattle.kernel_core.specs.Event.{event_of}
-use Rattle.state_parts.specs.Board.{IsBoard}
+use Rattle.state_parts.specs.Board.{BoardValue, IsBoard}
 use Rattle.state_parts.specs.Keys.{AreAll}
+use Rattle.state_parts.specs.Slots.{event_slots}
 use Rattle.state_parts.proofs.Boards.{board_adds, board_after}
 use Rattle.state_parts.proofs.board.Board.perform.Goals as goal
 
@@ -16,6 +18,11 @@ perform_event-requires-clause-all g c =
     let all = rw (← c.self.view_is) at c.requires.all in
     let All_of : Sizes → Type 0 = λ z. AreAll z (names_of c.args.names.now) in
     subst All_of (sym c.self.invariant.sizes) all
+
+pub perform_event-requires-clause-known : goal.perform_event-requires-clause-known
+perform_event-requires-clause-known g c =
+    let i = c.self.inside in
+    there_same i.machine.objects i.desk (names_of i.changed.items) c.self.invariant.sizes c.self.invariant.there
 
 pub invariant_of-self : goal.invariant_of-self
 invariant_of-self g c =
@@ -37,3 +44,15 @@ invariant_of-self-2 g c =
     c.in_ok-still.ensures.has
     c.in_ok-still.ensures.stays
     board
+
+pub returns-in_err-still-clause-most : goal.returns-in_err-still-clause-most
+returns-in_err-still-clause-most g c =
+    let read = c.perform_event.ensures.most in
+    let view = ap (λ (b : BoardValue). event_slots (state_of b.machine) c.args.event) c.self.view_is in
+    omega (arith, read, view)
+
+pub returns-clause-most : goal.returns-clause-most
+returns-clause-most g c =
+    let read = c.perform_event.ensures.most in
+    let view = ap (λ (b : BoardValue). event_slots (state_of b.machine) c.args.event) c.self.view_is in
+    omega (arith, read, view)

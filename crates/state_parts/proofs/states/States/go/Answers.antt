@@ -1,11 +1,12 @@
-use Rattle.std.proofs.Common.{◌≡◌, ℕ, List, Some, map, length, sym, ap, ◌∙◌, subst}
+use Rattle.std.proofs.Common.{◌≡◌, ℕ, List, Some, map, length, sym, ap, ◌∙◌, subst, arith}
 use Rattle.std.proofs.lemmas.Option.{same_Some}
+use Rattle.object_store.specs.declared.sizes.Sizes.{Sizes}
 use Rattle.object_store.specs.Store.{Store, sizes_of}
 use Rattle.machine_state.specs.Taking.{names_of}
 use Rattle.object_parts.specs.Objects.{object_in}
 use Rattle.state_parts.specs.StandingLaws.{standing_in}
 use Rattle.state_parts.specs.Space.{store_of}
-use Rattle.state_parts.specs.States.{tables_of, IsDesk}
+use Rattle.state_parts.specs.States.{StatesValue, tables_of, IsDesk}
 use Rattle.state_parts.specs.Standing.{standing_at}
 use Rattle.state_parts.proofs.Stepping.{target_of, machine_of, desk_of, state_there, standing_some, standing_same, store_by_same}
 use Rattle.state_parts.proofs.Unchanged.{numbers_many}
@@ -67,3 +68,17 @@ go-requires-clause-stays g c =
     λ stays.
     let known = rw (← c.self.view_is) at c.stands_at-stays.ensures stays in
     same_Some (standing_at i.board.machine) (standing_in c.get-standing.result.now) (sym known ∙ c.get-standing.ensures.value)
+
+pub returns-in_err-go-clause-most : goal.returns-in_err-go-clause-most
+returns-in_err-go-clause-most g c =
+    let read = c.go.ensures.most in
+    let sizes = ap (λ (z : Sizes). z.gpts) c.self.invariant.1.same in
+    let view = ap (λ (v : StatesValue). v.tables.sizes.gpts) c.self.view_is in
+    omega (arith, read, sizes, view)
+
+pub returns-clause-most : goal.returns-clause-most
+returns-clause-most g c =
+    let read = c.go.ensures.most in
+    let sizes = ap (λ (z : Sizes). z.gpts) c.self.invariant.1.same in
+    let view = ap (λ (v : StatesValue). v.tables.sizes.gpts) c.self.view_is in
+    omega (arith, read, sizes, view)

@@ -1,4 +1,5 @@
-use Rattle.std.proofs.Common.{◌≡◌, Some, map, slice_get, ◌∙◌}
+use Rattle.std.proofs.Common.{◌≡◌, Some, map, slice_get, ap, ◌∙◌, arith}
+use Rattle.object_store.specs.declared.sizes.Sizes.{Sizes}
 use Rattle.object_store.specs.Store.{sizes_of}
 use Rattle.object_store.specs.Object.{IsEven}
 use Rattle.object_store.proofs.Same.{even_store}
@@ -13,7 +14,7 @@ use Rattle.state_parts.specs.Looking.{AreRanged}
 use Rattle.state_parts.specs.StandingLaws.{standing_in}
 use Rattle.state_parts.specs.Standing.{standing_at}
 use Rattle.state_parts.specs.Space.{AreTables}
-use Rattle.state_parts.specs.States.{tables_of}
+use Rattle.state_parts.specs.States.{StatesValue, tables_of}
 use Rattle.state_parts.proofs.Holding.{held_live, means_live}
 use Rattle.state_parts.proofs.Stepping.{tables_grown, desk_grown, standing_grown, standing_some}
 use Rattle.state_parts.proofs.states.States.key.Goals as goal
@@ -105,3 +106,17 @@ returns-clause-means g c =
     let at : slice_get new c.in_ok-standing.standing ≡ Some (standing_at m) = rw here at c.in_ok-standing.ensures.value in
     let reads : Reads more c.in_ok-parts.parts.items (objects_of names (live_store m.objects)) = rw c.as_slice.ensures.value at c.in_ok-parts.ensures.reads in
     rw (← c.self.view_is) (means_live t key m.objects (standing_at m) tables even sizes reads at)
+
+pub returns-in_err-parts-clause-most : goal.returns-in_err-parts-clause-most
+returns-in_err-parts-clause-most g c =
+    let read = c.look-parts.ensures.most in
+    let sizes = ap (λ (z : Sizes). z.gpts) (c.machine-machine.ensures.sizes ∙ c.self.invariant.1.same) in
+    let view = ap (λ (v : StatesValue). v.tables.sizes.gpts) c.self.view_is in
+    omega (arith, read, sizes, view)
+
+pub returns-clause-most : goal.returns-clause-most
+returns-clause-most g c =
+    let read = c.look-parts.ensures.most in
+    let sizes = ap (λ (z : Sizes). z.gpts) (c.machine-machine.ensures.sizes ∙ c.self.invariant.1.same) in
+    let view = ap (λ (v : StatesValue). v.tables.sizes.gpts) c.self.view_is in
+    omega (arith, read, sizes, view)

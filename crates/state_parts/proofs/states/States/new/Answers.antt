@@ -1,14 +1,17 @@
-use Rattle.std.proofs.Common.{◌≡◌, map, sym, ap, ◌∙◌, subst}
+use Rattle.std.proofs.Common.{◌≡◌, ◌*◌, ◌≤◌, List, map, sym, ap, ◌∙◌, subst, arith}
 use Rattle.cap_format.specs.Capability.{IsCapability}
 use Rattle.object_store.specs.declared.sizes.Sizes.{Sizes}
 use Rattle.object_store.specs.Store.{Store, sizes_of, empty_store}
 use Rattle.object_store.specs.Ahead.{EachCapability}
-use Rattle.machine_state.specs.Taking.{names_of}
+use Rattle.object_store.specs.Object.{ObjectName}
+use Rattle.machine_state.specs.declared.taking.Name.{Name}
+use Rattle.machine_state.specs.Taking.{names_of, slots_taken}
 use Rattle.object_parts.specs.Live.{live_store}
 use Rattle.object_parts.specs.Objects.{object_in}
 use Rattle.state_parts.specs.Keys.{AreAll, objects_of, Reads}
 use Rattle.state_parts.specs.StandingLaws.{standing_in}
 use Rattle.state_parts.specs.States.{tables_of}
+use Rattle.state_parts.proofs.Boards.{slots_there}
 use Rattle.state_parts.proofs.Whole.{names_there, sizes_empty}
 use Rattle.state_parts.proofs.Unchanged.{live_empty, ranges_empty}
 use Rattle.state_parts.proofs.Stepping.{standing_none}
@@ -44,3 +47,27 @@ invariant_of-result g c =
       },
       standing_none (tables_of c.sizes-sizes.result names T S) c.in_ok-board.board.machine,
     )
+
+-- all names of a store of these sizes have no more slots than there are
+slots_all : (sizes : Sizes) (names : List ObjectName) → AreAll sizes names → slots_taken names ≤ 16 * sizes.gpts
+slots_all sizes names all =
+    let All_of : Sizes → Type 0 = λ x. AreAll x names in
+    let few = slots_there (empty_store sizes) names (names_there (empty_store sizes) names (subst All_of (sym (sizes_empty sizes)) all)) all.once in
+    let gpts = ap (λ (z : Sizes). z.gpts) (sizes_empty sizes) in
+    omega (arith, few, gpts)
+
+pub returns-in_err-at-clause-most : goal.returns-in_err-at-clause-most
+returns-in_err-at-clause-most g c =
+    let few = slots_all c.sizes-sizes.result (names_of c.in_ok-names.names.items) c.in_ok-names.ensures in
+    let slices = ap (λ (xs : List Name). slots_taken (names_of xs)) c.as_slice-2.ensures.value in
+    let read = c.look_anew.ensures.most in
+    let sizes = ap (λ (z : Sizes). z.gpts) (c.sizes-sizes.ensures.value ∙ ap sizes_of c.objects.ensures) in
+    omega (arith, few, slices, read, sizes)
+
+pub returns-clause-most : goal.returns-clause-most
+returns-clause-most g c =
+    let few = slots_all c.sizes-sizes.result (names_of c.in_ok-names.names.items) c.in_ok-names.ensures in
+    let slices = ap (λ (xs : List Name). slots_taken (names_of xs)) c.as_slice-2.ensures.value in
+    let read = c.look_anew.ensures.most in
+    let sizes = ap (λ (z : Sizes). z.gpts) (c.sizes-sizes.ensures.value ∙ ap sizes_of c.objects.ensures) in
+    omega (arith, few, slices, read, sizes)
