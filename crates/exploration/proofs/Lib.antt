@@ -6,3 +6,4 @@ mod Answered
 mod EveryEvent
 mod Spaces
 mod Shown
+pub mod Slots

@@ -1,7 +1,7 @@
 -- Explorations: what is searched for a question, and what is so of the machine. (Own.)
 --
 -- All is said of the abstract machine: of the states to which lists of the question's choices lead from a state.
-use Rattle.std.specs.Prelude.{◌≡◌, ◌≢◌, ℕ, suc, ◌*◌, ◌<◌, ◌≤◌, ◌⊎◌, Bool, true, false, List, ◌++◌, length, map, slice_get, slice_index, Some, None, MatchOption, count_by, ⊤}
+use Rattle.std.specs.Prelude.{◌≡◌, ◌≢◌, ℕ, suc, ◌+◌, ◌*◌, ◌<◌, ◌≤◌, ◌⊎◌, Bool, true, false, List, ◌++◌, length, map, slice_get, slice_index, Some, None, MatchOption, count_by, sum_by, ⊤}
 use Rattle.std.specs.List.{All, Contains}
 use Rattle.machine_state.specs.State.{State}
 use Rattle.separation_policy.specs.Policy.{PolicyValue}
@@ -19,12 +19,18 @@ use Rattle.breadth_first.specs.declared.answer.Explored.TheVariants.{Found, Clos
 use Rattle.questions.specs.Choice.{AreChoices, after, after_choice, choice_at}
 use Rattle.questions.specs.declared.asks.Asks.{Asks}
 use Rattle.questions.specs.declared.asks.Asks.TheVariants.{Must, MustAfter}
-use Rattle.questions.specs.Question.{PropertyValue, QuestionValue, choices_of, first_failing, first_holds, holds, is_count, is_ever, is_must, is_must_after, is_never, watch_for}
+use Rattle.questions.specs.Question.{PropertyValue, QuestionValue, atoms_in, choices_of, count_atoms, first_failing, first_holds, holds, is_count, is_ever, is_must, is_must_after, is_never, watch_for}
 use Rattle.questions.specs.Asking.{asking, is_want, property_at}
+use Rattle.state_choices.specs.Slots.{all_slots, choice_slots}
 
 -- where a choice leads, by its number
 abbrev pub next_state : QuestionValue → State → ℕ → State
 next_state question t i = after_choice (watch_for question.properties) t (choice_at (choices_of question) i)
+
+-- how many slots of GPTs any other look at a state reads at most: to go there, whether the policy holds, and what the atoms of
+-- all properties ask. All states have as many GPTs as this one
+abbrev pub look_slots : QuestionValue → State → ℕ
+look_slots question s = all_slots s + all_slots s + 16 * sum_by (λ property. atoms_in property + count_atoms property.first) question.properties
 
 -- what is searched for a question: the states of the abstract machine from this one on, where `same` compares two
 abbrev pub system_of : QuestionValue → PolicyValue → (State → State → Bool) → State → System State
@@ -37,6 +43,8 @@ system_of question policy same s = record {
   tests = length question.properties;
   test = λ n t. holds question policy t n;
   first = λ n t. first_holds question policy t n;
+  cost = λ t n. choice_slots (watch_for question.properties) t (choice_at (choices_of question) n);
+  look = look_slots question s;
 }
 
 -- what a property wants of the states that are reached, by its number, where it asks what comes

@@ -1,4 +1,5 @@
 pub mod Explored
 pub mod Shown
 pub mod Laws
+pub mod Slots
 pub mod machine_space

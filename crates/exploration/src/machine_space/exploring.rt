@@ -1,12 +1,15 @@
 //! The search for a question, from a machine on.
 ghost use Rattle.std.specs.Prelude.{◌≡◌, ◌<◌, ◌++◌, length, IfOk, OnOk};
 ghost use Rattle.questions.specs.Asking.{property_at};
+ghost use Rattle.breadth_first.specs.Spending.{SpendsAtMost};
 ghost use Rattle.std.specs.List.{All};
 ghost use Rattle.object_store.specs.Store.{sizes_of};
 ghost use Rattle.machine_state.specs.State.{state_of};
 ghost use Rattle.questions.specs.Choice.{IsChoiceOf};
 ghost use Rattle.exploration.specs.Laws.{IsAnswerTo};
 ghost use Rattle.exploration.specs.Explored.{want_by, wants_by};
+ghost use Rattle.exploration.specs.Slots.{ExploresFor, SearchesFor, explored_in, starting_slots};
+ghost use Rattle.exploration.specs.machine_space.Space.{SearchSpends};
 ghost use Rattle.exploration.specs.Shown.{shown_of, told_path};
 
 use crate::machine_space::asked::{Asked, asked_of};
@@ -35,13 +38,13 @@ pub struct Answered {
 
 /// Goes through the states that a machine can come to by the choices of a question, and answers it. An error is want of
 /// memory, or there were more than 2^32 states or choices.
-pub fn explore_machine<'a, W: Watcher, L: Ledger>(
+pub fn explore_machine<W: Watcher, L: Ledger>(
     alloc: Global,
     machine: Machine<MapCache>,
-    question: &'a Question,
-    policy: &'a Policy,
+    question: &Question,
+    policy: &Policy,
     watcher: &mut W,
-    fetches: &'a mut Steps<L>,
+    fetches: &mut Steps<L>,
 ) -> Result<Answered, OutOfMemory>
     requires { question.now.sizes ≡ sizes_of machine.objects }
     ensures answer { IfOk result (λ answered.
@@ -49,18 +52,21 @@ pub fn explore_machine<'a, W: Watcher, L: Ledger>(
     ensures shown { IfOk result (λ answered.
         answered.shown.items ≡ shown_of question.now (state_of machine) answered.explored) }
     ensures range { IfOk result (λ answered. All (IsChoiceOf question.now.sizes.harts) answered.shown.items) }
+    ensures fetched { ExploresFor question.now policy.now (state_of machine) (explored_in result)
+        fetches.old fetches.new }
 {
     let mut space = space_of(alloc, machine, question, policy, fetches)?;
-    answer_of(alloc, &mut space, question, watcher)
+    answer_of(alloc, &mut space, question, watcher, fetches)
 }
 
 /// The answer of a search of a space, with the choices that it tells. The space is lent, so that what it owns is dropped in one
 /// place of its owner, and not at each of the exits here.
 fn answer_of<'a, W: Watcher, L: Ledger>(
     alloc: Global,
-    space: &mut MachineSpace<'a, L>,
+    space: &mut MachineSpace<'a>,
     question: &Question,
     watcher: &mut W,
+    fetches: &mut Steps<L>,
 ) -> Result<Answered, OutOfMemory>
     requires question { space.old.question ≡ question.now }
     requires sizes { sizes_of space.old.start.store ≡ question.now.sizes }
@@ -69,10 +75,12 @@ fn answer_of<'a, W: Watcher, L: Ledger>(
     ensures shown { IfOk result (λ answered.
         answered.shown.items ≡ shown_of question.now space.old.start answered.explored) }
     ensures range { IfOk result (λ answered. All (IsChoiceOf question.now.sizes.harts) answered.shown.items) }
+    ensures fetched { SearchesFor space.old.question space.old.policy space.old.start
+        (explored_in result) fetches.old fetches.new }
 {
-    let explored = search(alloc, space, question, watcher)?;
+    let explored = search(alloc, space, question, watcher, fetches)?;
     let path = told_path(alloc, &explored)?;
-    let shown = space.counted_from_start(question, path.as_slice())?;
+    let shown = space.counted_from_start(question, path.as_slice(), fetches)?;
     Ok(Answered { explored, shown })
 }
 
@@ -82,12 +90,14 @@ fn space_of<'a, L: Ledger>(
     machine: Machine<MapCache>,
     question: &'a Question,
     policy: &'a Policy,
-    fetches: &'a mut Steps<L>,
-) -> Result<MachineSpace<'a, L>, OutOfMemory>
+    fetches: &mut Steps<L>,
+) -> Result<MachineSpace<'a>, OutOfMemory>
     requires { question.now.sizes ≡ sizes_of machine.objects }
     ensures question { IfOk result (λ space. space.question ≡ question.now) }
     ensures policy { IfOk result (λ space. space.policy ≡ policy.now) }
     ensures start { IfOk result (λ space. space.start ≡ state_of machine) }
+    ensures fetched { SpendsAtMost (starting_slots question.now (state_of machine))
+        fetches.old fetches.new }
 {
     let Asked {
         closure,
@@ -108,25 +118,27 @@ fn space_of<'a, L: Ledger>(
         states,
         start,
         records: Records::new(),
-        fetches,
     })
 }
 
 /// Searches a space for the question that it is about.
 fn search<'a, W: Watcher, L: Ledger>(
     alloc: Global,
-    space: &mut MachineSpace<'a, L>,
+    space: &mut MachineSpace<'a>,
     question: &Question,
     watcher: &mut W,
+    fetches: &mut Steps<L>,
 ) -> Result<Explored, OutOfMemory>
     requires { space.old.question ≡ question.now }
     ensures answer { IfOk result (IsAnswerTo space.old.question space.old.policy space.old.start) }
     ensures start { OnOk result (space.new.start ≡ space.old.start) }
+    ensures fetched { SearchSpends space.old.question space.old.policy space.old.start result
+        fetches.old fetches.new }
 {
     let wants = wants_of(alloc, question.properties())?;
     let counts = asking(alloc, question.properties(), Asks::Count)?;
     let limits = limits_of(question);
-    let explored = explore(alloc, space, &limits, &wants, &counts, watcher)?;
+    let explored = explore(alloc, space, &limits, &wants, &counts, watcher, fetches)?;
     Ok(explored)
 }
 

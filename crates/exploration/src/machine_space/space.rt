@@ -1,9 +1,10 @@
 //! The states of a machine as a space.
-ghost use Rattle.std.specs.Prelude.{◌≡◌, IfOk};
+ghost use Rattle.std.specs.Prelude.{◌≡◌, ◌+◌, ◌≤◌, IfOk};
 ghost use Rattle.std.specs.List.{All};
 ghost use Rattle.object_store.specs.Store.{sizes_of};
 ghost use Rattle.questions.specs.Choice.{AreChoices, IsChoiceOf, counted_path};
 ghost use Rattle.questions.specs.Question.{choices_of, watch_for};
+ghost use Rattle.exploration.specs.Slots.{telling_slots};
 
 use breadth_first::Space;
 use cap_format::OutOfMemory;
@@ -20,7 +21,7 @@ use steps::Steps;
 
 /// The states that a machine can come to by the choices of a question.
 #[derive(Drop)]
-pub(crate) struct MachineSpace<'a, L: Ledger> {
+pub(crate) struct MachineSpace<'a> {
     pub(crate) alloc: Global,
     pub(crate) question: &'a Question,
     pub(crate) policy: &'a Policy,
@@ -36,10 +37,9 @@ pub(crate) struct MachineSpace<'a, L: Ledger> {
     pub(crate) start: Key,
     /// What the last event told.
     pub(crate) records: Records,
-    pub(crate) fetches: &'a mut Steps<L>,
 }
 
-impl<'a, L: Ledger> Model for MachineSpace<'a, L> {
+impl<'a> Model for MachineSpace<'a> {
     ghost use Rattle.state_parts.specs.Space.{state_in};
     ghost use Rattle.exploration.specs.machine_space.Space.{IsSpace, SpaceValue};
 
@@ -55,22 +55,26 @@ impl<'a, L: Ledger> Model for MachineSpace<'a, L> {
     ghost invariant = { λ s. IsSpace s.question.now s.policy.now s.indifferent s.closure s.choices.items s.watched s.states.tables s.start };
 }
 
-impl<'a, L: Ledger> MachineSpace<'a, L> {
+impl<'a> MachineSpace<'a> {
     /// The choices of these numbers, made one after the other from the start, with their steps counted.
-    pub(crate) fn counted_from_start(
+    pub(crate) fn counted_from_start<L: Ledger>(
         &mut self,
         question: &Question,
         path: &[u32],
+        fetches: &mut Steps<L>,
     ) -> Result<Vec<Choice>, OutOfMemory>
         requires sizes { sizes_of self.old.start.store ≡ question.now.sizes }
         requires path { AreChoices (choices_of question.now) path.now }
         ensures counted { IfOk result (λ counted. counted.items ≡ counted_path
             (watch_for question.now.properties) (choices_of question.now) self.old.start path.now) }
         ensures range { IfOk result (λ counted. All (IsChoiceOf question.now.sizes.harts) counted.items) }
+        ensures least { fetches.old ≤ fetches.new }
+        ensures most { fetches.new ≤ fetches.old
+            + telling_slots question.now self.old.start path.now }
     {
         let choices = question.choices(self.alloc)?;
         let watched = watched_in(self.alloc, question.properties())?;
-        self.states.go(&self.start, self.fetches)?;
+        self.states.go(&self.start, fetches)?;
         counted(
             self.alloc,
             &mut self.states,
@@ -79,12 +83,12 @@ impl<'a, L: Ledger> MachineSpace<'a, L> {
             &watched,
             &mut self.looks,
             &mut self.records,
-            self.fetches,
+            fetches,
         )
     }
 }
 
-impl<'a, L: Ledger> Space for MachineSpace<'a, L> {
+impl<'a> Space for MachineSpace<'a> {
     ghost use Rattle.std.specs.Prelude.{◌≡◌};
     ghost use Rattle.machine_state.specs.State.{State, state_of};
     ghost use Rattle.state_parts.specs.Space.{state_in};
@@ -112,8 +116,8 @@ impl<'a, L: Ledger> Space for MachineSpace<'a, L> {
         self.choices.len() as u32
     }
 
-    fn start(&mut self) -> Result<Key, AllocError> {
-        let Ok(()) = self.states.go(&self.start, self.fetches) else {
+    fn start<L: Ledger>(&mut self, fetches: &mut Steps<L>) -> Result<Key, AllocError> {
+        let Ok(()) = self.states.go(&self.start, fetches) else {
             return Err(AllocError);
         };
         let Ok(key) = self.start.copy(self.alloc) else {
@@ -122,7 +126,12 @@ impl<'a, L: Ledger> Space for MachineSpace<'a, L> {
         Ok(key)
     }
 
-    fn successor(&mut self, from: &Key, choice: u32) -> Result<Key, AllocError> {
+    fn successor<L: Ledger>(
+        &mut self,
+        from: &Key,
+        choice: u32,
+        fetches: &mut Steps<L>,
+    ) -> Result<Key, AllocError> {
         let choice = self.choices[choice as usize];
         integrity();
         let Ok(key) = chosen(
@@ -133,26 +142,35 @@ impl<'a, L: Ledger> Space for MachineSpace<'a, L> {
             &self.watched,
             &mut self.looks,
             &mut self.records,
-            self.fetches,
+            fetches,
         ) else {
             return Err(AllocError);
         };
         Ok(key)
     }
 
-    fn violated(&mut self, _key: &Key) -> Result<Option<usize>, AllocError> {
+    fn violated<L: Ledger>(
+        &mut self,
+        _key: &Key,
+        fetches: &mut Steps<L>,
+    ) -> Result<Option<usize>, AllocError> {
         Ok(first_failing(
             self.question,
             self.policy,
             &self.closure,
             self.indifferent,
             self.states.machine(),
-            self.fetches,
+            fetches,
         ))
     }
 
-    fn passes(&mut self, key: &Key, test: usize) -> Result<bool, AllocError> {
-        let Ok(()) = self.states.go(key, self.fetches) else {
+    fn passes<L: Ledger>(
+        &mut self,
+        key: &Key,
+        test: usize,
+        fetches: &mut Steps<L>,
+    ) -> Result<bool, AllocError> {
+        let Ok(()) = self.states.go(key, fetches) else {
             return Err(AllocError);
         };
         Ok(holds(
@@ -162,12 +180,17 @@ impl<'a, L: Ledger> Space for MachineSpace<'a, L> {
             self.indifferent,
             self.states.machine(),
             test,
-            self.fetches,
+            fetches,
         ))
     }
 
-    fn is_first(&mut self, key: &Key, test: usize) -> Result<bool, AllocError> {
-        let Ok(()) = self.states.go(key, self.fetches) else {
+    fn is_first<L: Ledger>(
+        &mut self,
+        key: &Key,
+        test: usize,
+        fetches: &mut Steps<L>,
+    ) -> Result<bool, AllocError> {
+        let Ok(()) = self.states.go(key, fetches) else {
             return Err(AllocError);
         };
         Ok(first_holds(
@@ -177,7 +200,7 @@ impl<'a, L: Ledger> Space for MachineSpace<'a, L> {
             self.indifferent,
             self.states.machine(),
             test,
-            self.fetches,
+            fetches,
         ))
     }
 }

@@ -4,6 +4,7 @@ use Rattle.quiet_finding.specs.Watched.{watch_of}
 use Rattle.state_parts.specs.Space.{state_in}
 use Rattle.questions.specs.Choice.{choice_events}
 use Rattle.questions.specs.Question.{IsIndifferent}
+use Rattle.exploration.proofs.Slots.{choice-spent}
 use Rattle.exploration.proofs.Spaces.{indifferent-run, keeps_grown, next-means, space_grown}
 use Rattle.exploration.proofs.machine_space.space.MachineSpaceSpace.successor.Goals as goal
 
@@ -47,3 +48,27 @@ returns-clause-means g c =
     rw (← c.self.view_is)
     (next-means i.question.now (watch_of i.watched) i.choices.items c.args.choice choice choice (state_in i.states.tables c.args.from.now) (state_in c.chosen.new.states.tables c.in-Ok.key) kept.watches kept.given within
     c.index-choice.ensures c.in-Ok.ensures.means)
+
+-- ---- how many slots are read
+
+pub returns-in_default-clause-spends : goal.returns-in_default-clause-spends
+returns-in_default-clause-spends g c =
+    let i = c.self.inside in
+    let kept = c.self.invariant in
+    let choice = c.index-choice.result.now in
+    let asked = rw (← c.self.view_is) at c.requires.choice in
+    let within : c.args.choice < length i.choices.items = omega (arith, asked, ap length kept.given) in
+    rw (← c.self.view_is)
+    (choice-spent i.question.now (watch_of i.watched) i.choices.items c.args.choice choice choice (state_in i.states.tables c.args.from.now) kept.watches kept.given within c.index-choice.ensures
+    c.chosen.ensures.least c.chosen.ensures.most)
+
+pub returns-clause-spends : goal.returns-clause-spends
+returns-clause-spends g c =
+    let i = c.self.inside in
+    let kept = c.self.invariant in
+    let choice = c.index-choice.result.now in
+    let asked = rw (← c.self.view_is) at c.requires.choice in
+    let within : c.args.choice < length i.choices.items = omega (arith, asked, ap length kept.given) in
+    rw (← c.self.view_is)
+    (choice-spent i.question.now (watch_of i.watched) i.choices.items c.args.choice choice choice (state_in i.states.tables c.args.from.now) kept.watches kept.given within c.index-choice.ensures
+    c.chosen.ensures.least c.chosen.ensures.most)
