@@ -5,5 +5,6 @@ mod Stating
 mod Verdicts
 mod Setting
 mod Asking
+mod Slots
 pub mod Called
 mod Wanting

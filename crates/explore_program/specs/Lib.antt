@@ -4,4 +4,5 @@ pub mod explored_text
 pub mod Told
 pub mod Wanting
 pub mod Program
+pub mod Slots
 pub mod Theorem

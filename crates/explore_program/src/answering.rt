@@ -1,10 +1,11 @@
 //! A machine explored, and its answer told.
-ghost use Rattle.std.specs.Prelude.{◌≡◌, ◌≢◌};
+ghost use Rattle.std.specs.Prelude.{◌≡◌, ◌≢◌, ◌≤◌};
 ghost use Rattle.object_store.specs.Store.{sizes_of};
 ghost use Rattle.machine_state.specs.State.{state_of};
 ghost use Rattle.questions.specs.Asking.{asking, is_want};
 ghost use Rattle.questions.specs.Question.{is_count};
 ghost use Rattle.courses.specs.Ending.{EndsIn};
+ghost use Rattle.explore_program.specs.Slots.{Explores};
 ghost use Rattle.explore_program.specs.Told.{Answers, Tells, exit_of, told_with, written_exit};
 
 use crate::asked::Asked;
@@ -39,6 +40,9 @@ pub(crate) fn answer<K: Sink, W: Watcher, L: Ledger>(
     ensures tells { Tells result (Answers asked.now (state_of machine)) (λ told.
         result ≢ Exit.OutOfMemory → EndsIn K.taken K.faults output.old output.new result told) }
     ensures unwritten { result ≡ Exit.OutOfMemory → output.new ≡ output.old }
+    ensures read { result ≢ Exit.ReadFault }
+    ensures least { fetches.old ≤ fetches.new }
+    ensures fetched { Explores asked.now (state_of machine) fetches.old fetches.new result }
 {
     explored_laws();
     never_stepwise_law();
@@ -90,6 +94,7 @@ fn tell<K: Sink>(
     ensures ends { EndsIn K.taken K.faults output.old output.new result
         (told_with asked.now answered.now.shown.items answered.now.explored) }
     ensures memory { result ≢ Exit.OutOfMemory }
+    ensures read { result ≢ Exit.ReadFault }
 {
     let properties = asked.question.properties();
     let written = put_explored(

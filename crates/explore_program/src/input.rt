@@ -1,13 +1,16 @@
 //! A listing, the lines of a question and a schedule, from the first line to the last.
-ghost use Rattle.std.specs.Prelude.{◌≡◌, false, IfSome};
+ghost use Rattle.std.specs.Prelude.{◌≡◌, ◌⊎◌, ◌≤◌, false, IfSome};
 ghost use Rattle.coy_io.specs.Reader.{TellsEnd, ahead};
 ghost use Rattle.object_store.specs.Store.{sizes_of};
 ghost use Rattle.machine_state.specs.State.{state_of};
+ghost use Rattle.map_cache.specs.Cache.{kept_of};
+ghost use Rattle.map_cache.specs.Kept.{nothing};
 ghost use Rattle.schedule_replay.specs.Scheduled.{OnParts};
 ghost use Rattle.courses.specs.Course.{cached, ends_in};
 ghost use Rattle.courses.specs.Stopped.{stop_exit};
 ghost use Rattle.courses.specs.Taken.{TakesLines, TakesListing};
 ghost use Rattle.explore_program.specs.Posed.{IfPosed, posed, posed_by};
+ghost use Rattle.explore_program.specs.Slots.{InputReads, StatedReads, WantsBefore};
 ghost use Rattle.explore_program.specs.Stated.{stated, untaken_exit};
 ghost use Rattle.explore_program.specs.Told.{Answers, Tells, explore_course, stated_output};
 ghost use Rattle.explore_program.specs.Wanting.{Wants, WantsBehind};
@@ -40,6 +43,9 @@ pub(crate) fn explore_input<S: Source, K: Sink, W: Watcher, L: Ledger>(
         (λ told. IfSome (S.held input.old) (λ bytes. IfPosed (λ asked s. Answers asked s told) (posed bytes)))
         (λ told. TakesListing S.held S.faults K.taken K.faults
         input.old input.new output.old output.new 0 0 result cached (explore_course told)) }
+    ensures least { fetches.old ≤ fetches.new }
+    ensures fetched { IfSome (S.held input.old) (λ bytes.
+        InputReads bytes fetches.old fetches.new result) }
     ensures wanting { result ≡ Exit.OutOfMemory → Wants (S.held input.old) (S.held input.new) }
 {
     let mut lines = LineReader::new();
@@ -75,12 +81,18 @@ fn ask_lines<S: Source, K: Sink, W: Watcher, L: Ledger>(
     requires reader { lines.old.failed ≡ false }
     requires told { TellsEnd lines.old (S.held input.old) }
     requires sizes { asked.question.sizes ≡ sizes_of machine.objects }
+    requires nothing { kept_of machine.translator ≡ nothing }
     ensures tells { Tells result
         (λ told. OnParts (ahead lines.old (S.held input.old)) (λ parts. IfPosed (λ asked s. Answers asked s told)
         (posed_by (state_of machine) machine.objects.harts (stated asked lines.old.number parts))))
         (λ told. TakesLines S.held S.faults K.taken K.faults lines.old lines.new
         input.old input.new output.old output.new 0 0 result cached (λ parts.
         ends_in (stated_output told machine.objects.harts (stated asked lines.old.number parts)))) }
+    ensures least { fetches.old ≤ fetches.new }
+    ensures fetched { OnParts (ahead lines.old (S.held input.old)) (λ parts.
+        WantsBefore fetches.old fetches.new result
+        ⊎ StatedReads cached (state_of machine) machine.objects.harts
+        (stated asked lines.old.number parts) fetches.old fetches.new result) }
     ensures wanting { result ≡ Exit.OutOfMemory →
         WantsBehind asked (state_of machine) machine.objects.harts lines.old lines.new
         (S.held input.old) (S.held input.new) }

@@ -5,6 +5,7 @@ ghost use Rattle.courses.specs.Ending.{Completes, EndsIn, HasCauses, IsGiven, Ou
 ghost use Rattle.courses.specs.Flush.{AnswersFor};
 ghost use Rattle.courses.specs.Program.{bytes_for, out, sure, HasForm, ReadsInput};
 ghost use Rattle.explore_program.specs.Program.{asked_by, explore, usage_text};
+ghost use Rattle.explore_program.specs.Slots.{FetchesFor};
 ghost use Rattle.explore_program.specs.Theorem.{Judges, TellsInput};
 ghost use Rattle.explore_program.specs.Wanting.{Wants};
 
@@ -48,9 +49,11 @@ pub fn explore<S: Source, K: Sink, W: Watcher, L: Ledger>(
     // where it does, but for a limit.
     ensures judges { Judges (map string_bytes words.now) (S.held input.old) result }
 
-    // How much of the input is read.
+    // How much of the input is read, and how many slots of GPTs.
     ensures reads { (told : Output) →
         ReadsInput (explore told) S.held (map string_bytes words.now) input.old input.new result }
+    ensures fetched { FetchesFor (map string_bytes words.now) (S.held input.old)
+        fetches.old fetches.new result }
 
     // Why it ends as it does.
     ensures form { (told : Output) → HasForm (explore told) (map string_bytes words.now) result }

@@ -1,4 +1,4 @@
-use Rattle.std.proofs.Common.{◌≤◌, ◌*◌, List, refl, ap, subst, arith}
+use Rattle.std.proofs.Common.{◌≤◌, ◌*◌, List, Some, refl, ap, subst, arith}
 use Rattle.object_store.specs.Ranges.{IsStore}
 use Rattle.object_store.specs.declared.sizes.Sizes.{Sizes}
 use Rattle.machine_state.specs.State.{state_of}
@@ -7,7 +7,10 @@ use Rattle.questions.specs.declared.choice.Choice.{Choice}
 use Rattle.explore_program.specs.Told.{told_by, told_with}
 use Rattle.explore_program.proofs.Rounds.{avoids-steps, must-steps}
 use Rattle.explore_program.proofs.Schedules.{leads-to}
+use Rattle.exploration.specs.Slots.{explored_in}
+use Rattle.exploration.proofs.Slots.{explores-grow}
 use Rattle.explore_program.proofs.Setting.{nothing_told}
+use Rattle.explore_program.proofs.Slots.{explores-wanting}
 use Rattle.explore_program.proofs.Verdicts.{answer-finished, done-holds, stepwise-within}
 use Rattle.explore_program.proofs.answering.answer.Goals as goal
 
@@ -60,3 +63,32 @@ returns-in-Ok-explore_machine-clause-tells g c =
 -- or could not be
 pub returns-clause-tells : goal.returns-clause-tells
 returns-clause-tells g c = record { told = nothing_told; finished = refl; answers = λ read memory. absurd (memory refl); so = λ memory. absurd (memory refl) }
+
+-- ---- how many slots are read
+
+pub returns-in_default-clause-fetched : goal.returns-in_default-clause-fetched
+returns-in_default-clause-fetched g c = explores-wanting c.args.asked.now (state_of c.args.machine) _
+
+pub returns-in_default-asking-clause-fetched : goal.returns-in_default-asking-clause-fetched
+returns-in_default-asking-clause-fetched g c = explores-wanting c.args.asked.now (state_of c.args.machine) _
+
+pub returns-in-Ok-explore_machine-clause-least : goal.returns-in-Ok-explore_machine-clause-least
+returns-in-Ok-explore_machine-clause-least g c =
+    explores-grow c.args.asked.now.question c.args.asked.now.policy (state_of c.args.machine) _ _ _ c.in-Ok-explore_machine.ensures.fetched
+
+pub returns-in-Ok-explore_machine-clause-fetched : goal.returns-in-Ok-explore_machine-clause-fetched
+returns-in-Ok-explore_machine-clause-fetched g c = record {
+  told = Some c.in-Ok-explore_machine.answered.explored;
+  answers = λ other. record { answer = c.in-Ok-explore_machine.answered.explored; is = refl; searched = c.in-Ok-explore_machine.ensures.answer };
+  reads = c.in-Ok-explore_machine.ensures.fetched;
+}
+
+pub returns-clause-least : goal.returns-clause-least
+returns-clause-least g c = explores-grow c.args.asked.now.question c.args.asked.now.policy (state_of c.args.machine) _ _ _ c.explore_machine.ensures.fetched
+
+pub returns-clause-fetched : goal.returns-clause-fetched
+returns-clause-fetched g c = record {
+  told = explored_in c.explore_machine.result;
+  answers = λ other. absurd (other refl);
+  reads = c.explore_machine.ensures.fetched;
+}

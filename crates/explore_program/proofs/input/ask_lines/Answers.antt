@@ -8,6 +8,7 @@ use Rattle.explore_program.specs.Stated.{Stated, untaken_exit}
 use Rattle.explore_program.specs.Told.{Answers}
 use Rattle.explore_program.proofs.Asking.{asks-none, on_stated, over-at, question-over, question-stopped}
 use Rattle.explore_program.proofs.Setting.{nothing_told}
+use Rattle.explore_program.proofs.Slots.{slots-over, slots-unstated}
 use Rattle.explore_program.proofs.Wanting.{stops-at}
 use Rattle.explore_program.proofs.input.ask_lines.Goals as goal
 
@@ -70,3 +71,21 @@ returns-in-Some-clause-wanting g c = λ lacks.
     let given = sym c.question_exit.ensures ∙ c.in-Some.is in
     let own = concludes-own g.K.Sink.taken g.K.Sink.faults _ _ c.conclude.result c.in-Some.exit c.conclude.ensures OutOfMemory (λ cut. cc) lacks in
     inl (stops-at c.args.asked c.read_questions-stop.new.asked c.args.lines.now c.read_questions-stop.new.lines _ _ c.read_questions-stop.result c.in-Some.exit e.states given own)
+
+-- ---- how many slots are read
+
+pub returns-in-None-clause-fetched : goal.returns-in-None-clause-fetched
+returns-in-None-clause-fetched g c =
+    let e = c.read_questions-stop.ensures in
+    let m = c.args.machine in
+    let is = stop-end untaken_exit c.read_questions-stop.result (sym c.question_exit.ensures ∙ c.in-None.is) in
+    let over = over-at c.args.asked c.read_questions-stop.new.asked c.args.lines.now c.read_questions-stop.new.lines _ _ c.read_questions-stop.result is e.states in
+    slots-over c.args.asked c.read_questions-stop.new.asked (state_of m) m.objects.harts c.args.lines.now.number c.read_questions-stop.new.lines.number _ _ _ _ c.set_up.result over.known c.set_up.ensures.fetched
+
+pub returns-in-Some-clause-fetched : goal.returns-in-Some-clause-fetched
+returns-in-Some-clause-fetched g c =
+    let e = c.read_questions-stop.ensures in
+    let m = c.args.machine in
+    let given = sym c.question_exit.ensures ∙ c.in-Some.is in
+    slots-unstated g.K.Sink.taken g.K.Sink.faults c.args.asked c.read_questions-stop.new.asked (state_of m) m.objects.harts c.args.lines.now c.read_questions-stop.new.lines _ _ _ _
+    c.conclude.result c.in-Some.exit _ c.read_questions-stop.result e.states given c.conclude.ensures

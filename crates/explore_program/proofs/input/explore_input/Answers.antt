@@ -1,4 +1,5 @@
 use Rattle.std.proofs.Common.{◌∙◌, ap, inl, refl, sym}
+use Rattle.map_cache.specs.Cache.{kept_of}
 use Rattle.courses.specs.Course.{cached}
 use Rattle.courses.proofs.Taken.{takes-listing, takes-same}
 use Rattle.explore_program.specs.Posed.{IfPosed}
@@ -6,6 +7,7 @@ use Rattle.explore_program.specs.Stated.{first_asked}
 use Rattle.explore_program.specs.Told.{Answers, explore_course}
 use Rattle.explore_program.proofs.Called.{asks-bytes, asks-unlisted, of-listing, takes-none}
 use Rattle.explore_program.proofs.Setting.{nothing_told}
+use Rattle.explore_program.proofs.Slots.{slots-behind, slots-unlisted, slots-wanting}
 use Rattle.explore_program.proofs.Wanting.{wants-input}
 use Rattle.explore_program.proofs.input.explore_input.Goals as goal
 
@@ -89,3 +91,27 @@ returns-clause-wanting g c = λ lacks.
     let start = c.in-Ok-new-2.ensures ∙ ap first_asked c.sizes-2.ensures.value in
     wants-input c.in-Ok.listing _ _ _ c.new-lines.result c.read_head.new.lines c.ask_lines.new.lines _ _ _ c.in-Ok-boot.ensures.state harts start
     c.new-lines.ensures c.in-Ok.ensures.listed c.in-Ok.ensures.given (c.ask_lines.ensures.wanting lacks)
+
+-- ---- how many slots are read
+
+pub ask_lines-requires-clause-nothing : goal.ask_lines-requires-clause-nothing
+ask_lines-requires-clause-nothing g c = ap kept_of c.in-Ok-boot.ensures.translator ∙ c.in-Ok-new.ensures.nothing
+
+pub returns-in-Err-clause-fetched : goal.returns-in-Err-clause-fetched
+returns-in-Err-clause-fetched g c = slots-unlisted _ _ c.in-Err.exit c.in-Err.ensures.ended.unlisted
+
+pub returns-in_default-clause-fetched : goal.returns-in_default-clause-fetched
+returns-in_default-clause-fetched g c = slots-wanting _ _
+
+pub returns-in_default-new-clause-fetched : goal.returns-in_default-new-clause-fetched
+returns-in_default-new-clause-fetched g c = slots-wanting _ _
+
+pub returns-in_default-boot-clause-fetched : goal.returns-in_default-boot-clause-fetched
+returns-in_default-boot-clause-fetched g c = slots-wanting _ _
+
+pub returns-clause-fetched : goal.returns-clause-fetched
+returns-clause-fetched g c =
+    let harts = ap (λ sizes. sizes.harts) c.in-Ok-boot.ensures.sizes in
+    let start = c.in-Ok-new-2.ensures ∙ ap first_asked c.sizes-2.ensures.value in
+    slots-behind c.in-Ok.listing _ _ _ _ c.in-Ok-boot.ensures.state harts start _ _ c.new-lines.result c.read_head.new.lines refl c.new-lines.ensures c.in-Ok.ensures.listed
+    _ _ c.ask_lines.result c.ask_lines.ensures.fetched

@@ -1,4 +1,4 @@
-use Rattle.std.proofs.Common.{◌≡◌, ◌∙◌, Some, None, map, string_bytes, ap, refl, sym}
+use Rattle.std.proofs.Common.{◌≡◌, ◌∙◌, Some, None, map, string_bytes, ap, arith, refl, sym}
 use Rattle.courses.proofs.Bytes.{known-output}
 use Rattle.courses.proofs.Lasts.{ends-own}
 use Rattle.courses.specs.Course.{cached}
@@ -82,3 +82,24 @@ returns-in-None-clause-judges g c =
 
 pub returns-in-None-clause-wanting : goal.returns-in-None-clause-wanting
 returns-in-None-clause-wanting g c = λ lacks. let own = ends-own _ _ _ _ _ _ c.usage-in-None.ensures OutOfMemory (λ cut. cc) lacks in cc
+
+-- ---- how many slots are read
+
+pub returns-in-Some-Explore-clause-fetched : goal.returns-in-Some-Explore-clause-fetched
+returns-in-Some-Explore-clause-fetched g c =
+    let asked : asked_by (map string_bytes c.args.words.now) ≡ Some Explore = sym c.read_words.ensures ∙ c.in-Some-Explore.is ∙ ap Some c.in-Some-Explore.field-0-is in
+    record { grows = c.explore_input.ensures.least; explored = λ again. c.explore_input.ensures.fetched; unread = λ other. absurd (other asked) }
+
+pub returns-in-Some-Help-clause-fetched : goal.returns-in-Some-Help-clause-fetched
+returns-in-Some-Help-clause-fetched g c = record {
+  grows = omega arith;
+  explored = λ asked. let bad : Some Help ≡ Some Explore = sym (c.in-Some-Help.is ∙ ap Some c.in-Some-Help.field-0-is) ∙ c.read_words.ensures ∙ asked in cc;
+  unread = λ other. refl;
+}
+
+pub returns-in-None-clause-fetched : goal.returns-in-None-clause-fetched
+returns-in-None-clause-fetched g c = record {
+  grows = omega arith;
+  explored = λ asked. let bad : None ≡ Some Explore = sym c.in-None.is ∙ c.read_words.ensures ∙ asked in cc;
+  unread = λ other. refl;
+}

@@ -1,4 +1,4 @@
-use Rattle.std.proofs.Common.{◌∙◌, ap, refl, subst, sym}
+use Rattle.std.proofs.Common.{◌∙◌, ap, arith, refl, subst, sym}
 use Rattle.machine_state.specs.State.{state_of}
 use Rattle.courses.specs.Stopped.{replay_exit}
 use Rattle.courses.proofs.Lacking.{concludes-memory, replay-memory}
@@ -6,6 +6,7 @@ use Rattle.courses.proofs.Rests.{run-ends}
 use Rattle.explore_program.specs.Posed.{IfPosed, IsPosed}
 use Rattle.explore_program.specs.Told.{Answers}
 use Rattle.explore_program.proofs.Setting.{asks-ended, asks-stopped, from-start, no_write, nothing_told, schedule-ended, schedule-stopped}
+use Rattle.explore_program.proofs.Slots.{slots-ended, slots-stopped}
 use Rattle.explore_program.proofs.setting_up.set_up.Goals as goal
 
 -- the machine that is explored has the sizes of the question
@@ -80,3 +81,31 @@ pub returns-in-Err-clause-wanting : goal.returns-in-Err-clause-wanting
 returns-in-Err-clause-wanting g c = λ lacks.
     let given = sym c.counts_or_exit.ensures ∙ c.in-Err.is in
     absurd (concludes-memory g.K.Sink.taken g.K.Sink.faults _ _ _ c.in-Err.exit (replay-memory c.replay-replayed.result c.in-Err.exit given) c.conclude.ensures lacks)
+
+-- ---- how many slots are read
+
+pub returns-in-Ok-clause-least : goal.returns-in-Ok-clause-least
+returns-in-Ok-clause-least g c =
+    let read = c.replay-replayed.ensures.replays.0.ran.counted in
+    let last = c.answer.ensures.least in
+    omega (arith, read, last)
+
+pub returns-in-Err-clause-least : goal.returns-in-Err-clause-least
+returns-in-Err-clause-least g c = let read = c.replay-replayed.ensures.replays.0.ran.counted in omega (arith, read)
+
+pub returns-in-Ok-clause-fetched : goal.returns-in-Ok-clause-fetched
+returns-in-Ok-clause-fetched g c =
+    let e = c.replay-replayed.ensures in
+    let m = c.args.machine in
+    let given = sym c.counts_or_exit.ensures ∙ c.in-Ok.is in
+    slots-ended m c.replay-replayed.new.machine c.args.asked.now c.requires.nothing m.objects.harts c.args.lines.now c.replay-replayed.new.lines _ _ e.replays.0.events _ _ c.replay-replayed.result
+    e.replays.0.ran e.replays.0.follows _ c.answer.result c.in-Ok._counts given c.answer.ensures.read c.answer.ensures.fetched
+
+pub returns-in-Err-clause-fetched : goal.returns-in-Err-clause-fetched
+returns-in-Err-clause-fetched g c =
+    let e = c.replay-replayed.ensures in
+    let m = c.args.machine in
+    let given = sym c.counts_or_exit.ensures ∙ c.in-Err.is in
+    slots-stopped m c.replay-replayed.new.machine c.args.asked.now c.requires.nothing m.objects.harts c.args.lines.now c.replay-replayed.new.lines _ _ e.replays.0.events _ _ c.replay-replayed.result
+    e.replays.0.ran e.replays.0.follows g.K.Sink.taken g.K.Sink.faults _ _ c.conclude.result c.in-Err.exit c.replay-replayed.result refl
+    (no_write (state_of m) _ _ e.replays.0.events c.replay-replayed.result e.replays.0.text) given c.conclude.ensures
