@@ -7,6 +7,7 @@ ghost use Rattle.courses.specs.Flush.{AnswersFor, GoesOutFor};
 ghost use Rattle.courses.specs.Program.{bytes_for, out, sure, HasForm, ReadsInput};
 ghost use Rattle.explore_program.specs.Program.{asked_by, explore};
 ghost use Rattle.explore_program.specs.Theorem.{Judges, TellsFlushed, TellsInput};
+ghost use Rattle.explore_program.specs.Wanting.{Wants};
 ghost use Rattle.program_entry.specs.Begins.{Begins, EndsWith};
 ghost use Rattle.program_entry.specs.Said.{Says};
 ghost use Rattle.program_entry.specs.Streams.{got_by, left_in, read_faults, said_by, said_faults};
@@ -104,6 +105,9 @@ pub fn run_and_flush<S: Source, W: Write + Drop, P: Watcher, L: Ledger>(
     ensures reads { (told : Output) →
         ReadsInput (explore told) S.held (map string_bytes words.now) input.old input.new result }
     ensures form { (told : Output) → HasForm (explore told) (map string_bytes words.now) result }
+
+    // Where memory was wanting, what of the input was read.
+    ensures wanting { result ≡ Exit.OutOfMemory → Wants (S.held input.old) (S.held input.new) }
 {
     let exit = counted::<_, _, _, L>(alloc, words, input, output, watcher, permit);
     flush_after(exit, output)
@@ -129,6 +133,7 @@ fn counted<S: Source, K: Sink, P: Watcher, L: Ledger>(
         ReadsInput (explore told) S.held (map string_bytes words.now) input.old input.new result }
     ensures form { (told : Output) → HasForm (explore told) (map string_bytes words.now) result }
     ensures unwritten { result ≡ Exit.OutOfMemory → K.taken output.new ≡ K.taken output.old }
+    ensures wanting { result ≡ Exit.OutOfMemory → Wants (S.held input.old) (S.held input.new) }
 {
     let mut fetches = Steps::<L>::new(permit);
     explore(alloc, words, input, output, watcher, &mut fetches)

@@ -1,5 +1,5 @@
 use Rattle.std.proofs.Common.{map, string_bytes, subst, sym}
-use Rattle.courses.proofs.Flushed.{goes-out-for}
+use Rattle.courses.proofs.Flushed.{flush-wanting, goes-out-for}
 use Rattle.courses.specs.Program.{HasForm, ReadsInput, bytes_for, out, sure}
 use Rattle.explore_program.specs.Program.{asked_by, explore}
 use Rattle.explore_program.specs.Theorem.{Judges}
@@ -32,3 +32,6 @@ returns-clause-form g c = λ told.
     let words = map string_bytes c.args.words.now in
     let e = c.flush_after.ensures in
     subst (HasForm (explore told) words) (sym e.ends) (form-after told words _ e.flushed (c.counted-exit.ensures.form told))
+
+pub returns-clause-wanting : goal.returns-clause-wanting
+returns-clause-wanting g c = λ lacks. c.counted-exit.ensures.wanting (flush-wanting _ _ _ _ _ _ _ c.flush_after.ensures lacks)

@@ -9,4 +9,5 @@ returns-in-Ok-output g c =
       judges = e.judges;
       reads = e.reads;
       form = e.form;
+      wanting = e.wanting;
     }))))
