@@ -1,10 +1,11 @@
 -- What one call of the program promises whose output is flushed behind it.
-use Rattle.std.specs.Prelude.{◌≡◌, ◌≢◌, ℕ, List, Option, Some, IfSome}
+use Rattle.std.specs.Prelude.{◌≡◌, ◌≢◌, ◌⊎◌, ℕ, List, Option, Some, IfSome}
 use Rattle.std.specs.declared.io.buffered.BufWriter.{BufWriter}
 use Rattle.coy_io.specs.declared.adapters.WriteSink.{WriteSink}
 use Rattle.confine_command.specs.Decided.{IsDecided}
 use Rattle.courses.specs.Flush.{GoesOutFor}
 use Rattle.courses.specs.Wanting.{StandsAtListing}
+use Rattle.image_binary.specs.Unpacked.{StandsAtStatement}
 use Rattle.courses.specs.declared.exit.Exit.{Exit}
 use Rattle.courses.specs.declared.exit.Exit.TheVariants.{Done, OutOfMemory}
 use Rattle.coyotos_words.specs.Command.{command_of}
@@ -21,3 +22,5 @@ pub record CallsFlushed {S W A : Type 0} (held : S → Option (List ℕ)) (sourc
   pub reads : ReadsInput held words input input' exit
   pub form : HasForm words exit
   pub wanting : command_of words ≢ Some Unpack → exit ≡ OutOfMemory → StandsAtListing (held input) (held input')
+  pub wanting_image : command_of words ≡ Some Unpack → exit ≡ OutOfMemory
+      → (input' ≡ input) ⊎ StandsAtStatement (held input) (held input')

@@ -1,10 +1,11 @@
 //! The program as its `main` calls it: with arguments, streams and a permit.
-ghost use Rattle.std.specs.Prelude.{◌≡◌, ◌≢◌, codes, map, string_bytes, IfSome, Some};
+ghost use Rattle.std.specs.Prelude.{◌≡◌, ◌≢◌, ◌⊎◌, codes, map, string_bytes, IfSome, Some};
 ghost use Rattle.confine_command.specs.Decided.{IsDecided};
 ghost use Rattle.coyotos_words.specs.Command.{command_of};
 ghost use Rattle.coyotos_words.specs.declared.command.Command.TheVariants.{Confine, Unpack};
 ghost use Rattle.courses.specs.Flush.{AnswersFor, GoesOutFor};
 ghost use Rattle.courses.specs.Wanting.{StandsAtListing};
+ghost use Rattle.image_binary.specs.Unpacked.{StandsAtStatement};
 ghost use Rattle.program_entry.specs.Begins.{Begins, EndsWith};
 ghost use Rattle.program_entry.specs.Said.{Says};
 ghost use Rattle.program_entry.specs.Streams.{got_by, left_in, read_faults, said_by, said_faults};
@@ -37,7 +38,8 @@ pub fn run_program<'a, R: Read + Drop, W: Write + Drop, E: Write + Drop, L: Ledg
     requires ledger { permit ≡ permit_for L.name L.parts }
     ensures { let old = streams.old in let new = streams.new in EndsWith result
         (Says (said_by E.contents) said_faults old.errors new.errors (codes "coyotos")) (λ exit.
-        Begins (given_words args) old.input new.input old.output new.output exit (λ words sink sink'.
+        Begins (given_words args) old.input new.input old.output new.output exit
+        (λ words sink sink'.
         CallsFlushed (left_in R.remaining) read_faults (got_by W.contents)
         old.input new.input sink sink' exit words)) }
 {
@@ -95,6 +97,11 @@ pub fn run_and_flush<S: Source, W: Write + Drop, L: Ledger>(
     // Where memory is wanting, no more was taken than a listing and what came with its last line.
     ensures wanting { command_of (map string_bytes words.now) ≢ Some Unpack →
         result ≡ Exit.OutOfMemory → StandsAtListing (S.held input.old) (S.held input.new) }
+
+    // For `unpack`: nothing was taken, or memory was wanting for a statement of the image, which was read last.
+    ensures wanting_image { command_of (map string_bytes words.now) ≡ Some Unpack →
+        result ≡ Exit.OutOfMemory →
+        (input.new ≡ input.old) ⊎ StandsAtStatement (S.held input.old) (S.held input.new) }
 {
     let exit = counted::<_, _, L>(alloc, words, input, output, permit);
     flush_after(exit, output)
@@ -120,6 +127,9 @@ fn counted<S: Source, K: Sink, L: Ledger>(
     ensures form { HasForm (map string_bytes words.now) result }
     ensures wanting { command_of (map string_bytes words.now) ≢ Some Unpack →
         result ≡ Exit.OutOfMemory → StandsAtListing (S.held input.old) (S.held input.new) }
+    ensures wanting_image { command_of (map string_bytes words.now) ≡ Some Unpack →
+        result ≡ Exit.OutOfMemory →
+        (input.new ≡ input.old) ⊎ StandsAtStatement (S.held input.old) (S.held input.new) }
 {
     let mut fetches = Steps::<L>::new(permit);
     coyotos(alloc, words, input, output, &mut fetches)

@@ -1,5 +1,5 @@
 //! The program as its `main` calls it: with arguments, streams and a permit.
-ghost use Rattle.std.specs.Prelude.{◌≡◌, codes, map, string_bytes};
+ghost use Rattle.std.specs.Prelude.{◌≡◌, ℕ, Some, codes, map, string_bytes};
 ghost use Rattle.courses.specs.Flush.{AnswersFor, GoesOutFor};
 ghost use Rattle.courses.specs.Program.{bytes_for, out, sure, HasForm, ReadsInput};
 ghost use Rattle.program_entry.specs.Begins.{Begins, EndsWith};
@@ -8,6 +8,9 @@ ghost use Rattle.program_entry.specs.Streams.{got_by, left_in, read_faults, said
 ghost use Rattle.program_entry.specs.Words.{given_words};
 ghost use Rattle.separation_program.specs.Flushed.{CallsFlushed};
 ghost use Rattle.separation_program.specs.Program.{asked_by, separation, Judges};
+ghost use Rattle.separation_program.specs.Slots.{WantsFor};
+ghost use Rattle.separation_program.specs.declared.words.Aim.{Aim};
+ghost use Rattle.separation_program.specs.declared.words.Asked.TheVariants.{Judge};
 ghost use Rattle.steps.specs.Permit.{permit_for};
 
 use crate::program::separation;
@@ -33,7 +36,8 @@ pub fn run_program<'a, R: Read + Drop, W: Write + Drop, E: Write + Drop, L: Ledg
     requires ledger { permit ≡ permit_for L.name L.parts }
     ensures { let old = streams.old in let new = streams.new in EndsWith result
         (Says (said_by E.contents) said_faults old.errors new.errors (codes "separation")) (λ exit.
-        Begins (given_words args) old.input new.input old.output new.output exit (λ words sink sink'.
+        Begins (given_words args) old.input new.input old.output new.output exit
+        (λ words sink sink'.
         CallsFlushed (left_in R.remaining) read_faults (got_by W.contents)
         old.input new.input sink sink' exit words)) }
 {
@@ -91,8 +95,15 @@ pub fn run_and_flush<S: Source, W: Write + Drop, L: Ledger>(
     ensures judges { Judges (map string_bytes words.now) (S.held input.old) result }
 
     // How much of the input is read, and to which words Usage is answered.
-    ensures reads { ReadsInput separation S.held (map string_bytes words.now) input.old input.new result }
+    ensures reads { ReadsInput separation S.held (map string_bytes words.now)
+        input.old input.new result }
     ensures form { HasForm separation (map string_bytes words.now) result }
+
+    // Where memory is wanting, no more was taken than a listing and what came with its last line, and no slot was read; or the
+    // whole input was read, and whole passages through the slots were made.
+    ensures wanting { (aim : Aim) → asked_by (map string_bytes words.now) ≡ Some (Judge aim) →
+        result ≡ Exit.OutOfMemory →
+        (slots : ℕ) × WantsFor aim (S.held input.old) (S.held input.new) 0 slots }
 {
     let exit = counted::<_, _, L>(alloc, words, input, output, permit);
     flush_after(exit, output)
@@ -112,8 +123,12 @@ fn counted<S: Source, K: Sink, L: Ledger>(
         AnswersFor S.held S.faults K.taken K.faults input.old input.new output.old output.new result
         (bytes_for separation (asked_by words)) (out separation words) (sure separation words) }
     ensures judges { Judges (map string_bytes words.now) (S.held input.old) result }
-    ensures reads { ReadsInput separation S.held (map string_bytes words.now) input.old input.new result }
+    ensures reads { ReadsInput separation S.held (map string_bytes words.now)
+        input.old input.new result }
     ensures form { HasForm separation (map string_bytes words.now) result }
+    ensures wanting { (aim : Aim) → asked_by (map string_bytes words.now) ≡ Some (Judge aim) →
+        result ≡ Exit.OutOfMemory →
+        (slots : ℕ) × WantsFor aim (S.held input.old) (S.held input.new) 0 slots }
 {
     let mut fetches = Steps::<L>::new(permit);
     separation(alloc, words, input, output, &mut fetches)

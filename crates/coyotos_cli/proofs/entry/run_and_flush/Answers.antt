@@ -12,3 +12,7 @@ returns-clause-output g c =
 
 pub returns-clause-wanting : goal.returns-clause-wanting
 returns-clause-wanting g c = λ other same. c.counted-exit.ensures.wanting other (flush-wanting _ _ _ _ _ _ _ c.flush_after.ensures same)
+
+pub returns-clause-wanting_image : goal.returns-clause-wanting_image
+returns-clause-wanting_image g c = λ asked same.
+    c.counted-exit.ensures.wanting_image asked (flush-wanting _ _ _ _ _ _ _ c.flush_after.ensures same)

@@ -10,4 +10,5 @@ returns-in-Ok-output g c =
       reads = e.reads;
       form = e.form;
       wanting = e.wanting;
+      wanting_image = e.wanting_image;
     }))))

@@ -1,5 +1,5 @@
 use Rattle.std.proofs.Common.{map, string_bytes, subst, sym}
-use Rattle.courses.proofs.Flushed.{goes-out-for}
+use Rattle.courses.proofs.Flushed.{flush-wanting, goes-out-for}
 use Rattle.courses.specs.Program.{bytes_for, out, sure}
 use Rattle.separation_program.specs.Program.{Judges, asked_by, separation}
 use Rattle.separation_program.proofs.Called.{judges-after}
@@ -15,3 +15,7 @@ returns-clause-judges g c =
     let words = map string_bytes c.args.words.now in
     let e = c.flush_after.ensures in
     subst (Judges words (g.S.Source.held c.args.input.now)) (sym e.ends) (judges-after words _ _ e.flushed c.counted-exit.ensures.judges)
+
+pub returns-clause-wanting : goal.returns-clause-wanting
+returns-clause-wanting g c = λ aim asked same.
+    c.counted-exit.ensures.wanting aim asked (flush-wanting _ _ _ _ _ _ _ c.flush_after.ensures same)
