@@ -33,7 +33,8 @@ pub fn confine<S: Source, K: Sink, L: Ledger>(
     output: &mut K,
     fetches: &mut Steps<L>,
 ) -> Exit
-    ensures course { TakesListing S.held S.faults K.taken K.faults input.old input.new output.old output.new
+    ensures course { TakesListing S.held S.faults K.taken K.faults input.old input.new output.old
+        output.new
         fetches.old fetches.new result cached confine_course }
 
     // What it tells of the cut is so of the listing's machine, for good.

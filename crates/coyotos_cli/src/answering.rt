@@ -42,7 +42,8 @@ pub(crate) fn answer<S: Source, K: Sink, L: Ledger>(
     ensures comes { IfSome (bytes_for (Some command) (S.held input.old)) (λ bytes.
         ComesFor (Some command) (K.taken output.old) (K.taken output.new)
         fetches.old fetches.new result (command_course command (whole_input bytes))) }
-    ensures end { is_finished result ≡ true → asks_input command ≡ true → IsAtEnd (S.held input.new) }
+    ensures end { is_finished result ≡ true → asks_input command ≡ true
+        → IsAtEnd (S.held input.new) }
     ensures unread { asks_input command ≡ false → input.new ≡ input.old }
     ensures unfailed { asks_input command ≡ false → result ≢ Exit.ReadFault }
     ensures sure { result ≡ Exit.ReadFault →

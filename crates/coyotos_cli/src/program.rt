@@ -73,7 +73,8 @@ pub fn coyotos<S: Source, K: Sink, L: Ledger>(
 
     // What `migrate` writes is, read again, the same statements and events, if it is short enough to be an input.
     ensures migrated { let words = map string_bytes words.now in command_of words ≡ Some Migrate →
-        result ≡ Exit.Done → IfSome (S.held input.old) (λ bytes. IsMigrated bytes (out words bytes).text) }
+        result ≡ Exit.Done → IfSome (S.held input.old)
+        (λ bytes. IsMigrated bytes (out words bytes).text) }
 
     // For the image that `pack` writes, `unpack` writes what `migrate` writes for the input, if it is short enough.
     ensures packed { let words = map string_bytes words.now in command_of words ≡ Some Pack →

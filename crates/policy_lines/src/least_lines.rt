@@ -112,17 +112,21 @@ fn find_least<T: Translator, L: Ledger>(
     found: &[Crossing],
     fetches: &mut Steps<L>,
 ) -> Result<Vec<Permission>, OutOfMemory>
-    ensures value { let all = lines_of (only policy.old (named_by (length policy.old.domains) found.now)) in
+    ensures value { let all = lines_of
+        (only policy.old (named_by (length policy.old.domains) found.now)) in
         IfOk result (λ kept. kept.items ≡
         thinned (λ some. holds_in (only policy.old some) (state_of machine.now)) [] all) }
     ensures bare { bare_policy policy.new ≡ bare_policy policy.old }
-    ensures counted { let all = lines_of (only policy.old (named_by (length policy.old.domains) found.now)) in
+    ensures counted { let all = lines_of
+        (only policy.old (named_by (length policy.old.domains) found.now)) in
         IfOk result (λ kept. fetches.new ≡
         fetches.old + 16 * size_of machine.now.objects.items Gpt * length all) }
-    ensures err { let all = lines_of (only policy.old (named_by (length policy.old.domains) found.now)) in
+    ensures err { let all = lines_of (only policy.old
+        (named_by (length policy.old.domains) found.now)) in
         OnErr result (ReadsWhole (16 * size_of machine.now.objects.items Gpt) (length all)
         fetches.old fetches.new) }
-    ensures most { let all = lines_of (only policy.old (named_by (length policy.old.domains) found.now)) in
+    ensures most { let all = lines_of (only policy.old
+        (named_by (length policy.old.domains) found.now)) in
         fetches.new ≤ fetches.old + 16 * size_of machine.now.objects.items Gpt * length all }
 {
     let named = named_by(alloc, policy.len(), found)?;

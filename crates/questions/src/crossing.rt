@@ -85,7 +85,8 @@ fn capability_crosses<L: Ledger>(
     fetches: &mut Steps<L>,
 ) -> bool
     requires { IsClosure policy.now closure.now }
-    ensures value { result ≡ is_any (capability_crossings policy.now (stored_cap objects.now) objects.now) }
+    ensures value { result ≡ is_any (capability_crossings policy.now (stored_cap objects.now)
+        objects.now) }
     ensures counted { result ≡ false → fetches.new
         ≡ fetches.old + 16 * size_of objects.now.items Gpt }
     ensures least { fetches.old ≤ fetches.new }

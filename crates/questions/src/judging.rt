@@ -32,7 +32,8 @@ pub fn is_indifferent<T: Translator, L: Ledger>(
     requires { IsClosure policy.now closure.now }
     ensures value { result ≡
         (not (list_any is_about_policy question.now.properties) || not (crosses policy.now (state_of machine.now))) }
-    ensures indifferent { IsTrue result → IsIndifferent question.now policy.now (state_of machine.now) }
+    ensures indifferent { IsTrue result
+        → IsIndifferent question.now policy.now (state_of machine.now) }
     ensures unasked { list_any is_about_policy question.now.properties ≡ false →
         fetches.new ≡ fetches.old }
     ensures least { fetches.old ≤ fetches.new }
@@ -90,9 +91,11 @@ pub fn holds<T: Translator, L: Ledger>(
     requires there { property < length question.now.properties }
     ensures value { result ≡ holds question.now policy.now (state_of machine.now) property }
     ensures least { fetches.old ≤ fetches.new }
-    ensures most { let asked = slice_index_or question.now.properties property (property_of 0 Asks.Never []) in
+    ensures most { let asked = slice_index_or question.now.properties property
+        (property_of 0 Asks.Never []) in
         fetches.new ≤ fetches.old + 16 * size_of machine.now.objects.items Gpt + 16 * atoms_in asked }
-    ensures few { let asked = slice_index_or question.now.properties property (property_of 0 Asks.Never []) in
+    ensures few { let asked = slice_index_or question.now.properties property
+        (property_of 0 Asks.Never []) in
         IsTrue indifferent → fetches.new ≤ fetches.old + 16 * atoms_in asked }
 {
     groups_hold(
@@ -123,9 +126,11 @@ pub fn first_holds<T: Translator, L: Ledger>(
     requires there { property < length question.now.properties }
     ensures value { result ≡ first_holds question.now policy.now (state_of machine.now) property }
     ensures least { fetches.old ≤ fetches.new }
-    ensures most { let asked = slice_index_or question.now.properties property (property_of 0 Asks.Never []) in
+    ensures most { let asked = slice_index_or question.now.properties property
+        (property_of 0 Asks.Never []) in
         fetches.new ≤ fetches.old + 16 * size_of machine.now.objects.items Gpt + 16 * count_atoms asked.first }
-    ensures few { let asked = slice_index_or question.now.properties property (property_of 0 Asks.Never []) in
+    ensures few { let asked = slice_index_or question.now.properties property
+        (property_of 0 Asks.Never []) in
         IsTrue indifferent → fetches.new ≤ fetches.old + 16 * count_atoms asked.first }
 {
     groups_hold(

@@ -60,7 +60,8 @@ fn watch_all(all: &mut Watched, atoms: &[Atom]) -> Result<(), OutOfMemory>
 /// Those that a condition looks at.
 fn watch(all: &mut Watched, condition: &Condition) -> Result<(), OutOfMemory>
     ensures { OnOk result (all.new
-        ≡ watched (all.old.processes ++ processes_in condition.now) (all.old.pages ++ pages_in condition.now)) }
+        ≡ watched (all.old.processes ++ processes_in condition.now)
+        (all.old.pages ++ pages_in condition.now)) }
 {
     match condition {
         Condition::Pc { process, .. } => all.watch_process(*process),
@@ -74,7 +75,8 @@ fn watch(all: &mut Watched, condition: &Condition) -> Result<(), OutOfMemory>
 /// Those that two terms look at.
 fn watch_both(all: &mut Watched, first: &Term, second: &Term) -> Result<(), OutOfMemory>
     ensures { OnOk result (all.new
-        ≡ watched (all.old.processes ++ (read_by operand_processes first.now ++ read_by operand_processes second.now))
+        ≡ watched (all.old.processes ++ (read_by operand_processes first.now
+        ++ read_by operand_processes second.now))
         (all.old.pages ++ (read_by operand_pages first.now ++ read_by operand_pages second.now))) }
 {
     watch_term(first, all)?;

@@ -191,7 +191,8 @@ fn push_kind<L: Ledger>(
         found.new.items ≡ found.old.items ++ crossings }
     ensures capacity { vec_capacity found.new ≡ vec_capacity found.old }
     ensures marks { result ≡ kind_marks policy.now (stored_cap objects.now) objects.now kind }
-    ensures counted { fetches.new ≡ fetches.old + object_reads kind * size_of objects.now.items kind }
+    ensures counted { fetches.new ≡ fetches.old
+        + object_reads kind * size_of objects.now.items kind }
 {
     let mut marks = Marks::none();
     'each: for n in 0..size(objects, kind) {
@@ -209,9 +210,11 @@ pub(crate) fn push_capabilities<L: Ledger>(
     fetches: &mut Steps<L>,
 ) -> Marks
     requires closure { IsClosure policy.now closure.now }
-    requires room { let crossings = capability_crossings policy.now (stored_cap objects.now) objects.now in
+    requires room { let crossings = capability_crossings policy.now (stored_cap objects.now)
+        objects.now in
         vec_len found.old + length crossings ≤ vec_capacity found.old }
-    ensures value { let crossings = capability_crossings policy.now (stored_cap objects.now) objects.now in
+    ensures value { let crossings = capability_crossings policy.now (stored_cap objects.now)
+        objects.now in
         found.new.items ≡ found.old.items ++ crossings }
     ensures capacity { vec_capacity found.new ≡ vec_capacity found.old }
     ensures marks { result ≡ all_marks policy.now (stored_cap objects.now) objects.now }

@@ -103,8 +103,10 @@ fn judge_lines<T: PageTranslator, S: Source, K: Sink, L: Ledger>(
         OnParts (ahead lines.old (S.held input.old)) (λ parts. HasJudged (TellsOf aim result)
         (judged_by (state_of m) m.objects.harts (stated policy.old lines.old.number parts))) }
     ensures fetched { let m = machine.old in
-        OnParts (ahead lines.old (S.held input.old)) (λ parts. Fetches fetches.old fetches.new result
-        (stated_slots (λ touches. spent T.cost T.after T.without (T.kept m.translator) touches) (judged_slots aim)
+        OnParts (ahead lines.old (S.held input.old))
+        (λ parts. Fetches fetches.old fetches.new result
+        (stated_slots (λ touches. spent T.cost T.after T.without (T.kept m.translator) touches)
+        (judged_slots aim)
         (state_of m) m.objects.harts (stated policy.old lines.old.number parts))) }
     ensures end { result ≡ Exit.OutOfMemory → IsAtEnd (S.held input.new) }
     ensures wanting { let m = machine.old in result ≡ Exit.OutOfMemory →

@@ -58,13 +58,16 @@ pub(crate) fn judge<T: PageTranslator, S: Source, K: Sink, L: Ledger>(
         OnParts (ahead lines.old (S.held input.old)) (λ parts. HasJudged (TellsOf aim result)
         (judged_of policy.old (state_of m) (scheduled m.objects.harts lines.old.number parts))) }
     ensures fetched { let m = machine.old in
-        OnParts (ahead lines.old (S.held input.old)) (λ parts. Fetches fetches.old fetches.new result
-        (judging_slots (λ touches. spent T.cost T.after T.without (T.kept m.translator) touches) (judged_slots aim)
+        OnParts (ahead lines.old (S.held input.old))
+        (λ parts. Fetches fetches.old fetches.new result
+        (judging_slots (λ touches. spent T.cost T.after T.without (T.kept m.translator) touches)
+        (judged_slots aim)
         policy.old (state_of m) (scheduled m.objects.harts lines.old.number parts))) }
     ensures end { result ≡ Exit.OutOfMemory → IsAtEnd (S.held input.new) }
     ensures wanting { let m = machine.old in result ≡ Exit.OutOfMemory →
         OnParts (ahead lines.old (S.held input.old)) (λ parts.
-        LacksBehind (λ touches. spent T.cost T.after T.without (T.kept m.translator) touches) aim policy.old
+        LacksBehind (λ touches. spent T.cost T.after T.without (T.kept m.translator) touches)
+        aim policy.old
         (state_of m) (scheduled m.objects.harts lines.old.number parts) fetches.old fetches.new) }
     ensures same { aim ≡ Aim.Holds → policy.new ≡ policy.old }
 {
@@ -137,13 +140,15 @@ fn tell_held<T: Translator, K: Sink, L: Ledger>(
     output: &mut K,
     fetches: &mut Steps<L>,
 ) -> Exit
-    ensures ends { let text = separated_by policy.old marks (unused_in policy.old (state_of machine.now)) in
+    ensures ends { let text = separated_by policy.old marks
+        (unused_in policy.old (state_of machine.now)) in
         result ≢ Exit.OutOfMemory → EndsIn K.taken K.faults output.old output.new result
         (record { text = text; exit = Exit.Done }) }
     ensures unwritten { result ≡ Exit.OutOfMemory → output.new ≡ output.old }
     ensures same { policy.new ≡ policy.old }
     ensures crossed { result ≢ Exit.Crossings }
-    ensures fetched { let all = 16 * gpts_of (state_of machine.now) * length (channels_of policy.old) in
+    ensures fetched { let all = 16 * gpts_of (state_of machine.now)
+        * length (channels_of policy.old) in
         Fetches fetches.old fetches.new result all }
     ensures wanting { let all = length (channels_of policy.old) in result ≡ Exit.OutOfMemory →
         ReadsWhole (16 * gpts_of (state_of machine.now)) all fetches.old fetches.new }

@@ -77,7 +77,8 @@ fn put_lines<K: Sink>(
     lines: &[Permission],
     output: &mut K,
 ) -> Result<(), WriteFault>
-    ensures { WroteTo K.taken K.faults output.old output.new result (lines_text policy.now lines.now) }
+    ensures { WroteTo K.taken K.faults output.old output.new result
+        (lines_text policy.now lines.now) }
 {
     'each: for place in 0..lines.len() {
         put_line(policy, line_at(lines, place), output)?;

@@ -51,8 +51,10 @@ pub fn separation<S: Source, K: Sink, L: Ledger>(
         (K.taken output.old) (K.taken output.new) (sure separation words) }
 
     // How much of the input is read, and how many slots of GPTs.
-    ensures reads { ReadsInput separation S.held (map string_bytes words.now) input.old input.new result }
-    ensures fetches { FetchesFor (map string_bytes words.now) (S.held input.old) fetches.old fetches.new result }
+    ensures reads { ReadsInput separation S.held (map string_bytes words.now)
+        input.old input.new result }
+    ensures fetches { FetchesFor (map string_bytes words.now) (S.held input.old)
+        fetches.old fetches.new result }
 
     // Why it ends as it does.
     ensures form { HasForm separation (map string_bytes words.now) result }
