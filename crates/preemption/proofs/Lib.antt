@@ -12,4 +12,5 @@ mod Beginning
 mod Idling
 mod Seeing
 mod Searching
+mod Choosing
 mod Testing

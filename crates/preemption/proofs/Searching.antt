@@ -1,16 +1,16 @@
 -- From all states that a search over the wide machine comes to, to all runs of few harts.
 use Rattle.std.proofs.Common.{◌≡◌, ℕ, zero, suc, ◌≤◌, ◌<◌, Bool, true, false, if◌then◌else◌, inl, inr, List, [], ◌∷◌, length, Option, Some, None, refl, sym, ◌∙◌, subst, subst₂, arith}
 use Rattle.std.proofs.lemmas.List.{length-set}
-use Rattle.schedules.specs.Queues.{QueuesValue, priorities, ready_queue, hart_of, first_of, rest_of, highest_below, taken_from, dispatched_by, dispatched}
+use Rattle.schedules.specs.Queues.{QueuesValue, priorities, ready_queue, hart_of, first_of, highest_below, taken_from, dispatched_by, dispatched}
 use Rattle.machine_state.specs.State.{State}
 use Rattle.kernel_core.specs.Run.{run_state}
 use Rattle.independence.proofs.Shape.{shape-sym}
-use Rattle.quiet_runs.specs.Runs.{Watch, RunsAreQuiet, SeesOnly, after_step, after_steps, after_runs}
+use Rattle.quiet_runs.specs.Runs.{after_step, after_steps, after_runs}
 use Rattle.quiet_runs.specs.Laws.{AreHarts, SimulationLaw}
 use Rattle.preemption.specs.Wide.{Spread, IsForEach}
 use Rattle.preemption.specs.Turns.{IsTurn, AreTurns, steps_of, StaysWithin}
 use Rattle.preemption.specs.Begun.{at_rest}
-use Rattle.preemption.specs.Searched.{Begin, IsMoved, IsIdle, IsSafe, StepsLaw, StepsWithinLaw, RunsLaw, RunsWithinLaw}
+use Rattle.preemption.specs.Searched.{Begin, StepsLaw, StepsWithinLaw, RunsLaw, RunsWithinLaw}
 use Rattle.preemption.proofs.Taking.{within}
 use Rattle.preemption.proofs.Runs.{run-within, same-but-places}
 use Rattle.preemption.proofs.Beginning.{start, rest, idle-at, length-idle}
@@ -19,18 +19,18 @@ use Rattle.preemption.proofs.Seeing.{sees as sees-data}
 -- ---- lists of steps
 
 -- none
-steps-none : (w : State) → after_steps w [] ≡ w
+pub steps-none : (w : State) → after_steps w [] ≡ w
 unfolding after_steps
 steps-none w = refl
 
 -- one, and more
-steps-more : (w : State) (p : ℕ) (ps : List ℕ)
+pub steps-more : (w : State) (p : ℕ) (ps : List ℕ)
     → after_steps w (p ∷ ps) ≡ after_steps (after_step w p) ps
 unfolding after_steps
 steps-more w p ps = refl
 
 -- they are events
-steps-run : (w : State) (ps : List ℕ) → run_state w (steps_of ps) ≡ after_steps w ps
+pub steps-run : (w : State) (ps : List ℕ) → run_state w (steps_of ps) ≡ after_steps w ps
 unfolding run_state after_steps
 steps-run w [] = refl
 steps-run w (p ∷ ps) = steps-run (after_step w p) ps
@@ -48,7 +48,7 @@ length-dispatched : (q : QueuesValue) (hart : ℕ) (on : Option ℕ)
 length-dispatched q hart None = length-taken q hart (highest_below q.ready priorities)
 length-dispatched q hart (Some p) = refl
 
-turn-hart : (w : State) (p : ℕ) → IsTurn w p → p < length w.queues.harts
+pub turn-hart : (w : State) (p : ℕ) → IsTurn w p → p < length w.queues.harts
 turn-hart w p turn = by w.halted turn
   where
     by : (b : Bool) → (if b then None else hart_of (dispatched w.queues p) p) ≡ Some p
@@ -83,7 +83,7 @@ module _ (many : ℕ) where
 
 -- ---- where both begin
 
-begin-spread : (few many : ℕ) (s w : State) → Begin few many s w → Spread few many s w
+pub begin-spread : (few many : ℕ) (s w : State) → Begin few many s w → Spread few many s w
 begin-spread few many s w (inl moved) =
     subst₂ (λ few w. Spread few many s w) moved.few_harts (sym moved.wide)
     (start many s moved.each)

@@ -1,18 +1,18 @@
 -- The test of a state tells what the laws ask of it.
-use Rattle.std.proofs.Common.{◌≡◌, ℕ, zero, suc, ◌+◌, ◌<◌, ◌≤◌, ◌==◌, nat_lt, Bool, true, false, ◌&&◌, ◌||◌, inl, inr, List, [], ◌∷◌, get_or, length, Option, Some, None, refl, sym, ap, ap₂, ◌∙◌, subst, arith}
+use Rattle.std.proofs.Common.{◌≡◌, ℕ, zero, suc, ◌<◌, ◌≤◌, ◌==◌, nat_lt, Bool, true, false, ◌&&◌, ◌||◌, inl, inr, List, [], ◌∷◌, get_or, length, Option, Some, None, refl, sym, ap, ap₂, ◌∙◌, subst, arith}
 use Rattle.std.specs.List.{list_all, sum_by}
 use Rattle.std.proofs.lemmas.Bool.{and_parts, cases_lt, eq-eqb, eqb-true, ltb-true, lt-ltb, false_from_ne_true, false≢true}
 use Rattle.cap_format.specs.declared.kind.CapKind.{CapKind}
 use Rattle.cap_format.specs.declared.kind.CapKind.TheVariants.{Schedule}
 use Rattle.process_objects.specs.declared.state.State.{State as ProcessState}
 use Rattle.process_objects.specs.declared.state.State.TheVariants.{Running, Receiving, Faulted}
-use Rattle.schedules.specs.Queues.{QueuesValue, priorities, ready_queue, sleepers_of, hart_of, stands_in}
+use Rattle.schedules.specs.Queues.{priorities, ready_queue, hart_of, stands_in}
 use Rattle.schedules.specs.Standing.{IsQueues, standing, times_in}
 use Rattle.schedules.specs.Ready.{Agrees, runs_of, places_due}
 use Rattle.schedules.proofs.OnHart.{on_hart, in_lists}
 use Rattle.machine_state.specs.State.{State, IsOnHart, process, schedule_slot}
 use Rattle.quiet_runs.specs.Finding.{runs}
-use Rattle.preemption.specs.Wide.{HasSchedule, IsForEach}
+use Rattle.preemption.specs.Wide.{IsForEach}
 use Rattle.preemption.specs.Tested.{is_schedule, has_schedule, is_scheduled, all_scheduled, is_served, is_for_each, TestLaw, KeptLaw}
 
 -- ---- lists

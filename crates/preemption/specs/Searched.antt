@@ -1,12 +1,16 @@
 -- What a search over the wide machine says of the machine with few harts, as statements: the states
 -- to which its harts' steps lead, or runs of them, against all lists of steps and ticks. (The
 -- reduction is this project's own.)
-use Rattle.std.specs.Prelude.{◌≡◌, ◌≤◌, ◌<◌, ◌⊎◌, ℕ, Bool, false, List, length, None}
-use Rattle.schedules.specs.Queues.{hart_of}
+use Rattle.std.specs.Prelude.{◌≡◌, ◌≤◌, ◌<◌, ◌⊎◌, ℕ, Bool, false, if◌then◌else◌}
+use Rattle.std.specs.Prelude.{List, [], ◌∷◌, length}
 use Rattle.machine_state.specs.declared.event.Event.{Event}
+use Rattle.machine_state.specs.declared.event.Event.TheVariants.{Step}
 use Rattle.machine_state.specs.State.{State, IsOnHart}
+use Rattle.kernel_core.specs.Event.{performer}
 use Rattle.kernel_core.specs.Run.{run_state}
-use Rattle.quiet_runs.specs.Runs.{Watch, RunsAreQuiet, SeesOnly, after_steps, after_runs}
+use Rattle.quiet_runs.specs.Runs.{Watch, RunsAreQuiet, SeesOnly}
+use Rattle.quiet_runs.specs.Runs.{after_step, after_steps, after_run, after_runs}
+use Rattle.quiet_runs.specs.Finding.{has_process}
 use Rattle.quiet_runs.specs.Laws.{AreHarts}
 use Rattle.preemption.specs.Wide.{IsForEach}
 use Rattle.preemption.specs.Begun.{at_home, at_rest}
@@ -83,3 +87,60 @@ RunsWithinLaw = (few many most : ℕ) (watch : Watch) (more : State → ℕ → 
     → ((runs : List ℕ) → AreHarts many runs → length runs ≤ most
     → IsSafe many test (after_runs more w runs))
     → HoldsAfterNone few most test s
+
+-- ---- choices of a process: it takes its turn, where it has one
+
+-- Process `p` has a turn: it would perform the step of the hart of its own number. It is on that
+-- hart, or the hart is idle and it is the first who waits for one.
+abbrev pub has_turn : State → ℕ → Bool
+has_turn s p = has_process (performer s (Step p)) p
+
+-- the state after process `p` is chosen: a step of its hart where it has a turn, and otherwise the
+-- same
+abbrev pub after_turn : State → ℕ → State
+after_turn s p = if has_turn s p then after_step s p else s
+
+-- the state after these are chosen, one after the other
+abbrev pub after_turns : State → List ℕ → State
+after_turns s [] = s
+after_turns s (p ∷ ps) = after_turns (after_turn s p) ps
+
+-- the same where a turn is a run: a step, and quiet steps after it
+abbrev pub after_turn_run : (State → ℕ → ℕ) → State → ℕ → State
+after_turn_run more s p = if has_turn s p then after_run more s p else s
+
+abbrev pub after_turn_runs : (State → ℕ → ℕ) → State → List ℕ → State
+after_turn_runs more s [] = s
+after_turn_runs more s (p ∷ ps) = after_turn_runs more (after_turn_run more s p) ps
+
+-- Where so many choices of processes at most lead to safe states alone, what is tested holds after
+-- no more events than that of the few harts. A state of the wide machine has each process on its
+-- own hart or on none then, so none comes twice with its processes on other harts.
+abbrev pub TurnsWithinLaw : Type 0
+TurnsWithinLaw = (few many most : ℕ) (test : State → Bool) (s w : State)
+    → Begin few many s w → SeesNoPlaces test
+    → ((ps : List ℕ) → AreHarts many ps → length ps ≤ most → IsSafe many test (after_turns w ps))
+    → HoldsAfterNone few most test s
+
+-- Where all choices of processes do, it holds after no events at all.
+abbrev pub TurnsLaw : Type 0
+TurnsLaw = (few many : ℕ) (test : State → Bool) (s w : State)
+    → Begin few many s w → SeesNoPlaces test
+    → ((ps : List ℕ) → AreHarts many ps → IsSafe many test (after_turns w ps))
+    → HoldsNever few test s
+
+-- So it is where turns are runs.
+abbrev pub TurnRunsWithinLaw : Type 0
+TurnRunsWithinLaw = (few many most : ℕ) (watch : Watch) (more : State → ℕ → ℕ)
+    (test : State → Bool) (s w : State)
+    → Begin few many s w → SeesNoPlaces test → SeesOnly watch test → RunsAreQuiet watch more
+    → ((ps : List ℕ) → AreHarts many ps → length ps ≤ most
+    → IsSafe many test (after_turn_runs more w ps))
+    → HoldsAfterNone few most test s
+
+abbrev pub TurnRunsLaw : Type 0
+TurnRunsLaw = (few many : ℕ) (watch : Watch) (more : State → ℕ → ℕ) (test : State → Bool)
+    (s w : State)
+    → Begin few many s w → SeesNoPlaces test → SeesOnly watch test → RunsAreQuiet watch more
+    → ((ps : List ℕ) → AreHarts many ps → IsSafe many test (after_turn_runs more w ps))
+    → HoldsNever few test s

@@ -15,7 +15,9 @@
 //!
 //! A search goes over the wide machine by steps of its harts, or by runs of them, and asks that of
 //! each state that it comes to. Then a test that it finds in none of them holds after no list of
-//! steps and ticks of the few harts: `steps_law` and `runs_law`.
+//! steps and ticks of the few harts: `steps_law` and `runs_law`. It is enough to choose a process, and
+//! to take its next step, or run, where it has a turn on the hart of its own number: `turns_law` and
+//! `turn_runs_law`. Then no state comes again with its processes on other harts.
 //!
 //! There is no code here. Each function has a law as its contract; the definitions are in
 //! `specs/`.
@@ -25,6 +27,8 @@ ghost use Rattle.preemption.specs.Laws.{EventLaw, RunLaw, NeverLaw, StuckLaw};
 ghost use Rattle.preemption.specs.Laws.{StartLaw, RestLaw, MoreLaw, SeesLaw};
 ghost use Rattle.preemption.specs.Tested.{TestLaw, KeptLaw};
 ghost use Rattle.preemption.specs.Searched.{StepsLaw, StepsWithinLaw, RunsLaw, RunsWithinLaw};
+ghost use Rattle.preemption.specs.Searched.{TurnsLaw, TurnsWithinLaw};
+ghost use Rattle.preemption.specs.Searched.{TurnRunsLaw, TurnRunsWithinLaw};
 
 use quiet_runs::simulation_law;
 
@@ -93,3 +97,16 @@ pub fn runs_law()
 {
     simulation_law();
 }
+
+/// So it is where the states are those to which choices of processes lead: each takes the step of the
+/// hart of its own number where it would perform that, and otherwise nothing.
+pub fn turns_law()
+    ensures always { TurnsLaw }
+    ensures within { TurnsWithinLaw }
+{}
+
+/// So it is where each takes a run of that hart: a step, and quiet steps after it.
+pub fn turn_runs_law()
+    ensures always { TurnRunsLaw }
+    ensures within { TurnRunsWithinLaw }
+{}
