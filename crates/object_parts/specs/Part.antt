@@ -1,7 +1,7 @@
 -- One object as it is kept by itself: its count and its record.
-use Rattle.std.specs.Prelude.{ℕ, zero, suc, ◌+◌, ◌*◌, ◌%◌, ◌^◌, List, [], ◌∷◌, ◌++◌, slice_index}
+use Rattle.std.specs.Prelude.{ℕ, zero, suc, ◌+◌, ◌*◌, ◌/◌, ◌%◌, ◌^◌, List, [], ◌∷◌, ◌++◌, length, slice_index}
 use Rattle.std.specs.Int.{w64, from_le_bytes}
-use Rattle.std.specs.List.{flat_map, fold}
+use Rattle.std.specs.List.{flat_map}
 use Rattle.std.specs.Hash as fed
 use Rattle.cap_format.specs.Capability.{Capability}
 use Rattle.object_store.specs.Object.{ObjectValue}
@@ -11,9 +11,18 @@ use Rattle.object_store.specs.Object.ObjectValue.{OfPage, OfCapPage, OfGpt, OfPr
 abbrev pub mixed : ℕ → ℕ → ℕ
 mixed h x = (h * 15074714826142052245 % 2 ^ 64 + x) % 2 ^ 64
 
+-- two numbers below 2^32 as one, the lower first, with 0 in the place of one that isn't there
+abbrev pub two_at : List ℕ → ℕ → ℕ
+two_at numbers i = slice_index numbers (2 * i) + 4294967296 * slice_index numbers (2 * i + 1)
+
+-- a number with others folded into it, so many times two of them
+unfoldable pub folded_twos : ℕ → List ℕ → ℕ → ℕ
+folded_twos h numbers zero = h
+folded_twos h numbers (suc i) = mixed (folded_twos h numbers i) (two_at numbers i)
+
 -- a number with those of a list folded into it
 abbrev pub folded : ℕ → List ℕ → ℕ
-folded h numbers = fold mixed h numbers
+folded h numbers = folded_twos h numbers ((length numbers + 1) / 2)
 
 -- eight bytes as one number, the lowest first
 abbrev pub eight_at : List ℕ → ℕ → ℕ

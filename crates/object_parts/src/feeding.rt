@@ -1,7 +1,7 @@
 //! What is hashed of an object.
-ghost use Rattle.std.specs.Prelude.{◌≡◌, ◌<◌, ◌≤◌, fold, length};
+ghost use Rattle.std.specs.Prelude.{◌≡◌, ◌<◌, ◌≤◌, ◌+◌, ◌*◌, fold, length};
 ghost use Rattle.std.specs.Hash as fed;
-ghost use Rattle.object_parts.specs.Part.{mixed, folded, eight_at, folded_bytes, hashed_caps};
+ghost use Rattle.object_parts.specs.Part.{mixed, two_at, folded, eight_at, folded_bytes, hashed_caps};
 
 use page_store::{CapPage, Page};
 use process_objects::Process;
@@ -55,13 +55,26 @@ fn mixed(sum: u64, number: u64) -> u64
     sum.wrapping_mul(0xd134_2543_de82_ef95).wrapping_add(number)
 }
 
-/// A number with others folded into it.
+/// Two numbers as one, the lower first.
+fn two_at(numbers: &[u32], i: usize) -> u64
+    requires { 2 * i + 1 < length numbers.now }
+    ensures { result ≡ two_at numbers.now i }
+{
+    let at = 2 * i;
+    u64::from(numbers[at]) + 0x1_0000_0000 * u64::from(numbers[at + 1])
+}
+
+/// A number with others folded into it, two at a time.
 pub fn folded(start: u64, numbers: &[u32]) -> u64
     ensures { result ≡ folded start numbers.now }
 {
+    let count = numbers.len();
     let mut sum = start;
-    for i in 0..numbers.len() {
-        sum = mixed(sum, u64::from(numbers[i]));
+    for i in 0..count / 2 {
+        sum = mixed(sum, two_at(numbers, i));
+    }
+    if count % 2 == 1 {
+        return mixed(sum, u64::from(numbers[count - 1]));
     }
     sum
 }
