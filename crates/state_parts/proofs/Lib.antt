@@ -1,5 +1,6 @@
 pub mod Whole
 pub mod Brought
+pub mod Places
 pub mod Looked
 pub mod Kept
 pub mod Ends

@@ -1,6 +1,6 @@
 -- Numbers that are found for objects, one after the other.
-use Rattle.std.proofs.Common.{◌≡◌, ◌≢◌, ◌<◌, ◌⊎◌, inl, inr, ◌++◌, ◌∷◌, [], ℕ, suc, ◌+◌, List, map, take, length, get_or, slice_get, set, Some, refl, sym, ap, ◌∙◌, arith}
-use Rattle.std.proofs.lemmas.List.{get_or-map, length-map, take_more, length-set, get_or-set_same, get_or-set_other}
+use Rattle.std.proofs.Common.{◌≡◌, ◌≢◌, ◌<◌, ◌⊎◌, inl, inr, ◌++◌, ◌∷◌, [], ℕ, suc, ◌+◌, List, map, take, length, get_or, slice_get, Some, refl, ap, ◌∙◌, arith}
+use Rattle.std.proofs.lemmas.List.{get_or-map, length-map, take_more}
 use Rattle.std.proofs.lemmas.List.Elements.{All-cons}
 use Rattle.std.proofs.lemmas.Bool.{cases_eq}
 use Rattle.cap_format.specs.declared.kind.CapKind.TheVariants.{Null}
@@ -40,34 +40,6 @@ found_more old table grown found names s i number within before grows one =
 
 -- ---- numbers that are written in place of others
 
--- the next place is of the name: the number is written there
-pub put_here : (names : List ObjectName) (name : ObjectName) (number i : ℕ) (old new : List ℕ) → i < length new → get_or names i no_name ≡ name → IsPut i names name number old new → IsPut (i + 1) names name number old (set new i number)
-put_here names name number i old new within same put = record {
-  many = length-set new i number ∙ put.many;
-  here = λ k below is. here k below is (cases_eq k i);
-  others = λ k not. others k not (cases_eq k i);
-}
-  where
-    here : (k : ℕ) → k < i + 1 → get_or names k no_name ≡ name → (k ≡ i) ⊎ (k ≢ i) → get_or (set new i number) k 0 ≡ number
-    here k below is (inl at) = rw at (get_or-set_same new i number 0 within)
-    here k below is (inr other) = get_or-set_other new i k number 0 other ∙ put.here k (omega (arith, below, other)) is
-
-    others : (k : ℕ) → (k < i + 1 → get_or names k no_name ≡ name → ⊥) → (k ≡ i) ⊎ (k ≢ i) → get_or (set new i number) k 0 ≡ get_or old k 0
-    others k not (inl at) = absurd (not (omega (arith, at)) (ap (λ (j : ℕ). get_or names j no_name) at ∙ same))
-    others k not (inr other) = get_or-set_other new i k number 0 other ∙ put.others k (λ below is. not (omega (arith, below)) is)
-
--- the next place is of another name
-pub put_other : (names : List ObjectName) (name : ObjectName) (number i : ℕ) (old new : List ℕ) → (get_or names i no_name ≡ name → ⊥) → IsPut i names name number old new → IsPut (i + 1) names name number old new
-put_other names name number i old new other put = record {
-  many = put.many;
-  here = λ k below is. here k below is (cases_eq k i);
-  others = λ k not. put.others k (λ below is. not (omega (arith, below)) is);
-}
-  where
-    here : (k : ℕ) → k < i + 1 → get_or names k no_name ≡ name → (k ≡ i) ⊎ (k ≢ i) → get_or new k 0 ≡ number
-    here k below is (inl at) = absurd (other (sym (ap (λ (j : ℕ). get_or names j no_name) at) ∙ is))
-    here k below is (inr apart) = put.here k (omega (arith, below, apart)) is
-
 -- a name is another, or it isn't
 same_name : (a b : ObjectName) → (a ≡ b) ⊎ (a ≢ b)
 same_name a b = by (cases_eq (number_of a.kind) (number_of b.kind)) (cases_eq a.number b.number)
@@ -92,7 +64,7 @@ reads_more table grown s name number grows one = record { value = grown_get tabl
 
 -- the number of one of them was found, and written wherever it has to
 pub given_more : (old table grown : List ObjectValue) (s : Store) (name : ObjectName) (rest names : List ObjectName) (found put : List ℕ) (number : ℕ)
-    → AreGiven old table s (name ∷ rest) names found → Grows table grown → ReadsLive grown s name number → IsPut (length names) names name number found put → AreGiven old grown s rest names put
+    → AreGiven old table s (name ∷ rest) names found → Grows table grown → ReadsLive grown s name number → IsPut names name number found put → AreGiven old grown s rest names put
 given_more old table grown s name rest names found put number given grows one is = record {
   grows = grown_twice old table grown given.grows grows;
   many = is.many ∙ given.many;

@@ -10,7 +10,7 @@ use Rattle.object_store.specs.Object.{ObjectName, object_name, IsAmong}
 use Rattle.object_store.proofs.Stays.{among_front, among_back}
 use Rattle.machine_state.specs.declared.taking.Name.{Name}
 use Rattle.machine_state.specs.Taking.{name_of, names_of}
-use Rattle.state_parts.specs.Keys.{AreAll, numbered}
+use Rattle.state_parts.specs.Keys.{AreAll, in_order, numbered}
 use Rattle.object_store.specs.Store.{Store, size_of, count_of}
 use Rattle.event_reach.specs.Reach.{Covers}
 use Rattle.state_parts.specs.Looking.{no_name, HasAll, IsMore, IsMarked, AreMarked}
@@ -107,10 +107,10 @@ among_numbered kind (suc count) n there = by (cases_eq n count) (among_numbered 
     by (inr other) before = among_front kind n (numbered kind count) (object_name kind count ∷ []) (before (omega (arith, there, other)))
 
 -- the names of the five kinds are all there are
-pub all_numbered : (sizes : Sizes) → AreAll sizes ([] ++ numbered Page sizes.pages ++ numbered CapPage sizes.cappages ++ numbered Gpt sizes.gpts ++ numbered Process sizes.processes ++ numbered Endpoint sizes.endpoints)
-all_numbered sizes = record { all = all; there = there; once = once_all sizes.pages sizes.cappages sizes.gpts sizes.processes sizes.endpoints }
+pub all_numbered : (sizes : Sizes) → AreAll sizes (in_order sizes)
+all_numbered sizes = record { all = all; there = there; order = refl; once = once_all sizes.pages sizes.cappages sizes.gpts sizes.processes sizes.endpoints }
   where
-    all : (kind : CapKind) (n : ℕ) → n < size_in sizes kind → IsAmong kind n ([] ++ numbered Page sizes.pages ++ numbered CapPage sizes.cappages ++ numbered Gpt sizes.gpts ++ numbered Process sizes.processes ++ numbered Endpoint sizes.endpoints)
+    all : (kind : CapKind) (n : ℕ) → n < size_in sizes kind → IsAmong kind n (in_order sizes)
     all Page n within = among_front Page n ([] ++ numbered Page sizes.pages ++ numbered CapPage sizes.cappages ++ numbered Gpt sizes.gpts ++ numbered Process sizes.processes) (numbered Endpoint sizes.endpoints) (among_front Page n ([] ++ numbered Page sizes.pages ++ numbered CapPage sizes.cappages ++ numbered Gpt sizes.gpts) (numbered Process sizes.processes) (among_front Page n ([] ++ numbered Page sizes.pages ++ numbered CapPage sizes.cappages) (numbered Gpt sizes.gpts) (among_front Page n ([] ++ numbered Page sizes.pages) (numbered CapPage sizes.cappages) (among_numbered Page sizes.pages n within))))
     all CapPage n within = among_front CapPage n ([] ++ numbered Page sizes.pages ++ numbered CapPage sizes.cappages ++ numbered Gpt sizes.gpts ++ numbered Process sizes.processes) (numbered Endpoint sizes.endpoints) (among_front CapPage n ([] ++ numbered Page sizes.pages ++ numbered CapPage sizes.cappages ++ numbered Gpt sizes.gpts) (numbered Process sizes.processes) (among_front CapPage n ([] ++ numbered Page sizes.pages ++ numbered CapPage sizes.cappages) (numbered Gpt sizes.gpts) (among_back CapPage n ([] ++ numbered Page sizes.pages) (numbered CapPage sizes.cappages) (among_numbered CapPage sizes.cappages n within))))
     all Gpt n within = among_front Gpt n ([] ++ numbered Page sizes.pages ++ numbered CapPage sizes.cappages ++ numbered Gpt sizes.gpts ++ numbered Process sizes.processes) (numbered Endpoint sizes.endpoints) (among_front Gpt n ([] ++ numbered Page sizes.pages ++ numbered CapPage sizes.cappages ++ numbered Gpt sizes.gpts) (numbered Process sizes.processes) (among_back Gpt n ([] ++ numbered Page sizes.pages ++ numbered CapPage sizes.cappages) (numbered Gpt sizes.gpts) (among_numbered Gpt sizes.gpts n within)))
@@ -124,7 +124,7 @@ all_numbered sizes = record { all = all; there = there; once = once_all sizes.pa
         let Below : CapKind → Type 0 = λ x. n < size_in sizes x in
         subst Below (sym is.0) (subst (λ (m : ℕ). n < m) (sym size) is.1)
 
-    there : (kind : CapKind) (n : ℕ) → IsAmong kind n ([] ++ numbered Page sizes.pages ++ numbered CapPage sizes.cappages ++ numbered Gpt sizes.gpts ++ numbered Process sizes.processes ++ numbered Endpoint sizes.endpoints) → n < size_in sizes kind
+    there : (kind : CapKind) (n : ℕ) → IsAmong kind n (in_order sizes) → n < size_in sizes kind
     there k n among = five (among_split k n ([] ++ numbered Page sizes.pages ++ numbered CapPage sizes.cappages ++ numbered Gpt sizes.gpts ++ numbered Process sizes.processes) (numbered Endpoint sizes.endpoints) among)
       where
         two : IsAmong k n ([] ++ numbered Page sizes.pages) ⊎ IsAmong k n (numbered CapPage sizes.cappages) → n < size_in sizes k

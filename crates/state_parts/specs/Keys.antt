@@ -1,8 +1,8 @@
 -- Stores by the values of their objects.
-use Rattle.std.specs.Prelude.{◌≡◌, ℕ, zero, suc, ◌<◌, ◌==◌, List, [], ◌∷◌, ◌++◌, map, Some, slice_get, slice_index_or}
+use Rattle.std.specs.Prelude.{◌≡◌, ℕ, zero, suc, ◌+◌, ◌<◌, ◌==◌, List, [], ◌∷◌, ◌++◌, map, Some, slice_get, slice_index_or}
 use Rattle.std.specs.List.{IsDistinct}
 use Rattle.cap_format.specs.declared.kind.CapKind.{CapKind}
-use Rattle.cap_format.specs.declared.kind.CapKind.TheVariants.{Gpt}
+use Rattle.cap_format.specs.declared.kind.CapKind.TheVariants.{Page, CapPage, Gpt, Process, Endpoint}
 use Rattle.object_store.specs.declared.sizes.Sizes.{Sizes}
 use Rattle.object_store.specs.Sizes.{size_in}
 use Rattle.object_store.specs.Store.{Store, empty_store}
@@ -24,16 +24,31 @@ gpts_of (name ∷ names) = gpt_numbers name.kind name.number ++ gpts_of names
 pub record HasGptsOnce (names : List ObjectName) : Type 0 where
   pub once : IsDistinct ◌==◌ (gpts_of names)
 
--- these are the names of all objects there are, and of no other, and no GPT is named twice
-pub record AreAll (sizes : Sizes) (names : List ObjectName) : Type 0 where
-  pub all : (kind : CapKind) (n : ℕ) → n < size_in sizes kind → IsAmong kind n names
-  pub there : (kind : CapKind) (n : ℕ) → IsAmong kind n names → n < size_in sizes kind
-  pub once : HasGptsOnce names
-
 -- the names of so many objects of a kind
 abbrev pub numbered : CapKind → ℕ → List ObjectName
 numbered kind zero = []
 numbered kind (suc n) = numbered kind n ++ object_name kind n ∷ []
+
+-- the names of all objects in a fixed order: by their kinds, and those of a kind by their numbers
+abbrev pub in_order : Sizes → List ObjectName
+in_order sizes =
+    [] ++ numbered Page sizes.pages ++ numbered CapPage sizes.cappages ++ numbered Gpt sizes.gpts
+    ++ numbered Process sizes.processes ++ numbered Endpoint sizes.endpoints
+
+-- how many of them come before those of a kind
+abbrev pub before_kind : Sizes → CapKind → ℕ
+before_kind sizes CapPage = sizes.pages
+before_kind sizes Gpt = sizes.pages + sizes.cappages
+before_kind sizes Process = sizes.pages + sizes.cappages + sizes.gpts
+before_kind sizes Endpoint = sizes.pages + sizes.cappages + sizes.gpts + sizes.processes
+before_kind sizes _ = 0
+
+-- these are the names of all objects there are, and of no other, in that order, and no GPT is named twice
+pub record AreAll (sizes : Sizes) (names : List ObjectName) : Type 0 where
+  pub all : (kind : CapKind) (n : ℕ) → n < size_in sizes kind → IsAmong kind n names
+  pub there : (kind : CapKind) (n : ℕ) → IsAmong kind n names → n < size_in sizes kind
+  pub order : names ≡ in_order sizes
+  pub once : HasGptsOnce names
 
 -- the object of a name
 abbrev pub named_in : Store → ObjectName → ObjectValue

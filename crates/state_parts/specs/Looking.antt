@@ -31,11 +31,17 @@ pub record IsKnown (table : List ObjectValue) (s : Store) (changed : List Object
 pub record AreKnown (table : List ObjectValue) (s : Store) (changed names : List ObjectName) (numbers : List ℕ) : Type 0 where
   pub each : (k : ℕ) → k < length names → IsKnown table s changed (slice_index_or names k no_name) (slice_index numbers k)
 
--- a number was written where the name is this one, of the first `n`, and nowhere else
-pub record IsPut (n : ℕ) (names : List ObjectName) (name : ObjectName) (number : ℕ) (old new : List ℕ) : Type 0 where
+-- the name is at this place, and at no other
+pub record IsPlace (names : List ObjectName) (name : ObjectName) (place : ℕ) : Type 0 where
+  pub within : place < length names
+  pub here : slice_index_or names place no_name ≡ name
+  pub alone : (k : ℕ) → k < length names → slice_index_or names k no_name ≡ name → k ≡ place
+
+-- a number was written where the name is this one, and nowhere else
+pub record IsPut (names : List ObjectName) (name : ObjectName) (number : ℕ) (old new : List ℕ) : Type 0 where
   pub many : length new ≡ length old
-  pub here : (k : ℕ) → k < n → slice_index_or names k no_name ≡ name → slice_index new k ≡ number
-  pub others : (k : ℕ) → (k < n → slice_index_or names k no_name ≡ name → ⊥) → slice_index new k ≡ slice_index old k
+  pub here : (k : ℕ) → k < length names → slice_index_or names k no_name ≡ name → slice_index new k ≡ number
+  pub others : (k : ℕ) → (k < length names → slice_index_or names k no_name ≡ name → ⊥) → slice_index new k ≡ slice_index old k
 
 -- each of the first `n` names is among those that are marked, or has one number in both lists
 pub record AreMarked (n : ℕ) (names : List ObjectName) (old new : List ℕ) (marked : List ObjectName) : Type 0 where

@@ -180,7 +180,7 @@ impl Board {
         let _here = objects.sizes();
         let _there = self.desk.sizes();
         if counts_same(objects, &self.desk, changed) {
-            return look(alloc, table, objects, names, changed, numbers, fetches);
+            return look(alloc, table, objects, changed, numbers, fetches);
         }
         look_anew(alloc, table, objects, names, fetches)
     }

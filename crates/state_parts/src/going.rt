@@ -2,13 +2,15 @@
 ghost use Rattle.std.specs.Prelude.{◌≡◌, ◌<◌, ◌++◌, ◌∷◌, [], List, length, map, slice_get, Some, IfOk, OnOk, OnErr};
 ghost use Rattle.object_store.specs.Store.{Store, size_of, sizes_of};
 ghost use Rattle.object_store.specs.Object.{ObjectName, ObjectValue, object_name, with_object, object_at, IsEven};
+ghost use Rattle.object_store.specs.Saved.{AreThere};
 ghost use Rattle.machine_state.specs.Taking.{names_of};
 ghost use Rattle.object_parts.specs.Objects.{object_in, kind_in};
-ghost use Rattle.state_parts.specs.Keys.{AreAll, objects_of, values_of, Reads, store_by};
+ghost use Rattle.state_parts.specs.Keys.{AreAll, in_order, objects_of, values_of, Reads, store_by};
 ghost use Rattle.state_parts.specs.Looking.{AreMarked, IsMarked, IsMore, IsTarget, kind_of};
 
 use crate::key::same_numbers;
 use crate::marking::mark_name;
+use crate::names::place_of;
 use cap_format::OutOfMemory;
 use machine_state::Name;
 use object_parts::{Part, Table, put_part};
@@ -61,6 +63,7 @@ pub(crate) fn bring_all(
     new: &[u32],
 ) -> Result<(), OutOfMemory>
     requires all { AreAll (sizes_of objects.old) (names_of names.now) }
+    requires known { AreThere objects.old (names_of marked.old.items) }
     requires here { length old.now ≡ length names.now }
     requires there { length new.now ≡ length names.now }
     requires old { Reads (map object_in table.now) old.now (objects_of (names_of names.now) objects.old) }
@@ -77,21 +80,29 @@ pub(crate) fn bring_all(
         return Ok(());
     }
     mark(marked, names, old, new)?;
-    bring(objects, table, names, old, new);
+    bring(objects, table, marked.as_slice(), old, new);
     Ok(())
 }
 
-/// Puts the parts in place of the objects whose numbers differ.
-fn bring(objects: &mut Objects, table: &Table<Part>, names: &[Name], old: &[u32], new: &[u32])
-    requires all { AreAll (sizes_of objects.old) (names_of names.now) }
-    requires old { Reads (map object_in table.now) old.now (objects_of (names_of names.now) objects.old) }
-    requires new { let target = store_by (sizes_of objects.old) (names_of names.now) (values_of (map object_in table.now) new.now) in
-        IsTarget (map object_in table.now) (names_of names.now) new.now (sizes_of objects.old) target }
-    ensures { objects.new ≡ store_by (sizes_of objects.old) (names_of names.now) (values_of (map object_in table.now) new.now) }
+/// Puts the parts in place of the objects whose numbers differ, all of which are marked.
+fn bring(objects: &mut Objects, table: &Table<Part>, marked: &[Name], old: &[u32], new: &[u32])
+    requires there { AreThere objects.old (names_of marked.now) }
+    requires old { Reads (map object_in table.now) old.now
+        (objects_of (in_order (sizes_of objects.old)) objects.old) }
+    requires new { let names = in_order (sizes_of objects.old) in
+        let values = values_of (map object_in table.now) new.now in
+        IsTarget (map object_in table.now) names new.now (sizes_of objects.old)
+        (store_by (sizes_of objects.old) names values) }
+    requires marked { let names = in_order (sizes_of objects.old) in
+        AreMarked (length names) names old.now new.now (names_of marked.now) }
+    ensures { let names = in_order (sizes_of objects.old) in
+        let values = values_of (map object_in table.now) new.now in
+        objects.new ≡ store_by (sizes_of objects.old) names values }
 {
-    let _sizes = objects.sizes();
-    for i in 0..names.len() {
-        bring_one(objects, table, names[i], old[i], new[i]);
+    let sizes = objects.sizes();
+    'each: for i in 0..marked.len() {
+        let place = place_of(sizes, marked[i]);
+        bring_one(objects, table, marked[i], old[place], new[place]);
     }
 }
 

@@ -1,16 +1,16 @@
-use Rattle.std.proofs.Common.{◌≡◌, ◌+◌, ◌≤◌, List, IfOk, map, sym, ap, ◌∙◌, subst, arith}
-use Rattle.std.proofs.lemmas.List.{length-map}
+use Rattle.std.proofs.Common.{◌≡◌, ◌+◌, ◌≤◌, List, IfOk, map, length, sym, ap, ◌∙◌, subst, arith}
 use Rattle.cap_format.specs.declared.kind.CapKind.TheVariants.{Gpt}
-use Rattle.object_store.specs.Store.{Store, size_of}
+use Rattle.object_store.specs.Store.{Store, size_of, sizes_of}
+use Rattle.object_store.specs.Object.{ObjectName}
 use Rattle.object_store.specs.Saved.{AreThere}
 use Rattle.object_store.proofs.Stays.{stays_turned}
 use Rattle.object_store.proofs.Restored.{there_same}
 use Rattle.machine_state.specs.declared.taking.Name.{Name}
-use Rattle.machine_state.specs.Taking.{name_of, names_of, slots_taken}
+use Rattle.machine_state.specs.Taking.{names_of, slots_taken}
 use Rattle.object_parts.specs.Live.{live_store}
 use Rattle.object_parts.specs.Objects.{object_in}
 use Rattle.state_parts.specs.Board.{BoardValue}
-use Rattle.state_parts.specs.Keys.{objects_of, Reads}
+use Rattle.state_parts.specs.Keys.{AreAll, in_order, objects_of, Reads}
 use Rattle.state_parts.specs.Looking.{AreKnown, AreRanged}
 use Rattle.state_parts.specs.Marking.{HaveCounts}
 use Rattle.state_parts.proofs.Whole.{names_there}
@@ -36,11 +36,17 @@ look-requires-clause-there g c =
     let There : List Name → Type 0 = λ xs. AreThere i.machine.objects (names_of xs) in
     rw c.objects-objects.ensures (subst There (sym c.as_slice-changed.ensures.value) (there_same i.machine.objects i.desk (names_of i.changed.items) c.self.invariant.sizes c.self.invariant.there))
 
+-- the names are all there are of the machine's objects
+order_here : (here desk : Store) (names : List ObjectName) → AreAll (sizes_of desk) names → sizes_of here ≡ sizes_of desk → names ≡ in_order (sizes_of here)
+order_here here desk names all sizes = all.order ∙ ap in_order (sym sizes)
+
 pub look-requires-clause-many : goal.look-requires-clause-many
 look-requires-clause-many g c =
     let i = c.self.inside in
+    let names = names_of c.args.names.now in
     let reads = rw (← c.self.view_is) at c.requires.reads in
-    numbers_many (map object_in c.args.table.now) c.args.numbers.now (names_of c.args.names.now) i.desk reads ∙ length-map c.args.names.now name_of
+    let all = rw (← c.self.view_is) at c.requires.all in
+    rw c.objects-objects.ensures (numbers_many (map object_in c.args.table.now) c.args.numbers.now names i.desk reads ∙ ap length (order_here i.machine.objects i.desk names all c.self.invariant.sizes))
 
 pub look-requires-clause-known : goal.look-requires-clause-known
 look-requires-clause-known g c =
@@ -55,8 +61,11 @@ look-requires-clause-known g c =
     let HaveOf : Store → Type 0 = λ s. HaveCounts s i.desk changed in
     let have : HaveCounts i.machine.objects i.desk changed = subst HaveOf c.objects-objects.ensures (subst Have c.as_slice-changed.ensures.value (c.counts_same.ensures c.if-counts_same.true)) in
     let counts : i.machine.objects.items.counts ≡ i.desk.items.counts = counts_stay i.machine.objects i.desk changed c.self.invariant.sizes (stays_turned changed i.desk i.machine.objects c.self.invariant.stays) have in
-    let Known : List Name → Type 0 = λ xs. AreKnown T (live_store i.machine.objects) (names_of xs) names c.args.numbers.now in
-    rw c.objects-objects.ensures (subst Known (sym c.as_slice-changed.ensures.value) (known_but T c.args.numbers.now names changed i.desk i.machine.objects reads alive ranges (sym counts) c.self.invariant.stays))
+    let all = rw (← c.self.view_is) at c.requires.all in
+    let order = order_here i.machine.objects i.desk names all c.self.invariant.sizes in
+    let Known : List Name → Type 0 = λ xs. AreKnown T (live_store i.machine.objects) (names_of xs) (in_order (sizes_of i.machine.objects)) c.args.numbers.now in
+    let Of : List ObjectName → Type 0 = λ xs. AreKnown T (live_store i.machine.objects) changed xs c.args.numbers.now in
+    rw c.objects-objects.ensures (subst Known (sym c.as_slice-changed.ensures.value) (subst Of order (known_but T c.args.numbers.now names changed i.desk i.machine.objects reads alive ranges (sym counts) c.self.invariant.stays)))
 
 pub look_anew-requires : goal.look_anew-requires
 look_anew-requires g c =
@@ -67,14 +76,22 @@ look_anew-requires g c =
 pub returns-then-counts_same-clause-reads : goal.returns-then-counts_same-clause-reads
 returns-then-counts_same-clause-reads g c =
     let here : c.objects-objects.result.now ≡ c.args.self.now.machine.objects = c.objects-objects.ensures ∙ ap (λ (b : BoardValue). b.machine.objects) c.self.view_is in
-    let Is : Store → Type 0 = λ s. IfOk c.look.result (λ found. Reads (map object_in c.look.new.table) found.items (objects_of (names_of c.args.names.now) (live_store s))) in
-    subst Is here c.look.ensures.reads
+    let all = rw (← c.self.view_is) at c.requires.all in
+    let i = c.self.inside in
+    let order = order_here i.machine.objects i.desk (names_of c.args.names.now) all c.self.invariant.sizes ∙ ap (λ (b : BoardValue). in_order (sizes_of b.machine.objects)) c.self.view_is in
+    let Is : Store → Type 0 = λ s. IfOk c.look.result (λ found. Reads (map object_in c.look.new.table) found.items (objects_of (in_order (sizes_of s)) (live_store s))) in
+    let Of : List ObjectName → Type 0 = λ xs. IfOk c.look.result (λ found. Reads (map object_in c.look.new.table) found.items (objects_of xs (live_store c.args.self.now.machine.objects))) in
+    subst Of (sym order) (subst Is here c.look.ensures.reads)
 
 pub returns-then-counts_same-clause-ranged : goal.returns-then-counts_same-clause-ranged
 returns-then-counts_same-clause-ranged g c =
     let here : c.objects-objects.result.now ≡ c.args.self.now.machine.objects = c.objects-objects.ensures ∙ ap (λ (b : BoardValue). b.machine.objects) c.self.view_is in
-    let Is : Store → Type 0 = λ s. IfOk c.look.result (λ found. AreRanged (objects_of (names_of c.args.names.now) (live_store s))) in
-    subst Is here c.look.ensures.ranged
+    let all = rw (← c.self.view_is) at c.requires.all in
+    let i = c.self.inside in
+    let order = order_here i.machine.objects i.desk (names_of c.args.names.now) all c.self.invariant.sizes ∙ ap (λ (b : BoardValue). in_order (sizes_of b.machine.objects)) c.self.view_is in
+    let Is : Store → Type 0 = λ s. IfOk c.look.result (λ found. AreRanged (objects_of (in_order (sizes_of s)) (live_store s))) in
+    let Of : List ObjectName → Type 0 = λ xs. IfOk c.look.result (λ found. AreRanged (objects_of xs (live_store c.args.self.now.machine.objects))) in
+    subst Of (sym order) (subst Is here c.look.ensures.ranged)
 
 pub returns-clause-reads : goal.returns-clause-reads
 returns-clause-reads g c =
