@@ -12,3 +12,4 @@ pub mod Holding
 pub mod Alike
 pub mod Stepping
 pub mod Shown
+pub mod Idle

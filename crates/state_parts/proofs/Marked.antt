@@ -14,7 +14,7 @@ use Rattle.state_parts.specs.Keys.{AreAll, in_order, numbered}
 use Rattle.object_store.specs.Store.{Store, size_of, count_of}
 use Rattle.event_reach.specs.Reach.{Covers}
 use Rattle.state_parts.specs.Looking.{no_name, HasAll, IsMore, IsMarked, AreMarked}
-use Rattle.state_parts.specs.Marking.{AddsThere, HasThere, HaveCounts}
+use Rattle.state_parts.specs.Marking.{AddsThere, HasProcesses, HasThere, HaveCounts}
 use Rattle.state_parts.proofs.Once.{among_split, numbered_there, once_push, once_all}
 
 -- the names of a list and of one more
@@ -195,16 +195,17 @@ module _ (s : Store) where
       by k n (inl here) there = absurd (absent (subst (λ (x : CapKind). number < size_of s.items x) here.0 (subst (λ (i : ℕ). i < size_of s.items k) here.1 there)))
       by k n (inr none) there = elim none [ ]
 
-  -- all processes and what covers the others
-  pub has_covered : (found changed marked : List ObjectName) → ((n : ℕ) → n < size_of s.items Process → IsAmong Process n marked) → HasThere s found marked → Covers found changed → HasThere s changed marked
-  has_covered found changed marked processes has covers = record { each = λ k n among there. by k n there (covers.each k n among) }
+  -- the processes that change, and what covers the others
+  pub has_covered : (found changed marked : List ObjectName) → HasProcesses s changed marked → HasThere s found marked → Covers found changed → HasThere s changed marked
+  has_covered found changed marked processes has covers = record { each = λ k n among there. by k n among there (covers.each k n among) }
     where
-      by : (k : CapKind) (n : ℕ) → n < size_of s.items k → (k ≡ Process) ⊎ IsAmong k n found → IsAmong k n marked
-      by k n there (inl process) =
+      by : (k : CapKind) (n : ℕ) → IsAmong k n changed → n < size_of s.items k → (k ≡ Process) ⊎ IsAmong k n found → IsAmong k n marked
+      by k n among there (inl process) =
           let Marked : CapKind → Type 0 = λ x. IsAmong x n marked in
+          let Changed : CapKind → Type 0 = λ x. IsAmong x n changed in
           let There : CapKind → Type 0 = λ x. n < size_of s.items x in
-          subst Marked (sym process) (processes n (subst There process there))
-      by k n there (inr here) = has.each k n here there
+          subst Marked (sym process) (processes.each n (subst Changed process among) (subst There process there))
+      by k n among there (inr here) = has.each k n here there
 
 -- ---- counts
 

@@ -10,7 +10,6 @@ use Rattle.object_store.specs.Object.{ObjectName, IsAmong}
 use Rattle.object_store.specs.Saved.{AreThere}
 use Rattle.object_store.proofs.Same.{size_in_store}
 use Rattle.object_store.proofs.Restored.{size_of_same}
-use Rattle.schedules.specs.Queues.{hart_of, dispatched_by}
 use Rattle.rv32_decode.specs.declared.insn.Insn.{Insn}
 use Rattle.rv32_decode.specs.Table.{insn_at}
 use Rattle.rv32_user.specs.declared.effect.Effect.{Effect}
@@ -21,27 +20,25 @@ use Rattle.walk_meaning.specs.declared.place.WalkFault.{WalkFault}
 use Rattle.walk_engine.specs.declared.hit.Hit.{Hit}
 use Rattle.fault_path.specs.declared.outcome.Outcome.{Outcome as Became}
 use Rattle.fault_path.specs.declared.outcome.Outcome.TheVariants.{Delivered, MustWait, Unheard}
-use Rattle.map_cache.specs.Cache.{CacheValue}
 use Rattle.machine_state.specs.declared.event.Event.{Event}
-use Rattle.machine_state.specs.declared.event.Event.TheVariants.{Step}
+use Rattle.machine_state.specs.declared.event.Event.TheVariants.{Step, Tick}
 use Rattle.machine_state.specs.declared.record.Record.{Record}
-use Rattle.machine_state.specs.Machine.{MachineValue}
 use Rattle.machine_state.specs.declared.taking.Name.{Name}
 use Rattle.machine_state.specs.Taking.{name_of, names_of}
-use Rattle.machine_state.specs.State.{State, state_of, process, pc_of}
-use Rattle.machine_state.specs.Setters.{set_queues, dispatch}
+use Rattle.machine_state.specs.State.{State, process, pc_of}
+use Rattle.machine_state.specs.Setters.{dispatch}
 use Rattle.machine_state.specs.Outcome.{Outcome, process_name, done, touched}
 use Rattle.machine_state.specs.DataAccess.{data_access, data_touch, number_at}
 use Rattle.messages.specs.Fault.{fault, misaligned, fault_records}
 use Rattle.kernel_core.specs.LoadStore.{loaded_from, load, stored_to, store}
 use Rattle.kernel_core.specs.Instruction.{performed, perform}
-use Rattle.kernel_core.specs.Event.{decoded_to, fetched_from, instruction, stepped, event_by, event_of}
+use Rattle.kernel_core.specs.Event.{decoded_to, fetched_from, instruction, stepped, tick_of, performer_by, performer, event_by, event_of}
 use Rattle.event_reach.specs.declared.plain.PlainInsn.{PlainInsn}
 use Rattle.event_reach.specs.Plain.{stored_names}
 use Rattle.state_parts.specs.Keys.{AreAll}
 use Rattle.state_parts.specs.Looking.{HasAll}
 use Rattle.state_parts.specs.Marking.{AddsThere, HasThere}
-use Rattle.state_parts.specs.Shown.{shown_load, shown_store, shown_effect, shown_insn, shown_plain, IsStepOf, IsShown}
+use Rattle.state_parts.specs.Shown.{shown_load, shown_store, shown_effect, shown_insn, shown_plain, begun, IsShown}
 use Rattle.state_parts.proofs.Marked.{has_then, has_both}
 use Rattle.state_parts.proofs.Boards.{among_index, among_there}
 
@@ -147,19 +144,24 @@ instruction_shown s p =
     })
     (fetch_shown s p reached)
 
--- a step of a hart on which the process stands
-step_shown : (s : State) (hart p : ℕ) → s.halted ≡ false → hart_of s.queues hart ≡ Some p → IfSome (shown_plain p (process s p).regs (pc_of s p) (event_of s (Step hart)).records) (IsShown p s (event_of s (Step hart)))
-unfolding event_by
-step_shown s hart p goes is =
-    let same : dispatch s hart ≡ s = ap (λ (on : Option ℕ). set_queues s (dispatched_by s.queues hart on)) is in
-    let Shown : Outcome → Type 0 = λ o. IfSome (shown_plain p (process s p).regs (pc_of s p) o.records) (IsShown p s o) in
-    let here : Shown (stepped s (hart_of s.queues hart)) = subst (λ (on : Option ℕ). Shown (stepped s on)) (sym is) (instruction_shown s p) in
-    let there : Shown (stepped (dispatch s hart) (hart_of (dispatch s hart).queues hart)) = subst (λ (t : State). Shown (stepped t (hart_of t.queues hart))) (sym same) here in
-    subst (λ (halted : Bool). Shown (if halted then done s else event_by s (Step hart))) (sym goes) there
+-- an event of a machine that is not halted: a tick tells nothing
+event_by_shown : (s : State) (e : Event) (p : ℕ) → performer_by s e ≡ Some p → IfSome (shown_plain p (process s p).regs (pc_of s p) (event_by s e).records) (IsShown p (begun s e) (event_by s e))
+unfolding event_by shown_plain
+event_by_shown s (Step hart) p is =
+    let t = dispatch s hart in
+    let Shown : Option ℕ → Type 0 = λ on. IfSome (shown_plain p (process t p).regs (pc_of t p) (stepped t on).records) (IsShown p t (stepped t on)) in
+    subst Shown (sym is) (instruction_shown t p)
+event_by_shown s (Tick hart) p is =
+    let Shown : Option ℕ → Type 0 = λ on. IfSome (shown_plain p (process s p).regs (pc_of s p) (tick_of s on).records) (IsShown p s (tick_of s on)) in
+    subst Shown (sym is) tt
 
--- what the records of such a step show was performed
-pub event_shown : (m : MachineValue CacheValue) (e : Event) (p : ℕ) → IsStepOf p m e → IfSome (shown_plain p (process (state_of m) p).regs (pc_of (state_of m) p) (event_of (state_of m) e).records) (IsShown p (state_of m) (event_of (state_of m) e))
-event_shown m e p is = rw is.step (step_shown (state_of m) is.hart p is.goes is.here)
+-- what the records of an event show was performed by its process
+pub event_shown : (s : State) (e : Event) (p : ℕ) → performer s e ≡ Some p → IfSome (shown_plain p (process s p).regs (pc_of s p) (event_of s e).records) (IsShown p (begun s e) (event_of s e))
+event_shown s e p = by s.halted
+  where
+    by : (halted : Bool) → (if halted then None else performer_by s e) ≡ Some p → IfSome (shown_plain p (process s p).regs (pc_of s p) (if halted then done s else event_by s e).records) (IsShown p (begun s e) (if halted then done s else event_by s e))
+    by true is = cc
+    by false is = event_by_shown s e p is
 
 -- ---- what is marked of it
 

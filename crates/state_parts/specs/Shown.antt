@@ -1,19 +1,20 @@
 -- What the records of an event show to have been performed.
-use Rattle.std.specs.Prelude.{◌≡◌, ℕ, ◌<◌, false, List, Option, Some, None, slice_get}
+use Rattle.std.specs.Prelude.{◌≡◌, ℕ, ◌<◌, List, Option, Some, None, slice_get}
 use Rattle.cap_format.specs.declared.kind.CapKind.TheVariants.{Process}
 use Rattle.object_store.specs.Store.{size_of}
-use Rattle.schedules.specs.Queues.{hart_of}
 use Rattle.rv32_user.specs.declared.effect.Effect.{Effect}
 use Rattle.rv32_user.specs.declared.effect.Effect.TheVariants.{Next, Load, Store as StoreOf}
 use Rattle.rv32_user.specs.Step.{effect_of}
 use Rattle.map_cache.specs.Cache.{CacheValue}
 use Rattle.machine_state.specs.declared.event.Event.{Event}
-use Rattle.machine_state.specs.declared.event.Event.TheVariants.{Step}
+use Rattle.machine_state.specs.declared.event.Event.TheVariants.{Step, Tick}
 use Rattle.machine_state.specs.declared.record.Record.{Record}
 use Rattle.machine_state.specs.declared.record.Record.TheVariants.{Access, Insn as InsnRead}
 use Rattle.machine_state.specs.Machine.{MachineValue}
-use Rattle.machine_state.specs.State.{State}
+use Rattle.machine_state.specs.State.{State, state_of}
+use Rattle.machine_state.specs.Setters.{dispatch}
 use Rattle.machine_state.specs.Outcome.{Outcome}
+use Rattle.kernel_core.specs.Event.{performer}
 use Rattle.event_reach.specs.declared.plain.PlainInsn.{PlainInsn}
 use Rattle.event_reach.specs.Plain.{plain_insn, plain_names, ChangesAlone}
 
@@ -44,13 +45,15 @@ shown_insn p regs pc next _ = None
 unfoldable pub shown_plain : ℕ → List ℕ → ℕ → List Record → Option PlainInsn
 shown_plain p regs pc records = shown_insn p regs pc (slice_get records 2) (slice_get records 1)
 
--- the event is a step of a hart on which process `p` stands, of a machine that is not halted
-pub record IsStepOf (p : ℕ) (m : MachineValue CacheValue) (e : Event) : Type 0 where
-  pub hart : ℕ
-  pub step : e ≡ Step hart
-  pub here : hart_of m.queues hart ≡ Some p
-  pub goes : m.halted ≡ false
+-- process `p`, one of the machine's, performs the event
+pub record IsBy (p : ℕ) (m : MachineValue CacheValue) (e : Event) : Type 0 where
+  pub performs : performer (state_of m) e ≡ Some p
   pub there : p < size_of m.objects.items Process
+
+-- the state in which it performs the event: at a step a hart without a process took one
+abbrev pub begun : State → Event → State
+begun s (Step hart) = dispatch s hart
+begun s (Tick hart) = s
 
 -- of an event this is what is shown: process `p` performed a plain instruction, which changed no more than it says
 pub record IsShown (p : ℕ) (s : State) (o : Outcome) (i : PlainInsn) : Type 0 where

@@ -6,13 +6,14 @@ ghost use Rattle.object_store.specs.Object.{object_name, IsAmong};
 ghost use Rattle.string_move.specs.Move.{page_names};
 ghost use Rattle.machine_state.specs.Machine.{hart_in};
 ghost use Rattle.machine_state.specs.State.{state_of};
+ghost use Rattle.machine_state.specs.Outcome.{names_on};
 ghost use Rattle.machine_state.specs.Taking.{names_of};
 ghost use Rattle.kernel_core.specs.Event.{event_of};
 ghost use Rattle.event_reach.specs.Looked.{Looked};
 ghost use Rattle.event_reach.specs.Plain.{plain_names, IsThere};
 ghost use Rattle.event_reach.specs.Reach.{names_of as reached_names};
 ghost use Rattle.state_parts.specs.Looking.{HasAll, IsMore};
-ghost use Rattle.state_parts.specs.Marking.{AddsThere, HasThere, StandsStill};
+ghost use Rattle.state_parts.specs.Marking.{AddsThere, HasProcesses, HasThere, StandsStill};
 ghost use Rattle.state_parts.specs.Slots.{a_look};
 
 use crate::look::is_named;
@@ -28,8 +29,8 @@ use string_move::Pieces;
 /// Marks all that an event may change, before it is performed, and tells whether the queues and the harts are sure to stay.
 /// Where memory is wanting some is marked.
 ///
-/// A plain instruction changes its process and the page of its store; any other event may change every process, and what
-/// is reached by it.
+/// A plain instruction changes its process and the page of its store, and a tick the process of its hart; any other step may
+/// change every process, and what is reached by it.
 pub(crate) fn mark_event<L: Ledger>(
     machine: &mut Machine<MapCache>,
     event: Event,
@@ -54,7 +55,7 @@ pub(crate) fn mark_event<L: Ledger>(
             Ok(true)
         }
         None => {
-            mark_processes(machine.objects(), marked)?;
+            mark_performers(machine, event, marked)?;
             let reach = reach_of_event(machine, event, fetches);
             mark_reach(machine.objects(), &reach, marked)?;
             Ok(false)
@@ -79,6 +80,40 @@ fn mark_plain(
             mark_object(objects, CapKind::Page, u32::from(page), marked)?;
             Ok(())
         }
+    }
+}
+
+/// Marks the processes that an event may change: at a tick that of the hart, at a step all.
+fn mark_performers(
+    machine: &Machine<MapCache>,
+    event: Event,
+    marked: &mut Vec<Name>,
+) -> Result<(), OutOfMemory>
+    requires { hart_in event < machine.now.objects.harts }
+    ensures adds { AddsThere machine.now.objects (names_of marked.old.items) (names_of marked.new.items) }
+    ensures has { let changed = (event_of (state_of machine.now) event).changed in
+        OnOk result (HasProcesses machine.now.objects changed (names_of marked.new.items)) }
+{
+    match event {
+        Event::Step(_) => {
+            mark_processes(machine.objects(), marked)?;
+            Ok(())
+        }
+        Event::Tick(hart) => {
+            mark_on(machine.objects(), machine.on_hart(hart), marked)?;
+            Ok(())
+        }
+    }
+}
+
+/// Marks the process of a hart, where it has one.
+fn mark_on(objects: &Objects, on: Option<u16>, marked: &mut Vec<Name>) -> Result<(), OutOfMemory>
+    ensures adds { AddsThere objects.now (names_of marked.old.items) (names_of marked.new.items) }
+    ensures has { OnOk result (HasThere objects.now (names_on on) (names_of marked.new.items)) }
+{
+    match on {
+        Some(p) => mark_object(objects, CapKind::Process, u32::from(p), marked),
+        None => Ok(()),
     }
 }
 

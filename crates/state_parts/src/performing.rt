@@ -1,21 +1,21 @@
 //! Performing an event, with all marked that it may change.
-ghost use Rattle.std.specs.Prelude.{◌≡◌, ◌<◌, ◌≤◌, ◌+◌, ◌∷◌, [], IsTrue, IfOk, IfSome, OnOk, OnErr, MatchOption, length};
-ghost use Rattle.cap_format.specs.declared.kind.CapKind.TheVariants.{Page};
-ghost use Rattle.object_store.specs.Store.{sizes_of};
+ghost use Rattle.std.specs.Prelude.{◌≡◌, ◌<◌, ◌≤◌, ◌+◌, ◌∷◌, [], IsTrue, IfOk, IfSome, None, OnOk, OnErr, MatchOption, length};
+ghost use Rattle.cap_format.specs.declared.kind.CapKind.TheVariants.{Page, Process};
+ghost use Rattle.object_store.specs.Store.{size_of, sizes_of};
 ghost use Rattle.object_store.specs.Object.{object_name, Stays};
 ghost use Rattle.object_store.specs.Saved.{AreThere};
 ghost use Rattle.machine_state.specs.Machine.{hart_in};
 ghost use Rattle.machine_state.specs.State.{state_of};
-ghost use Rattle.machine_state.specs.Outcome.{process_name};
+ghost use Rattle.machine_state.specs.Outcome.{process_name, done};
 ghost use Rattle.machine_state.specs.Taking.{names_of};
-ghost use Rattle.kernel_core.specs.Event.{event_of};
+ghost use Rattle.kernel_core.specs.Event.{performer, event_of};
 ghost use Rattle.std.specs.Vec.{vec_len, vec_capacity};
 ghost use Rattle.state_parts.specs.Keys.{AreAll};
 ghost use Rattle.state_parts.specs.Looking.{HasAll, IsMore};
 ghost use Rattle.state_parts.specs.Marking.{AddsThere, HasThere, StandsStill};
 ghost use Rattle.event_reach.specs.FreshWalks.{walked};
 ghost use Rattle.event_reach.specs.Plain.{stored_names};
-ghost use Rattle.state_parts.specs.Shown.{IsStepOf, IsShown};
+ghost use Rattle.state_parts.specs.Shown.{IsBy, begun, IsShown};
 ghost use Rattle.state_parts.specs.Slots.{event_slots};
 
 use crate::fetched::{Fetched, note_fetch, note_stumble, seems_plain};
@@ -34,8 +34,8 @@ use undo_economy::walks_at_most;
 /// Performs an event, marks all that it may change, and tells whether the queues and the harts are sure to have stayed.
 /// Where memory is wanting it wasn't performed, and some is marked.
 ///
-/// Where the next instruction seems to be plain there is no look ahead: the records tell afterwards whether it was. If not,
-/// all objects are marked.
+/// An event that nobody performs marks nothing. Where the next instruction seems to be plain there is no look ahead: the
+/// records tell afterwards whether it was. If not, all objects are marked.
 pub(crate) fn perform_event<L: Ledger>(
     machine: &mut Machine<MapCache>,
     event: Event,
@@ -62,33 +62,74 @@ pub(crate) fn perform_event<L: Ledger>(
     ensures least { fetches.old ≤ fetches.new }
     ensures most { fetches.new ≤ fetches.old + event_slots (state_of machine.old) event }
 {
-    if let Some(p) = stepping(machine, event) {
-        if seems_plain(machine, p, fetched.as_slice()) {
-            let pc = machine.pc(p);
-            let still = perform_plainly(machine, event, p, names, marked, records, fetches)?;
-            note_fetch(fetched, records);
-            if !still {
-                note_stumble(fetched, p, pc);
-            }
-            return Ok(still);
+    match performer(machine, event) {
+        None => {
+            records.clear();
+            Ok(true)
         }
+        Some(p) => perform_by(machine, event, p, names, marked, fetched, records, fetches),
+    }
+}
+
+/// Who performs an event, if anybody does. Where nobody does nothing changes: the machine is halted, or the hart has no process
+/// and takes none.
+fn performer(machine: &Machine<MapCache>, event: Event) -> Option<u16>
+    requires { hart_in event < machine.now.objects.harts }
+    ensures value { result ≡ performer (state_of machine.now) event }
+    ensures there { IfSome result (λ p. p < size_of machine.now.objects.items Process) }
+    ensures nobody { let s = state_of machine.now in result ≡ None → event_of s event ≡ done s }
+{
+    if machine.halted() {
+        return None;
+    }
+    match event {
+        Event::Step(hart) => machine.queues().next_on(hart),
+        Event::Tick(hart) => machine.on_hart(hart),
+    }
+}
+
+/// The same of an event that a process performs.
+fn perform_by<L: Ledger>(
+    machine: &mut Machine<MapCache>,
+    event: Event,
+    p: u16,
+    names: &[Name],
+    marked: &mut Vec<Name>,
+    fetched: &mut Vec<Fetched>,
+    records: &mut Records,
+    fetches: &mut Steps<L>,
+) -> Result<bool, OutOfMemory>
+    requires hart { hart_in event < machine.old.objects.harts }
+    requires by { IsBy p machine.old event }
+    requires all { AreAll (sizes_of machine.old.objects) (names_of names.now) }
+    requires known { AreThere machine.old.objects (names_of marked.old.items) }
+    ensures state { OnOk result (state_of machine.new ≡ (event_of (state_of machine.old) event).state) }
+    ensures still { let s = state_of machine.old in
+        IfOk result (λ still. IsTrue still → StandsStill s (event_of s event).state) }
+    ensures err { OnErr result (state_of machine.new ≡ state_of machine.old) }
+    ensures objects { OnErr result (machine.new.objects ≡ machine.old.objects) }
+    ensures adds { AddsThere machine.old.objects (names_of marked.old.items) (names_of marked.new.items) }
+    ensures has { let changed = (event_of (state_of machine.old) event).changed in
+        OnOk result (HasThere machine.old.objects changed (names_of marked.new.items)) }
+    ensures stays { let changed = (event_of (state_of machine.old) event).changed in
+        OnOk result (Stays changed machine.old.objects machine.new.objects) }
+    ensures sizes { sizes_of machine.new.objects ≡ sizes_of machine.old.objects }
+    ensures least { fetches.old ≤ fetches.new }
+    ensures most { fetches.new ≤ fetches.old + event_slots (state_of machine.old) event }
+{
+    if is_step(event) && seems_plain(machine, p, fetched.as_slice()) {
+        return perform_plainly(machine, event, p, names, marked, fetched, records, fetches);
     }
     let still = perform_marked(machine, event, marked, records, fetches)?;
     note_fetch(fetched, records);
     Ok(still)
 }
 
-/// The process that a step of a machine that is not halted finds on its hart.
-fn stepping(machine: &Machine<MapCache>, event: Event) -> Option<u16>
-    requires { hart_in event < machine.now.objects.harts }
-    ensures { IfSome result (λ p. IsStepOf p machine.now event) }
-{
-    if machine.halted() {
-        return None;
-    }
+/// Whether an event is a step.
+fn is_step(event: Event) -> bool {
     match event {
-        Event::Step(hart) => machine.on_hart(hart),
-        Event::Tick(_) => None,
+        Event::Step(_) => true,
+        Event::Tick(_) => false,
     }
 }
 
@@ -121,18 +162,19 @@ fn perform_marked<L: Ledger>(
     Ok(still)
 }
 
-/// The same of a step of a process, by what the records tell of it.
+/// The same of an event of a process, by what the records tell of it.
 fn perform_plainly<L: Ledger>(
     machine: &mut Machine<MapCache>,
     event: Event,
     p: u16,
     names: &[Name],
     marked: &mut Vec<Name>,
+    fetched: &mut Vec<Fetched>,
     records: &mut Records,
     fetches: &mut Steps<L>,
 ) -> Result<bool, OutOfMemory>
     requires hart { hart_in event < machine.old.objects.harts }
-    requires step { IsStepOf p machine.old event }
+    requires by { IsBy p machine.old event }
     requires all { AreAll (sizes_of machine.old.objects) (names_of names.now) }
     requires known { AreThere machine.old.objects (names_of marked.old.items) }
     ensures state { OnOk result (state_of machine.new ≡ (event_of (state_of machine.old) event).state) }
@@ -150,9 +192,26 @@ fn perform_plainly<L: Ledger>(
     ensures most { fetches.new ≤ fetches.old + event_slots (state_of machine.old) event }
 {
     mark_process(machine.objects(), p, names, marked)?;
+    let pc = machine.pc(p);
+    let stood = stood(machine, event);
     let shown = perform_shown(machine, event, p, records, fetches);
     mark_shown(machine.objects(), shown, names, marked);
-    Ok(shown.is_some())
+    note_fetch(fetched, records);
+    if shown.is_none() {
+        note_stumble(fetched, p, pc);
+    }
+    Ok(stood && shown.is_some())
+}
+
+/// Whether it is sure that no hart takes a process at an event.
+fn stood(machine: &Machine<MapCache>, event: Event) -> bool
+    requires { hart_in event < machine.now.objects.harts }
+    ensures { let s = state_of machine.now in IsTrue result → begun s event ≡ s }
+{
+    match event {
+        Event::Step(hart) => machine.on_hart(hart).is_some(),
+        Event::Tick(_) => true,
+    }
 }
 
 /// Marks a process, and makes room for the names of all objects.
@@ -171,7 +230,7 @@ fn mark_process(
     Ok(())
 }
 
-/// Performs a step of a process, and tells the plain instruction that its records show.
+/// Performs an event of a process, and tells the plain instruction that its records show.
 fn perform_shown<L: Ledger>(
     machine: &mut Machine<MapCache>,
     event: Event,
@@ -180,9 +239,10 @@ fn perform_shown<L: Ledger>(
     fetches: &mut Steps<L>,
 ) -> Option<PlainInsn>
     requires hart { hart_in event < machine.old.objects.harts }
-    requires step { IsStepOf p machine.old event }
+    requires by { IsBy p machine.old event }
     ensures state { state_of machine.new ≡ (event_of (state_of machine.old) event).state }
-    ensures shown { let s = state_of machine.old in IfSome result (IsShown p s (event_of s event)) }
+    ensures shown { let s = state_of machine.old in
+        IfSome result (IsShown p (begun s event) (event_of s event)) }
     ensures stays { let changed = (event_of (state_of machine.old) event).changed in
         Stays changed machine.old.objects machine.new.objects }
     ensures sizes { sizes_of machine.new.objects ≡ sizes_of machine.old.objects }

@@ -8,6 +8,7 @@ use Rattle.machine_state.specs.Taking.{names_of}
 use Rattle.kernel_core.specs.Event.{event_of}
 use Rattle.state_parts.specs.Keys.{AreAll}
 use Rattle.state_parts.specs.Marking.{AddsThere, HasThere}
+use Rattle.state_parts.specs.Shown.{begun}
 use Rattle.state_parts.proofs.Marked.{adds_then}
 use Rattle.state_parts.proofs.Boards.{there_adds}
 use Rattle.state_parts.proofs.Shown.{adds_sizes, has_shown, marked_sizes, some_named}
@@ -27,10 +28,10 @@ mark_shown-requires-clause-known g c =
     (there_adds s (names_of c.args.marked.now.items) mid (subst First c.objects.ensures c.mark_process.ensures.adds) c.requires.known)
 
 pub mark_shown-requires-clause-some : goal.mark_shown-requires-clause-some
-mark_shown-requires-clause-some g c = some_named c.args.machine.now.objects c.args.p c.args.names.now c.requires.all c.requires.step.there
+mark_shown-requires-clause-some g c = some_named c.args.machine.now.objects c.args.p c.args.names.now c.requires.all c.requires.by.there
 
-pub returns-clause-adds : goal.returns-clause-adds
-returns-clause-adds g c =
+pub returns-then-stood-clause-adds : goal.returns-then-stood-clause-adds
+returns-then-stood-clause-adds g c =
     let s = c.args.machine.now.objects in
     let t = c.objects-2.result.now in
     let old = names_of c.args.marked.now.items in
@@ -39,8 +40,8 @@ returns-clause-adds g c =
     let First : Store → Type 0 = λ o. AddsThere o old mid in
     adds_then s old mid new (subst First c.objects.ensures c.mark_process.ensures.adds) (adds_sizes s t mid new (ap sizes_of c.objects-2.ensures ∙ c.perform_shown-shown.ensures.sizes) c.mark_shown.ensures.adds)
 
-pub returns-clause-has : goal.returns-clause-has
-returns-clause-has g c =
+pub returns-then-stood-clause-has : goal.returns-then-stood-clause-has
+returns-then-stood-clause-has g c =
     let m = c.args.machine.now in
     let s = m.objects in
     let t = c.objects-2.result.now in
@@ -48,7 +49,32 @@ returns-clause-has g c =
     let mid = names_of c.mark_process.new.marked.items in
     let new = names_of c.mark_shown.new.marked.items in
     let First : Store → Type 0 = λ o. HasThere o (process_name c.args.p ∷ []) mid in
-    has_shown s (state_of m) (event_of (state_of m) c.args.event) c.args.p (names_of c.args.names.now) mid new c.perform_shown-shown.result c.requires.all
+    has_shown s (begun (state_of m) c.args.event) (event_of (state_of m) c.args.event) c.args.p (names_of c.args.names.now) mid new c.perform_shown-shown.result c.requires.all
+    (subst First c.objects.ensures c.in_ok-mark_process.ensures.has)
+    (adds_sizes s t mid new sizes c.mark_shown.ensures.adds)
+    (marked_sizes s t (names_of c.args.names.now) new c.perform_shown-shown.result sizes c.mark_shown.ensures.has)
+    c.perform_shown-shown.ensures.shown
+
+pub returns-else-stood-clause-adds : goal.returns-else-stood-clause-adds
+returns-else-stood-clause-adds g c =
+    let s = c.args.machine.now.objects in
+    let t = c.objects-2.result.now in
+    let old = names_of c.args.marked.now.items in
+    let mid = names_of c.mark_process.new.marked.items in
+    let new = names_of c.mark_shown.new.marked.items in
+    let First : Store → Type 0 = λ o. AddsThere o old mid in
+    adds_then s old mid new (subst First c.objects.ensures c.mark_process.ensures.adds) (adds_sizes s t mid new (ap sizes_of c.objects-2.ensures ∙ c.perform_shown-shown.ensures.sizes) c.mark_shown.ensures.adds)
+
+pub returns-else-stood-clause-has : goal.returns-else-stood-clause-has
+returns-else-stood-clause-has g c =
+    let m = c.args.machine.now in
+    let s = m.objects in
+    let t = c.objects-2.result.now in
+    let sizes = ap sizes_of c.objects-2.ensures ∙ c.perform_shown-shown.ensures.sizes in
+    let mid = names_of c.mark_process.new.marked.items in
+    let new = names_of c.mark_shown.new.marked.items in
+    let First : Store → Type 0 = λ o. HasThere o (process_name c.args.p ∷ []) mid in
+    has_shown s (begun (state_of m) c.args.event) (event_of (state_of m) c.args.event) c.args.p (names_of c.args.names.now) mid new c.perform_shown-shown.result c.requires.all
     (subst First c.objects.ensures c.in_ok-mark_process.ensures.has)
     (adds_sizes s t mid new sizes c.mark_shown.ensures.adds)
     (marked_sizes s t (names_of c.args.names.now) new c.perform_shown-shown.result sizes c.mark_shown.ensures.has)
