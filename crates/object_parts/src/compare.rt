@@ -174,7 +174,8 @@ fn eight_null(a: &Process, b: &Process, first: u8) -> bool
 #[tactic(auto, using(crate::proofs::Compared::null_kinds))]
 fn kinds_at(a: &Process, b: &Process, i: u8) -> u8
     requires { i ≤ 31 }
-    ensures value { result ≡ number_of (capreg_of a.now i).kind + number_of (capreg_of b.now i).kind }
+    ensures value { result ≡ number_of (capreg_of a.now i).kind
+        + number_of (capreg_of b.now i).kind }
     ensures small { result ≤ 26 }
     ensures null { result ≡ 0 → (capreg_of a.now i ≡ null) × (capreg_of b.now i ≡ null) }
 {

@@ -50,7 +50,8 @@ pub fn part_of<L: Ledger>(
 fn page_part(alloc: Global, objects: &Objects, n: u16) -> Result<Part, OutOfMemory>
     requires { n < size_of objects.now.items CapKind.Page }
     ensures object { IfOk result
-        (λ part. object_in part ≡ OfPage (count_of objects.now.items CapKind.Page n) (page_at objects.now n)) }
+        (λ part. object_in part ≡ OfPage (count_of objects.now.items CapKind.Page n)
+        (page_at objects.now n)) }
     ensures ranged { IfOk result (λ part. IsInRanges (object_in part)) }
 {
     let mut page = Box::new(alloc, Page::new())?;

@@ -32,7 +32,8 @@ pub fn number_of_part<L: Ledger>(
     requires { number < size_of objects.now.items kind }
     ensures grows { Grows (map object_in table.old) (map object_in table.new) }
     ensures value { IfOk result (λ found.
-        slice_get (map object_in table.new) found ≡ Some (object_at (live_store objects.now) kind number)) }
+        slice_get (map object_in table.new) found
+        ≡ Some (object_at (live_store objects.now) kind number)) }
     ensures ranged { OnOk result (IsInRanges (object_at (live_store objects.now) kind number)) }
     ensures counted { fetches.new ≡ fetches.old + slots_copied kind }
 {
@@ -47,7 +48,8 @@ pub fn number_of_part<L: Ledger>(
 fn known_number(table: &Table<Part>, objects: &Objects, kind: CapKind, number: u16) -> Option<u32>
     requires { number < size_of objects.now.items kind }
     ensures value { IfSome result (λ found.
-        slice_get (map object_in table.now) found ≡ Some (object_at (live_store objects.now) kind number)) }
+        slice_get (map object_in table.now) found
+        ≡ Some (object_at (live_store objects.now) kind number)) }
     ensures ranged { IsSome result → IsInRanges (object_at (live_store objects.now) kind number) }
     ensures copied { IsSome result → slots_copied kind ≡ 0 }
 {
@@ -61,7 +63,8 @@ fn known_number(table: &Table<Part>, objects: &Objects, kind: CapKind, number: u
 fn known_page(table: &Table<Part>, objects: &Objects, n: u16) -> Option<u32>
     requires { n < size_of objects.now.items CapKind.Page }
     ensures value { IfSome result (λ found.
-        slice_get (map object_in table.now) found ≡ Some (object_at (live_store objects.now) CapKind.Page n)) }
+        slice_get (map object_in table.now) found
+        ≡ Some (object_at (live_store objects.now) CapKind.Page n)) }
     ensures ranged { IsSome result → IsInRanges (object_at (live_store objects.now) CapKind.Page n) }
 {
     let there = PageThere {
@@ -78,8 +81,10 @@ fn known_page(table: &Table<Part>, objects: &Objects, n: u16) -> Option<u32>
 fn known_process(table: &Table<Part>, objects: &Objects, n: u16) -> Option<u32>
     requires { n < size_of objects.now.items CapKind.Process }
     ensures value { IfSome result (λ found.
-        slice_get (map object_in table.now) found ≡ Some (object_at (live_store objects.now) CapKind.Process n)) }
-    ensures ranged { IsSome result → IsInRanges (object_at (live_store objects.now) CapKind.Process n) }
+        slice_get (map object_in table.now) found
+        ≡ Some (object_at (live_store objects.now) CapKind.Process n)) }
+    ensures ranged { IsSome result → IsInRanges
+        (object_at (live_store objects.now) CapKind.Process n) }
 {
     let there = ProcessThere {
         count: Count {

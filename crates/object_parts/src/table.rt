@@ -51,7 +51,8 @@ impl<K: Kept> Table<K> {
     /// The number of what this stands for. It is a new one where that isn't in the table yet; a number is below 2^32.
     pub fn number(&mut self, kept: K) -> Result<u32, OutOfMemory>
         ensures grows { Grows (map K.content self.old) (map K.content self.new) }
-        ensures value { IfOk result (λ i. slice_get (map K.content self.new) i ≡ Some (K.content kept)) }
+        ensures value { IfOk result (λ i. slice_get (map K.content self.new) i
+            ≡ Some (K.content kept)) }
     {
         if self.set.len() >= u32::MAX as usize {
             return Err(OutOfMemory);
@@ -62,7 +63,8 @@ impl<K: Kept> Table<K> {
 
     /// What a query stands for, with its number, if it is in the table.
     pub fn find<Q: Equivalent<K>>(&self, query: Q) -> Option<(u32, &K)>
-        ensures value { IfSome result (λ r. slice_get (map K.content self.now) r.0 ≡ Some (K.content r.1.now)) }
+        ensures value { IfSome result (λ r. slice_get (map K.content self.now) r.0
+            ≡ Some (K.content r.1.now)) }
         ensures equal { IfSome result (λ r. IsTrue (Q.equivalent query r.1.now)) }
     {
         let (index, kept) = self.set.get_full(query)?;

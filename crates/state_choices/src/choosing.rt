@@ -47,7 +47,8 @@ pub fn chosen<L: Ledger>(
     ensures held { IfOk result (Held states.new.tables) }
     ensures means { IfOk result (λ key. state_in states.new.tables key
         ≡ after_choice (watch_of watched.now) (state_in states.old.tables from.now) choice) }
-    ensures stands { IfOk result (λ key. state_of states.new.machine ≡ state_in states.new.tables key) }
+    ensures stands { IfOk result (λ key. state_of states.new.machine
+        ≡ state_in states.new.tables key) }
     ensures least { fetches.old ≤ fetches.new }
     ensures most { fetches.new ≤ fetches.old
         + choice_slots (watch_of watched.now) (state_in states.old.tables from.now) choice }
@@ -107,7 +108,8 @@ fn run<L: Ledger>(
     requires { hart < states.old.tables.sizes.harts }
     ensures tables { states.new.tables ≡ states.old.tables }
     ensures count { IfOk result (λ times. times
-        ≡ suc (quiet_steps (watch_of watched.now) (after_step (state_of states.old.machine) hart) hart)) }
+        ≡ suc (quiet_steps (watch_of watched.now) (after_step (state_of states.old.machine) hart)
+        hart)) }
     ensures state { IfOk result (λ times.
         state_of states.new.machine ≡ after_steps hart times (state_of states.old.machine)) }
     ensures least { fetches.old ≤ fetches.new }
@@ -212,7 +214,8 @@ fn perform_steps<L: Ledger>(
 ) -> Result<(), OutOfMemory>
     requires { hart < states.old.tables.sizes.harts }
     ensures tables { states.new.tables ≡ states.old.tables }
-    ensures state { OnOk result (state_of states.new.machine ≡ after_steps hart times (state_of states.old.machine)) }
+    ensures state { OnOk result (state_of states.new.machine
+        ≡ after_steps hart times (state_of states.old.machine)) }
     ensures least { fetches.old ≤ fetches.new }
     ensures most { fetches.new ≤ fetches.old
         + steps_slots hart times (state_of states.old.machine) }

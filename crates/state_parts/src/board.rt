@@ -119,11 +119,17 @@ impl Board {
         fetches: &mut Steps<L>,
     ) -> Result<(), OutOfMemory>
         requires all { AreAll (sizes_of self.old.desk) (names_of names.now) }
-        requires old { Reads (map object_in table.now) old.now (objects_of (names_of names.now) self.old.desk) }
-        requires new { IsTarget (map object_in table.now) (names_of names.now) new.now (sizes_of self.old.desk) (store_by (sizes_of self.old.desk) (names_of names.now) (values_of (map object_in table.now) new.now)) }
-        requires machine { IsMachine (store_by (sizes_of self.old.desk) (names_of names.now) (values_of (map object_in table.now) new.now)) standing.now.queues }
+        requires old { Reads (map object_in table.now) old.now
+            (objects_of (names_of names.now) self.old.desk) }
+        requires new { IsTarget (map object_in table.now) (names_of names.now) new.now
+            (sizes_of self.old.desk) (store_by (sizes_of self.old.desk) (names_of names.now)
+            (values_of (map object_in table.now) new.now)) }
+        requires machine { IsMachine (store_by (sizes_of self.old.desk) (names_of names.now)
+            (values_of (map object_in table.now) new.now)) standing.now.queues }
         requires stays { IsTrue stays → standing_at self.old.machine ≡ standing_in standing.now }
-        ensures desk { OnOk result (self.new.desk ≡ store_by (sizes_of self.old.desk) (names_of names.now) (values_of (map object_in table.now) new.now)) }
+        ensures desk { OnOk result (self.new.desk
+            ≡ store_by (sizes_of self.old.desk) (names_of names.now)
+            (values_of (map object_in table.now) new.now)) }
         ensures objects { OnOk result (self.new.machine.objects ≡ self.new.desk) }
         ensures queues { OnOk result (self.new.machine.queues ≡ standing.now.queues) }
         ensures halted { OnOk result (self.new.machine.halted ≡ standing.now.halted) }
@@ -163,7 +169,8 @@ impl Board {
         fetches: &mut Steps<L>,
     ) -> Result<Vec<u32>, OutOfMemory>
         requires all { AreAll (sizes_of self.now.desk) (names_of names.now) }
-        requires reads { Reads (map object_in table.old) numbers.now (objects_of (names_of names.now) self.now.desk) }
+        requires reads { Reads (map object_in table.old) numbers.now
+            (objects_of (names_of names.now) self.now.desk) }
         requires live { live_store self.now.desk ≡ self.now.desk }
         requires ranges { EachCapability IsCapability self.now.desk }
         ensures grows { Grows (map object_in table.old) (map object_in table.new) }
@@ -196,7 +203,8 @@ impl Board {
     ) -> Result<bool, OutOfMemory>
         requires all { AreAll (sizes_of self.old.desk) (names_of names.now) }
         requires hart { hart_in event < self.old.machine.objects.harts }
-        ensures state { OnOk result (state_of self.new.machine ≡ (event_of (state_of self.old.machine) event).state) }
+        ensures state { OnOk result (state_of self.new.machine
+            ≡ (event_of (state_of self.old.machine) event).state) }
         ensures still { IfOk result (λ still. IsTrue still →
             StandsStill (state_of self.old.machine) (state_of self.new.machine)) }
         ensures err { OnErr result (state_of self.new.machine ≡ state_of self.old.machine) }

@@ -23,7 +23,8 @@ pub(crate) struct Fetched {
 
 /// For so many processes, of which none fetched yet.
 pub(crate) fn nothing_fetched(alloc: Global, processes: u16) -> Result<Vec<Fetched>, OutOfMemory>
-    ensures { IfOk result (λ fetched. fetched.items ≡ replicate processes (record { addresses = 1048576; page = 0; stumbled = 1 })) }
+    ensures { IfOk result (λ fetched. fetched.items
+        ≡ replicate processes (record { addresses = 1048576; page = 0; stumbled = 1 })) }
 {
     let mut fetched = Vec::new(alloc);
     for _ in 0..processes {

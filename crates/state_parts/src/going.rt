@@ -20,8 +20,10 @@ use object_store::Objects;
 fn mark(marked: &mut Vec<Name>, names: &[Name], old: &[u32], new: &[u32]) -> Result<(), OutOfMemory>
     requires here { length old.now ≡ length names.now }
     requires there { length new.now ≡ length names.now }
-    ensures grows { IsMore (names_of names.now) (names_of marked.old.items) (names_of marked.new.items) }
-    ensures each { OnOk result (AreMarked (length names.now) (names_of names.now) old.now new.now (names_of marked.new.items)) }
+    ensures grows { IsMore (names_of names.now) (names_of marked.old.items)
+        (names_of marked.new.items) }
+    ensures each { OnOk result (AreMarked (length names.now) (names_of names.now) old.now new.now
+        (names_of marked.new.items)) }
 {
     for i in 0..names.len() {
         mark_one(marked, names[i], old[i], new[i])?;
@@ -31,8 +33,10 @@ fn mark(marked: &mut Vec<Name>, names: &[Name], old: &[u32], new: &[u32]) -> Res
 
 /// Marks a name, if its numbers differ.
 fn mark_one(marked: &mut Vec<Name>, name: Name, old: u32, new: u32) -> Result<(), OutOfMemory>
-    ensures grows { IsMore (object_name name.kind name.number ∷ []) (names_of marked.old.items) (names_of marked.new.items) }
-    ensures marks { OnOk result (IsMarked (object_name name.kind name.number) old new (names_of marked.new.items)) }
+    ensures grows { IsMore (object_name name.kind name.number ∷ []) (names_of marked.old.items)
+        (names_of marked.new.items) }
+    ensures marks { OnOk result (IsMarked (object_name name.kind name.number) old new
+        (names_of marked.new.items)) }
 {
     if old == new {
         return Ok(());
@@ -66,12 +70,18 @@ pub(crate) fn bring_all(
     requires known { AreThere objects.old (names_of marked.old.items) }
     requires here { length old.now ≡ length names.now }
     requires there { length new.now ≡ length names.now }
-    requires old { Reads (map object_in table.now) old.now (objects_of (names_of names.now) objects.old) }
-    requires new { let target = store_by (sizes_of objects.old) (names_of names.now) (values_of (map object_in table.now) new.now) in
+    requires old { Reads (map object_in table.now) old.now
+        (objects_of (names_of names.now) objects.old) }
+    requires new { let target = store_by (sizes_of objects.old) (names_of names.now)
+        (values_of (map object_in table.now) new.now) in
         IsTarget (map object_in table.now) (names_of names.now) new.now (sizes_of objects.old) target }
-    ensures grows { IsMore (names_of names.now) (names_of marked.old.items) (names_of marked.new.items) }
-    ensures each { OnOk result (AreMarked (length names.now) (names_of names.now) old.now new.now (names_of marked.new.items)) }
-    ensures objects { OnOk result (objects.new ≡ store_by (sizes_of objects.old) (names_of names.now) (values_of (map object_in table.now) new.now)) }
+    ensures grows { IsMore (names_of names.now) (names_of marked.old.items)
+        (names_of marked.new.items) }
+    ensures each { OnOk result (AreMarked (length names.now) (names_of names.now) old.now new.now
+        (names_of marked.new.items)) }
+    ensures objects { OnOk result (objects.new
+        ≡ store_by (sizes_of objects.old) (names_of names.now)
+        (values_of (map object_in table.now) new.now)) }
     ensures err { OnErr result (objects.new ≡ objects.old) }
 {
     // Sizes that are read tell that there are as many objects as counts.
@@ -110,9 +120,11 @@ fn bring(objects: &mut Objects, table: &Table<Part>, marked: &[Name], old: &[u32
 fn bring_one(objects: &mut Objects, table: &Table<Part>, name: Name, old: u32, new: u32)
     requires there { name.number < size_of objects.old.items name.kind }
     requires inside { new < length table.now }
-    requires kind { (x : ObjectValue) → slice_get (map object_in table.now) new ≡ Some x → kind_of x ≡ name.kind }
+    requires kind { (x : ObjectValue) → slice_get (map object_in table.now) new ≡ Some x
+        → kind_of x ≡ name.kind }
     ensures same { old ≡ new → objects.new ≡ objects.old }
-    ensures put { (old ≡ new → ⊥) → (x : ObjectValue) → slice_get (map object_in table.now) new ≡ Some x →
+    ensures put { (old ≡ new → ⊥) → (x : ObjectValue)
+        → slice_get (map object_in table.now) new ≡ Some x →
         objects.new ≡ with_object objects.old name.number x }
 {
     if old == new {

@@ -35,7 +35,8 @@ pub(crate) fn look<L: Ledger>(
 ) -> Result<Vec<u32>, OutOfMemory>
     requires there { AreThere objects.now (names_of changed.now) }
     requires many { length numbers.now ≡ length (in_order (sizes_of objects.now)) }
-    requires known { AreKnown (map object_in table.old) (live_store objects.now) (names_of changed.now)
+    requires known { AreKnown (map object_in table.old) (live_store objects.now)
+        (names_of changed.now)
         (in_order (sizes_of objects.now)) numbers.now }
     ensures grows { Grows (map object_in table.old) (map object_in table.new) }
     ensures reads { let names = in_order (sizes_of objects.now) in IfOk result (λ found.
@@ -74,8 +75,11 @@ pub(crate) fn look_anew<L: Ledger>(
 ) -> Result<Vec<u32>, OutOfMemory>
     requires there { AreThere objects.now (names_of names.now) }
     ensures grows { Grows (map object_in table.old) (map object_in table.new) }
-    ensures reads { IfOk result (λ found. Reads (map object_in table.new) found.items (objects_of (names_of names.now) (live_store objects.now))) }
-    ensures ranged { IfOk result (λ found. AreRanged (objects_of (names_of names.now) (live_store objects.now))) }
+    ensures reads { IfOk result (λ found.
+        Reads (map object_in table.new) found.items
+        (objects_of (names_of names.now) (live_store objects.now))) }
+    ensures ranged { IfOk result (λ found.
+        AreRanged (objects_of (names_of names.now) (live_store objects.now))) }
     ensures least { fetches.old ≤ fetches.new }
     ensures most { fetches.new ≤ fetches.old + slots_taken (names_of names.now) }
 {
@@ -97,7 +101,9 @@ fn new_look<L: Ledger>(
 ) -> Result<u32, OutOfMemory>
     requires { name.number < size_of objects.now.items name.kind }
     ensures grows { Grows (map object_in table.old) (map object_in table.new) }
-    ensures reads { IfOk result (λ found. ReadsLive (map object_in table.new) (live_store objects.now) (object_name name.kind name.number) found) }
+    ensures reads { IfOk result (λ found.
+        ReadsLive (map object_in table.new) (live_store objects.now)
+        (object_name name.kind name.number) found) }
     ensures counted { fetches.new ≡ fetches.old + slots_copied name.kind }
 {
     number_of_part(alloc, table, objects, name.kind, name.number, fetches)

@@ -41,7 +41,8 @@ pub(crate) fn mark_event<L: Ledger>(
     ensures state { state_of machine.new ≡ state_of machine.old }
     ensures objects { machine.new.objects ≡ machine.old.objects }
     ensures queues { machine.new.queues ≡ machine.old.queues }
-    ensures adds { AddsThere machine.old.objects (names_of marked.old.items) (names_of marked.new.items) }
+    ensures adds { AddsThere machine.old.objects (names_of marked.old.items)
+        (names_of marked.new.items) }
     ensures has { let changed = (event_of (state_of machine.old) event).changed in
         OnOk result (HasThere machine.old.objects changed (names_of marked.new.items)) }
     ensures still { let s = state_of machine.old in
@@ -90,7 +91,8 @@ fn mark_performers(
     marked: &mut Vec<Name>,
 ) -> Result<(), OutOfMemory>
     requires { hart_in event < machine.now.objects.harts }
-    ensures adds { AddsThere machine.now.objects (names_of marked.old.items) (names_of marked.new.items) }
+    ensures adds { AddsThere machine.now.objects (names_of marked.old.items)
+        (names_of marked.new.items) }
     ensures has { let changed = (event_of (state_of machine.now) event).changed in
         OnOk result (HasProcesses machine.now.objects changed (names_of marked.new.items)) }
 {
@@ -133,7 +135,8 @@ fn mark_processes(objects: &Objects, marked: &mut Vec<Name>) -> Result<(), OutOf
 /// Marks what an event reaches besides processes.
 fn mark_reach(objects: &Objects, reach: &Reach, marked: &mut Vec<Name>) -> Result<(), OutOfMemory>
     ensures adds { AddsThere objects.now (names_of marked.old.items) (names_of marked.new.items) }
-    ensures has { OnOk result (HasThere objects.now (reached_names reach.now) (names_of marked.new.items)) }
+    ensures has { OnOk result (HasThere objects.now (reached_names reach.now)
+        (names_of marked.new.items)) }
 {
     match reach {
         Reach::Nothing => Ok(()),
@@ -152,7 +155,8 @@ fn mark_reach(objects: &Objects, reach: &Reach, marked: &mut Vec<Name>) -> Resul
 /// Marks the pages of pieces.
 fn mark_pages(objects: &Objects, pieces: &Pieces, marked: &mut Vec<Name>) -> Result<(), OutOfMemory>
     ensures adds { AddsThere objects.now (names_of marked.old.items) (names_of marked.new.items) }
-    ensures has { OnOk result (HasThere objects.now (page_names pieces.now) (names_of marked.new.items)) }
+    ensures has { OnOk result (HasThere objects.now (page_names pieces.now)
+        (names_of marked.new.items)) }
 {
     let list = pieces.as_slice();
     'each: for i in 0..list.len() {
@@ -189,8 +193,10 @@ pub(crate) fn mark_object(
 
 /// Marks a name, if it isn't marked yet.
 pub(crate) fn mark_name(marked: &mut Vec<Name>, name: Name) -> Result<(), OutOfMemory>
-    ensures grows { IsMore (object_name name.kind name.number ∷ []) (names_of marked.old.items) (names_of marked.new.items) }
-    ensures has { OnOk result (HasAll (object_name name.kind name.number ∷ []) (names_of marked.new.items)) }
+    ensures grows { IsMore (object_name name.kind name.number ∷ []) (names_of marked.old.items)
+        (names_of marked.new.items) }
+    ensures has { OnOk result (HasAll (object_name name.kind name.number ∷ [])
+        (names_of marked.new.items)) }
 {
     if is_named(marked.as_slice(), name) {
         return Ok(());

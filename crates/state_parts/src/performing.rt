@@ -48,12 +48,14 @@ pub(crate) fn perform_event<L: Ledger>(
     requires hart { hart_in event < machine.old.objects.harts }
     requires all { AreAll (sizes_of machine.old.objects) (names_of names.now) }
     requires known { AreThere machine.old.objects (names_of marked.old.items) }
-    ensures state { OnOk result (state_of machine.new ≡ (event_of (state_of machine.old) event).state) }
+    ensures state { OnOk result (state_of machine.new
+        ≡ (event_of (state_of machine.old) event).state) }
     ensures still { let s = state_of machine.old in
         IfOk result (λ still. IsTrue still → StandsStill s (event_of s event).state) }
     ensures err { OnErr result (state_of machine.new ≡ state_of machine.old) }
     ensures objects { OnErr result (machine.new.objects ≡ machine.old.objects) }
-    ensures adds { AddsThere machine.old.objects (names_of marked.old.items) (names_of marked.new.items) }
+    ensures adds { AddsThere machine.old.objects (names_of marked.old.items)
+        (names_of marked.new.items) }
     ensures has { let changed = (event_of (state_of machine.old) event).changed in
         OnOk result (HasThere machine.old.objects changed (names_of marked.new.items)) }
     ensures stays { let changed = (event_of (state_of machine.old) event).changed in
@@ -103,12 +105,14 @@ fn perform_by<L: Ledger>(
     requires by { IsBy p machine.old event }
     requires all { AreAll (sizes_of machine.old.objects) (names_of names.now) }
     requires known { AreThere machine.old.objects (names_of marked.old.items) }
-    ensures state { OnOk result (state_of machine.new ≡ (event_of (state_of machine.old) event).state) }
+    ensures state { OnOk result (state_of machine.new
+        ≡ (event_of (state_of machine.old) event).state) }
     ensures still { let s = state_of machine.old in
         IfOk result (λ still. IsTrue still → StandsStill s (event_of s event).state) }
     ensures err { OnErr result (state_of machine.new ≡ state_of machine.old) }
     ensures objects { OnErr result (machine.new.objects ≡ machine.old.objects) }
-    ensures adds { AddsThere machine.old.objects (names_of marked.old.items) (names_of marked.new.items) }
+    ensures adds { AddsThere machine.old.objects (names_of marked.old.items)
+        (names_of marked.new.items) }
     ensures has { let changed = (event_of (state_of machine.old) event).changed in
         OnOk result (HasThere machine.old.objects changed (names_of marked.new.items)) }
     ensures stays { let changed = (event_of (state_of machine.old) event).changed in
@@ -142,12 +146,14 @@ fn perform_marked<L: Ledger>(
     fetches: &mut Steps<L>,
 ) -> Result<bool, OutOfMemory>
     requires { hart_in event < machine.old.objects.harts }
-    ensures state { OnOk result (state_of machine.new ≡ (event_of (state_of machine.old) event).state) }
+    ensures state { OnOk result (state_of machine.new
+        ≡ (event_of (state_of machine.old) event).state) }
     ensures still { let s = state_of machine.old in
         IfOk result (λ still. IsTrue still → StandsStill s (event_of s event).state) }
     ensures err { OnErr result (state_of machine.new ≡ state_of machine.old) }
     ensures objects { OnErr result (machine.new.objects ≡ machine.old.objects) }
-    ensures adds { AddsThere machine.old.objects (names_of marked.old.items) (names_of marked.new.items) }
+    ensures adds { AddsThere machine.old.objects (names_of marked.old.items)
+        (names_of marked.new.items) }
     ensures has { let changed = (event_of (state_of machine.old) event).changed in
         OnOk result (HasThere machine.old.objects changed (names_of marked.new.items)) }
     ensures stays { let changed = (event_of (state_of machine.old) event).changed in
@@ -177,12 +183,14 @@ fn perform_plainly<L: Ledger>(
     requires by { IsBy p machine.old event }
     requires all { AreAll (sizes_of machine.old.objects) (names_of names.now) }
     requires known { AreThere machine.old.objects (names_of marked.old.items) }
-    ensures state { OnOk result (state_of machine.new ≡ (event_of (state_of machine.old) event).state) }
+    ensures state { OnOk result (state_of machine.new
+        ≡ (event_of (state_of machine.old) event).state) }
     ensures still { let s = state_of machine.old in
         IfOk result (λ still. IsTrue still → StandsStill s (event_of s event).state) }
     ensures err { OnErr result (state_of machine.new ≡ state_of machine.old) }
     ensures objects { OnErr result (machine.new.objects ≡ machine.old.objects) }
-    ensures adds { AddsThere machine.old.objects (names_of marked.old.items) (names_of marked.new.items) }
+    ensures adds { AddsThere machine.old.objects (names_of marked.old.items)
+        (names_of marked.new.items) }
     ensures has { let changed = (event_of (state_of machine.old) event).changed in
         OnOk result (HasThere machine.old.objects changed (names_of marked.new.items)) }
     ensures stays { let changed = (event_of (state_of machine.old) event).changed in
@@ -222,7 +230,8 @@ fn mark_process(
     marked: &mut Vec<Name>,
 ) -> Result<(), OutOfMemory>
     ensures adds { AddsThere objects.now (names_of marked.old.items) (names_of marked.new.items) }
-    ensures has { OnOk result (HasThere objects.now (process_name p ∷ []) (names_of marked.new.items)) }
+    ensures has { OnOk result (HasThere objects.now (process_name p ∷ [])
+        (names_of marked.new.items)) }
     ensures room { OnOk result (vec_len marked.new + length names.now ≤ vec_capacity marked.new) }
 {
     mark_object(objects, CapKind::Process, u32::from(p), marked)?;
@@ -296,7 +305,8 @@ fn mark_page(objects: &Objects, page: u16, marked: &mut Vec<Name>)
 /// Marks a name, if it isn't marked yet. There is room for it.
 fn add_name(marked: &mut Vec<Name>, name: Name)
     requires { vec_len marked.old < vec_capacity marked.old }
-    ensures grows { IsMore (object_name name.kind name.number ∷ []) (names_of marked.old.items) (names_of marked.new.items) }
+    ensures grows { IsMore (object_name name.kind name.number ∷ []) (names_of marked.old.items)
+        (names_of marked.new.items) }
     ensures has { HasAll (object_name name.kind name.number ∷ []) (names_of marked.new.items) }
 {
     if is_named(marked.as_slice(), name) {

@@ -106,7 +106,8 @@ impl States {
         ensures grows { GrowTables self.old.tables self.new.tables }
         ensures machine { self.new.machine ≡ self.old.machine }
         ensures held { IfOk result (Held self.new.tables) }
-        ensures means { IfOk result (λ key. state_in self.new.tables key ≡ state_of self.old.machine) }
+        ensures means { IfOk result (λ key. state_in self.new.tables key
+            ≡ state_of self.old.machine) }
         ensures least { fetches.old ≤ fetches.new }
         ensures most { fetches.new ≤ fetches.old + 16 * self.old.tables.sizes.gpts }
     {
@@ -202,7 +203,8 @@ impl States {
         requires { hart_in event < self.old.tables.sizes.harts }
         ensures grows { GrowTables self.old.tables self.new.tables }
         ensures tables { self.new.tables ≡ self.old.tables }
-        ensures state { OnOk result (state_of self.new.machine ≡ (event_of (state_of self.old.machine) event).state) }
+        ensures state { OnOk result (state_of self.new.machine
+            ≡ (event_of (state_of self.old.machine) event).state) }
         ensures err { OnErr result (state_of self.new.machine ≡ state_of self.old.machine) }
         ensures least { fetches.old ≤ fetches.new }
         ensures most { fetches.new ≤ fetches.old + event_slots (state_of self.old.machine) event }
