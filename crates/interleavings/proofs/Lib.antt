@@ -1,6 +1,7 @@
 mod Watched
 mod Alike
 mod Seeing
+mod Placeless
 mod Paths
 mod Stepwise
 mod Rounds

@@ -5,6 +5,7 @@ use Rattle.machine_state.specs.State.{State}
 use Rattle.separation_policy.specs.Policy.{PolicyValue}
 use Rattle.quiet_runs.specs.Runs.{SeesOnly, after_steps}
 use Rattle.quiet_runs.specs.Laws.{AreHarts, CanCome}
+use Rattle.preemption.specs.Laws.{SeesNoPlaces}
 use Rattle.questions.specs.declared.choice.Choice.{Choice}
 use Rattle.questions.specs.declared.choice.Choice.TheVariants.{Run}
 use Rattle.questions.specs.Question.{QuestionValue, choices_of, first_holds, holds, watch_for}
@@ -32,6 +33,12 @@ SeesOnlyLaw = (question : QuestionValue) (policy : PolicyValue) (n : ℕ)
 abbrev pub FirstSeesOnlyLaw : Type 0
 FirstSeesOnlyLaw = (question : QuestionValue) (policy : PolicyValue) (n : ℕ)
     → SeesOnly (watch_for question.properties) (λ t. first_holds question policy t n)
+
+-- It depends on no place either: not on how many harts there are, nor on who is on which hart or in which ready queue, but for
+-- whether anybody is anywhere.
+abbrev pub SeesNoPlacesLaw : Type 0
+SeesNoPlacesLaw = (question : QuestionValue) (policy : PolicyValue) (n : ℕ)
+    → SeesNoPlaces (λ t. holds question policy t n)
 
 -- Never: where each hart can be run, and no `never` fails after any choices, none fails after any steps of the harts.
 abbrev pub NeverStepwiseLaw : Type 0

@@ -17,7 +17,8 @@
 //! how quiet steps are found, or how states are gone through.
 #![tactic(auto)]
 
-ghost use Rattle.interleavings.specs.Laws.{SeesOnlyLaw, FirstSeesOnlyLaw, NeverStepwiseLaw, WithinStepwiseLaw, EverStepwiseLaw};
+ghost use Rattle.interleavings.specs.Laws.{SeesOnlyLaw, FirstSeesOnlyLaw, SeesNoPlacesLaw};
+ghost use Rattle.interleavings.specs.Laws.{NeverStepwiseLaw, WithinStepwiseLaw, EverStepwiseLaw};
 ghost use Rattle.interleavings.specs.Rounds.{MustStepwiseLaw, AlwaysStepwiseLaw};
 ghost use Rattle.interleavings.specs.Rounds.{FairStepwiseLaw, AlwaysFairLaw};
 ghost use Rattle.interleavings.specs.Rounds.{LassoStepwiseLaw, EvasionStepwiseLaw};
@@ -32,6 +33,12 @@ pub fn sees_only_law()
 /// So do its first groups.
 pub fn first_sees_only_law()
     ensures { FirstSeesOnlyLaw }
+{}
+
+/// A property doesn't see where a process stands that has a hart or waits for one. So what `preemption`
+/// says of tests that see no places it says of properties.
+pub fn sees_no_places_law()
+    ensures { SeesNoPlacesLaw }
 {}
 
 /// Where each hart can be run, what no choices lead to no steps lead to.
