@@ -1,5 +1,6 @@
 pub mod Machine
 pub mod State
+pub mod Home
 pub mod Setters
 pub mod Outcome
 pub mod Room

@@ -1,11 +1,12 @@
 //! The machine, and what can be read of it.
-ghost use Rattle.std.specs.Prelude.{◌≡◌, ◌≢◌, ℕ, ◌<◌, ◌≤◌, [], ◌∷◌, false, Some, IfOk, length};
+ghost use Rattle.std.specs.Prelude.{◌≡◌, ◌≢◌, ℕ, ◌<◌, ◌≤◌, [], ◌∷◌, false, Some, IfOk, OnOk, OnErr, length};
 ghost use Rattle.cap_format.specs.declared.kind.CapKind.TheVariants.{Process};
-ghost use Rattle.object_store.specs.Store.{size_of, sizes_of, process_at};
+ghost use Rattle.object_store.specs.Store.{size_of, sizes_of, process_at, with_harts};
 ghost use Rattle.object_store.specs.Meaning.{map_of};
 ghost use Rattle.object_store.specs.Ahead.{NoneAhead};
 ghost use Rattle.machine_state.specs.Machine.{NoneRuns};
 ghost use Rattle.machine_state.specs.State.{state_of};
+ghost use Rattle.machine_state.specs.Home.{at_home};
 ghost use Rattle.machine_state.specs.Setters.{leave, ready, halted};
 ghost use Rattle.machine_state.specs.Outcome.{process_name};
 ghost use Rattle.machine_state.specs.Came.{Leaves};
@@ -133,6 +134,25 @@ impl<T: Translator> Machine<T> {
         ensures translator { self.new.translator ≡ self.old.translator }
     {
         self.requeue(p);
+    }
+
+    /// There are so many harts from now on, and each process that is on one is on that of its own number, which has to be one of
+    /// them. Accesses are translated by another translator, which has as many. Where memory is wanting, all stays as it is.
+    pub fn move_home(&mut self, alloc: Global, many: u8, translator: T) -> Result<(), OutOfMemory>
+        requires some { 1 ≤ many }
+        requires most { many ≤ 8 }
+        requires each { (hart p : ℕ) → hart_of self.old.queues hart ≡ Some p → p < many }
+        requires coherent { T.coherent translator (map_of self.old.objects.items) }
+        requires harts { many ≤ T.harts translator }
+        ensures state { OnOk result (state_of self.new ≡ at_home many (state_of self.old)) }
+        ensures objects { OnOk result (self.new.objects ≡ with_harts self.old.objects many) }
+        ensures translator { OnOk result (self.new.translator ≡ translator) }
+        ensures before { OnErr result (self.new ≡ self.old) }
+    {
+        self.queues.move_home(alloc, many)?;
+        self.objects.set_harts(many);
+        self.translator = translator;
+        Ok(())
     }
 
     /// The machine is halted for good.

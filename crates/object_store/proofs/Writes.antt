@@ -5,9 +5,9 @@ use Rattle.cap_format.specs.Capability.{Capability}
 use Rattle.gpt_objects.specs.Header.{HeaderValue}
 use Rattle.page_store.specs.CapPage.{cap_at, with_cap}
 use Rattle.process_objects.specs.declared.state.State.{State}
-use Rattle.process_objects.specs.Process.{ProcessValue, slot_of, capreg_of, with_pc, with_reg, with_regs, with_capreg, with_slot, with_state}
+use Rattle.process_objects.specs.Process.{ProcessValue, slot_of, capreg_of, with_pc, with_regs, with_capreg, with_slot, with_state}
 use Rattle.endpoint_objects.specs.declared.endpoint.Endpoint.{Endpoint as EndpointValue}
-use Rattle.object_store.specs.Store.{Store, header_at, slot_at, page_at, cappage_at, process_at, endpoint_at, set_slot, set_header, with_items, with_cappage, with_process, with_endpoint}
+use Rattle.object_store.specs.Store.{Store, header_at, slot_at, cappage_at, process_at, endpoint_at, set_slot, set_header, with_items, with_cappage, with_process, with_endpoint}
 use Rattle.object_store.specs.Meaning.{meaning, process_map, endpoint_map, state_map}
 use Rattle.object_store.proofs.Means.{header_at-map_of, slot_at-map_of, cappage_at-state_map, process_at-state_map, endpoint_at-state_map, cap_at-map, capreg_of-process_map, process_slot-process_map, process_map-with_capreg, process_map-with_slot, state_map-set_slot, state_map-set_header, state_map-with_cappage, state_map-with_process, state_map-with_endpoint}
 

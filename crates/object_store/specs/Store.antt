@@ -131,6 +131,10 @@ set_header o g header = set_gpt o g (with_header (gpt_at o g) header)
 abbrev pub with_items : Store → Items → Store
 with_items s items = record { harts = s.harts; items = items; contents = s.contents }
 
+-- the same objects, for another number of harts
+abbrev pub with_harts : Store → ℕ → Store
+with_harts s harts = record { harts = harts; items = s.items; contents = s.contents }
+
 -- the store with other contents and the same items
 abbrev pub with_contents : Store → Contents → Store
 with_contents s contents = record { harts = s.harts; items = s.items; contents = contents }

@@ -1,7 +1,7 @@
 //! The objects, and what their capabilities mean.
 ghost use Rattle.std.specs.Prelude.{◌≡◌, ◌<◌, ◌≤◌, ◌↔◌, IsOk, IfOk, true};
 ghost use Rattle.cap_format.specs.Capability.{bare, to_object};
-ghost use Rattle.object_store.specs.Store.{empty_store, sizes_of, size_of, count_of};
+ghost use Rattle.object_store.specs.Store.{empty_store, sizes_of, size_of, count_of, with_harts};
 ghost use Rattle.object_store.specs.Meaning.{is_live, live, meaning};
 ghost use Rattle.object_store.specs.Ranges.{IsRanged, IsSized, IsStore, IsWithinLimits};
 ghost use Rattle.object_store.specs.Ahead.{IsBehind, NoneAhead};
@@ -82,6 +82,15 @@ impl Objects {
             processes: self.processes.len() as u16,
             endpoints: self.endpoints.len() as u16,
         }
+    }
+
+    /// The same objects are those of a machine with so many harts from now on.
+    pub fn set_harts(&mut self, harts: u8)
+        requires some { 1 ≤ harts }
+        requires most { harts ≤ 8 }
+        ensures { self.new ≡ with_harts self.old harts }
+    {
+        self.harts = harts;
     }
 
     /// Every count, header and slot is in its range, and each object has its count.

@@ -9,31 +9,12 @@ use Rattle.schedules.specs.Queues.{ready_queue, hart_of}
 use Rattle.schedules.specs.Standing.{times_on}
 use Rattle.schedules.proofs.OnHart.{on_hart}
 use Rattle.machine_state.specs.State.{IsOnHart}
-use Rattle.preemption.specs.Begun.{own_hart, own_harts, on_harts}
+use Rattle.schedules.specs.Home.{own_hart, own_harts, on_harts}
+use Rattle.schedules.proofs.Home.{on-some}
 use Rattle.preemption.specs.Laws.{StartLaw, RestLaw}
 use Rattle.preemption.proofs.Thinning.{thinned-same}
 
 -- ---- who is on some hart
-
--- a hart on which the process is
-on-some : (p : ℕ) (harts : List (Option ℕ)) → (sum_by (times_on p) harts == 0) ≡ false → (hart : ℕ)
-    × (get_or harts hart None ≡ Some p)
-on-some p [] some = cc
-on-some p (None ∷ harts) some =
-    let rest = on-some p harts (ap (λ n. n == 0)
-    (sym (sum_by-cons (times_on p) None harts ∙ omega arith)) ∙ some) in
-    (suc rest.0, rest.1)
-on-some p (Some x ∷ harts) some = by (x == p) refl (λ none. on-some p harts none)
-  where
-    by : (b : Bool) → (x == p) ≡ b → ((sum_by (times_on p) harts == 0) ≡ false → (hart : ℕ)
-        × (get_or harts hart None ≡ Some p)) → (hart : ℕ)
-        × (get_or (Some x ∷ harts) hart None ≡ Some p)
-    by true is rest = (zero, ap Some (eqb-true x p is))
-    by false is rest =
-        let here : ◌≡◌ {A = ℕ} (times_on p (Some x)) 0 = ap (λ b. cond b 1 0) is in
-        let next = rest (ap (λ n. n == 0)
-        (sym (sum_by-cons (times_on p) (Some x) harts ∙ omega (arith, here))) ∙ some) in
-        (suc next.0, next.1)
 
 -- a process on a hart is on its own
 own-there : (harts : List (Option ℕ)) (p hart : ℕ) → get_or harts hart None ≡ Some p

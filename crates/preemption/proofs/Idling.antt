@@ -14,7 +14,7 @@ use Rattle.machine_state.specs.Setters.{set_queues, dispatch}
 use Rattle.machine_state.specs.Outcome.{Outcome, done}
 use Rattle.kernel_core.specs.Event.{stepped, tick_of, event_by, event_of}
 use Rattle.kernel_core.specs.Run.{run_state, run_records}
-use Rattle.preemption.specs.Wide.{widened}
+use Rattle.machine_state.specs.Home.{widened}
 use Rattle.preemption.specs.Begun.{idle_added, with_idle}
 use Rattle.preemption.specs.Laws.{AreOf, MoreLaw}
 use Rattle.preemption.proofs.Systems.{AreKept}

@@ -21,7 +21,7 @@ use Rattle.messages.specs.Message.{accept_in, sent_side, received_side, delivere
 use Rattle.kernel_core.specs.Event.{instruction}
 use Rattle.kernel_core.specs.Induction.{wants_nothing, Together, Reads, Parts, Cases}
 use Rattle.kernel_core.proofs.Induction.{of_instructions, wants_nothing-origins}
-use Rattle.preemption.specs.Wide.{widened}
+use Rattle.machine_state.specs.Home.{widened}
 use Rattle.preemption.proofs.Systems.{AreKept, gathered-wide}
 use Rattle.preemption.proofs.States.{Beside, Alike, same-read, still, done-alike, ticked-beside, fault-alike, wait_on-alike, listen-alike, same-side, delivered-alike, followed-alike, memory-alike, control-alike}
 

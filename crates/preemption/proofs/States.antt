@@ -33,7 +33,8 @@ use Rattle.messages.specs.Strings.{span_side, side}
 use Rattle.messages.specs.Message.{bytes_moved, message_of, message_record, sent_off, message_told, delivered}
 use Rattle.messages.specs.Waiting.{wait_on, listening_from, listen}
 use Rattle.kernel_core.specs.KernelOperation.{memory_op, destroyed_by, is_end_of, control_answered, control_op}
-use Rattle.preemption.specs.Wide.{with_harts, widened}
+use Rattle.object_store.specs.Store.{with_harts}
+use Rattle.machine_state.specs.Home.{widened}
 use Rattle.preemption.proofs.Systems.{AreKept, Aside, readied-aside, applied_all-aside, told-aside, waiting-aside, listening-aside, answered-aside, copied-wide}
 
 module _ (many : ℕ) (R : QueuesValue → QueuesValue → Type 0) (k : AreKept R) where

@@ -20,7 +20,7 @@ use Rattle.string_move.specs.declared.piece.Piece.{Piece}
 use Rattle.string_move.specs.Move.{piece_bytes, with_piece, gathered, scattered, size_of_pieces, copied}
 use Rattle.fault_path.specs.message_path.Messages.{told_system, waiting, receiving, listening}
 use Rattle.fault_path.specs.Fault.{answered, fault_message, faulted}
-use Rattle.preemption.specs.Wide.{with_harts}
+use Rattle.object_store.specs.Store.{with_harts}
 
 -- a relation between the queues of two machines, of which the same sleep, holds after the same
 -- change of both

@@ -9,7 +9,8 @@ use Rattle.kernel_core.specs.Run.{run_state, run_records}
 use Rattle.independence.specs.Rewrite.{SameButData}
 use Rattle.preemption.specs.Wide.{Spread, IsForEach}
 use Rattle.preemption.specs.Turns.{AreTurns, steps_of, InTurns, StaysForEach}
-use Rattle.preemption.specs.Begun.{at_home, at_rest, with_idle}
+use Rattle.machine_state.specs.Home.{at_home}
+use Rattle.preemption.specs.Begun.{at_rest, with_idle}
 
 -- the events are of harts below this number
 abbrev pub AreOf : ℕ → List Event → Type 0

@@ -13,7 +13,8 @@ use Rattle.quiet_runs.specs.Runs.{after_step, after_steps, after_run, after_runs
 use Rattle.quiet_runs.specs.Finding.{has_process}
 use Rattle.quiet_runs.specs.Laws.{AreHarts}
 use Rattle.preemption.specs.Wide.{IsForEach}
-use Rattle.preemption.specs.Begun.{at_home, at_rest}
+use Rattle.machine_state.specs.Home.{at_home}
+use Rattle.preemption.specs.Begun.{at_rest}
 use Rattle.preemption.specs.Laws.{AreOf, SeesNoPlaces}
 
 -- ---- where both machines begin

@@ -2,19 +2,10 @@
 use Rattle.std.specs.Prelude.{◌≡◌, ℕ, ◌<◌, true, false, length}
 use Rattle.cap_format.specs.declared.kind.CapKind.TheVariants.{Schedule}
 use Rattle.process_objects.specs.declared.state.State.TheVariants.{Running}
-use Rattle.object_store.specs.Store.{Store}
-use Rattle.schedules.specs.Queues.{QueuesValue, priorities, ready_queue, sleepers_of, stands_in}
+use Rattle.schedules.specs.Queues.{priorities, ready_queue, sleepers_of, stands_in}
 use Rattle.machine_state.specs.State.{State, IsOnHart, process, schedule_slot}
+use Rattle.machine_state.specs.Home.{widened}
 use Rattle.preemption.specs.Places.{Thins}
-
--- the same objects, for another number of harts
-abbrev pub with_harts : Store → ℕ → Store
-with_harts s harts = record { harts = harts; items = s.items; contents = s.contents }
-
--- the same objects in a machine with `many` harts, whose processes stand in these queues
-abbrev pub widened : ℕ → State → QueuesValue → State
-widened many s queues =
-    record { store = with_harts s.store many; queues = queues; halted = s.halted }
 
 -- State `w` of a machine with `many` harts has the objects of state `s` of one with `few`, and the
 -- same processes in its queues, but for those that have a hart in the wide machine alone.

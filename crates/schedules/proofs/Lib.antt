@@ -10,3 +10,4 @@ pub mod OnHart
 pub mod Next
 pub mod Meant
 pub mod Nowhere
+pub mod Home

@@ -3,6 +3,7 @@ ghost use Rattle.std.specs.Prelude.{◌≡◌, ◌↔◌, ◌≤◌, ◌<◌, le
 ghost use Rattle.std.specs.List.{sum_by};
 ghost use Rattle.schedules.specs.Queues.{hart_without};
 ghost use Rattle.schedules.specs.Standing.{times_on};
+ghost use Rattle.schedules.specs.Home.{own_hart, own_harts};
 
 use std::alloc::{AllocError, Global};
 
@@ -68,5 +69,32 @@ pub(crate) fn has_process(hart: Option<u16>, p: u16) -> bool
     match hart {
         Some(other) => other == p,
         None => false,
+    }
+}
+
+/// So many harts, each with the process of its own number where that is on one of these.
+#[tactic(auto, using(crate::proofs::Home::own_more))]
+pub(crate) fn own_harts(
+    alloc: Global,
+    harts: &[Option<u16>],
+    many: u8,
+) -> Result<Vec<Option<u16>>, AllocError>
+    ensures { IfOk result (λ own. own.items ≡ own_harts harts.now many) }
+{
+    let mut own = Vec::new(alloc);
+    for hart in 0..many {
+        own.push(own_hart(harts, u16::from(hart)))?;
+    }
+    Ok(own)
+}
+
+/// The process of this number, where it is on one of these harts.
+#[tactic(auto, using(crate::proofs::Home::own_some, crate::proofs::Home::own_none))]
+fn own_hart(harts: &[Option<u16>], p: u16) -> Option<u16>
+    ensures { result ≡ own_hart harts.now p }
+{
+    match hart_with(harts, p) {
+        Some(_) => Some(p),
+        None => None,
     }
 }

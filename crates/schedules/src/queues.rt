@@ -1,13 +1,16 @@
-ghost use Rattle.std.specs.Prelude.{◌≡◌, ◌↔◌, ◌+◌, ◌==◌, ◌<◌, ◌≤◌, ℕ, List, cond, length, map, slice_index_or, slice_get, Some, None, IfSome, IfOk, IsTrue};
+ghost use Rattle.std.specs.Prelude.{◌≡◌, ◌↔◌, ◌+◌, ◌==◌, ◌<◌, ◌≤◌, ℕ, List, cond, length, map, slice_index_or, slice_get, Some, None, IfSome, IfOk, IsTrue, OnOk, OnErr};
 ghost use Rattle.std.specs.List.{sum_by};
 ghost use Rattle.schedules.specs.Queues.{priorities, without, hart_without, enqueued, asleep, left, dispatched, hart_of, ready_queue, sleepers_of};
 ghost use Rattle.schedules.specs.Standing.{IsQueues, IsSpot, standing, times_in, times_on, empty_queues};
+ghost use Rattle.schedules.specs.Home.{on_harts, own_harts};
 ghost use Rattle.schedules.specs.Ready.{unslept, runs, places_due, Agrees, AgreesBut};
 ghost use Rattle.process_objects.specs.Process.{ProcessValue, empty_process};
 
 mod ready;
 
-use crate::harts::{copy_harts, empty_harts, hart_with, has_process, process_on, take_off};
+use crate::harts::{
+    copy_harts, empty_harts, hart_with, has_process, own_harts, process_on, take_off,
+};
 use crate::lists::{
     copy_lists, empty_at, empty_lists, first_at, highest, list_with, pop_at, push_at, take_out,
 };
@@ -202,6 +205,22 @@ impl Queues {
                 None => None,
             },
         }
+    }
+
+    /// There are so many harts from now on, and each process that is on one is on that of its own number, which has to be one of
+    /// them. Where memory is wanting, all stays as it is.
+    pub fn move_home(&mut self, alloc: Global, many: u8) -> Result<(), AllocError>
+        requires most { many ≤ 8 }
+        requires each { (hart p : ℕ) → hart_of self.old hart ≡ Some p → p < many }
+        ensures after { OnOk result (self.new ≡ on_harts self.old (own_harts self.old.harts many)) }
+        ensures before { OnErr result (self.new ≡ self.old) }
+        ensures harts { OnOk result (length self.new.harts ≡ many) }
+        ensures agrees { OnOk result ((processes : List ProcessValue) →
+            Agrees (runs processes self.old) → Agrees (runs processes self.new)) }
+    {
+        let harts = own_harts(alloc, &self.harts, many)?;
+        self.harts = harts;
+        Ok(())
     }
 
     /// Becomes a copy of other queues for as many processes and harts. It takes no memory.
