@@ -62,6 +62,8 @@ question_fault_name questions.BadOffset = codes "BadOffset"
 question_fault_name questions.BadLimit = codes "BadLimit"
 question_fault_name questions.BadTerm = codes "BadTerm"
 question_fault_name questions.Taken = codes "Taken"
+question_fault_name questions.WrongChoices = codes "WrongChoices"
+question_fault_name questions.TooManyProcesses = codes "TooManyProcesses"
 question_fault_name questions.NoEnd = codes "NoEnd"
 question_fault_name (questions.OfPolicy fault) = policy_fault_name fault
 

@@ -206,6 +206,8 @@ fn question_fault_name(fault: QuestionFault) -> &'static str
         QuestionFault::BadLimit => "BadLimit",
         QuestionFault::BadTerm => "BadTerm",
         QuestionFault::Taken => "Taken",
+        QuestionFault::WrongChoices => "WrongChoices",
+        QuestionFault::TooManyProcesses => "TooManyProcesses",
         QuestionFault::NoEnd => "NoEnd",
         QuestionFault::OfPolicy(fault) => policy_fault_name(fault),
     }

@@ -141,6 +141,10 @@ pub enum QuestionFault {
     BadTerm,
     /// Another line of the question says the same choice.
     Taken,
+    /// What may come is said by a line `preempted`, and by another line as well.
+    WrongChoices,
+    /// The machine has more processes than a machine may have harts.
+    TooManyProcesses,
     /// The input ends before the line `end` of the question.
     NoEnd,
     /// What is wrong with a line of the policy.

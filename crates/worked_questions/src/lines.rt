@@ -250,6 +250,8 @@ fn fault_name(fault: QuestionFault) -> &'static str {
         QuestionFault::BadLimit => "BadLimit",
         QuestionFault::BadTerm => "BadTerm",
         QuestionFault::Taken => "Taken",
+        QuestionFault::WrongChoices => "WrongChoices",
+        QuestionFault::TooManyProcesses => "TooManyProcesses",
         QuestionFault::NoEnd => "NoEnd",
         QuestionFault::OfPolicy(PolicyFault::WrongWords) => "WrongWords",
         QuestionFault::OfPolicy(PolicyFault::BadName) => "BadName",
