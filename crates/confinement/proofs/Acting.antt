@@ -27,7 +27,7 @@ use Rattle.invocation.specs.Target.{is_receiving}
 use Rattle.operations.specs.System.{System, system, with_store, with_runs}
 use Rattle.confinement.specs.declared.cut_side.CutSide.{CutSide}
 use Rattle.confinement.specs.Cut.{Cut, side_of, same_side, MayHold, MaySleep, TakesFrom, MayLead, EachHeldBy, Beyond, HoldsFor}
-use Rattle.confinement.specs.Acts.{Spares, SparesPlaces, SameSizes, others_in, other_on, Told, Met, Filled, Rung, ProcessMoves, EndpointMoves, ObjectMoves, AllMet, Joins, Moves, Acts, ProcessHeld}
+use Rattle.confinement.specs.Acts.{Spares, SparesPlaces, SameSizes, others_in, other_on, Told, Given, Met, Filled, Rung, ProcessMoves, EndpointMoves, ObjectMoves, AllMet, Joins, Moves, Acts, ProcessHeld}
 use Rattle.confinement.proofs.Sides.{same_side-tells, same_side-not}
 use Rattle.confinement.proofs.Answering.{open-receives, asked-takes}
 use Rattle.confinement.proofs.Placing.{others-without, others-last, places-left, places-readied, joins-none, joins-then, ready-readied, harts-readied}
@@ -77,8 +77,9 @@ module _ (cut : Cut) (side : CutSide) where
   process-same : (base : System) (p : ℕ) (x y : ProcessValue) → x ≡ y → ProcessMoves cut side base p x y
   process-same base p x y same = record {
     pc = ap (λ (z : ProcessValue). z.pc) same;
-    capregs = ap (λ (z : ProcessValue). z.capregs) same;
     slots = ap (λ (z : ProcessValue). z.slots) same;
+    capregs = inl (ap (λ (z : ProcessValue). z.capregs) same);
+    given = λ i. inl (ap (λ (z : ProcessValue). capreg_of z i) same);
     regs = inl (ap (λ (z : ProcessValue). z.regs) same);
     state = inl (ap (λ (z : ProcessValue). z.state) same);
   }
@@ -113,6 +114,11 @@ module _ (cut : Cut) (side : CutSide) where
   either-then B x y z (inl same) (inr b) = inr b
   either-then B x y z (inr b) second = inr b
 
+  given-then : (x y z : Capability) → (x ≡ y) ⊎ MayHold cut side y → (y ≡ z) ⊎ MayHold cut side z → (x ≡ z) ⊎ MayHold cut side z
+  given-then x y z first (inr may) = inr may
+  given-then x y z (inl same) (inl same2) = inl (same ∙ same2)
+  given-then x y z (inr may) (inl same2) = inr (subst (λ (c : Capability). MayHold cut side c) same2 may)
+
   others-then : (base : System) (s t u : Store) → OthersMove base s t → OthersMove base t u → OthersMove base s u
   others-then base s t u first second Page n other =
       either-then (Filled cut side base n) (object_at s Page n) (object_at t Page n) (object_at u Page n) (first Page n other) (second Page n other)
@@ -121,8 +127,9 @@ module _ (cut : Cut) (side : CutSide) where
       let b = second Process p other in
       record {
         pc = a.pc ∙ b.pc;
-        capregs = a.capregs ∙ b.capregs;
         slots = a.slots ∙ b.slots;
+        capregs = either-then (Given cut side base p) (process_at s p).capregs (process_at t p).capregs (process_at u p).capregs a.capregs b.capregs;
+        given = λ i. given-then (capreg_of (process_at s p) i) (capreg_of (process_at t p) i) (capreg_of (process_at u p) i) (a.given i) (b.given i);
         regs = either-then (Told cut side base p) (process_at s p).regs (process_at t p).regs (process_at u p).regs a.regs b.regs;
         state = state-then base p (process_at s p).state (process_at t p).state (process_at u p).state a.state b.state;
       }
@@ -169,11 +176,6 @@ module _ (cut : Cut) (side : CutSide) where
   beyond-after base s t objects beyond = record {
     away = beyond.away;
     heard = heard;
-    deaf = λ e q calls takes.
-        let at = asked-takes t e e (endpoint_at t e).recipient.kind (endpoint_at t e).recipient.object q takes in
-        let hears = subst (λ (m : ℕ). cut.hears side m ≡ true) at.1.0 (heard e calls at.0) in
-        let before = takes-since base s t e q objects (beyond.away e calls) (beyond.others q hears) takes in
-        subst (λ (state : RunState). (accepted state).caps ≡ 0) before.1 (beyond.deaf e q calls before.0);
     others = beyond.others;
     spaces = λ q hears. let process = objects Process q (beyond.others q hears) in
         subst (λ (cs : List Capability). MayLead (cut.realm q) (get_or cs 0 null)) process.slots (beyond.spaces q hears);
@@ -227,12 +229,22 @@ module _ (cut : Cut) (side : CutSide) where
 
   -- who may be told or is asleep now could be told or slept before
   module _ (base w : System) (first : Acts cut side base w) where
+    taken-since : (e q : ℕ) → cut.calls side e ≡ true → TakesFrom w.store e q
+        → TakesFrom base.store e q × ((process_at base.store q).state ≡ (process_at w.store q).state)
+    taken-since e q calls takes = let beyond = first.holds.beyond in
+        takes-since base base.store w.store e q first.objects (beyond.away e calls) (beyond.others q (taker-heard w.store e q beyond calls takes)) takes
+
     took-since : (e q : ℕ) → cut.calls side e ≡ true → TakesFrom w.store e q → TakesFrom base.store e q
-    took-since e q calls takes = let beyond = first.holds.beyond in
-        (takes-since base base.store w.store e q first.objects (beyond.away e calls) (beyond.others q (taker-heard w.store e q beyond calls takes)) takes).0
+    took-since e q calls takes = (taken-since e q calls takes).0
 
     told-since : (q : ℕ) → Told cut side w q → Told cut side base q
     told-since q told = record { through = told.through; calls = told.calls; takes = took-since told.through q told.calls told.takes }
+
+    given-since : (q : ℕ) → Given cut side w q → Given cut side base q
+    given-since q given = let told = given.told in record {
+      told = told-since q told;
+      accepts = λ none. given.accepts (subst (λ (state : RunState). (accepted state).caps ≡ 0) (taken-since told.through q told.calls told.takes).1 none);
+    }
 
     met-since : (q : ℕ) → Met cut side w q → Met cut side base q
     met-since q (inl told) = inl (told-since q told)
@@ -249,8 +261,9 @@ module _ (cut : Cut) (side : CutSide) where
     ]
     others-since s t objects Process p other = let a = objects Process p other in record {
       pc = a.pc;
-      capregs = a.capregs;
       slots = a.slots;
+      capregs = elim a.capregs [ inl same ↦ inl same | inr given ↦ inr (given-since p given) ];
+      given = a.given;
       regs = elim a.regs [ inl same ↦ inl same | inr told ↦ inr (told-since p told) ];
       state = elim a.state [ inl same ↦ inl same | inr met ↦ inr (met.0, met-since p met.1) ];
     }
@@ -523,7 +536,7 @@ module _ (cut : Cut) (side : CutSide) where
       let harts = harts-readied schedule.kind schedule.object w.queues p in
       let v = with_store w (with_process w.store p value) in
       moves-then cut side base w v (with_runs w (readied schedule p (runs_of w.store w.queues)))
-      (moves-process cut side base w p value other (record { pc = refl; capregs = refl; slots = refl; regs = inl refl; state = inr (readied-idle schedule.kind (process_at w.store p).pc, met) }) holds)
+      (moves-process cut side base w p value other (record { pc = refl; slots = refl; capregs = inl refl; given = λ i. inl refl; regs = inl refl; state = inr (readied-idle schedule.kind (process_at w.store p).pc, met) }) holds)
       (λ h. moves-queues cut side base v (readied_queues schedule.kind schedule.object w.queues p)
       (λ on x there. inl (asleep-same w.queues (readied_queues schedule.kind schedule.object w.queues p) same on x there))
       (λ on away. ap (λ (xs : List (List ℕ)). others_in cut side (get_or xs on [])) (sym same)) (ready-readied cut side base schedule.kind schedule.object w.queues p other met)

@@ -1,5 +1,5 @@
 -- Messages, waits and faults stay on the side of those that take part, but for who is told where that calls.
-use Rattle.std.proofs.Common.{◌≡◌, ◌≢◌, ℕ, inl, inr, Bool, true, false, ◌==◌, if◌then◌else◌, List, [], ◌∷◌, map, get_or, set, take, Option, Some, None, refl, sym, ◌∙◌, ap, subst}
+use Rattle.std.proofs.Common.{◌≡◌, ◌≢◌, ℕ, zero, suc, ◌⊎◌, inl, inr, Bool, true, false, ◌==◌, if◌then◌else◌, List, [], ◌∷◌, map, get_or, set, take, Option, Some, None, refl, sym, ◌∙◌, ap, subst}
 use Rattle.cap_format.specs.declared.fault.FaultCode.{FaultCode}
 use Rattle.cap_format.specs.declared.kind.CapKind.TheVariants.{Endpoint, Process}
 use Rattle.cap_format.specs.Capability.{Capability, null, to_object}
@@ -22,10 +22,11 @@ use Rattle.fault_path.specs.message_path.Messages.{told_system, waiting, receivi
 use Rattle.fault_path.specs.Fault.{is_answer, handler_of, fault_message, faulted, answered, heard_by, fault_of}
 use Rattle.confinement.specs.declared.cut_side.CutSide.{CutSide}
 use Rattle.confinement.specs.Cut.{Cut, side_of, MayHold, MaySleep, TakesFrom, EachHeldBy, HoldsFor}
-use Rattle.confinement.specs.Acts.{Told, ProcessMoves, Moves, Acts, ProcessHeld, MayHoldIf, Hears, MayAwait}
+use Rattle.confinement.specs.Acts.{Told, Given, ProcessMoves, Moves, Acts, ProcessHeld, MayHoldIf, Hears, MayAwait}
 use Rattle.confinement.proofs.Own.{AllMayHold, AnswersOwn}
 use Rattle.confinement.proofs.Held.{may-own}
 use Rattle.confinement.proofs.Sleeping.{each_set}
+use Rattle.confinement.proofs.Giving.{AllAre, passed-recipient, received-rest, gains-received}
 use Rattle.confinement.proofs.Acting.{taker-heard, moves-then, acts-then, acts-process, acts-endpoint, moves-process, moves-endpoint, held-process, acts-left, acts-asleep, acts-readied, moves-readied, acts-woken}
 use Rattle.confinement.proofs.Answering.{answerer-own}
 
@@ -71,14 +72,6 @@ module _ (cut : Cut) (side : CutSide) where
   all-sent v (i ∷ is) held = (held.capregs i, all-sent v is held)
 
   -- ---- messages
-
-  -- a message leaves the recipient
-  pub passed-recipient : (v : EndpointValue) → (passed v).recipient ≡ v.recipient
-  passed-recipient v = by v.matching
-    where
-      by : (b : Bool) → (if b then raised v else v).recipient ≡ v.recipient
-      by true = refl
-      by false = refl
 
   acts-passed : (w : System) (e : ℕ) → side_of cut Endpoint e ≡ side → HoldsFor cut side w → Acts cut side w (with_store w (passed_at w.store e))
   acts-passed w e own holds =
@@ -130,9 +123,17 @@ module _ (cut : Cut) (side : CutSide) where
       ap (λ (n : ℕ). given x (take n (accepted v.state).regs) message.caps) none
       ∙ (ap (λ (is : List ℕ). given x is message.caps) (take-none (accepted v.state).regs) ∙ given-none x message.caps)
 
-  told-moves : (base : System) (q : ℕ) (v : ProcessValue) (id number : ℕ) (message : Message) → Told cut side base q → ProcessMoves cut side base q v (told_process v id number message)
+  told-capregs : (v : ProcessValue) (id number : ℕ) (message : Message) → v.capregs ≡ (told_process v id number message).capregs
   unfolding told_process
-  told-moves base q v id number message told = record { pc = refl; capregs = refl; slots = refl; regs = inr told; state = inl refl }
+  told-capregs v id number message = refl
+
+  all-are : (caps : List Capability) → AllMayHold cut side caps → AllAre (MayHold cut side) caps
+  all-are [] all = tt
+  all-are (c ∷ cs) all = (all.0, all-are cs all.1)
+
+  none-or-some : (n : ℕ) → (n ≡ 0) ⊎ (n ≢ 0)
+  none-or-some zero = inl refl
+  none-or-some (suc n) = inr (λ e. cc (e))
 
   none-idle : (state : State) → is_receiving state ≡ false → (accepted state).caps ≡ 0
   none-idle (Receiving accept) idle = absurd (cc (idle))
@@ -147,12 +148,34 @@ module _ (cut : Cut) (side : CutSide) where
     taker-other : side_of cut Process q ≢ side
     taker-other = holds.beyond.others q (taker-heard cut side base.store e q holds.beyond calls takes)
 
-    -- it is deaf now
-    deaf-there : (accepted (process_at w.store q).state).caps ≡ 0
-    deaf-there = let process = first.objects Process q taker-other in elim process.state [
-      | inl same ↦ subst (λ (state : State). (accepted state).caps ≡ 0) same (holds.beyond.deaf e q calls takes)
-      | inr met ↦ none-idle (process_at w.store q).state met.0
-    ]
+    -- where it accepts a capability now, it did so in system `base`
+    given-there : (accepted (process_at w.store q).state).caps ≢ 0 → Given cut side base q
+    given-there accepts = let process = first.objects Process q taker-other in record {
+      told = told-there;
+      accepts = λ none. accepts (elim process.state [
+        | inl same ↦ subst (λ (state : State). (accepted state).caps ≡ 0) same none
+        | inr met ↦ none-idle (process_at w.store q).state met.0
+      ]);
+    }
+
+    -- it is given capabilities only where it accepts them, and such as this side may hold
+    moves-received : (id : ℕ) (message : Message) → AllMayHold cut side message.caps
+        → ProcessMoves cut side base q (process_at w.store q) (received (process_at w.store q) id message)
+    moves-received id message all =
+        let x = process_at w.store q in
+        let rest = received-rest x id message in
+        record {
+          pc = rest.pc;
+          slots = rest.slots;
+          capregs = elim (none-or-some (accepted x.state).caps) [
+            | inl none ↦ inl (told-capregs x id (number_given (accepted x.state) message.caps) message
+                ∙ ap (λ (y : ProcessValue). y.capregs) (sym (received-deaf x id message none)))
+            | inr some ↦ inr (given-there some)
+          ];
+          given = gains-received (MayHold cut side) x id message (all-are message.caps all);
+          regs = inr told-there;
+          state = inl rest.state;
+        }
 
     moves-passed : (h : HoldsFor cut side w) → Moves cut side base w (with_store w (passed_at w.store e))
     moves-passed h =
@@ -161,22 +184,21 @@ module _ (cut : Cut) (side : CutSide) where
         moves-endpoint cut side base w e (passed v) (holds.beyond.away e calls)
         (record { recipient = sym (passed-recipient v); id = kept.0; matching = kept.1; payload = inr (record { taker = q; calls = calls; takes = takes }) }) h
 
-    moves-delivered : (message : Message) (h : HoldsFor cut side w) → Moves cut side base w (with_store w (delivered w.store e q message))
+    moves-delivered : (message : Message) → AllMayHold cut side message.caps → (h : HoldsFor cut side w) → Moves cut side base w (with_store w (delivered w.store e q message))
     unfolding delivered
-    moves-delivered message h =
+    moves-delivered message all h =
         let v = with_store w (passed_at w.store e) in
-        let x = process_at w.store q in
-        let value = received x (endpoint_at w.store e).id message in
-        let moves = told-moves base q x (endpoint_at w.store e).id (number_given (accepted x.state) message.caps) message told-there in
+        let id = (endpoint_at w.store e).id in
+        let value = received (process_at w.store q) id message in
         moves-then cut side base w v (with_store v (with_process v.store q value)) (moves-passed h)
-        (λ g. moves-process cut side base v q value taker-other (subst (λ (y : ProcessValue). ProcessMoves cut side base q x y) (sym (received-deaf x (endpoint_at w.store e).id message deaf-there)) moves) g)
+        (λ g. moves-process cut side base v q value taker-other (moves-received id message all) g)
 
-    moves-told : (reading : Reading) (message : Message) (h : HoldsFor cut side w) → Moves cut side base w (told_system reading w e q message)
+    moves-told : (reading : Reading) (message : Message) → AllMayHold cut side message.caps → (h : HoldsFor cut side w) → Moves cut side base w (told_system reading w e q message)
     unfolding told_system
-    moves-told reading message h =
+    moves-told reading message all h =
         let v = with_store w (delivered w.store e q message) in
         moves-then cut side base w v (with_runs v (readied (schedule_by reading v.store q) q (runs_of v.store v.queues)))
-        (moves-delivered message h)
+        (moves-delivered message all h)
         (λ g. moves-readied cut side base v (schedule_by reading v.store q) q taker-other (inl told-there) g)
 
   -- a message to one who takes it in system `base`
@@ -185,7 +207,7 @@ module _ (cut : Cut) (side : CutSide) where
   acts-told reading base w e q message (inl own) all holds first =
       acts-then cut side base w (told_system reading w e q message) first (λ h. acts-told_own reading w e q message own.0 own.1 (all h) h)
   acts-told reading base w e q message (inr call) all holds first =
-      moves-then cut side base base w (told_system reading w e q message) first (λ h. moves-told base w holds first e q call.0 call.1 reading message h)
+      moves-then cut side base base w (told_system reading w e q message) first (λ h. moves-told base w holds first e q call.0 call.1 reading message (all h) h)
 
   may-sleep : (p q : ℕ) → side_of cut Process p ≡ side → MayAwait cut side q → MaySleep cut p q
   may-sleep p q own (inl on) = inl (own ∙ sym on)

@@ -2,6 +2,7 @@ pub mod Own
 pub mod Sides
 pub mod Held
 pub mod Sleeping
+pub mod Giving
 pub mod Placing
 pub mod Acting
 pub mod Walks
@@ -16,4 +17,5 @@ pub mod Runs
 pub mod OneSide
 pub mod Bounding
 pub mod Families
+pub mod Passing
 pub mod Isolating

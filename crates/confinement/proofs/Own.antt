@@ -59,7 +59,6 @@ module _ (cut : Cut) (closed : IsClosed cut) where
   none-beyond side s = record {
     away = λ e calls. absurd (uncalled side e calls);
     heard = λ e calls k. absurd (uncalled side e calls);
-    deaf = λ e q calls takes. absurd (uncalled side e calls);
     others = λ q hears. absurd (unheard side q hears);
     spaces = λ q hears. absurd (unheard side q hears);
     apart = λ q g hears own. absurd (unheard side q hears);

@@ -41,13 +41,16 @@ module _ (cut : Cut) (side : CutSide) (w v : System) (closed : IsClosed cut) (ho
   unmet q (inr slept) = unslept q slept
 
   process-same : (p : ℕ) (x y : ProcessValue) → ProcessMoves cut side w p x y → x ≡ y
-  process-same p x y moves = by (elim moves.regs [ inl same ↦ same | inr told ↦ absurd (untold p told) ]) (elim moves.state [ inl same ↦ same | inr met ↦ absurd (unmet p met.1) ])
+  process-same p x y moves = by
+      (elim moves.regs [ inl same ↦ same | inr told ↦ absurd (untold p told) ])
+      (elim moves.capregs [ inl same ↦ same | inr given ↦ absurd (untold p given.told) ])
+      (elim moves.state [ inl same ↦ same | inr met ↦ absurd (unmet p met.1) ])
     where
-      by : x.regs ≡ y.regs → x.state ≡ y.state → x ≡ y
-      by regs state =
+      by : x.regs ≡ y.regs → x.capregs ≡ y.capregs → x.state ≡ y.state → x ≡ y
+      by regs capregs state =
           ap (λ (n : ℕ). process_of n x.regs x.capregs x.slots x.state) moves.pc
           ∙ (ap (λ (rs : List ℕ). process_of y.pc rs x.capregs x.slots x.state) regs
-          ∙ (ap (λ (cs : List Capability). process_of y.pc y.regs cs x.slots x.state) moves.capregs
+          ∙ (ap (λ (cs : List Capability). process_of y.pc y.regs cs x.slots x.state) capregs
           ∙ (ap (λ (cs : List Capability). process_of y.pc y.regs y.capregs cs x.state) moves.slots
           ∙ ap (λ (state : RunState). process_of y.pc y.regs y.capregs y.slots state) state)))
 

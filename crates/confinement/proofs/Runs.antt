@@ -68,7 +68,7 @@ event-idle s e = by s.halted
 
 -- ---- an event that a process of one side performs
 
-unless-halted : (b : Bool) (by : Option ℕ) (p : ℕ) → (if b then None else by) ≡ Some p → (b ≡ false) × (by ≡ Some p)
+pub unless-halted : (b : Bool) (by : Option ℕ) (p : ℕ) → (if b then None else by) ≡ Some p → (b ≡ false) × (by ≡ Some p)
 unless-halted true by p e = absurd (cc (e))
 unless-halted false by p e = (refl, e)
 

@@ -12,6 +12,7 @@ use Rattle.object_store.specs.Object.{SameObject}
 use Rattle.schedules.specs.Queues.{QueuesValue, ready_queue, sleepers_of, hart_of, stands_in}
 use Rattle.invocation.specs.declared.callee.Callee.{Callee}
 use Rattle.invocation.specs.declared.callee.Callee.TheVariants.{Kernel, Open as OpenCallee, Busy as BusyCallee, Dead as DeadCallee}
+use Rattle.invocation.specs.Delivery.{accepted}
 use Rattle.invocation.specs.Target.{is_receiving}
 use Rattle.operations.specs.System.{System, system}
 use Rattle.operations.specs.Change.{Change, PageIs, CapPageIs, SlotIs, HeaderIs, EndpointIs, ProcessIs, Left, Readied, Woken, Destroyed}
@@ -71,6 +72,11 @@ pub record Told (cut : Cut) (side : CutSide) (w : System) (q : ℕ) : Type 0 whe
   pub calls : cut.calls side through ≡ true
   pub takes : TakesFrom w.store through q
 
+-- process `q` may be given capabilities by this side: it may be told, and accepts some
+pub record Given (cut : Cut) (side : CutSide) (w : System) (q : ℕ) : Type 0 where
+  pub told : Told cut side w q
+  pub accepts : (accepted (process_at w.store q).state).caps ≢ 0
+
 -- process `q`, which isn't of this side, sleeps on one that is, which wakes it when it receives
 pub record Slept (cut : Cut) (side : CutSide) (w : System) (q : ℕ) : Type 0 where
   pub other : side_of cut Process q ≢ side
@@ -94,13 +100,15 @@ pub record Rung (cut : Cut) (side : CutSide) (w : System) (e : ℕ) : Type 0 whe
   pub calls : cut.calls side e ≡ true
   pub takes : TakesFrom w.store e taker
 
--- A process that isn't of this side is the same, but for its registers where it may be told, and for its state where it may
--- be made ready: then it doesn't receive. No capability of it changes, nor its pc.
+-- A process that isn't of this side is the same, but for its registers where it may be told, for its capability registers
+-- where it may be given capabilities, and for its state where it may be made ready: then it doesn't receive. What it is
+-- given this side may hold.
 pub record ProcessMoves (cut : Cut) (side : CutSide) (base : System) (p : ℕ) (x y : ProcessValue)
     : Type 0 where
   pub pc : x.pc ≡ y.pc
-  pub capregs : x.capregs ≡ y.capregs
   pub slots : x.slots ≡ y.slots
+  pub capregs : (x.capregs ≡ y.capregs) ⊎ Given cut side base p
+  pub given : (i : ℕ) → (capreg_of x i ≡ capreg_of y i) ⊎ MayHold cut side (capreg_of y i)
   pub regs : (x.regs ≡ y.regs) ⊎ Told cut side base p
   pub state : (x.state ≡ y.state) ⊎ ((is_receiving y.state ≡ false) × Met cut side base p)
 

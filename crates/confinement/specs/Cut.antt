@@ -12,7 +12,6 @@ use Rattle.object_store.specs.Store.{Store, slot_at, cappage_at, process_at, end
 use Rattle.schedules.specs.Queues.{QueuesValue, sleepers_of, stands_in}
 use Rattle.invocation.specs.Answerer.{asked}
 use Rattle.invocation.specs.Answerer.Answer.{Open}
-use Rattle.invocation.specs.Delivery.{accepted}
 use Rattle.operations.specs.System.{System}
 use Rattle.confinement.specs.declared.cut_side.CutSide.{CutSide}
 use Rattle.confinement.specs.declared.cut_side.CutSide.TheVariants.{Left, Right}
@@ -162,15 +161,13 @@ realm_side realm kind n = Left
 abbrev pub MayLead : Realm → Capability → Type 0
 MayLead realm c = MayHold (closed_cut (realm_side realm)) Left c
 
--- What is across the cut and is called by this side. The endpoints aren't of this side; the processes that are their
--- recipients may be told; and each that receives there is deaf: it accepts no capability. Those that may be told aren't of
--- this side, nor are the GPTs of their realms, in which their spaces stay.
+-- What is across the cut and is called by this side. The endpoints aren't of this side, and the processes that are their
+-- recipients may be told. Those that may be told aren't of this side, nor are the GPTs of their realms, in which their
+-- spaces stay.
 pub record Beyond (cut : Cut) (side : CutSide) (s : Store) : Type 0 where
   pub away : (e : ℕ) → cut.calls side e ≡ true → side_of cut Endpoint e ≢ side
   pub heard : (e : ℕ) → cut.calls side e ≡ true → (endpoint_at s e).recipient.kind ≡ Process
       → cut.hears side (endpoint_at s e).recipient.object ≡ true
-  pub deaf : (e q : ℕ) → cut.calls side e ≡ true → TakesFrom s e q
-      → (accepted (process_at s q).state).caps ≡ 0
   pub others : (q : ℕ) → cut.hears side q ≡ true → side_of cut Process q ≢ side
   pub spaces : (q : ℕ) → cut.hears side q ≡ true
       → MayLead (cut.realm q) (slot_of (process_at s q) 0)

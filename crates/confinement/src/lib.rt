@@ -14,6 +14,7 @@
 #![tactic(auto)]
 
 ghost use Rattle.confinement.specs.Laws.{AccessLaw, AnswerLaw, ChangeLaw, OperationLaw, ReachLaw, PlainLaw};
+ghost use Rattle.confinement.specs.Passing.{PassLaw};
 ghost use Rattle.confinement.specs.Separation.{Separation};
 
 pub mod authority;
@@ -52,6 +53,12 @@ pub fn reach_law()
 /// Where nobody calls across, it changes nothing of all that isn't of that side.
 pub fn plain_law()
     ensures { PlainLaw }
+{}
+
+/// An event of a plain process, of whose set all that stands in capability registers and capability pages may be passed on,
+/// writes no capability but such as may be passed on, and none into a slot.
+pub fn pass_law()
+    ensures { PassLaw }
 {}
 
 /// Where a cut holds, then behind any events each event leaves the objects as they are that are not of the side of the

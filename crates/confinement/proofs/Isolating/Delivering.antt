@@ -25,7 +25,8 @@ use Rattle.confinement.proofs.Own.{AllMayHold, AnswersOwn, own-hears, own-await}
 use Rattle.confinement.proofs.Held.{may-own}
 use Rattle.confinement.proofs.Acting.{held-process}
 use Rattle.confinement.proofs.Answering.{answerer-own}
-use Rattle.confinement.proofs.Delivering.{held-state, held-received, passed-recipient, may-handler}
+use Rattle.confinement.proofs.Delivering.{held-state, held-received, may-handler}
+use Rattle.confinement.proofs.Giving.{passed-recipient}
 use Rattle.confinement.proofs.Isolating.Agreeing.{same-endpoint, same-process}
 use Rattle.confinement.proofs.Isolating.Answering.{same-answerer, same-handler_of}
 use Rattle.confinement.proofs.Isolating.Matching.{Match, match-process, match-endpoint, match-left, match-asleep, match-readied, match-woken, same-schedule}
@@ -38,7 +39,7 @@ module _ (cut : Cut) (side : CutSide) where
   match-passed w v m e own =
       match-endpoint cut side w v m e (passed (endpoint_at w.store e)) (passed (endpoint_at v.store e))
       (ap passed (same-endpoint cut side w v m.agree e own)) own
-      (subst (λ (c : Capability). MayHold cut side c) (sym (passed-recipient cut side (endpoint_at w.store e))) (m.holds.each.recipients e own))
+      (subst (λ (c : Capability). MayHold cut side c) (sym (passed-recipient (endpoint_at w.store e))) (m.holds.each.recipients e own))
 
   match-delivered : (w v : System) → Match cut side w v → (e q : ℕ) (message : Message) → side_of cut Endpoint e ≡ side → side_of cut Process q ≡ side
       → AllMayHold cut side message.caps
