@@ -3,7 +3,7 @@
 use Rattle.std.proofs.Common.{◌≡◌, ◌≢◌, ℕ, zero, suc, ◌<◌, ◌≤◌, ◌==◌, ◌&&◌, ◌||◌, nat_lt, not, ◌⊎◌, inl, inr, Bool, true, false, length, if◌then◌else◌, Some, refl, sym, ◌∙◌, ap, subst, arith, eqb-true}
 use Rattle.std.proofs.lemmas.Bool.{cases_Bool, cases_lt, ltb-true, and_parts, or_left, or_right, eq-eqb}
 use Rattle.cap_format.specs.declared.kind.CapKind.{CapKind}
-use Rattle.cap_format.specs.declared.kind.CapKind.TheVariants.{Page, CapPage, Gpt, Endpoint, Entry, Process}
+use Rattle.cap_format.specs.declared.kind.CapKind.TheVariants.{Page, CapPage, Gpt, Endpoint, Process}
 use Rattle.cap_format.specs.Kind.{is_counted, object_kind}
 use Rattle.cap_format.specs.Capability.{Capability}
 use Rattle.cap_format.specs.Weakening.{harmless_kind, is_harmless}
@@ -15,19 +15,17 @@ use Rattle.operations.specs.System.{System}
 use Rattle.machine_state.specs.declared.event.Event.{Event}
 use Rattle.machine_state.specs.State.{State}
 use Rattle.kernel_core.specs.Event.{performer, event_of}
-use Rattle.confinement.specs.declared.cut_side.CutSide.{CutSide}
 use Rattle.confinement.specs.declared.cut_side.CutSide.TheVariants.{Left, Right}
 use Rattle.confinement.specs.Cut.{Cut, side_of, closed_cut, realm_side, NamesOwn, MayCross, MayCall, MayHold, MayLead, TakesFrom, MaySleep, Beyond, HoldsFor}
 use Rattle.confinement.specs.Acts.{Acts, system_of}
-use Rattle.confinement.specs.authority.Within.{may_change}
 use Rattle.confinement.proofs.Answering.{asked-takes}
 use Rattle.confinement.proofs.Acting.{takes-since}
 use Rattle.confinement.proofs.Runs.{reach_law}
-use Rattle.separation_policy.specs.Policy.{PolicyValue, domain_of, domain_named, may_write, MayName, MayStand, PolicyHolds, own, side_if}
+use Rattle.separation_policy.specs.Policy.{PolicyValue, domain_of, may_write, MayName, MayStand, own, side_if}
 use Rattle.separation_policy.specs.Policy.MayName.{Own, Read, Written, Shown}
-use Rattle.separation_policy.specs.Sending.{Sending, silent, may_send, may_call, MaySendName, MaySendStand, SendingHolds, IsDeafIn, IsDeaf, any_below, realm_of, hears_from, domain_cut}
+use Rattle.separation_policy.specs.Sending.{Sending, silent, may_send, may_call, MaySendName, MaySendStand, SendingHolds, IsDeafIn, any_below, realm_of, hears_from, domain_cut}
 use Rattle.separation_policy.specs.Sending.MaySendName.{Named, Called}
-use Rattle.separation_policy.specs.SendingLaws.{SilentLaw, DomainCutLaw, SendLaw, DeafLaw, AcceptLaw}
+use Rattle.separation_policy.specs.SendingLaws.{SilentLaw, WiderLaw, DomainCutLaw, SendLaw, DeafLaw, DeafToLaw, AcceptLaw}
 use Rattle.separation_policy.proofs.Bounded.{page-named}
 
 -- ---- numbers
@@ -165,13 +163,12 @@ module _ (x : Sending) where
   may-sleep-back a p on is (inr hears) =
       inr (subst (λ (d : ℕ). may_send x d (home Process on) ≡ true) (sym (eqb-true (home Process p) a is)) (subst (λ (b : Bool). hears_from x a (side_if b) on ≡ true) is hears))
 
-  beyond-holds : (a : ℕ) (w : System) → SendingHolds x w → IsDeaf x w.store → Beyond (domain_cut x a) Left w.store
-  beyond-holds a w holds deaf = let each = holds.each in record {
+  beyond-holds : (a : ℕ) (w : System) → SendingHolds x w → Beyond (domain_cut x a) Left w.store
+  beyond-holds a w holds = let each = holds.each in record {
     away = λ e calls. sent-far a (home Endpoint e) (call-sends a e calls);
     heard = λ e calls k.
         let r = (endpoint_at w.store e).recipient in
         subst (λ (d : ℕ). may_send x a d ≡ true) (sym (recipient-home (home Endpoint e) r k (each.recipients e))) (call-sends a e calls);
-    deaf = λ e q calls takes. deaf (home Endpoint e) a e q refl calls takes;
     others = λ q hears. sent-far a (home Process q) hears;
     spaces = λ q hears. may-lead (home Process q) (slot_of (process_at w.store q) 0) (each.process_slots q 0);
     apart = λ q g hears own.
@@ -184,8 +181,8 @@ module _ (x : Sending) where
   held-here : (a : ℕ) (kind : CapKind) (n : ℕ) (c : Capability) → side_if (home kind n == a) ≡ Left → MaySendStand x (home kind n) c → MayHold (domain_cut x a) Left c
   held-here a kind n c here may = may-hold a c (subst (λ (d : ℕ). MaySendStand x d c) (eqb-true (home kind n) a (is-own a (home kind n == a) here)) may)
 
-  holds-domain : (a : ℕ) (w : System) → SendingHolds x w → IsDeaf x w.store → HoldsFor (domain_cut x a) Left w
-  holds-domain a w holds deaf = let each = holds.each in record {
+  holds-domain : (a : ℕ) (w : System) → SendingHolds x w → HoldsFor (domain_cut x a) Left w
+  holds-domain a w holds = let each = holds.each in record {
     each = record {
       slots = λ g i here. held-here a Gpt g _ here (each.slots g i);
       cappages = λ n i here. held-here a CapPage n _ here (each.cappages n i);
@@ -194,35 +191,35 @@ module _ (x : Sending) where
       recipients = λ e here. held-here a Endpoint e _ here (each.recipients e);
     };
     sleepers = λ on p there. may-sleep a p on (holds.sleepers on p there);
-    beyond = beyond-holds a w holds deaf;
+    beyond = beyond-holds a w holds;
   }
 
-  pub acts-domain : (s : State) (e : Event) (p : ℕ) → SendingHolds x (system_of s) → IsDeaf x s.store → performer s e ≡ Some p
+  pub acts-domain : (s : State) (e : Event) (p : ℕ) → SendingHolds x (system_of s) → performer s e ≡ Some p
       → Acts (domain_cut x (home Process p)) Left (system_of s) (system_of (event_of s e).state)
-  acts-domain s e p holds deaf performs =
+  acts-domain s e p holds performs =
       let d = home Process p in
-      reach_law (domain_cut x d) Left s e p (ap side_if (eq-eqb d d refl)) performs (holds-domain d (system_of s) holds deaf)
+      reach_law (domain_cut x d) Left s e p (ap side_if (eq-eqb d d refl)) performs (holds-domain d (system_of s) holds)
 
   -- ---- deafness
 
   -- whoever takes through an endpoint is of its domain
-  taker-home : (s : Store) (e q : ℕ) → MaySendStand x (home Endpoint e) (endpoint_at s e).recipient → TakesFrom s e q → home Process q ≡ home Endpoint e
+  pub taker-home : (s : Store) (e q : ℕ) → MaySendStand x (home Endpoint e) (endpoint_at s e).recipient → TakesFrom s e q → home Process q ≡ home Endpoint e
   taker-home s e q may takes =
       let at = asked-takes s e e (endpoint_at s e).recipient.kind (endpoint_at s e).recipient.object q takes in
       ap (home Process) (sym at.1.0) ∙ recipient-home (home Endpoint e) (endpoint_at s e).recipient at.0 may
 
-  deaf-after : (s : State) (e : Event) (p b : ℕ) → SendingHolds x (system_of s) → IsDeaf x s.store → performer s e ≡ Some p → home Process p ≢ b
+  deaf-after : (s : State) (e : Event) (p b : ℕ) → SendingHolds x (system_of s) → performer s e ≡ Some p → home Process p ≢ b → IsDeafIn x b s.store
       → IsDeafIn x b (event_of s e).state.store
-  deaf-after s e p b holds deaf performs other a f q of_b calls takes =
+  deaf-after s e p b holds performs other deaf a f q of_b calls takes =
       let d = home Process p in
       let t = (event_of s e).state in
-      let acts = acts-domain s e p holds deaf performs in
+      let acts = acts-domain s e p holds performs in
       let away : side_of (domain_cut x d) Endpoint f ≢ Left = far-side (home Endpoint f == d) (apart d (home Endpoint f) of_b) in
       let endpoint = acts.objects Endpoint f away in
       let each = holds.each in
       let there = taker-home t.store f q (subst (λ (c : Capability). MaySendStand x (home Endpoint f) c) endpoint.recipient (each.recipients f)) takes in
       let before = takes-since (domain_cut x d) Left (system_of s) s.store t.store f q acts.objects away (far-side (home Process q == d) (apart d (home Process q) (there ∙ of_b))) takes in
-      subst (λ (state : RunState). (accepted state).caps ≡ 0) before.1 (deaf b a f q of_b calls before.0)
+      subst (λ (state : RunState). (accepted state).caps ≡ 0) before.1 (deaf a f q of_b calls before.0)
     where
       apart : (d c : ℕ) → c ≡ b → (c == home Process p) ≡ false
       apart d c same = by (c == home Process p) refl
@@ -233,13 +230,16 @@ module _ (x : Sending) where
 
 -- the laws
 pub domain_cut_law : DomainCutLaw
-domain_cut_law x w a holds deaf = holds-domain x a w holds deaf
+domain_cut_law x w a holds = holds-domain x a w holds
 
 pub send_law : SendLaw
-send_law x s e p holds deaf performs = acts-domain x s e p holds deaf performs
+send_law x s e p holds performs = acts-domain x s e p holds performs
 
 pub deaf_law : DeafLaw
-deaf_law x s e p b holds deaf performs other = deaf-after x s e p b holds deaf performs other
+deaf_law x s e p b holds performs other deaf = deaf-after x s e p b holds performs other deaf
+
+pub deaf_to_law : DeafToLaw
+deaf_to_law x s a deaf e q calls takes = deaf (domain_of x.policy Endpoint e) a e q refl calls takes
 
 pub accept_law : AcceptLaw
 accept_law x w b holds none a e q of_b calls takes = let each = holds.each in none q (taker-home x w.store e q (each.recipients e) takes ∙ of_b)
@@ -285,5 +285,26 @@ silent_law policy w = (
       recipients = λ e. stand-silent policy _ _ (each.recipients e);
     };
     sleepers = λ on p there. inl (holds.sleepers on p there);
+    plain = λ a is. absurd (cc (is));
+    closed = λ a b is sends. absurd (cc (is));
   },
 )
+
+-- ---- more lines
+
+pub wider_law : WiderLaw
+wider_law x w none holds = let each = holds.each in record {
+  each = record {
+    slots = λ g i. wider _ _ (each.slots g i);
+    cappages = λ n i. wider _ _ (each.cappages n i);
+    capregs = λ p i. wider _ _ (each.capregs p i);
+    process_slots = λ p i. wider _ _ (each.process_slots p i);
+    recipients = λ e. wider _ _ (each.recipients e);
+  };
+  sleepers = λ on p there. inl (holds.sleepers on p there);
+  plain = λ a is. let both = sym is ∙ none a in absurd (cc (both));
+  closed = λ a b is sends. let both = sym is ∙ none a in absurd (cc (both));
+}
+  where
+    wider : (a : ℕ) (c : Capability) → MayStand x.policy a c → MaySendStand x a c
+    wider a c may = record { no_range = may.no_range; halting = may.halting; logging = may.logging; named = λ counted. Named (may.named counted) }

@@ -1,14 +1,13 @@
 -- Where a policy with messages holds, the cut holds for each domain between its view and all else, and nobody sees beyond his view.
-use Rattle.std.proofs.Common.{◌≡◌, ℕ, ◌<◌, ◌≤◌, ◌&&◌, ◌||◌, nat_lt, not, ◌==◌, ◌⊎◌, inl, inr, Bool, true, false, List, length, refl, sym, ◌∙◌, ap, arith}
+use Rattle.std.proofs.Common.{◌≡◌, ℕ, ◌<◌, ◌≤◌, ◌&&◌, ◌||◌, nat_lt, not, ◌==◌, ◌⊎◌, inl, inr, Bool, true, false, length, refl, sym, ◌∙◌, ap, arith}
 use Rattle.std.proofs.lemmas.Bool.{cases_Bool, ltb-true, and_parts, or_left, or_right}
 use Rattle.cap_format.specs.declared.kind.CapKind.{CapKind}
-use Rattle.cap_format.specs.declared.kind.CapKind.TheVariants.{CapPage, Gpt, Endpoint, Entry, Process}
+use Rattle.cap_format.specs.declared.kind.CapKind.TheVariants.{CapPage, Gpt, Endpoint, Process}
 use Rattle.cap_format.specs.Kind.{is_counted, object_kind}
 use Rattle.cap_format.specs.Capability.{Capability}
 use Rattle.cap_format.specs.Weakening.{is_harmless}
 use Rattle.schedules.specs.Queues.{sleepers_of}
 use Rattle.operations.specs.System.{System}
-use Rattle.machine_state.specs.State.{State}
 use Rattle.kernel_core.specs.Run.{run_state}
 use Rattle.confinement.specs.declared.cut_side.CutSide.TheVariants.{Left, Right}
 use Rattle.confinement.specs.Cut.{Cut, side_of, same_side, NamesOwn, MayCross, MayCall, MayHold, Holds}
@@ -16,10 +15,10 @@ use Rattle.confinement.specs.Acts.{system_of}
 use Rattle.confinement.specs.isolation.Agree.{Agree}
 use Rattle.confinement.specs.isolation.Isolation.{AlikeRuns, Isolation}
 use Rattle.confinement.proofs.Sleeping.{each_on}
-use Rattle.separation_policy.specs.Policy.{PolicyValue, Reach, domain_of, domain_named, may_learn, may_write, MayName, views, side_if}
+use Rattle.separation_policy.specs.Policy.{Reach, domain_of, domain_named, may_learn, MayName, views, side_if}
 use Rattle.separation_policy.specs.Policy.Reach.{Itself, Onward}
 use Rattle.separation_policy.specs.Policy.MayName.{Own, Read, Written, Shown}
-use Rattle.separation_policy.specs.Sending.{Sending, may_send, may_call, MaySendName, MaySendStand, SendingHolds, may_learn_by, SendViews, send_views, send_view_cut, SendSameFor}
+use Rattle.separation_policy.specs.Sending.{Sending, may_send, MaySendName, MaySendStand, SendingHolds, may_learn_by, SendViews, send_views, send_view_cut, SendSameFor}
 use Rattle.separation_policy.specs.Sending.MaySendName.{Named, Called}
 use Rattle.separation_policy.specs.SendingLaws.{SendViewLaw, SendNoninterferenceLaw}
 use Rattle.separation_policy.proofs.Reaching.{found-reach, reach-found, onward-count, leads-count}

@@ -1,6 +1,6 @@
 -- Policies whose domains send each other messages: a domain may hold entries to endpoints of those to which it sends.
 -- (Own.)
-use Rattle.std.specs.Prelude.{◌≡◌, ◌≢◌, ℕ, zero, suc, ◌==◌, ◌&&◌, ◌||◌, nat_lt, not, ◌<◌, Bool, true, false, ◌⊎◌, List, [], ◌∷◌, length, Option, Some, None}
+use Rattle.std.specs.Prelude.{◌≡◌, ◌≢◌, ℕ, zero, suc, ◌==◌, ◌&&◌, ◌||◌, nat_lt, not, ◌<◌, Bool, true, false, ◌⊎◌, List, [], ◌∷◌, length, Some, None}
 use Rattle.cap_format.specs.declared.kind.CapKind.{CapKind}
 use Rattle.cap_format.specs.declared.kind.CapKind.TheVariants.{Page, CapPage, Gpt, Endpoint, Entry, Process, Range, KernLog, SysCtl}
 use Rattle.cap_format.specs.Kind.{is_counted}
@@ -21,20 +21,23 @@ use Rattle.confinement.specs.declared.cut_side.CutSide.{CutSide}
 use Rattle.confinement.specs.declared.cut_side.CutSide.TheVariants.{Left, Right}
 use Rattle.confinement.specs.Cut.{Realm, Cut, no_realm, same_side, TakesFrom, Holds}
 use Rattle.confinement.specs.Acts.{SameSizes, Acts, system_of}
+use Rattle.confinement.specs.Passing.{Passing, IsPlain, PassesAtMost}
 use Rattle.confinement.specs.isolation.Turns.{turns, side_records}
 use Rattle.confinement.specs.authority.Within.{may_change}
 use Rattle.separation_policy.specs.Policy.{PolicyValue, domain_of, may_write, may_halt, may_log, MayName, Reach, may_learn, reach_below, sees, own, seen, side_if}
 
--- a policy with who sends to whom; and to which endpoints of others the objects of a domain may hold entries at all. Nobody
--- gives an entry to another domain, so those that stand in a state are as many as there will be.
+-- A policy with who sends to whom; to which endpoints of others the objects of a domain may hold entries at all; and which
+-- domains are plain. Where no domain is plain, nobody gives an entry to another domain, so those that stand in a state are
+-- as many as there will be. A plain domain gives its own away.
 pub record Sending : Type 0 where
   pub policy : PolicyValue
   pub sends : ℕ → ℕ → Bool
   pub calls : ℕ → ℕ → Bool
+  pub plain : ℕ → Bool
 
 -- the policy where nobody sends
 abbrev pub silent : PolicyValue → Sending
-silent policy = record { policy = policy; sends = λ a b. false; calls = λ a e. false }
+silent policy = record { policy = policy; sends = λ a b. false; calls = λ a e. false; plain = λ a. false }
 
 -- whether domain `a` may send to domain `b`, another: both were made, and the policy says so
 abbrev pub may_send : Sending → ℕ → ℕ → Bool
@@ -75,12 +78,45 @@ SleepWhereSent x q = (on p : ℕ) → stands_in (sleepers_of q on) p ≡ true
     → (domain_of x.policy Process p ≡ domain_of x.policy Process on)
     ⊎ (may_send x (domain_of x.policy Process p) (domain_of x.policy Process on) ≡ true)
 
--- The policy holds, of objects as they mean and of who sleeps where.
+-- ---- plain domains
+
+-- what a plain domain may pass on: entries to endpoints of others that it may call, and to its own where it sends to
+-- itself; KernLog and SysCtl where it may hold them
+abbrev pub passing_of : Sending → ℕ → Passing
+passing_of x a = record {
+  entries = λ e. may_call x a e || ((domain_of x.policy Endpoint e == a) && x.sends a a);
+  logs = may_log x.policy a;
+  halts = may_halt x.policy a;
+}
+
+-- the objects of domain `a`
+abbrev pub objects_of : Sending → ℕ → CapKind → ℕ → Bool
+objects_of x a kind n = domain_of x.policy kind n == a
+
+-- What domain `a` may pass on domain `b` may have: entries to its own endpoints, and to those that it may call itself;
+-- KernLog and SysCtl. And where `b` is plain too it may pass it on in turn.
+pub record IsClosedTo (x : Sending) (a b : ℕ) : Type 0 where
+  pub entries : (e : ℕ) → (passing_of x a).entries e ≡ true
+      → (domain_of x.policy Endpoint e ≡ b) ⊎ (may_call x b e ≡ true)
+  pub onward : (e : ℕ) → (passing_of x a).entries e ≡ true → x.plain b ≡ true → (passing_of x b).entries e ≡ true
+  pub logs : may_log x.policy a ≡ true → may_log x.policy b ≡ true
+  pub halts : may_halt x.policy a ≡ true → may_halt x.policy b ≡ true
+
+-- The policy holds, of objects as they mean and of who sleeps where: and the objects of each plain domain are plain, and
+-- its lines are closed to each domain to which it sends.
 pub record SendingHolds (x : Sending) (w : System) : Type 0 where
   pub each : EachMaySend x w.store
   pub sleepers : SleepWhereSent x w.queues
+  pub plain : (a : ℕ) → x.plain a ≡ true → IsPlain (passing_of x a) (objects_of x a) w.store
+  pub closed : (a b : ℕ) → x.plain a ≡ true → may_send x a b ≡ true → IsClosedTo x a b
 
 -- ---- what a receiver is handed is its own doing
+
+-- nobody who receives through an endpoint that domain `a` may call accepts a capability
+abbrev pub AreDeafTo : Sending → ℕ → Store → Type 0
+AreDeafTo x a s = (e q : ℕ) → may_call x a e ≡ true
+    → TakesFrom s e q
+    → (accepted (process_at s q).state).caps ≡ 0
 
 -- Domain `b` is deaf: each of its processes that receives through an endpoint which another domain may call accepts no
 -- capability.
@@ -166,29 +202,43 @@ seen_cut x a = record {
 
 -- ---- integrity
 
--- all domains are deaf before each of these events
-abbrev pub DeafBefore : Sending → State → List Event → Type 0
-DeafBefore x s [] = Unit {0}
-DeafBefore x s (e ∷ es) = IsDeaf x s.store × DeafBefore x (event_of s e).state es
+-- nobody is handed by domain `a` what it mustn't have: it is plain, or all whom it calls are deaf
+abbrev pub IsSafeBy : Sending → ℕ → Store → Type 0
+IsSafeBy x a s = (x.plain a ≡ true) ⊎ AreDeafTo x a s
+
+-- so it is with the domain of the process that performs an event
+abbrev pub IsSafe : Sending → State → Event → Type 0
+IsSafe x s e = (p : ℕ) → performer s e ≡ Some p → IsSafeBy x (domain_of x.policy Process p) s.store
+
+-- so it is before each of these events
+abbrev pub SafeBefore : Sending → State → List Event → Type 0
+SafeBefore x s [] = Unit {0}
+SafeBefore x s (e ∷ es) = IsSafe x s e × SafeBefore x (event_of s e).state es
 
 -- An event takes state `s` to state `t`. The policy holds afterwards, and there are as many harts. Where a process performs
--- it, that reaches no further than its domain sends. Where nobody does, no object changes, and no sleeper; and where it is an
--- event of a hart that there is, no queue and no hart.
+-- it, that reaches no further than its domain sends; where this domain isn't plain no other gets a capability, and where it
+-- is nothing is written that it may not pass on. Where nobody performs it, no object changes, and no sleeper; and where it
+-- is an event of a hart that there is, no queue and no hart.
 pub record SendsAtMost (x : Sending) (s : State) (e : Event) (t : State) : Type 0 where
   pub holds : SendingHolds x (system_of t)
   pub within : (p : ℕ) → performer s e ≡ Some p
       → Acts (domain_cut x (domain_of x.policy Process p)) Left (system_of s) (system_of t)
+  pub given : (p q : ℕ) → performer s e ≡ Some p → x.plain (domain_of x.policy Process p) ≡ false
+      → domain_of x.policy Process q ≢ domain_of x.policy Process p
+      → (process_at s.store q).capregs ≡ (process_at t.store q).capregs
+  pub passed : (p : ℕ) → performer s e ≡ Some p → x.plain (domain_of x.policy Process p) ≡ true
+      → PassesAtMost (passing_of x (domain_of x.policy Process p)) s.store t.store
   pub idle : performer s e ≡ None → (t.store ≡ s.store) × (t.queues.sleepers ≡ s.queues.sleepers)
   pub still : performer s e ≡ None → hart_in e < length s.queues.harts → t.queues ≡ s.queues
   pub harts : length t.queues.harts ≡ length s.queues.harts
 
--- *Nobody changes more than he may write and whom he may tell*: so it is with every event in a state in which all are deaf,
--- behind any events before each of which all were.
+-- *Nobody changes more than he may write and whom he may tell*: so it is with every event that a plain domain performs, or
+-- one to which all whom it calls are deaf, behind any events of which each was such.
 abbrev pub SendIntegrity : Sending → State → Type 0
 SendIntegrity x s = (before : List Event) (e : Event)
-    → DeafBefore x s before
+    → SafeBefore x s before
     → let t = run_state s before in
-    IsDeaf x t.store
+    IsSafe x t e
     → SendsAtMost x t e (event_of t e).state
 
 -- ---- noninterference

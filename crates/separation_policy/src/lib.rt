@@ -23,7 +23,7 @@ pub use laws::{
 pub use policy::{DOMAIN_LIMIT, Domain, Policy};
 pub use rights::Rights;
 pub use sending::{
-    accept_law, deaf_law, domain_cut_law, send_integrity, send_law, send_noninterference,
-    send_view_law, silent_law,
+    accept_law, deaf_law, deaf_to_law, domain_cut_law, send_integrity, send_law,
+    send_noninterference, send_view_law, silent_law, wider_law,
 };
 pub use stage::Stage;
