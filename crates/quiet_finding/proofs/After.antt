@@ -10,7 +10,7 @@ use Rattle.quiet_runs.specs.declared.reached_by.ReachedBy.{ReachedBy}
 use Rattle.quiet_runs.specs.declared.reached_by.ReachedBy.TheVariants.{Nobody}
 use Rattle.quiet_runs.specs.Reaching.{joined, joined_below, names}
 use Rattle.quiet_runs.specs.Finding.{is_below, is_far_reaching}
-use Rattle.quiet_finding.specs.Reaching.{ReachingValue, to_gpt, to_page, names_process}
+use Rattle.quiet_finding.specs.Comers.{ComersValue, to_gpt, to_page, names_process}
 use Rattle.quiet_finding.specs.Passing.{IsAfter, Joins, Finds, after_cap, by_cap, joined_at}
 use Rattle.quiet_finding.proofs.Joining.{joined-nobody, joined-assoc, or-false, or-assoc}
 use Rattle.quiet_finding.proofs.Folding.{joined_below-zero, joined_below-suc, is_below-zero, is_below-suc}
@@ -31,7 +31,7 @@ at-joined_at table o n by lt = elim (eqb_tells o n) [
 ]
 
 -- a process is named as before, or it is this one
-at-marked : (table : List Bool) (o p : ℕ) → p < length table → get_or (set table o true) p false ≡ (get_or table p false || (o == p))
+pub at-marked : (table : List Bool) (o p : ℕ) → p < length table → get_or (set table o true) p false ≡ (get_or table p false || (o == p))
 at-marked table o p lt = elim (eqb_tells o p) [
   | inl here ↦
       let at : get_or (set table p true) p false ≡ true = get_or-set_same table p true false lt in
@@ -48,7 +48,7 @@ at-marked table o p lt = elim (eqb_tells o p) [
 
 -- ---- one capability
 
-module _ (by : ReachedBy) (r : ReachingValue) where
+module _ (by : ReachedBy) (r : ComersValue) where
   same-gpt : (n : ℕ) → to_gpt r n ≡ joined (to_gpt r n) Nobody
   same-gpt n = sym (joined-nobody (to_gpt r n))
 
@@ -129,7 +129,7 @@ module _ (by : ReachedBy) (r : ReachingValue) where
 -- ---- several
 
 -- no capability changes nothing
-pub after-none : (f : CapKind → ℕ → ℕ → ReachedBy) (g : (Capability → Bool) → ℕ → Bool) (r : ReachingValue)
+pub after-none : (f : CapKind → ℕ → ℕ → ReachedBy) (g : (Capability → Bool) → ℕ → Bool) (r : ComersValue)
     → IsAfter (λ kind n. joined_below (f kind n) 0) (λ test. is_below (g test) 0) r r
 after-none f g r = record {
   gpt_count = refl;
@@ -142,7 +142,7 @@ after-none f g r = record {
 }
 
 -- capabilities after others
-pub after-then : (a b : Joins) (f g : Finds) (old mid new : ReachingValue) → IsAfter a f old mid → IsAfter b g mid new
+pub after-then : (a b : Joins) (f g : Finds) (old mid new : ComersValue) → IsAfter a f old mid → IsAfter b g mid new
     → IsAfter (λ kind n. joined (a kind n) (b kind n)) (λ test. f test || g test) old new
 after-then a b f g old mid new first second = record {
   gpt_count = second.gpt_count ∙ first.gpt_count;
@@ -158,7 +158,7 @@ after-then a b f g old mid new first second = record {
 }
 
 -- one more capability after those before it
-pub after-more : (f : CapKind → ℕ → ℕ → ReachedBy) (g : (Capability → Bool) → ℕ → Bool) (i next : ℕ) (old mid new : ReachingValue) → next ≡ suc i
+pub after-more : (f : CapKind → ℕ → ℕ → ReachedBy) (g : (Capability → Bool) → ℕ → Bool) (i next : ℕ) (old mid new : ComersValue) → next ≡ suc i
     → IsAfter (λ kind n. joined_below (f kind n) i) (λ test. is_below (g test) i) old mid
     → IsAfter (λ kind n. f kind n i) (λ test. g test i) mid new
     → IsAfter (λ kind n. joined_below (f kind n) next) (λ test. is_below (g test) next) old new

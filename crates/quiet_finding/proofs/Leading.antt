@@ -1,14 +1,15 @@
 -- Where capabilities lead to the same, the same come to the same.
-use Rattle.std.proofs.Common.{◌≡◌, ℕ, zero, suc, ◌+◌, ◌*◌, ◌/◌, ◌%◌, ◌-◌, ◌<◌, ◌≤◌, ◌==◌, inl, inr, Bool, true, false, ◌&&◌, ◌||◌, if◌then◌else◌, List, [], ◌∷◌, ◌++◌, length, get_or, refl, sym, ◌∙◌, ap, ap₂, arith}
+use Rattle.std.proofs.Common.{◌≡◌, ℕ, zero, suc, ◌+◌, ◌*◌, ◌/◌, ◌%◌, ◌-◌, ◌<◌, ◌≤◌, ◌==◌, inl, inr, Bool, true, false, not, ◌&&◌, ◌||◌, if◌then◌else◌, List, [], ◌∷◌, ◌++◌, length, get_or, refl, sym, ◌∙◌, ap, ap₂, arith}
 use Rattle.std.specs.List.{list_any}
 use Rattle.std.proofs.Math.Nat.{mul-div_cancel}
 use Rattle.std.proofs.lemmas.Bool.{cases_lt}
 use Rattle.std.proofs.lemmas.Nat.{div-mul-add, mod-mul-add, row_fits}
 use Rattle.std.proofs.lemmas.List.{length-append, get_or_append_left, get_or-append_right}
 use Rattle.cap_format.specs.declared.kind.CapKind.{CapKind}
-use Rattle.cap_format.specs.declared.kind.CapKind.TheVariants.{Null, Page, CapPage, Gpt, Window, Process, Range}
+use Rattle.cap_format.specs.declared.kind.CapKind.TheVariants.{Null, Page, CapPage, Gpt, Window, Endpoint, Process, Range}
 use Rattle.cap_format.specs.Kind.{number_of, is_counted, object_kind}
 use Rattle.cap_format.specs.Capability.{Capability}
+use Rattle.cap_format.specs.Weakening.{is_harmless}
 use Rattle.object_store.specs.Store.{Store, size_of, gpt_at, cappage_at}
 use Rattle.object_store.specs.Meaning.{state_map}
 use Rattle.object_store.specs.Places.{cap_in, places_in}
@@ -16,13 +17,16 @@ use Rattle.confine_check.specs.Full.{AreFull}
 use Rattle.quiet_runs.specs.declared.reached_by.ReachedBy.{ReachedBy}
 use Rattle.quiet_runs.specs.declared.reached_by.ReachedBy.TheVariants.{Nobody, Alone, Several}
 use Rattle.quiet_runs.specs.Reaching.{caps_of, held_by, joined, joined_below, names, reached_within, through}
-use Rattle.quiet_runs.specs.Finding.{is_below, is_far_reaching, some_held}
+use Rattle.quiet_runs.specs.Finding.{is_below, is_far_reaching, is_range, may_write, some_cap, some_held, some_recipient}
 use Rattle.quiet_finding.specs.declared.leads.Lead.{Lead}
-use Rattle.quiet_finding.specs.Reaching.{IsReaching, ReachingValue, reaching}
+use Rattle.quiet_finding.specs.Comers.{AreComers, ComersValue, comers}
+use Rattle.quiet_finding.specs.Writing.{AreWriting, WritingValue}
+use Rattle.quiet_finding.specs.Reaching.{IsReaching, ReachingValue}
 use Rattle.quiet_finding.specs.Passing.{by_cap, by_objects, by_places, in_objects, in_places}
-use Rattle.quiet_finding.specs.Leads.{AreLeadsOf, LeadsValue, lead_by, lead_in, lead_of, leads_of, listed}
+use Rattle.quiet_finding.specs.Leads.{AreLeadsOf, LeadsValue, lead_by, lead_in, lead_of, lead_to, leads_of, listed}
 use Rattle.quiet_finding.proofs.Folding.{is_below-same, joined_below-same}
 use Rattle.quiet_finding.proofs.Places.{gpt-long, places-through}
+use Rattle.quiet_finding.proofs.Recipients.{in-endpoints}
 use Rattle.quiet_finding.proofs.Rounds.{by-cappages, by-processes, gpt-count, in-cappages, in-gpts, in-processes, reached-suc, reached-zero}
 
 -- ---- lists by places
@@ -70,8 +74,8 @@ named_by kind object k n = is_counted kind && ((number_of (object_kind kind) == 
 abbrev IsOfLead : (Capability → Bool) → Type 0
 IsOfLead test = (c d : Capability) → lead_of c ≡ lead_of d → test c ≡ test d
 
-module _ (object n : ℕ) where
-  page-led : (kind : CapKind) → named_by kind object Page n ≡ named_by (lead_by kind object).kind (lead_by kind object).object Page n
+module _ (object n : ℕ) (writes : Bool) where
+  page-led : (kind : CapKind) → named_by kind object Page n ≡ named_by (lead_by kind object writes).kind (lead_by kind object writes).object Page n
   page-led Page = refl
   page-led Gpt = refl
   page-led Process = refl
@@ -79,7 +83,7 @@ module _ (object n : ℕ) where
   page-led Window = refl
   page-led _ = refl
 
-  gpt-led : (kind : CapKind) → named_by kind object Gpt n ≡ named_by (lead_by kind object).kind (lead_by kind object).object Gpt n
+  gpt-led : (kind : CapKind) → named_by kind object Gpt n ≡ named_by (lead_by kind object writes).kind (lead_by kind object writes).object Gpt n
   gpt-led Page = refl
   gpt-led Gpt = refl
   gpt-led Process = refl
@@ -87,7 +91,7 @@ module _ (object n : ℕ) where
   gpt-led Window = refl
   gpt-led _ = refl
 
-  process-led : (kind : CapKind) → named_by kind object Process n ≡ named_by (lead_by kind object).kind (lead_by kind object).object Process n
+  process-led : (kind : CapKind) → named_by kind object Process n ≡ named_by (lead_by kind object writes).kind (lead_by kind object writes).object Process n
   process-led Page = refl
   process-led Gpt = refl
   process-led Process = refl
@@ -95,7 +99,24 @@ module _ (object n : ℕ) where
   process-led Window = refl
   process-led _ = refl
 
-  far-led : (kind : CapKind) → is_far_reaching kind ≡ is_far_reaching (lead_by kind object).kind
+  write-led : (kind : CapKind) → (named_by kind object Page n && writes)
+      ≡ (named_by (lead_by kind object writes).kind (lead_by kind object writes).object Page n && (lead_by kind object writes).writes)
+  write-led Page = refl
+  write-led Gpt = refl
+  write-led Process = refl
+  write-led Range = refl
+  write-led Window = refl
+  write-led _ = refl
+
+  range-led : (kind : CapKind) → is_range kind ≡ is_range (lead_by kind object writes).kind
+  range-led Page = refl
+  range-led Gpt = refl
+  range-led Process = refl
+  range-led Range = refl
+  range-led Window = refl
+  range-led _ = refl
+
+  far-led : (kind : CapKind) → is_far_reaching kind ≡ is_far_reaching (lead_by kind object writes).kind
   far-led Page = refl
   far-led Gpt = refl
   far-led Process = refl
@@ -103,17 +124,39 @@ module _ (object n : ℕ) where
   far-led Window = refl
   far-led _ = refl
 
+-- whether one may write by it
+abbrev writes_by : Capability → Bool
+writes_by c = not (is_harmless c)
+
 page-of : (n : ℕ) → IsOfLead (λ c. names c Page n)
-page-of n c d same = page-led c.object n c.kind ∙ (ap (λ (l : Lead). named_by l.kind l.object Page n) same ∙ sym (page-led d.object n d.kind))
+page-of n c d same =
+    page-led c.object n (writes_by c) c.kind
+    ∙ (ap (λ (l : Lead). named_by l.kind l.object Page n) same ∙ sym (page-led d.object n (writes_by d) d.kind))
 
 gpt-of : (n : ℕ) → IsOfLead (λ c. names c Gpt n)
-gpt-of n c d same = gpt-led c.object n c.kind ∙ (ap (λ (l : Lead). named_by l.kind l.object Gpt n) same ∙ sym (gpt-led d.object n d.kind))
+gpt-of n c d same =
+    gpt-led c.object n (writes_by c) c.kind
+    ∙ (ap (λ (l : Lead). named_by l.kind l.object Gpt n) same ∙ sym (gpt-led d.object n (writes_by d) d.kind))
 
 process-of : (n : ℕ) → IsOfLead (λ c. names c Process n)
-process-of n c d same = process-led c.object n c.kind ∙ (ap (λ (l : Lead). named_by l.kind l.object Process n) same ∙ sym (process-led d.object n d.kind))
+process-of n c d same =
+    process-led c.object n (writes_by c) c.kind
+    ∙ (ap (λ (l : Lead). named_by l.kind l.object Process n) same ∙ sym (process-led d.object n (writes_by d) d.kind))
 
 far-of : IsOfLead (λ c. is_far_reaching c.kind)
-far-of c d same = far-led c.object 0 c.kind ∙ (ap (λ (l : Lead). is_far_reaching l.kind) same ∙ sym (far-led d.object 0 d.kind))
+far-of c d same =
+    far-led c.object 0 (writes_by c) c.kind
+    ∙ (ap (λ (l : Lead). is_far_reaching l.kind) same ∙ sym (far-led d.object 0 (writes_by d) d.kind))
+
+write-of : (n : ℕ) → IsOfLead (may_write n)
+write-of n c d same =
+    write-led c.object n (writes_by c) c.kind
+    ∙ (ap (λ (l : Lead). named_by l.kind l.object Page n && l.writes) same ∙ sym (write-led d.object n (writes_by d) d.kind))
+
+range-of : IsOfLead (λ c. is_range c.kind)
+range-of c d same =
+    range-led c.object 0 (writes_by c) c.kind
+    ∙ (ap (λ (l : Lead). is_range l.kind) same ∙ sym (range-led d.object 0 (writes_by d) d.kind))
 
 -- ---- objects whose capabilities lead to the same
 
@@ -143,7 +186,7 @@ module _ (s t : Store) (holder : CapKind) (some : 0 < places_in holder) (same : 
       let fits = row_fits n width (size_of s.items holder) width there (omega arith) in
       let below : k < size_of s.items holder * width = omega (arith, fits, place) in
       let below_too : k < size_of t.items holder * width = omega (arith, below, count) in
-      let d : Lead = lead_by Null 0 in
+      let d : Lead = lead_to Null 0 in
       let all = ap (λ (l : List Lead). get_or l k d) same in
       let here = get-listed (lead_in S holder) (size_of s.items holder * width) k d below in
       let here_too = get-listed (lead_in T holder) (size_of t.items holder * width) k d below_too in
@@ -181,8 +224,11 @@ module _ (s t : Store) (full : AreFull s) (full_too : AreFull t) (leads : LeadsV
   gpts : leads_of M Gpt ≡ leads_of N Gpt
   gpts = sym of.gpts ∙ of_too.gpts
 
-  abbrev Empty : ReachingValue
-  Empty = reaching [] [] [] false
+  endpoints : leads_of M Endpoint ≡ leads_of N Endpoint
+  endpoints = sym of.endpoints ∙ of_too.endpoints
+
+  abbrev Empty : ComersValue
+  Empty = comers [] [] [] false
 
   module _ (kind : CapKind) (led : (x : ℕ) → IsOfLead (λ c. names c kind x)) where
     same-held : (x : ℕ) → held_by M kind x ≡ held_by N kind x
@@ -227,11 +273,24 @@ module _ (s t : Store) (full : AreFull s) (full_too : AreFull t) (leads : LeadsV
       (sym (in-cappages s full test) ∙ (same-tests s t CapPage (omega arith) cappages test led ∙ in-cappages t full_too test))
       (sym (in-gpts s full test) ∙ (same-tests s t Gpt (omega arith) gpts test led ∙ in-gpts t full_too test)))
 
+  same-cap : (test : Capability → Bool) → IsOfLead test → some_cap test M ≡ some_cap test N
+  same-cap test led = ap₂ (λ (a b : Bool). a || b) (same-some test led)
+      (sym (in-endpoints s full test) ∙ (same-tests s t Endpoint (omega arith) endpoints test led ∙ in-endpoints t full_too test))
+
   -- the tables of the one are those of the other
-  pub alike-reaching : (r : ReachingValue) → IsReaching M r → IsReaching N r
-  alike-reaching r is = record {
+  alike-comers : (r : ComersValue) → AreComers M r → AreComers N r
+  alike-comers r is = record {
     gpts = λ n. is.gpts n ∙ (same-within (length M.items.gpts) Gpt gpt-of n ∙ ap (λ (most : ℕ). reached_within most N Gpt n) same-gpts);
     pages = λ n. is.pages n ∙ (same-within (length M.items.gpts) Page page-of n ∙ ap (λ (most : ℕ). reached_within most N Page n) same-gpts);
     named = λ p. is.named p ∙ same-some (λ c. names c Process p) (process-of p);
     far = is.far ∙ same-some (λ c. is_far_reaching c.kind) far-of;
   }
+
+  alike-writing : (w : WritingValue) → AreWriting M w → AreWriting N w
+  alike-writing w is = record {
+    pages = λ n. is.pages n ∙ same-cap (may_write n) (write-of n);
+    range = is.range ∙ same-cap (λ c. is_range c.kind) range-of;
+  }
+
+  pub alike-reaching : (r : ReachingValue) → IsReaching M r → IsReaching N r
+  alike-reaching r is = record { comers = alike-comers r.comers is.comers; writing = alike-writing r.writing is.writing }

@@ -107,7 +107,7 @@ module _ (o : Items) (kind : CapKind) (n : ℕ) (past : size_of o kind ≤ n) wh
 
 -- so nobody comes to it by the places of an object
 module _ (s : Store) (kind : CapKind) (n : ℕ) (past : size_of s.items kind ≤ n) where
-  names-none : (holder : CapKind) (o i : ℕ) → names (cap_in (state_map s) holder o i) kind n ≡ false
+  pub names-none : (holder : CapKind) (o i : ℕ) → names (cap_in (state_map s) holder o i) kind n ≡ false
   names-none holder o i = ap (λ (c : Capability). names c kind n) (cap_in-state_map s holder o i) ∙ meant-names s.items kind n past (cap_in s holder o i)
 
   pub places-nobody : (by : ReachedBy) (holder : CapKind) (o count : ℕ) → by_places (state_map s) by holder o count kind n ≡ Nobody

@@ -15,7 +15,7 @@ use Rattle.quiet_runs.specs.declared.reached_by.ReachedBy.{ReachedBy}
 use Rattle.quiet_runs.specs.declared.reached_by.ReachedBy.TheVariants.{Nobody, Alone, Several}
 use Rattle.quiet_runs.specs.Reaching.{caps_of, held_by, joined, joined_below, names, reached_within, through}
 use Rattle.quiet_runs.specs.Finding.{is_below, is_far_reaching, some_held}
-use Rattle.quiet_finding.specs.Reaching.{IsReaching, ReachingValue, to_gpt}
+use Rattle.quiet_finding.specs.Comers.{AreComers, ComersValue, to_gpt}
 use Rattle.quiet_finding.specs.Passing.{IsAfter, IsOfHolders, IsWithin, by_objects, by_places, held_outside, holder_of, in_objects, in_places, nothing_reached}
 use Rattle.quiet_finding.proofs.Joining.{joined-nobody, or-assoc}
 use Rattle.quiet_finding.proofs.Folding.{is_below-false, is_below-same, joined_below-nobody, joined_below-same, through-places}
@@ -92,7 +92,7 @@ module _ (s : Store) (full : AreFull s) where
   page-count : size_of s.items Page ≡ length M.contents.pages
   page-count = sym full.is_store.sized.pages
 
-  module _ (last : ReachingValue) (kind : CapKind) (n : ℕ) where
+  module _ (last : ComersValue) (kind : CapKind) (n : ℕ) where
     pub by-processes : by_objects M last Process (size_of s.items Process) kind n ≡ joined_below (λ p. through (Alone p) (caps_of M p) kind n) (length M.contents.processes)
     by-processes =
         joined_below-same (λ p. by_places M (Alone p) Process p (places_in Process) kind n) (λ p. through (Alone p) (caps_of M p) kind n) (size_of s.items Process)
@@ -139,7 +139,7 @@ module _ (s : Store) (full : AreFull s) where
   -- ---- what is not there
 
   module _ (kind : CapKind) (n : ℕ) (past : size_of s.items kind ≤ n) where
-    abbrev None : ReachingValue
+    abbrev None : ComersValue
     None = nothing_reached (sizes_of s)
 
     objects-nobody : (holder : CapKind) (count : ℕ) → by_objects M None holder count kind n ≡ Nobody
@@ -177,7 +177,7 @@ module _ (s : Store) (full : AreFull s) where
   -- ---- the rounds
 
   -- processes and capability pages, by tables that were empty
-  pub of-holders : (none mid base : ReachingValue)
+  pub of-holders : (none mid base : ComersValue)
       → IsAfter (by_objects M none Process (size_of s.items Process)) (in_objects M Process (size_of s.items Process)) (nothing_reached (sizes_of s)) mid
       → IsAfter (by_objects M none CapPage (size_of s.items CapPage)) (in_objects M CapPage (size_of s.items CapPage)) mid base
       → IsOfHolders M base
@@ -224,7 +224,7 @@ module _ (s : Store) (full : AreFull s) where
       empty-named : length (replicate (size_of s.items Process) false) ≡ size_of s.items Process
       empty-named = length-replicate (size_of s.items Process) false
 
-  module _ (base last next : ReachingValue) (of : IsOfHolders M base)
+  module _ (base last next : ComersValue) (of : IsOfHolders M base)
       (after : IsAfter (by_objects M last Gpt (size_of s.items Gpt)) (in_objects M Gpt (size_of s.items Gpt)) base next) where
     -- a round, by whoever came to a GPT before
     with-round : (most : ℕ) → ((kind : CapKind) (n : ℕ) → joined (held_by M kind n) (by_objects M last Gpt (size_of s.items Gpt) kind n) ≡ reached_within most M kind n) → IsWithin M most next
@@ -260,7 +260,7 @@ module _ (s : Store) (full : AreFull s) where
         ∙ sym (reached-suc most M kind n))
 
   -- as many rounds as there are GPTs are enough
-  pub all-rounds : (r : ReachingValue) → IsWithin M (length M.items.gpts) r → IsReaching M r
+  pub all-rounds : (r : ComersValue) → IsWithin M (length M.items.gpts) r → AreComers M r
   all-rounds r within = record {
     gpts = λ n. elim (cases_lt n (length M.items.gpts)) [
       | inl there ↦ within.gpts n there
@@ -278,7 +278,7 @@ module _ (s : Store) (full : AreFull s) where
   }
 
   -- and so are fewer, where the last changed nothing of GPTs
-  pub stable-rounds : (most : ℕ) (last next : ReachingValue) → most < size_of s.items Gpt → IsWithin M most last → IsWithin M (suc most) next → next.gpts ≡ last.gpts → IsReaching M next
+  pub stable-rounds : (most : ℕ) (last next : ComersValue) → most < size_of s.items Gpt → IsWithin M most last → IsWithin M (suc most) next → next.gpts ≡ last.gpts → AreComers M next
   stable-rounds most last next below before within same = all-rounds next (record {
     gpt_count = within.gpt_count;
     page_count = within.page_count;

@@ -18,7 +18,7 @@ use Rattle.schedules.proofs.OnHart.{in-list, on_hart}
 use Rattle.machine_state.specs.State.{State, process}
 use Rattle.quiet_runs.specs.Reaching.{is_alone, names, reached_by}
 use Rattle.quiet_runs.specs.Finding.{has_process, is_below, is_far_reaching, is_only_on, is_own, is_secluded, is_watched, runs, some_held}
-use Rattle.quiet_finding.specs.Reaching.{IsReaching, ReachingValue, names_process}
+use Rattle.quiet_finding.specs.Comers.{AreComers, ComersValue, names_process}
 use Rattle.quiet_finding.specs.Watched.{WatchedValue, watch_of}
 use Rattle.quiet_finding.proofs.Folding.{is_below-false, is_below-suc, is_below-zero}
 
@@ -78,7 +78,7 @@ module _ (s : Store) (q : QueuesValue) (p hart : ℕ) (agrees : Agrees (runs_of 
       and_from _ _ here (and_from _ _ elsewhere (and_from _ _ ready asleep))
 
 -- it has its own to itself where the tables say so
-pub secluded-is : (s : State) (p hart : ℕ) (r : ReachingValue) → IsReaching s.store r → runs (process s p).state ≡ true → is_only_on s.queues p hart ≡ true
+pub secluded-is : (s : State) (p hart : ℕ) (r : ComersValue) → AreComers s.store r → runs (process s p).state ≡ true → is_only_on s.queues p hart ≡ true
     → is_secluded s p hart ≡ (not (names_process r p) && not r.far)
 secluded-is s p hart r is run only =
     ap₂ (λ (a b : Bool). a && (b && (not (some_held (λ c. names c Process p) s.store) && not (some_held (λ c. is_far_reaching c.kind) s.store)))) run only

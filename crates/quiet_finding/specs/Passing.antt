@@ -11,11 +11,11 @@ use Rattle.quiet_runs.specs.declared.reached_by.ReachedBy.{ReachedBy}
 use Rattle.quiet_runs.specs.declared.reached_by.ReachedBy.TheVariants.{Nobody, Alone, Several}
 use Rattle.quiet_runs.specs.Reaching.{joined, joined_below, caps_of, names, held_by, reached_within}
 use Rattle.quiet_runs.specs.Finding.{is_below, is_far_reaching, some_held}
-use Rattle.quiet_finding.specs.Reaching.{ReachingValue, reaching, to_gpt, to_page, names_process}
+use Rattle.quiet_finding.specs.Comers.{ComersValue, comers, to_gpt, to_page, names_process}
 
 -- the tables of a machine of these sizes in which nobody comes to anything, and nothing is held
-abbrev pub nothing_reached : Sizes → ReachingValue
-nothing_reached sizes = reaching (replicate sizes.gpts Nobody) (replicate sizes.pages Nobody) (replicate sizes.processes false) false
+abbrev pub nothing_reached : Sizes → ComersValue
+nothing_reached sizes = comers (replicate sizes.gpts Nobody) (replicate sizes.pages Nobody) (replicate sizes.processes false) false
 
 -- ---- one capability
 
@@ -24,16 +24,16 @@ abbrev pub joined_at : List ReachedBy → ℕ → ReachedBy → List ReachedBy
 joined_at table n by = slice_set table n (joined (slice_index_or table n Nobody) by)
 
 -- the tables after a capability of this kind to this object, which these hold
-abbrev pub after_kind : CapKind → ℕ → ReachedBy → ReachingValue → ReachingValue
-after_kind Page n by r = reaching r.gpts (joined_at r.pages n by) r.named r.far
-after_kind Gpt n by r = reaching (joined_at r.gpts n by) r.pages r.named r.far
-after_kind Process n by r = reaching r.gpts r.pages (slice_set r.named n true) r.far
-after_kind Range n by r = reaching r.gpts r.pages r.named true
-after_kind Window n by r = reaching r.gpts r.pages r.named true
+abbrev pub after_kind : CapKind → ℕ → ReachedBy → ComersValue → ComersValue
+after_kind Page n by r = comers r.gpts (joined_at r.pages n by) r.named r.far
+after_kind Gpt n by r = comers (joined_at r.gpts n by) r.pages r.named r.far
+after_kind Process n by r = comers r.gpts r.pages (slice_set r.named n true) r.far
+after_kind Range n by r = comers r.gpts r.pages r.named true
+after_kind Window n by r = comers r.gpts r.pages r.named true
 after_kind _ n by r = r
 
 -- the tables after a capability
-abbrev pub after_cap : Capability → ReachedBy → ReachingValue → ReachingValue
+abbrev pub after_cap : Capability → ReachedBy → ComersValue → ComersValue
 after_cap c by r = after_kind c.kind c.object by r
 
 -- ---- several
@@ -47,7 +47,7 @@ abbrev pub Finds : Type 0
 Finds = (Capability → Bool) → Bool
 
 -- The tables after capabilities: these come to objects by them, and these tests are passed.
-pub record IsAfter (joins : Joins) (finds : Finds) (old new : ReachingValue) : Type 0 where
+pub record IsAfter (joins : Joins) (finds : Finds) (old new : ComersValue) : Type 0 where
   pub gpt_count : length new.gpts ≡ length old.gpts
   pub page_count : length new.pages ≡ length old.pages
   pub process_count : length new.named ≡ length old.named
@@ -69,13 +69,13 @@ abbrev pub in_places : Store → CapKind → ℕ → ℕ → Finds
 in_places s holder m count test = is_below (λ i. test (cap_in s holder m i)) count
 
 -- who holds what object `m` of a kind holds: a process, or whoever comes to a GPT by the tables, or nobody knows who
-abbrev pub holder_of : ReachingValue → CapKind → ℕ → ReachedBy
+abbrev pub holder_of : ComersValue → CapKind → ℕ → ReachedBy
 holder_of last Process m = Alone m
 holder_of last Gpt m = to_gpt last m
 holder_of last _ m = Several
 
 -- who comes to an object by those in the first objects of a kind
-abbrev pub by_objects : Store → ReachingValue → CapKind → ℕ → Joins
+abbrev pub by_objects : Store → ComersValue → CapKind → ℕ → Joins
 by_objects s last holder count kind n = joined_below (λ m. by_places s (holder_of last holder m) holder m (places_in holder) kind n) count
 
 -- a test of those
@@ -91,7 +91,7 @@ held_outside s test =
     || is_below (λ c. list_any test (cappage_at s c)) (length s.contents.cappages)
 
 -- The tables say who holds a capability to an object, and of the tests those that a process or a capability page passes.
-pub record IsOfHolders (s : Store) (r : ReachingValue) : Type 0 where
+pub record IsOfHolders (s : Store) (r : ComersValue) : Type 0 where
   pub gpt_count : length r.gpts ≡ length s.items.gpts
   pub page_count : length r.pages ≡ length s.contents.pages
   pub process_count : length r.named ≡ length s.contents.processes
@@ -101,7 +101,7 @@ pub record IsOfHolders (s : Store) (r : ReachingValue) : Type 0 where
   pub far : r.far ≡ held_outside s (λ c. is_far_reaching c.kind)
 
 -- The tables say who comes to an object through at most so many GPTs, and what is held.
-pub record IsWithin (s : Store) (most : ℕ) (r : ReachingValue) : Type 0 where
+pub record IsWithin (s : Store) (most : ℕ) (r : ComersValue) : Type 0 where
   pub gpt_count : length r.gpts ≡ length s.items.gpts
   pub page_count : length r.pages ≡ length s.contents.pages
   pub process_count : length r.named ≡ length s.contents.processes

@@ -1,39 +1,40 @@
--- The tables of who comes to which object: what they say of the objects of a model's map. (Own.)
-use Rattle.std.specs.Prelude.{◌≡◌, ℕ, Bool, false, List, slice_index_or}
-use Rattle.cap_format.specs.declared.kind.CapKind.TheVariants.{Page, Gpt, Process}
+-- What is found out of capabilities before steps are looked at: who comes to which object, and which pages are written. (Own.)
+use Rattle.std.specs.Prelude.{ℕ, Bool, false, not, ◌&&◌}
+use Rattle.cap_format.specs.declared.item.Item.{Item}
+use Rattle.cap_format.specs.declared.item.Item.TheVariants.{Header, Slot}
+use Rattle.cap_format.specs.declared.kind.CapKind.TheVariants.{Page, Gpt}
 use Rattle.object_store.specs.Store.{Store}
-use Rattle.quiet_runs.specs.declared.reached_by.ReachedBy.{ReachedBy}
-use Rattle.quiet_runs.specs.declared.reached_by.ReachedBy.TheVariants.{Nobody}
-use Rattle.quiet_runs.specs.Reaching.{names, reached_by}
-use Rattle.quiet_runs.specs.Finding.{is_far_reaching, some_held}
+use Rattle.quiet_runs.specs.Reaching.{is_alone}
+use Rattle.quiet_finding.specs.Comers.{AreComers, ComersValue, to_gpt}
+use Rattle.quiet_finding.specs.Writing.{AreWriting, WritingValue, writes_page}
 
--- who comes to each GPT and to each page, which processes are named by a capability, and whether one is held by which
--- one comes to more than it names
+-- the tables of who comes to which object, and of which pages a capability may write
 pub record ReachingValue : Type 0 where
-  pub gpts : List ReachedBy
-  pub pages : List ReachedBy
-  pub named : List Bool
-  pub far : Bool
+  pub comers : ComersValue
+  pub writing : WritingValue
 
--- tables by their parts
-abbrev pub reaching : List ReachedBy → List ReachedBy → List Bool → Bool → ReachingValue
-reaching gpts pages named far = record { gpts = gpts; pages = pages; named = named; far = far }
+-- both by their parts
+abbrev pub reaching : ComersValue → WritingValue → ReachingValue
+reaching comers writing = record { comers = comers; writing = writing }
 
--- who comes to a GPT, nobody where there is none
-abbrev pub to_gpt : ReachingValue → ℕ → ReachedBy
-to_gpt r n = slice_index_or r.gpts n Nobody
-
--- who comes to a page, nobody where there is none
-abbrev pub to_page : ReachingValue → ℕ → ReachedBy
-to_page r n = slice_index_or r.pages n Nobody
-
--- whether a capability names the process
-abbrev pub names_process : ReachingValue → ℕ → Bool
-names_process r p = slice_index_or r.named p false
-
--- The tables say of each object of these who comes to it, and what is held. They say it of any objects of which the same holds.
+-- The tables say so of these objects. They say it of any objects of which the same holds.
 pub record IsReaching (s : Store) (r : ReachingValue) : Type 0 where
-  pub gpts : (n : ℕ) → to_gpt r n ≡ reached_by s Gpt n
-  pub pages : (n : ℕ) → to_page r n ≡ reached_by s Page n
-  pub named : (p : ℕ) → names_process r p ≡ some_held (λ c. names c Process p) s
-  pub far : r.far ≡ some_held (λ c. is_far_reaching c.kind) s
+  pub comers : AreComers s r.comers
+  pub writing : AreWriting s r.writing
+
+-- ---- what is read off them
+
+-- the page is settled: there is no Range, and nobody may write the page
+abbrev pub finds_settled : ReachingValue → ℕ → Bool
+finds_settled r n = not r.writing.range && not (writes_page r.writing n)
+
+-- the GPT is the process's own
+abbrev pub finds_own : ReachingValue → ℕ → ℕ → Bool
+finds_own r p g = is_alone p (to_gpt r.comers g)
+
+-- a walk of the process may read this on its way to a settled page
+abbrev pub finds_passable : ReachingValue → ℕ → Item → Bool
+finds_passable r p (Header Page n) = finds_settled r n
+finds_passable r p (Header Gpt g) = finds_own r p g
+finds_passable r p (Header kind n) = false
+finds_passable r p (Slot g i) = finds_own r p g

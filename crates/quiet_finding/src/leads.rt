@@ -1,11 +1,11 @@
-//! Where capabilities lead, as far as it matters for who comes to what.
+//! Where capabilities lead, as far as it matters for who comes to what, and for which pages are written.
 ghost use Rattle.std.specs.Prelude.{◌≡◌, ◌↔◌, ◌<◌, ◌≤◌, ◌+◌, ◌*◌, IfOk, IsTrue};
 ghost use Rattle.object_store.specs.Store.{size_of};
 ghost use Rattle.object_store.specs.Meaning.{state_map};
 ghost use Rattle.object_store.specs.Places.{places_in, reads_in};
-ghost use Rattle.quiet_finding.specs.Leads.{lead_in, lead_of, leads_of};
+ghost use Rattle.quiet_finding.specs.Leads.{lead_in, lead_of, lead_to, leads_of};
 
-use cap_format::{Cap, CapKind, OutOfMemory};
+use cap_format::{Cap, CapKind, OutOfMemory, is_harmless};
 use object_store::{Objects, cap_in, places, size};
 use std::alloc::Global;
 use std::sync::ledger::Ledger;
@@ -18,6 +18,19 @@ pub struct Lead {
     pub kind: CapKind,
     /// The object's number, or 0.
     pub object: u32,
+    /// Whether it is a page, and the capability isn't RO.
+    pub writes: bool,
+}
+
+/// To an object that is no page.
+fn lead_to(kind: CapKind, object: u32) -> Lead
+    ensures { result ≡ lead_to kind object }
+{
+    Lead {
+        kind,
+        object,
+        writes: false,
+    }
 }
 
 /// Where a capability leads.
@@ -25,18 +38,14 @@ fn lead_of(cap: Cap) -> Lead
     ensures { result ≡ lead_of cap }
 {
     match cap.kind() {
-        CapKind::Page | CapKind::Gpt | CapKind::Process => Lead {
-            kind: cap.kind(),
+        CapKind::Page => Lead {
+            kind: CapKind::Page,
             object: cap.object(),
+            writes: !is_harmless(cap),
         },
-        CapKind::Range | CapKind::Window => Lead {
-            kind: cap.kind(),
-            object: 0,
-        },
-        _ => Lead {
-            kind: CapKind::Null,
-            object: 0,
-        },
+        CapKind::Gpt | CapKind::Process => lead_to(cap.kind(), cap.object()),
+        CapKind::Range | CapKind::Window => lead_to(cap.kind(), 0),
+        _ => lead_to(CapKind::Null, 0),
     }
 }
 
@@ -115,5 +124,5 @@ pub(crate) fn are_leads_of<L: Ledger>(
 fn is_same_lead(one: Lead, other: Lead) -> bool
     ensures { IsTrue result ↔ (one ≡ other) }
 {
-    one.kind == other.kind && one.object == other.object
+    one.kind == other.kind && one.object == other.object && one.writes == other.writes
 }

@@ -6,10 +6,10 @@ ghost use Rattle.object_store.specs.Meaning.{state_map};
 ghost use Rattle.object_store.specs.Places.{cap_in, places_in, reads_in, object_reads};
 ghost use Rattle.confine_check.specs.Full.{AreFull};
 ghost use Rattle.quiet_runs.specs.Reaching.{joined};
-ghost use Rattle.quiet_finding.specs.Reaching.{to_gpt};
+ghost use Rattle.quiet_finding.specs.Comers.{to_gpt};
 ghost use Rattle.quiet_finding.specs.Passing.{IsAfter, IsOfHolders, after_cap, joined_at, holder_of, by_places, in_places, by_objects, in_objects};
 
-use crate::reaching::Reaching;
+use crate::comers::Comers;
 use cap_format::{Cap, CapKind, OutOfMemory};
 use object_store::{Objects, cap_in, places, size};
 use quiet_runs::ReachedBy;
@@ -38,8 +38,8 @@ fn join_at(table: &mut Vec<ReachedBy>, n: u32, by: ReachedBy)
     }
 }
 
-/// A capability names process `n`.
-fn mark(table: &mut Vec<bool>, n: u32)
+/// The entry of object `n` is set.
+pub(crate) fn mark(table: &mut Vec<bool>, n: u32)
     ensures { table.new.items ≡ slice_set table.old.items n true }
 {
     if let Some(named) = table.get_mut(n as usize) {
@@ -47,7 +47,7 @@ fn mark(table: &mut Vec<bool>, n: u32)
     }
 }
 
-impl Reaching {
+impl Comers {
     /// These hold a capability.
     fn add_cap(&mut self, cap: Cap, by: ReachedBy)
         ensures { self.new ≡ after_cap cap by self.old }
@@ -111,7 +111,7 @@ impl Reaching {
     }
 
     /// Who comes to a GPT.
-    fn to_gpt(&self, n: u16) -> ReachedBy
+    pub(crate) fn to_gpt(&self, n: u16) -> ReachedBy
         ensures { result ≡ to_gpt self.now n }
     {
         match self.gpts.get(n as usize) {
@@ -125,7 +125,7 @@ impl Reaching {
         &mut self,
         objects: &Objects,
         kind: CapKind,
-        last: &Reaching,
+        last: &Comers,
         fetches: &mut Steps<L>,
     )
         ensures value { let s = state_map objects.now in let count = size_of objects.now.items kind in
@@ -142,13 +142,13 @@ impl Reaching {
         alloc: Global,
         objects: &Objects,
         fetches: &mut Steps<L>,
-    ) -> Result<Reaching, OutOfMemory>
+    ) -> Result<Comers, OutOfMemory>
         requires { AreFull objects.now }
         ensures value { IfOk result (λ base. IsOfHolders (state_map objects.now) base) }
         ensures counted { fetches.new ≡ fetches.old }
     {
-        let none = Reaching::nothing(alloc, objects.sizes())?;
-        let mut base = Reaching::nothing(alloc, objects.sizes())?;
+        let none = Comers::nothing(alloc, objects.sizes())?;
+        let mut base = Comers::nothing(alloc, objects.sizes())?;
         base.add_kind(objects, CapKind::Process, &none, fetches);
         base.add_kind(objects, CapKind::CapPage, &none, fetches);
         Ok(base)
@@ -159,9 +159,9 @@ impl Reaching {
         &self,
         alloc: Global,
         objects: &Objects,
-        last: &Reaching,
+        last: &Comers,
         fetches: &mut Steps<L>,
-    ) -> Result<Reaching, OutOfMemory>
+    ) -> Result<Comers, OutOfMemory>
         ensures value { let s = state_map objects.now in let count = size_of objects.now.items Gpt in
             IfOk result (λ next. IsAfter (by_objects s last.now Gpt count) (in_objects s Gpt count) self.now next) }
         ensures counted { OnOk result (fetches.new ≡ fetches.old + 16 * size_of objects.now.items Gpt) }

@@ -1,28 +1,26 @@
-//! Who comes to which object.
+//! What is found out of capabilities before steps are looked at.
 ghost use Rattle.std.specs.Prelude.{◌≡◌, ◌+◌, ◌*◌, ◌≤◌, IfOk};
 ghost use Rattle.cap_format.specs.declared.kind.CapKind.TheVariants.{Gpt};
 ghost use Rattle.object_store.specs.Store.{size_of};
 ghost use Rattle.object_store.specs.Meaning.{state_map};
 ghost use Rattle.quiet_runs.specs.Reaching.{is_alone};
-ghost use Rattle.quiet_finding.specs.Reaching.{IsReaching, names_process, to_page};
+ghost use Rattle.quiet_finding.specs.Comers.{names_process, to_page};
+ghost use Rattle.quiet_finding.specs.Reaching.{IsReaching, finds_own, finds_settled};
 
+use crate::comers::Comers;
+use crate::writing::Writing;
 use cap_format::OutOfMemory;
-use confine_check::tell_full;
 use object_store::Objects;
-use quiet_runs::ReachedBy;
 use std::alloc::Global;
 use std::marker::Model;
 use std::sync::ledger::Ledger;
 use steps::Steps;
 
-/// Who comes to each page and each GPT of a machine, which processes are named by a capability, and whether
-/// one is held by which one comes to more than it names.
+/// Who comes to each object of a machine, and which pages a capability may write.
 #[derive(Drop)]
 pub struct Reaching {
-    pub(crate) gpts: Vec<ReachedBy>,
-    pub(crate) pages: Vec<ReachedBy>,
-    pub(crate) named: Vec<bool>,
-    pub(crate) far: bool,
+    comers: Comers,
+    writing: Writing,
 }
 
 impl Model for Reaching {
@@ -30,12 +28,12 @@ impl Model for Reaching {
 
     ghost Value = { ReachingValue };
 
-    ghost view = { λ r. reaching r.gpts.items r.pages.items r.named.items r.far };
+    ghost view = { λ r. reaching r.comers r.writing };
 }
 
 impl Reaching {
-    /// What the objects of a machine say, as they mean: a dead capability leads nowhere. Each slot of a GPT is read once for each
-    /// GPT that the longest way goes through, and once or twice more.
+    /// What the objects of a machine say, as they mean: a dead capability leads nowhere. Each slot of
+    /// a GPT is read once for each GPT that the longest way goes through, and two or three times more.
     pub fn new<L: Ledger>(
         alloc: Global,
         objects: &Objects,
@@ -44,56 +42,46 @@ impl Reaching {
         ensures value { IfOk result (λ reaching. IsReaching (state_map objects.now) reaching) }
         ensures least { fetches.old ≤ fetches.new }
         ensures most { let gpts = size_of objects.now.items Gpt in
-            fetches.new ≤ fetches.old + 16 * gpts * (gpts + 1) }
+            fetches.new ≤ fetches.old + 16 * gpts * (gpts + 2) }
     {
-        tell_full(objects);
-        let base = Reaching::of_holders(alloc, objects, fetches)?;
-        let first = Reaching::nothing(alloc, objects.sizes())?;
-        let mut last = base.round(alloc, objects, &first, fetches)?;
-        'each: for _ in 0..objects.sizes().gpts {
-            let next = base.round(alloc, objects, &last, fetches)?;
-            if next.has_gpts_of(&last) {
-                return Ok(next);
-            }
-            last = next;
-        }
-        Ok(last)
+        let comers = Comers::new(alloc, objects, fetches)?;
+        let writing = Writing::new(alloc, objects, fetches)?;
+        Ok(Reaching { comers, writing })
     }
 
     /// Whether a capability names a process, which need not be held by another.
     pub fn names_process(&self, p: u16) -> bool
-        ensures { result ≡ names_process self.now p }
+        ensures { result ≡ names_process self.now.comers p }
     {
-        match self.named.get(p as usize) {
-            Some(named) => *named,
-            None => false,
-        }
+        self.comers.names_process(p)
     }
 
     /// Whether a Range or a window to a background is held.
     pub fn is_far_reaching(&self) -> bool
-        ensures { result ≡ self.now.far }
+        ensures { result ≡ self.now.comers.far }
     {
-        self.far
+        self.comers.far
     }
 
     /// Whether a process comes to a page, and nobody else does.
     pub fn is_own(&self, p: u16, n: u16) -> bool
-        ensures { result ≡ is_alone p (to_page self.now n) }
+        ensures { result ≡ is_alone p (to_page self.now.comers n) }
     {
-        match self.pages.get(n as usize) {
-            Some(by) => is_alone(p, *by),
-            None => false,
-        }
+        self.comers.is_own_page(p, n)
     }
-}
 
-/// Whether it is this process, and nobody else.
-fn is_alone(p: u16, by: ReachedBy) -> bool
-    ensures { result ≡ is_alone p by }
-{
-    match by {
-        ReachedBy::Alone(q) => p == q,
-        _ => false,
+    /// Whether a process comes to a GPT, and nobody else does.
+    pub fn is_own_gpt(&self, p: u16, g: u16) -> bool
+        ensures { result ≡ finds_own self.now p g }
+    {
+        self.comers.is_own_gpt(p, g)
+    }
+
+    /// Whether a page is settled: there is no Range, and no capability may write the page, wherever it
+    /// stands.
+    pub fn is_settled(&self, n: u16) -> bool
+        ensures { result ≡ finds_settled self.now n }
+    {
+        !self.writing.range && !self.writing.writes(n)
     }
 }

@@ -3,18 +3,18 @@ ghost use Rattle.std.specs.Prelude.{◌≡◌, ◌↔◌, false, replicate, IfOk
 ghost use Rattle.quiet_runs.specs.declared.reached_by.ReachedBy.TheVariants.{Nobody};
 ghost use Rattle.quiet_finding.specs.Passing.{nothing_reached};
 
-use crate::reaching::Reaching;
+use crate::comers::Comers;
 use cap_format::OutOfMemory;
 use object_store::Sizes;
 use quiet_runs::ReachedBy;
 use std::alloc::Global;
 
-impl Reaching {
+impl Comers {
     /// Nobody comes to anything in a machine of these sizes, and nothing is held.
-    pub(crate) fn nothing(alloc: Global, sizes: Sizes) -> Result<Reaching, OutOfMemory>
-        ensures { IfOk result (λ reaching. reaching ≡ nothing_reached sizes) }
+    pub(crate) fn nothing(alloc: Global, sizes: Sizes) -> Result<Comers, OutOfMemory>
+        ensures { IfOk result (λ comers. comers ≡ nothing_reached sizes) }
     {
-        Ok(Reaching {
+        Ok(Comers {
             gpts: nobody(alloc, sizes.gpts)?,
             pages: nobody(alloc, sizes.pages)?,
             named: not_named(alloc, sizes.processes)?,
@@ -22,10 +22,10 @@ impl Reaching {
         })
     }
 
-    pub(crate) fn copy(&self, alloc: Global) -> Result<Reaching, OutOfMemory>
-        ensures { IfOk result (λ reaching. reaching ≡ self.now) }
+    pub(crate) fn copy(&self, alloc: Global) -> Result<Comers, OutOfMemory>
+        ensures { IfOk result (λ comers. comers ≡ self.now) }
     {
-        Ok(Reaching {
+        Ok(Comers {
             gpts: self.gpts.to_vec(alloc)?,
             pages: self.pages.to_vec(alloc)?,
             named: self.named.to_vec(alloc)?,
@@ -34,7 +34,7 @@ impl Reaching {
     }
 
     /// Whether the same come to each GPT.
-    pub(crate) fn has_gpts_of(&self, other: &Reaching) -> bool
+    pub(crate) fn has_gpts_of(&self, other: &Comers) -> bool
         ensures { IsTrue result ↔ (self.now.gpts ≡ other.now.gpts) }
     {
         are_same(&self.gpts, &other.gpts)
@@ -52,8 +52,8 @@ fn nobody(alloc: Global, size: u16) -> Result<Vec<ReachedBy>, OutOfMemory>
     Ok(table)
 }
 
-/// A table of so many processes that no capability names.
-fn not_named(alloc: Global, size: u16) -> Result<Vec<bool>, OutOfMemory>
+/// A table of so many objects of which no entry is set.
+pub(crate) fn not_named(alloc: Global, size: u16) -> Result<Vec<bool>, OutOfMemory>
     ensures { IfOk result (λ table. table.items ≡ replicate size false) }
 {
     let mut table = Vec::with_capacity(alloc, size as usize)?;

@@ -3,22 +3,22 @@ ghost use Rattle.std.specs.Prelude.{◌≡◌, None};
 
 use decoded_words::Decoder;
 
-/// A page of addresses that leads to a page of a process's own.
+/// A page of addresses by which accesses come to a page that they may reach in a quiet step.
 #[derive(Clone, Copy)]
-pub struct OwnPage {
+pub struct QuietPage {
     /// The addresses divided by 4,096.
     pub addresses: u32,
     /// The number of the page to which they lead.
     pub page: u16,
 }
 
-/// What is kept of looks at one process: of each kind of access the last page of addresses that led to a page of its own, and
-/// the instructions of words, which hold for every process.
+/// What is kept of looks at one process: of each kind of access the last page of addresses that led to a page that it may reach,
+/// and the instructions of words, which hold for every process.
 #[derive(Drop)]
 pub struct KeptWalks {
-    pub(crate) fetch: Option<OwnPage>,
-    pub(crate) load: Option<OwnPage>,
-    pub(crate) store: Option<OwnPage>,
+    pub(crate) fetch: Option<QuietPage>,
+    pub(crate) load: Option<QuietPage>,
+    pub(crate) store: Option<QuietPage>,
     pub(crate) decoder: Decoder,
 }
 

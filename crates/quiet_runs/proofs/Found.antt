@@ -1,7 +1,10 @@
 -- The steps that are found to be quiet are.
-use Rattle.std.proofs.Common.{◌≡◌, ℕ, zero, suc, ◌%◌, ◌==◌, ◌<◌, ◌≤◌, nat_lt, ⊎_elim, inl, Bool, true, false, not, ◌&&◌, if◌then◌else◌, length, Option, Some, None, Result, Ok, Err, refl, sym, ◌∙◌, ap, arith}
-use Rattle.std.proofs.lemmas.Bool.{and_parts, and_cases, or_parts, false≢true, not-true, eqb-true, ltb-true}
-use Rattle.cap_format.specs.declared.kind.CapKind.TheVariants.{Page, Window}
+use Rattle.std.proofs.Common.{◌≡◌, ℕ, zero, suc, ◌%◌, ◌==◌, ◌<◌, ◌≤◌, nat_lt, ⊎_elim, inl, inr, Bool, true, false, not, ◌&&◌, ◌||◌, if◌then◌else◌, List, [], ◌∷◌, length, Option, Some, None, Result, Ok, Err, refl, sym, ◌∙◌, ap, arith}
+use Rattle.std.specs.List.{AllByRecursion as Each, list_all}
+use Rattle.std.proofs.lemmas.Bool.{and_parts, and_cases, or_parts, or_cases, false≢true, not-true, eqb-true, ltb-true}
+use Rattle.cap_format.specs.declared.item.Item.{Item}
+use Rattle.cap_format.specs.declared.item.Item.TheVariants.{Header, Slot}
+use Rattle.cap_format.specs.declared.kind.CapKind.TheVariants.{Page, Gpt, Window}
 use Rattle.object_store.specs.Store.{slot_at}
 use Rattle.rv32_decode.specs.declared.insn.Insn.{Insn}
 use Rattle.rv32_decode.specs.Table.{insn_at}
@@ -11,8 +14,10 @@ use Rattle.rv32_user.specs.Step.{effect_of}
 use Rattle.schedules.specs.Queues.{hart_of}
 use Rattle.walk_meaning.specs.declared.kind.Kind.{Kind}
 use Rattle.walk_meaning.specs.declared.kind.Kind.TheVariants.{Fetch, Load as LoadKind, Store as StoreKind}
+use Rattle.walk_meaning.specs.declared.noted.Noted.{Noted}
 use Rattle.walk_meaning.specs.declared.place.Place.{Place}
 use Rattle.walk_meaning.specs.declared.place.WalkFault.{WalkFault}
+use Rattle.walk_meaning.specs.Trail.{trail}
 use Rattle.walk_meaning.specs.Walk.{is_data, start_at, access}
 use Rattle.walk_engine.specs.declared.hit.Hit.{Hit}
 use Rattle.walk_engine.specs.Answer.{hit_of}
@@ -21,15 +26,17 @@ use Rattle.machine_state.specs.DataAccess.{data_access, number_at}
 use Rattle.confinement.specs.declared.cut_side.CutSide.TheVariants.{Left}
 use Rattle.confinement.specs.Cut.{Cut, side_of}
 use Rattle.independence.specs.Settled.{AreSettled}
-use Rattle.independence.specs.Quiet.{MayReach, StaysLeft, AccessesLeft, IsQuietEffect, IsQuietInstruction}
+use Rattle.independence.specs.Quiet.{MayPass, MayRead, MayReach, StaysLeft, AccessesLeft, IsQuietEffect, IsQuietInstruction}
 use Rattle.quiet_runs.specs.Runs.{Watch, IsQuietFor, AreQuiet, after_step}
 use Rattle.quiet_runs.specs.Reaching.{reached_by, is_alone}
-use Rattle.quiet_runs.specs.Finding.{is_far_reaching, is_secluded, is_own, is_watched, reaches_own, is_quiet_effect, is_quiet_word, is_quiet_fetch, is_quiet_next, is_quiet_on, is_quiet, quiet_within}
-use Rattle.quiet_runs.specs.Laws.{FoundLaw}
+use Rattle.quiet_runs.specs.Finding.{is_far_reaching, is_secluded, is_own, is_settled, is_watched, goes_by_own, may_pass, may_reach, only_reads}
+use Rattle.quiet_runs.specs.Finding.{is_quiet_access, is_quiet_effect, is_quiet_word, is_quiet_fetch, is_quiet_next, is_quiet_on, is_quiet, quiet_within}
+use Rattle.quiet_runs.specs.Laws.{FoundLaw, WithinFoundLaw}
 use Rattle.quiet_runs.specs.RoundLaws.{ShortLaw}
 use Rattle.quiet_runs.proofs.Below.{below-none}
 use Rattle.quiet_runs.proofs.Reached.{shared, shared-gpt, alone-unshared}
 use Rattle.quiet_runs.proofs.Cutting.{own_cut, left-process, left-alone, left-gpt, left-page, right-watched, secluded, secluded-on, secluded-near}
+use Rattle.quiet_runs.proofs.Settled.{settled_found}
 use Rattle.quiet_runs.proofs.Staying.{stays}
 
 -- what an access of data that reaches comes from
@@ -42,10 +49,17 @@ placed : (r : Result Place WalkFault) (hit : Hit) → hit_of r ≡ Ok hit → Pl
 placed (Ok place) hit e = record { place = place; reached = refl; page = let same : (record { page = place.number; offset = place.offset }) ≡ hit = cc (e) in ap (λ (h : Hit). h.page) same }
 placed (Err fault) hit e = absurd (cc (e))
 
-module _ (watch : Watch) (s : State) (p hart : ℕ) (is : is_secluded s p hart ≡ true) (unwatched : is_watched watch s p ≡ false)
-    (settled : ℕ → Bool) (still : AreSettled settled s.store) where
+module _ (watch : Watch) (s : State) (p hart : ℕ) (is : is_secluded s p hart ≡ true) (unwatched : is_watched watch s p ≡ false) where
   abbrev cut : Cut
   cut = own_cut watch s p
+
+  abbrev settled : ℕ → Bool
+  settled n = is_settled s.store n
+
+  still : AreSettled settled s.store
+  still n e = settled_found s.store n e
+
+  -- ---- pages of its own
 
   -- a page of its own isn't watched
   own-unwatched : (n : ℕ) → is_own s p n ≡ true → watch.pages n ≡ false
@@ -65,7 +79,7 @@ module _ (watch : Watch) (s : State) (p hart : ℕ) (is : is_secluded s p hart �
   reach _ n left = left
 
   -- an access that reaches a page of its own reads nothing but its own on the way
-  pub stays-left : (address : ℕ) (kind : Kind) (hit : Hit) → is_data kind ≡ true → data_access s p address kind ≡ Ok hit → is_own s p hit.page ≡ true → StaysLeft cut settled s p address kind hit
+  stays-left : (address : ℕ) (kind : Kind) (hit : Hit) → is_data kind ≡ true → data_access s p address kind ≡ Ok hit → is_own s p hit.page ≡ true → StaysLeft cut settled s p address kind hit
   stays-left address kind hit of_data reaches own =
       let pages = length s.store.contents.pages in
       let alone = alone-unshared s.store p Page hit.page (and_parts (nat_lt hit.page pages) (is_alone p (reached_by s.store Page hit.page)) own).1 in
@@ -83,22 +97,60 @@ module _ (watch : Watch) (s : State) (p hart : ℕ) (is : is_secluded s p hart �
       near-window : (g i : ℕ) → (slot_at s.store.items g i).kind ≡ Window → ⊥
       near-window g i window = false≢true (sym (secluded-near watch s p hart is g i) ∙ ap is_far_reaching window)
 
-  -- ---- an instruction
+  -- ---- settled pages
 
-  record Reaches (r : Result Hit WalkFault) : Type 0 where
+  -- what a walk may read on its way
+  pass : (item : Item) → may_pass s p item ≡ true → MayPass cut settled item
+  pass (Header Page n) e = inr e
+  pass (Header Gpt g) e = left-gpt watch s p g (alone-unshared s.store p Gpt g e)
+  pass (Header _ n) e = absurd (false≢true e)
+  pass (Slot g i) e = left-gpt watch s p g (alone-unshared s.store p Gpt g e)
+
+  passes : (ns : List Noted) → list_all (λ (n : Noted). may_pass s p n.item) ns ≡ true → Each (λ (n : Noted). MayPass cut settled n.item) ns
+  passes [] e = tt
+  passes (n ∷ ns) e =
+      let parts = and_parts (may_pass s p n.item) (list_all (λ (n : Noted). may_pass s p n.item) ns) e in
+      (pass n.item parts.0, passes ns parts.1)
+
+  -- an access that only reads may reach one
+  reads : (kind : Kind) (n : ℕ) → only_reads kind ≡ true → MayRead cut settled n → MayReach cut settled kind n
+  reads Fetch n e may = may
+  reads LoadKind n e may = may
+  reads _ n e may = absurd (false≢true e)
+
+  -- ---- an access
+
+  stays-quiet : (at : ℕ) (kind : Kind) (hit : Hit) → is_data kind ≡ true → data_access s p at kind ≡ Ok hit → may_reach s p at kind hit.page ≡ true
+      → StaysLeft cut settled s p at kind hit
+  stays-quiet at kind hit of_data reaches e =
+      let still = is_settled s.store hit.page && goes_by_own s p at kind in
+      ⊎_elim
+      (λ (own : is_own s p hit.page ≡ true). stays-left at kind hit of_data reaches own)
+      (λ (both : (only_reads kind && still) ≡ true).
+      let first = and_parts (only_reads kind) still both in
+      let second = and_parts (is_settled s.store hit.page) (goes_by_own s p at kind) first.1 in
+      record {
+        reaches = reaches;
+        page = reads kind hit.page first.0 (inr second.0);
+        way = passes (trail s.store.items (space_of s p) at kind) second.1;
+      })
+      (or_cases (is_own s p hit.page) (only_reads kind && still) e)
+
+  record Reaches (at : ℕ) (kind : Kind) : Type 0 where
     hit : Hit
-    reached : r ≡ Ok hit
-    own : is_own s p hit.page ≡ true
+    stays : StaysLeft cut settled s p at kind hit
 
-  reaches-is : (r : Result Hit WalkFault) → reaches_own s p r ≡ true → Reaches r
-  reaches-is (Ok hit) e = record { hit = hit; reached = refl; own = e }
-  reaches-is (Err fault) e = absurd (false≢true e)
+  reaches-is : (at : ℕ) (kind : Kind) → is_data kind ≡ true → (r : Result Hit WalkFault) → data_access s p at kind ≡ r → is_quiet_access s p at kind r ≡ true → Reaches at kind
+  reaches-is at kind of_data (Ok hit) reaches e = record { hit = hit; stays = stays-quiet at kind hit of_data reaches e }
+  reaches-is at kind of_data (Err fault) reaches e = absurd (false≢true e)
 
-  pub accesses : (at size : ℕ) (kind : Kind) → is_data kind ≡ true → ((at % size == 0) && reaches_own s p (data_access s p at kind)) ≡ true → AccessesLeft cut settled s p at size kind
+  accesses : (at size : ℕ) (kind : Kind) → is_data kind ≡ true → ((at % size == 0) && is_quiet_access s p at kind (data_access s p at kind)) ≡ true → AccessesLeft cut settled s p at size kind
   accesses at size kind of_data e =
-      let parts = and_parts (at % size == 0) (reaches_own s p (data_access s p at kind)) e in
-      let r = reaches-is (data_access s p at kind) parts.1 in
-      record { aligned = eqb-true (at % size) 0 parts.0; hit = r.hit; stays = stays-left at kind r.hit of_data r.reached r.own }
+      let parts = and_parts (at % size == 0) (is_quiet_access s p at kind (data_access s p at kind)) e in
+      let r = reaches-is at kind of_data (data_access s p at kind) refl parts.1 in
+      record { aligned = eqb-true (at % size) 0 parts.0; hit = r.hit; stays = r.stays }
+
+  -- ---- an instruction
 
   quiet-effect : (effect : Effect) → is_quiet_effect s p effect ≡ true → IsQuietEffect cut settled s p effect
   quiet-effect (Next pc) e = tt
@@ -119,12 +171,12 @@ module _ (watch : Watch) (s : State) (p hart : ℕ) (is : is_secluded s p hart �
   quiet-fetch : (r : Result Hit WalkFault) → data_access s p (pc_of s p) Fetch ≡ r → is_quiet_fetch s p r ≡ true → IsQuietInstruction cut settled s p
   quiet-fetch (Err fault) reaches e = absurd (false≢true e)
   quiet-fetch (Ok hit) reaches e =
-      let parts = and_parts (is_own s p hit.page) (is_quiet_word s p (insn_at (number_at s hit 4))) e in
-      quiet-word hit (stays-left (pc_of s p) Fetch hit refl reaches parts.0) (insn_at (number_at s hit 4)) refl parts.1
+      let parts = and_parts (may_reach s p (pc_of s p) Fetch hit.page) (is_quiet_word s p (insn_at (number_at s hit 4))) e in
+      quiet-word hit (stays-quiet (pc_of s p) Fetch hit refl reaches parts.0) (insn_at (number_at s hit 4)) refl parts.1
 
-  -- the step by a quiet instruction is quiet
-  pub quiet-by : s.halted ≡ false → IsQuietInstruction cut settled s p → IsQuietFor watch s hart
-  quiet-by runs instruction = record {
+  -- its step is quiet
+  pub quiet-next : s.halted ≡ false → is_quiet_next s p ≡ true → IsQuietFor watch s hart
+  quiet-next runs next = record {
     cut = cut;
     settled = settled;
     process = p;
@@ -135,19 +187,11 @@ module _ (watch : Watch) (s : State) (p hart : ℕ) (is : is_secluded s p hart �
       own = left-process watch s p;
       alone = left-alone watch s p;
       still = still;
-      instruction = instruction;
+      instruction = quiet-fetch (data_access s p (pc_of s p) Fetch) refl next;
     };
     unwatched = (or_parts (watch.processes p) _ unwatched).0;
     pages = right-watched watch s p;
   }
-
-module _ (watch : Watch) (s : State) (p hart : ℕ) (is : is_secluded s p hart ≡ true) (unwatched : is_watched watch s p ≡ false) where
-  -- its step is quiet, by no settled page
-  pub quiet-next : s.halted ≡ false → is_quiet_next s p ≡ true → IsQuietFor watch s hart
-  quiet-next runs next =
-      let none : AreSettled (λ n. false) s.store = λ n is. absurd (false≢true is) in
-      quiet-by watch s p hart is unwatched (λ n. false) none runs
-      (quiet-fetch watch s p hart is unwatched (λ n. false) none (data_access s p (pc_of s p) Fetch) refl next)
 
 -- a step that is found to be quiet is
 pub found : (watch : Watch) (s : State) (hart : ℕ) → is_quiet watch s hart ≡ true → IsQuietFor watch s hart
@@ -164,7 +208,7 @@ found watch s hart quiet =
         quiet-next watch s p hart first.0 (not-true (is_watched watch s p) second.0) runs second.1
 
 -- so are those that follow one after the other
-found-within : (most : ℕ) (watch : Watch) (s : State) (hart : ℕ) → AreQuiet watch (quiet_within most watch s hart) s hart
+pub found-within : WithinFoundLaw
 unfolding quiet_within
 found-within zero watch s hart = tt
 found-within (suc most) watch s hart = on (is_quiet watch s hart) refl (found-within most watch (after_step s hart) hart)

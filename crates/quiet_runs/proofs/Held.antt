@@ -4,8 +4,11 @@ use Rattle.std.specs.List.{list_any}
 use Rattle.cap_format.specs.declared.kind.CapKind.{CapKind}
 use Rattle.cap_format.specs.declared.kind.CapKind.TheVariants.{Gpt}
 use Rattle.cap_format.specs.Capability.{Capability, null}
+use Rattle.endpoint_objects.specs.declared.endpoint.Endpoint.{Endpoint as EndpointValue}
+use Rattle.endpoint_objects.specs.Endpoint.{empty_endpoint}
 use Rattle.page_store.specs.CapPage.{empty_cappage}
 use Rattle.object_store.specs.Store.{Store, Items, gpt_at}
+use Rattle.walk_meaning.specs.Trail.{trail}
 use Rattle.walk_meaning.specs.Walk.{access}
 use Rattle.walk_engine.specs.Answer.{hit_of}
 use Rattle.machine_state.specs.State.{State}
@@ -27,7 +30,7 @@ unfolding joined_below
 joined-same by other zero same = refl
 joined-same by other (suc n) same = ap₂ joined (joined-same by other n same) (same n)
 
-module _ (s t : Store) (items : t.items ≡ s.items) (cappages : t.contents.cappages ≡ s.contents.cappages)
+module _ (s t : Store) (items : t.items ≡ s.items) (cappages : t.contents.cappages ≡ s.contents.cappages) (endpoints : t.contents.endpoints ≡ s.contents.endpoints)
     (count : length t.contents.processes ≡ length s.contents.processes) (caps : (p : ℕ) → caps_of t p ≡ caps_of s p) where
   held-same : (kind : CapKind) (n : ℕ) → held_by t kind n ≡ held_by s kind n
   held-same kind n =
@@ -58,6 +61,7 @@ module _ (s t : Store) (items : t.items ≡ s.items) (cappages : t.contents.capp
   pub hold-alike : HoldAlike s t
   hold-alike = record {
     held = some-same;
+    recipients = λ test. ap (λ (es : List EndpointValue). is_below (λ e. test (get_or es e empty_endpoint).recipient) (length es)) endpoints;
     reached = λ kind n. within-same (length t.items.gpts) kind n ∙ ap (λ (o : Items). reached_within (length o.gpts) s kind n) items;
   }
 
@@ -89,13 +93,15 @@ held-step watch s hart quiet =
     let law = quiet_law quiet.cut quiet.settled quiet.process s hart quiet.by in
     let does = law.does in
     record {
-      hold = hold-alike s.store (after_step s hart).store (sym same.items) (sym same.cappages)
+      hold = hold-alike s.store (after_step s hart).store (sym same.items) (sym same.cappages) (sym same.endpoints)
           (ap (λ (t : State). length t.store.contents.processes) does.state ∙ length-rewritten s law.rewrites)
           (λ p. let one = same.processes p in ap₂ (λ (slots capregs : List Capability). slots ++ capregs) (sym one.slots) (sym one.capregs));
       pages = ap (λ (t : State). length t.store.contents.pages) does.state ∙ pages-rewritten s law.rewrites;
       queues = sym same.queues;
       walks = λ p at kind. let one = same.processes p in
           ap₂ (λ (o : Items) (slots : List Capability). hit_of (access o (get_or slots 0 null) at kind)) (sym same.items) (sym one.slots);
+      ways = λ p at kind. let one = same.processes p in
+          ap₂ (λ (o : Items) (slots : List Capability). trail o (get_or slots 0 null) at kind) (sym same.items) (sym one.slots);
     }
 
 -- so it is with each that is found

@@ -10,6 +10,6 @@ mod Growing
 mod Reached
 mod Cutting
 mod Staying
+mod Settled
 pub mod Found
 pub mod Held
-mod Still

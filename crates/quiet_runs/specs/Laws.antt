@@ -5,11 +5,14 @@ use Rattle.cap_format.specs.declared.kind.CapKind.{CapKind}
 use Rattle.cap_format.specs.Capability.{Capability}
 use Rattle.object_store.specs.Store.{Store}
 use Rattle.walk_meaning.specs.declared.kind.Kind.{Kind}
-use Rattle.machine_state.specs.State.{State}
+use Rattle.walk_meaning.specs.Trail.{trail}
+use Rattle.machine_state.specs.State.{State, space_of}
 use Rattle.machine_state.specs.DataAccess.{data_access}
+use Rattle.independence.specs.Settled.{IsSettled}
 use Rattle.quiet_runs.specs.Runs.{Watch, RunsAreQuiet, SameFor, SeesOnly, after_step, after_steps, after_runs}
 use Rattle.quiet_runs.specs.Reaching.{reached_by}
-use Rattle.quiet_runs.specs.Finding.{is_quiet, quiet_steps, some_held}
+use Rattle.quiet_runs.specs.Finding.{is_quiet, is_settled, quiet_steps, quiet_within}
+use Rattle.quiet_runs.specs.Finding.{some_held, some_recipient}
 
 -- a list of harts of a machine that has so many
 abbrev pub AreHarts : ℕ → List ℕ → Type 0
@@ -70,18 +73,30 @@ EverLaw = (count : ℕ) (watch : Watch) (more : State → ℕ → ℕ) (test : S
 abbrev pub FoundLaw : Type 0
 FoundLaw = (watch : Watch) → RunsAreQuiet watch (quiet_steps watch)
 
+-- So are they where no more than so many are counted.
+abbrev pub WithinFoundLaw : Type 0
+WithinFoundLaw = (most : ℕ) (watch : Watch) → RunsAreQuiet watch (quiet_within most watch)
+
+-- A page that is found to be settled is.
+abbrev pub SettledFoundLaw : Type 0
+SettledFoundLaw = (s : Store) (n : ℕ) → is_settled s n ≡ true → IsSettled s n
+
 -- The same capabilities are held in both, and the same come to each object.
 pub record HoldAlike (s t : Store) : Type 0 where
   pub held : (test : Capability → Bool) → some_held test t ≡ some_held test s
+  pub recipients : (test : Capability → Bool) → some_recipient test t ≡ some_recipient test s
   pub reached : (kind : CapKind) (n : ℕ) → reached_by t kind n ≡ reached_by s kind n
 
--- What one looks at who looks for quiet steps is the same in both: what is held, and who comes to what; how many pages there are;
--- who is on which hart; and what each access of data comes to.
+-- What one looks at who looks for quiet steps is the same in both: what is held, and who comes to
+-- what; how many pages there are; who is on which hart; and what each access of data comes to, and
+-- by which way.
 pub record LookAlike (s t : State) : Type 0 where
   pub hold : HoldAlike s.store t.store
   pub pages : length t.store.contents.pages ≡ length s.store.contents.pages
   pub queues : t.queues ≡ s.queues
   pub walks : (p at : ℕ) (kind : Kind) → data_access t p at kind ≡ data_access s p at kind
+  pub ways : (p at : ℕ) (kind : Kind) → trail t.store.items (space_of t p) at kind
+      ≡ trail s.store.items (space_of s p) at kind
 
 -- A quiet step moves no capability, and leaves all of this.
 abbrev pub HeldLaw : Type 0

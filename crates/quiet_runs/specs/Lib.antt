@@ -2,6 +2,5 @@ pub mod Runs
 pub mod Reaching
 pub mod Finding
 pub mod Laws
-pub mod Settled
 pub mod Begun
 pub mod RoundLaws

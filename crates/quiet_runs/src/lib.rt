@@ -14,14 +14,15 @@
 //! the same event.
 //!
 //! Which steps are quiet is found by who comes to an object by capabilities (`reached_by`): a process that nobody else names has to
-//! itself what nobody else comes to. Where anybody holds a Range, or a window that leads to a background, none is found: by these
+//! itself what nobody else comes to. What others may read too, but nobody can write any more, is settled; a step that reads it is
+//! quiet where the process comes to it by what is its own. Where anybody holds a Range, or a window that leads to a background, none is found: by these
 //! one comes to objects that no chain of capabilities names.
 //!
 //! There is no code here. Each function has a law as its contract; the definitions are in `specs/`.
 #![tactic(auto)]
 
-ghost use Rattle.quiet_runs.specs.Laws.{SimulationLaw, NeverLaw, EverLaw, FoundLaw, HeldLaw};
-ghost use Rattle.quiet_runs.specs.Settled.{SettledFoundLaw, StillFoundLaw, QuietIsStill};
+ghost use Rattle.quiet_runs.specs.Laws.{SimulationLaw, NeverLaw, EverLaw, HeldLaw};
+ghost use Rattle.quiet_runs.specs.Laws.{FoundLaw, WithinFoundLaw, SettledFoundLaw};
 ghost use Rattle.quiet_runs.specs.RoundLaws.{BegunLaw, PassingLaw, MustLaw, AlwaysLaw};
 ghost use Rattle.quiet_runs.specs.RoundLaws.{LassoLaw, EvasionLaw, ShortLaw};
 
@@ -72,13 +73,12 @@ pub fn found_law()
     ensures { FoundLaw }
 {}
 
-/// A fetch or a load from a settled page, by GPTs of the process's own, is as quiet as one from a page
-/// of its own. Such pages and steps can be found, and among these are the steps that are found to be
-/// quiet without them.
+/// A page that is found to be settled is, and the steps that are found are quiet, however many are
+/// counted. A fetch or a load from a settled page, by GPTs of the process's own, is as quiet as one
+/// from a page of its own.
 pub fn settled_law()
     ensures page { SettledFoundLaw }
-    ensures step { StillFoundLaw }
-    ensures special { QuietIsStill }
+    ensures step { WithinFoundLaw }
 {}
 
 /// No more than 4,096 are found, one after the other.

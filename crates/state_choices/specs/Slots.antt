@@ -28,7 +28,7 @@ steps_slots hart times s = sum_below (λ i. event_slots (after_steps hart i s) (
 
 -- to find who comes to what: each slot once, to see whether what was found last still holds, and then again in each round
 abbrev pub reaching_slots : State → ℕ
-reaching_slots s = let gpts = size_of s.store.items Gpt in 16 * gpts + 16 * gpts * (gpts + 2)
+reaching_slots s = let gpts = size_of s.store.items Gpt in 16 * gpts + 16 * gpts * (gpts + 3)
 
 -- by so many quiet steps: a look before each of them whether it is quiet, and one more before the first that isn't
 abbrev pub looks_slots : ℕ → ℕ → State → ℕ

@@ -47,7 +47,7 @@ pub(crate) fn kept_of<L: Ledger>(
     ensures reaching { IfOk result (λ kept. IsReaching (state_map objects.now) kept.reaching) }
     ensures least { fetches.old ≤ fetches.new }
     ensures most { let gpts = size_of objects.now.items Gpt in
-        fetches.new ≤ fetches.old + (16 * gpts + 16 * gpts * (gpts + 2)) }
+        fetches.new ≤ fetches.old + (16 * gpts + 16 * gpts * (gpts + 3)) }
 {
     if let Some(last) = kept {
         if last.is_of(objects, fetches) {

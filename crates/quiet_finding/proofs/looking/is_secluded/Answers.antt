@@ -15,5 +15,5 @@ returns g c =
     let run = it-runs m.objects m.queues c.args.p c.args.hart c.tell_kept.ensures.agrees there c.requires.on_hart c.tell_alone.ensures in
     let only = only-there m.objects m.queues c.args.p c.args.hart c.tell_kept.ensures.agrees there c.requires.on_hart c.tell_alone.ensures in
     let named = sym c.names_process.ensures ∙ c.if-names_process.false in
-    sym (secluded-is (state_of m) c.args.p c.args.hart c.args.reaching.now c.requires.reaching run only
+    sym (secluded-is (state_of m) c.args.p c.args.hart c.args.reaching.now.comers c.requires.reaching.comers run only
     ∙ ap₂ (λ (a b : Bool). not a && not b) named (sym c.is_far_reaching.ensures))

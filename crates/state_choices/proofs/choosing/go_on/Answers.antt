@@ -34,14 +34,14 @@ perform_quiet-steps-requires-clause-walks g c =
 pub returns-in_err-kept-clause-most : goal.returns-in_err-kept-clause-most
 returns-in_err-kept-clause-most g c =
     let kept = c.kept_of.ensures.most in
-    let Reads : Store → ℕ = λ o. 16 * size_of o.items Gpt + 16 * size_of o.items Gpt * (size_of o.items Gpt + 2) in
+    let Reads : Store → ℕ = λ o. 16 * size_of o.items Gpt + 16 * size_of o.items Gpt * (size_of o.items Gpt + 3) in
     let same = ap Reads (c.objects.ensures ∙ ap (λ (m : MachineValue CacheValue). m.objects) c.machine-machine.ensures.value) in
     omega (arith, kept, same)
 
 pub returns-clause-most : goal.returns-clause-most
 returns-clause-most g c =
     let kept = c.kept_of.ensures.most in
-    let Reads : Store → ℕ = λ o. 16 * size_of o.items Gpt + 16 * size_of o.items Gpt * (size_of o.items Gpt + 2) in
+    let Reads : Store → ℕ = λ o. 16 * size_of o.items Gpt + 16 * size_of o.items Gpt * (size_of o.items Gpt + 3) in
     let same = ap Reads (c.objects.ensures ∙ ap (λ (m : MachineValue CacheValue). m.objects) c.machine-machine.ensures.value) in
     let reads = c.perform_quiet-steps.ensures.most in
     omega (arith, kept, same, reads)

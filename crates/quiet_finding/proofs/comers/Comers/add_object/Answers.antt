@@ -1,11 +1,11 @@
 use Rattle.std.proofs.Common.{◌≡◌, ℕ, ◌+◌, ◌*◌, suc, subst, sym, ap, ◌∙◌, arith}
 use Rattle.object_store.specs.Meaning.{state_map}
 use Rattle.object_store.specs.Places.{cap_in, reads_in}
-use Rattle.quiet_finding.specs.Reaching.{ReachingValue}
+use Rattle.quiet_finding.specs.Comers.{ComersValue}
 use Rattle.quiet_finding.specs.Passing.{IsAfter, after_cap, by_cap, by_places, in_places}
 use Rattle.quiet_finding.proofs.After.{after-cap, after-more, after-none}
 use Rattle.quiet_finding.proofs.Places.{all-reads}
-use Rattle.quiet_finding.proofs.reaching.Reaching.add_object.Goals as goal
+use Rattle.quiet_finding.proofs.comers.Comers.add_object.Goals as goal
 
 pub each-init : goal.each-init
 each-init g c = record {
@@ -22,7 +22,7 @@ each-preserved g c =
     let one : IsAfter (by_cap c.args.by cap) (λ test. test cap) c.each.self (after_cap cap c.args.by c.each.self) = after-cap c.args.by c.each.self cap in
     record {
       after = after-more (λ kind n i. by_cap c.args.by (cap_in s c.args.kind c.args.n i) kind n) (λ test i. test (cap_in s c.args.kind c.args.n i)) i (i + 1) c.args.self.now c.each.self c.add_place.new.self next c.each.invariant.after
-          (subst (λ (r : ReachingValue). IsAfter (by_cap c.args.by cap) (λ test. test cap) c.each.self r) (sym c.add_place.ensures.value) one);
+          (subst (λ (r : ComersValue). IsAfter (by_cap c.args.by cap) (λ test. test cap) c.each.self r) (sym c.add_place.ensures.value) one);
       fetches = omega (arith, c.add_place.ensures.counted, c.each.invariant.fetches);
     }
 

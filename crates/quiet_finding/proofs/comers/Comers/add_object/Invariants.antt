@@ -2,7 +2,7 @@ use Rattle.std.proofs.Common.{◌≡◌, ◌+◌, ◌*◌}
 use Rattle.object_store.specs.Meaning.{state_map}
 use Rattle.object_store.specs.Places.{reads_in}
 use Rattle.quiet_finding.specs.Passing.{IsAfter, by_places, in_places}
-use Rattle.quiet_finding.proofs.reaching.Reaching.add_object.Given as goal
+use Rattle.quiet_finding.proofs.comers.Comers.add_object.Given as goal
 
 abbrev pub invariant-each : goal.invariant-each
 invariant-each g l = record {

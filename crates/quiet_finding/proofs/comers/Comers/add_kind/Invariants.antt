@@ -2,7 +2,7 @@ use Rattle.std.proofs.Common.{◌≡◌, ◌+◌, ◌*◌}
 use Rattle.object_store.specs.Meaning.{state_map}
 use Rattle.object_store.specs.Places.{object_reads}
 use Rattle.quiet_finding.specs.Passing.{IsAfter, by_objects, in_objects}
-use Rattle.quiet_finding.proofs.reaching.Reaching.add_kind.Given as goal
+use Rattle.quiet_finding.proofs.comers.Comers.add_kind.Given as goal
 
 abbrev pub invariant-each : goal.invariant-each
 invariant-each g l = record {

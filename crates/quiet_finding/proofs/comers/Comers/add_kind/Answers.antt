@@ -4,7 +4,7 @@ use Rattle.object_store.specs.Places.{object_reads, places_in}
 use Rattle.quiet_runs.specs.declared.reached_by.ReachedBy.{ReachedBy}
 use Rattle.quiet_finding.specs.Passing.{IsAfter, by_objects, by_places, holder_of, in_objects, in_places}
 use Rattle.quiet_finding.proofs.After.{after-more, after-none}
-use Rattle.quiet_finding.proofs.reaching.Reaching.add_kind.Goals as goal
+use Rattle.quiet_finding.proofs.comers.Comers.add_kind.Goals as goal
 
 pub each-init : goal.each-init
 each-init g c =

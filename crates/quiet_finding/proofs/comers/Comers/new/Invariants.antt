@@ -3,7 +3,7 @@ use Rattle.cap_format.specs.declared.kind.CapKind.TheVariants.{Gpt}
 use Rattle.object_store.specs.Store.{size_of}
 use Rattle.object_store.specs.Meaning.{state_map}
 use Rattle.quiet_finding.specs.Passing.{IsWithin}
-use Rattle.quiet_finding.proofs.reaching.Reaching.new.Given as goal
+use Rattle.quiet_finding.proofs.comers.Comers.new.Given as goal
 
 abbrev pub invariant-each : goal.invariant-each
 invariant-each g l = record {

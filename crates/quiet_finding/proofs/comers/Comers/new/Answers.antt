@@ -4,15 +4,15 @@ use Rattle.object_store.specs.declared.sizes.Sizes.{Sizes}
 use Rattle.object_store.specs.Store.{size_of}
 use Rattle.object_store.specs.Meaning.{state_map}
 use Rattle.quiet_runs.specs.declared.reached_by.ReachedBy.TheVariants.{Nobody}
-use Rattle.quiet_finding.specs.Reaching.{ReachingValue, to_gpt}
+use Rattle.quiet_finding.specs.Comers.{ComersValue, to_gpt}
 use Rattle.quiet_finding.specs.Passing.{IsWithin}
 use Rattle.quiet_finding.proofs.Rounds.{all-rounds, first-round, gpt-count, next-round, nothing-gpt, stable-rounds}
-use Rattle.quiet_finding.proofs.reaching.Reaching.new.Goals as goal
+use Rattle.quiet_finding.proofs.comers.Comers.new.Goals as goal
 
 pub each-init : goal.each-init
 each-init g c =
     let s = c.args.objects.now in
-    let none : (n : ℕ) → to_gpt c.in_ok-first.first n ≡ Nobody = λ n. ap (λ (r : ReachingValue). to_gpt r n) c.in_ok-first.ensures ∙ nothing-gpt c.sizes.result n in
+    let none : (n : ℕ) → to_gpt c.in_ok-first.first n ≡ Nobody = λ n. ap (λ (r : ComersValue). to_gpt r n) c.in_ok-first.ensures ∙ nothing-gpt c.sizes.result n in
     record {
       within = first-round s c.tell_full.ensures c.in_ok-base.base c.in_ok-first.first c.in_ok-last.last c.in_ok-base.ensures.value c.in_ok-last.ensures.value none;
       least = omega (arith, c.in_ok-last.ensures.counted, c.in_ok-base.ensures.counted);
