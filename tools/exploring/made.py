@@ -6,7 +6,7 @@ DATA, SHARED, CAPS = 0x1000, 0x2000, 0x3000  # where the GPT of each process has
 
 
 class Made:
-    """A machine of two or three processes, each with a page of code and one of data."""
+    """A machine of two or three processes, each with a page of code and one of data. Some may share code that is read-only."""
 
     def __init__(self, number):
         self.by = random.Random(number)
@@ -31,7 +31,7 @@ class Made:
         code = [insn for _ in range(self.by.randint(2, 4)) for insn in self.piece()]
         for place, insn in enumerate([*code, self.by.choice(["ebreak", f"jal x0 {-4 * len(code)}", "jal x0 0"])]):
             self.lines.append(f"code {process} {4 * place:x} {insn}")
-        self.lines += [f"slot {process} 0 page:{process}@12/0", f"slot {process} 1 page:{self.processes + process}@12/0",
+        self.lines += [f"slot {process} 0 {self.code(process)}", f"slot {process} 1 page:{self.processes + process}@12/0",
                        f"endpoint {process} process:{process} {process} 0 plain", f"reg {process} 4 {DATA:x}",
                        f"reg {process} 5 {SHARED:x}", f"reg {process} 6 {CAPS:x}", f"reg {process} 11 2",
                        f"capreg {process} 1 entry:{self.other(process)}:{process:x}",
@@ -42,6 +42,10 @@ class Made:
             self.lines.append(f"slot {process} 3 cappage:0@12/0")
         state = "stop" if self.likely(0.1) else "run"
         self.lines.append(f"process {process} 0 gpt:{process}@16/0 schedule:{self.by.choice((3, 3, 3, 4))} null {state}")
+
+    def code(self, process):
+        """The page from which it is run: its own code, or with others that of process 0."""
+        return self.by.choice([f"page:{process}@12/0", f"page:{process}@12/0+r", "page:0@12/0+r"])
 
     def held(self, process):
         """What stands in capability register 2."""

@@ -1,4 +1,6 @@
 """Which steps are quiet, in a printed state: by the rule of docs/explore.md, worked out here from the lines of the state."""
+import re
+
 from debugger.state import State
 from debugger.walk import walk
 from exploring.policy import named_by
@@ -62,8 +64,11 @@ def performed(word, pc, registers):
     return ("goes on",) if opcode in (IMMEDIATE, REGISTERS) or opcode == 0x0f and funct3 == 0 else None
 
 
+SLOT = re.compile(r"slot \d+ of gpt (\d+)")  # where a walk met a capability
+
+
 class Holding:
-    """Who comes to what by the capabilities of a state."""
+    """Who comes to what by the capabilities of a state, and which pages may be written."""
 
     def __init__(self, state):
         self.within = {}
@@ -74,11 +79,12 @@ class Holding:
             self.go(("process", process), [*printed[1:4], *state.held.get(process, {}).values()])
         for page, slots in state.cappages.items():
             self.go(("cappage", page), slots.values())
-        words = [*state.slots.values(), *(word for printed in state.processes.values() for word in printed[1:4]),
-                 *(word for held in state.held.values() for word in held.values()),
-                 *(word for slots in state.cappages.values() for word in slots.values())]
+        words = [word for _, word in places(state)]
         self.named = {named_by(word) for word in words}
-        self.is_far_reaching = any(word == "range" or word.startswith("window:") for word in words)
+        self.is_far_reaching = any(is_far_reaching(word) for word in words)
+        words.extend(printed[0] for printed in state.endpoints.values())
+        self.is_ranged = "range" in words
+        self.written = {named_by(word)[1] for word in words if may_write(word)}
 
     def go(self, holder, words):
         """Puts down what a holder comes to, through GPTs or not."""
@@ -92,10 +98,44 @@ class Holding:
             if named[0] == "gpt":
                 left.extend(self.within.get(named[1], []))
 
-    def own(self, process):
-        """The pages to which this process comes, and nobody else."""
+    def own(self, process, kind="page"):
+        """The pages or GPTs to which this process comes, and nobody else."""
         alone = {("process", process)}
-        return {number for (kind, number), holders in self.holders.items() if kind == "page" and holders == alone}
+        return {number for (other, number), holders in self.holders.items() if other == kind and holders == alone}
+
+    def is_settled(self, page):
+        """Whether nobody can change a page any more."""
+        return not self.is_ranged and page not in self.written
+
+    def may_reach(self, process, kind, end):
+        """Whether an access that ended so may belong to a quiet step."""
+        if end.name != "reach":
+            return False
+        way = {int(found[1]) for found in map(SLOT.fullmatch, (held for held, _ in end.way)) if found}
+        return end.number in self.own(process) or (
+            kind != "store" and self.is_settled(end.number) and way <= self.own(process, "gpt"))
+
+
+def places(state):
+    """Each capability that processes, GPTs and capability pages hold, with the object that holds it."""
+    for (gpt, _), word in state.slots.items():
+        yield ("gpt", gpt), word
+    for process, printed in state.processes.items():
+        for word in (*printed[1:4], *state.held.get(process, {}).values()):
+            yield ("process", process), word
+    for page, slots in state.cappages.items():
+        for word in slots.values():
+            yield ("cappage", page), word
+
+
+def is_far_reaching(word):
+    """Whether one comes to more by a capability than it names."""
+    return word == "range" or word.startswith("window:")
+
+
+def may_write(word):
+    """Whether a capability is one to a page by which that may be written."""
+    return word.startswith("page:") and "r" not in word.partition("+")[2]
 
 
 def is_quiet(data, hart, processes, pages):
@@ -104,29 +144,27 @@ def is_quiet(data, hart, processes, pages):
     process = state.harts[hart]
     if state.halted or process is None or process in processes:
         return False
-    places = [*state.harts, *(other for queue in (state.ready, state.sleepers) for those in queue.values() for other in those)]
+    stands = [*state.harts, *(other for queue in (state.ready, state.sleepers) for those in queue.values() for other in those)]
     holding = Holding(state)
-    if (state.process(process).state != ["run"] or places.count(process) != 1 or holding.is_far_reaching
+    if (state.process(process).state != ["run"] or stands.count(process) != 1 or holding.is_far_reaching
             or ("process", process) in holding.named):
         return False
-    own = holding.own(process)
-    return not own & pages and is_quiet_next(state, process, own)
+    return not holding.own(process) & pages and is_quiet_next(state, process, holding)
 
 
-def is_quiet_next(state, process, own):
-    """Whether the next instruction of a process is performed, with pages of its own alone."""
+def is_quiet_next(state, process, holding):
+    """Whether the next instruction of a process is performed, with pages alone that it may reach in a quiet step."""
     pc = state.process(process).pc
-    word = read(state, process, pc, own)
+    word = read(state, process, pc, holding)
     does = None if word is None else performed(word, pc, state.registers.get(process, {}))
     if does is None or does == ("goes on",):
         return does is not None
-    end = walk(state, process, *does)
-    return end.name == "reach" and end.number in own
+    return holding.may_reach(process, does[0], walk(state, process, *does))
 
 
-def read(state, process, address, own):
-    """The instruction at an address, if it stands in one of these pages."""
+def read(state, process, address, holding):
+    """The instruction at an address, if it may be fetched in a quiet step."""
     end = walk(state, process, "fetch", address)
-    if end.name != "reach" or end.number not in own:
+    if not holding.may_reach(process, "fetch", end):
         return None
     return int.from_bytes(state.page(end.number)[end.offset:end.offset + 4], "little")
