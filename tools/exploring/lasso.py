@@ -1,6 +1,7 @@
 """The loop of an answer `avoided`, checked by running it: choice by choice, with what the program prints behind each."""
 from collections import namedtuple
 
+from debugger.state import State as Printed
 from exploring.question import Wrong
 from exploring.search import joined
 from exploring.state import State
@@ -17,12 +18,14 @@ class Lasso:
 
     def __init__(self, question, places, answer, name):
         try:
-            word, self.number, self.depth, self.loop, self.lines = choices_of(answer, name)
+            word, self.number, self.depth, self.loop, self.harts, self.lines = choices_of(answer, name)
         except NoRun as wrong:
             raise Wrong(str(wrong))
         if word != "avoided":
             raise Wrong(f"{name} tells no loop")
         self.question, self.places = question, places
+        if self.harts != (places.wide and places.wide.many):
+            raise Wrong(f"{name} is of a machine with other harts")
         self.line = next((line for line in question.lines if line.number == self.number and line.asks == "must"), None)
 
     def complaint(self):
@@ -46,11 +49,16 @@ class Lasso:
                 behind = self.behind(place)
                 place.process.close()
                 left[-1:] = behind
-                if place.lines == len(self.lines) and place.choices == self.depth + self.loop:
+                if place.lines == len(self.lines) and self.can_end(place.choices):
                     yield place
         finally:
             for place in left:
                 place.process.close()
+
+    def can_end(self, choices):
+        """Whether so many choices that lines tell are all: of a loop on a machine with a hart for each process some may be
+        missing, which led nowhere."""
+        return choices == self.depth + self.loop or self.harts and self.depth <= choices < self.depth + self.loop
 
     def behind(self, place):
         """The places behind one more choice."""
@@ -66,12 +74,25 @@ class Lasso:
             if choice.split()[1] != hart or (choice.split()[0] == "tick") != (word == "tick"):
                 continue
             line = self.places.counted(place.process, choice)
+            if not line:
+                continue
             steps = 0 if word == "tick" else place.steps + int(line.split()[2])
             if word == "tick" or steps <= int(times[0]):
                 process = self.places.chosen(place.process, line)
                 is_over = word == "tick" or steps == int(times[0])
                 yield Place(process, self.places.text_of(process.copy()), place, number, line, place.choices + 1,
                             place.lines + is_over, 0 if is_over else steps)
+
+    def lacks(self, texts, choices):
+        """Whether a loop through these states lacks a choice. Those that no line tells are of processes without a turn."""
+        numbers = set(range(len(self.question.choices)))
+        left, missing = numbers - set(choices[self.depth:]), self.depth + self.loop - len(choices)
+        idle = {number for number in numbers if any(self.is_idle(text, number) for text in texts)}
+        return not left <= idle or len(left) > missing or missing > 0 and not idle
+
+    def is_idle(self, text, number):
+        """Whether a choice is that of a process that has no turn in a state."""
+        return bool(self.harts) and not self.places.wide.has_turn(Printed(text), int(self.question.choices[number].split()[1]))
 
     @staticmethod
     def way(place):
@@ -89,7 +110,7 @@ class Lasso:
             return "steps of one hart that could be one line are two"
         if texts[self.depth] != texts[-1]:
             return "the loop doesn't lead back to where it begins"
-        if set(choices[self.depth:]) != set(range(len(self.question.choices))):
+        if self.lacks(texts[self.depth:], choices):
             return "a choice of the question is missing from the loop"
         states = [State(text) for text in texts]
         has = [state.holds_any(self.line.groups, self.question.policy) for state in states]

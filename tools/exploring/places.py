@@ -9,8 +9,10 @@ import subprocess
 import tempfile
 
 from debugger.places import UNPROVED, Process, Trouble, compile_places, place_of_state
+from debugger.state import State
 from exploring.question import Wrong
 from exploring.quiet import MOST, is_quiet
+from runs.wide import Wide
 
 WAIT = 600  # seconds for a process to answer
 
@@ -27,7 +29,11 @@ class Places:
         self.listener.bind(f"{self.room.name}/line")
         self.listener.listen(16)
         self.listener.settimeout(WAIT)
-        self.begin("".join(f"{line}\n" for line in question.listing + question.setup).encode())
+        self.wide = Wide(question.listing, question.setup) if question.is_preempted else None
+        lines = [*self.wide.head, *self.wide.setup] if self.wide else question.listing + question.setup
+        self.begin("".join(f"{line}\n" for line in lines).encode())
+        if self.wide:
+            self.wide.move(State(self.first_text()).harts)
 
     def begin(self, text):
         self.child = subprocess.Popen(
@@ -55,23 +61,36 @@ class Places:
     def first_text(self):
         return self.text_of(self.first.copy())
 
+    def fed(self, line):
+        """A line of an answer as one that the program reads."""
+        return f"{self.wide.line(line) if self.wide else line}\n".encode()
+
     def chosen(self, process, line):
-        """A copy of a process, behind a line of a schedule."""
+        """A copy of a process, behind a line of a schedule; an empty one leads nowhere."""
         made = process.copy()
-        made.feed(f"{line}\n".encode())
+        if line:
+            made.feed(self.fed(line))
         return made
 
     def counted(self, process, choice):
-        """A choice as a line of a schedule: a run of a hart as its steps, from this state on."""
-        what, hart = choice.split()[:2]
-        if what != "run":
+        """A choice as a line of a schedule: a run of a hart as its steps, from this state on; a turn as that of the process's
+        hart, or as an empty line where it has none."""
+        what, hart, *_ = choice.split()
+        if what in ("step", "tick"):
             return choice
-        made, steps = self.chosen(process, f"step {hart} 1"), 1
-        while steps <= MOST and is_quiet(self.text_of(made.copy()), int(hart), *self.question.watched):
-            made.feed(f"step {hart} 1\n".encode())
+        if what != "run" and not self.wide.has_turn(State(self.text_of(process.copy())), int(hart)):
+            return ""
+        return f"step {hart} 1" if what == "turn" else f"step {hart} {self.steps(process, hart)}"
+
+    def steps(self, process, hart):
+        """How many steps a run of a hart has."""
+        step, place = f"step {hart} 1", self.wide.places[int(hart)] if self.wide else int(hart)
+        made, steps = self.chosen(process, step), 1
+        while steps <= MOST and is_quiet(self.text_of(made.copy()), place, *self.question.watched):
+            made.feed(self.fed(step))
             steps += 1
         made.close()
-        return f"step {hart} {steps}"
+        return steps
 
     def after(self, process, choice):
         """A choice as a line of a schedule, and the state behind it."""
@@ -97,9 +116,9 @@ class Places:
         if state in self.kept:
             return self.kept.pop(state)
         process = self.first.copy()
-        lines = "".join(f"{line}\n" for line in self.path(state))
+        lines = b"".join(map(self.fed, self.path(state)))
         if lines:
-            process.feed(lines.encode())
+            process.feed(lines)
         return process
 
 

@@ -4,6 +4,7 @@ from collections import namedtuple
 
 from exploring.policy import Policy
 from exploring.terms import COMPARISONS, looked_at, terms_of
+from runs.wide import MOST_HARTS, sizes_of
 
 # `first` are the groups of which one has to hold where a `must` is asked, and None where it is asked at the start.
 Line = namedtuple("Line", "number asks groups first", defaults=[None])
@@ -33,11 +34,11 @@ class Question:
     def __init__(self, text):
         self.listing, self.setup, self.lines, self.choices = [], [], [], []
         self.depth = self.states = None
-        self.harts, self.policy = 1, Policy()
+        self.policy, self.is_preempted = Policy(), False
         self.take_all(text.splitlines())
         if not self.choices:
             self.choices = [f"{what} {hart}{' 1' * (what == 'step')}" for what in ("step", "tick")
-                            for hart in range(self.harts)]
+                            for hart in range(sizes_of(self.listing)[0])]
 
     def take_all(self, lines):
         """Each line in the part to which it belongs: those of the parts end with a line `end`."""
@@ -50,10 +51,8 @@ class Question:
         if part != self.take_setup:
             raise Wrong(f"the {'listing' if part == self.take_listing else 'question'} has no line `end`")
 
-    def take_listing(self, _number, line, words):
+    def take_listing(self, _number, line, _words):
         self.listing.append(line)
-        if words[:1] == ["machine"]:
-            self.harts = int(words[1])
 
     def take_setup(self, _number, line, _words):
         self.setup.append(line)
@@ -69,6 +68,8 @@ class Question:
     def take_words(self, number, words):
         if words[0] == "may":
             self.choose(number, choice_of(words[1:]))
+        elif words in (["preempted"], ["preempted", "step"]):
+            self.preempt(number, "turn" if words[1:] else "turns")
         elif words[0] in ASKS:
             self.lines.append(Line(number, words[0], groups_of(words[1:])))
         elif words[0] == "after":
@@ -83,7 +84,18 @@ class Question:
         else:
             raise ValueError
 
+    def preempt(self, number, what):
+        """The choices are turns of the processes, or turns with the quiet steps behind them."""
+        processes = sizes_of(self.listing)[1]
+        if self.choices:
+            raise Wrong(f"line {number} states choices beside those that a line before it states")
+        if processes > MOST_HARTS:
+            raise Wrong(f"line {number} wants a hart for each of {processes} processes, and there are at most {MOST_HARTS}")
+        self.is_preempted, self.choices = True, [f"{what} {process}" for process in range(max(1, processes))]
+
     def choose(self, number, choice):
+        if self.is_preempted:
+            raise Wrong(f"line {number} states choices beside those that a line before it states")
         if choice in self.choices:
             raise Wrong(f"line {number} states a choice that a line before it states")
         self.choices.append(choice)

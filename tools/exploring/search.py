@@ -2,17 +2,20 @@
 import sys
 import time
 
+from debugger.state import State as Printed
 from exploring.rounds import Rounds
 from exploring.state import State
+from runs.wide import has_unscheduled
 
 SECONDS = 10  # between two lines that say how far it is
 MOST_TIMES = 1_000_000  # steps that one line of a schedule may ask for
 
 
 def joined(lines):
-    """The lines of a schedule, where neighbours that are steps of one hart are one."""
+    """The lines of a schedule, where neighbours that are steps of one hart are one. An empty one is of a choice that led
+    nowhere."""
     told = []
-    for line in lines:
+    for line in filter(None, lines):
         word, hart, *times = line.split()
         if told and word == "step" and told[-1][:2] == [word, hart] and told[-1][2] + int(times[0]) <= MOST_TIMES:
             told[-1][2] += int(times[0])
@@ -27,7 +30,7 @@ class Search:
     def __init__(self, question, places):
         self.question, self.places = question, places
         self.numbers, self.depths, self.edges = {}, [], []  # an edge is a line of a schedule and the state behind it
-        self.tried, self.found = 0, None
+        self.tried, self.found, self.all_scheduled = 0, None, True
         self.holding = {line.number: [] for line in question.lines}  # the states of which its atoms hold
         self.first = {line.number: [] for line in question.lines if line.first}  # those from which they must come
         self.said = time.monotonic()
@@ -37,6 +40,7 @@ class Search:
         number = self.numbers[text] = len(self.depths)
         self.depths.append(depth)
         state = State(text)
+        self.all_scheduled = self.all_scheduled and not (self.places.wide and has_unscheduled(Printed(text)))
         for line in self.question.lines:
             if state.holds_any(line.groups, self.question.policy):
                 self.holding[line.number].append(number)
@@ -85,11 +89,16 @@ class Search:
         return [*self.counts(), *self.closed()]
 
     def size(self, word, depth):
-        return f"{word} states={len(self.depths)} tried={self.tried} depth={depth}"
+        is_any = self.places.wide and self.all_scheduled
+        return f"{word} states={len(self.depths)} tried={self.tried} depth={depth}{' harts=any' if is_any else ''}"
+
+    def harts(self):
+        """The harts of what is told, where there is one for each process."""
+        return f" harts={self.places.wide.many}" if self.places.wide else ""
 
     def led(self, word, line, state):
         path = self.places.path(state)
-        return [f"{word} {line} depth={len(path)}", *joined(path)]
+        return [f"{word} {line} depth={len(path)}{self.harts()}", *joined(path)]
 
     def counts(self):
         for line in self.question.asking("count"):
@@ -114,7 +123,7 @@ class Search:
         if avoided is None:
             return None
         path, loop = avoided
-        return [f"avoided {line.number} depth={len(path)} loop={len(loop)}", *joined(path), *joined(loop)]
+        return [f"avoided {line.number} depth={len(path)} loop={len(loop)}{self.harts()}", *joined(path), *joined(loop)]
 
     def lost(self, held):
         """The first state from which no choices lead to one of these."""

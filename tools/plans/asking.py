@@ -15,6 +15,9 @@ MOST_SHOWN = 40  # lines of a run that are told
 CUT = "sed '/^end *$/q'"  # a listing without its schedule
 SETUP = "sed '1,/^end *$/d'"  # what sets the system up, behind a question
 FOUND = "sed -n '/^step /p; /^tick /p'"  # the schedule of an answer
+# What a `never` says of the harts that the plan has, behind what it says of those of its programs.
+ANY = "; so it does after any steps and ticks of the plan's harts"
+ANY_WITHIN = "; so it does after any {} steps and ticks of the plan's harts"
 # What is said where the line fails, and where it holds and the number of states isn't there.
 FAILED = {"found": "to a state where it fails, and no fewer",
           "lost": "to a state from which it can't come to that, and no fewer",
@@ -190,19 +193,33 @@ class Asking:
 
     def show_found(self):
         """Tells the run that was found, and makes its page."""
+        named = f"--program {shown(os.environ['COYOTOS'])} " if os.environ.get("COYOTOS") else ""
+        if any(one.kind() == "preempted" for one in self.plan.question):
+            self.explain_wide(named)
+        else:
+            self.explain_run()
+        told = self.text(".found.told").splitlines()
+        say("that run:")
+        for line in ([f"(the last {MOST_SHOWN} lines of {len(told)})"] if len(told) > MOST_SHOWN else []) + told[-MOST_SHOWN:]:
+            say(f"    {line}".rstrip())
+        self.run(f"{self.tool('show')} {named}--symbols {shown(self.made)} --found {self.file('.explored')} "
+                 f"{self.file('.asked')} > {self.file('.html')}")
+        say(f"its page: {self.room / 'system.html'}")
+
+
+    def explain_run(self):
+        """Has the run that was found put into words."""
         self.run(f"{{ {CUT} {self.file('.coy')}; {SETUP} {self.file('.question')}; {FOUND} {self.file('.explored')}; }} > "
                  f"{self.file('.found.coy')}")
         self.run(f"{self.program('coyotos')} trace < {self.file('.found.coy')} > {self.file('.found.trace')}")
         self.run(f"{self.tool('explain')} --symbols {shown(self.made)} {self.file('.found.coy')} {self.file('.found.trace')} > "
                  f"{self.file('.found.told')}")
-        told = self.text(".found.told").splitlines()
-        say("that run:")
-        for line in ([f"(the last {MOST_SHOWN} lines of {len(told)})"] if len(told) > MOST_SHOWN else []) + told[-MOST_SHOWN:]:
-            say(f"    {line}".rstrip())
-        named = f"--program {shown(os.environ['COYOTOS'])} " if os.environ.get("COYOTOS") else ""
-        self.run(f"{self.tool('show')} {named}--symbols {shown(self.made)} --found {self.file('.explored')} "
-                 f"{self.file('.asked')} > {self.file('.html')}")
-        say(f"its page: {self.room / 'system.html'}")
+
+    def explain_wide(self, named):
+        """The same of a run in which each program has a hart of its own: it is no run of the listing."""
+        self.run(f"{self.program('coyotos')} check < {self.file('.coy')} > {self.file('.checked')}")
+        self.run(f"{self.tool('explain')} {named}--symbols {shown(self.made)} --found {self.file('.explored')} "
+                 f"{self.file('.asked')} > {self.file('.found.told')}")
 
 
 def verdict(kind, number, last, count):
@@ -221,11 +238,11 @@ def verdict(kind, number, last, count):
     if failing is not None:
         return "holds in all states" if kind == "never" else HOLDS_TOO[kind] if number < failing else \
             "isn't judged: a line before it doesn't hold"
-    states = times(facts["states"], "state")
+    states, is_any = times(facts["states"], "state"), facts.get("harts") == "any"
     if word == "open":
-        return (f"holds in the {states} that were seen, all those within {times(facts['depth'], 'choice')} among them; a limit "
-                "ended the search")
-    return {"never": f"holds in all {states}", "ever": f"holds: it can come to that from each of the {states}"}.get(
+        return (f"holds in the {states} that were seen, all those within {times(facts['depth'], 'choice')} among them"
+                f"{ANY_WITHIN.format(facts['depth']) * is_any}; a limit ended the search")
+    return {"never": f"holds in all {states}{ANY * is_any}", "ever": f"holds: it can come to that from each of the {states}"}.get(
         kind, HOLDS_TOO["must"])
 
 

@@ -7,9 +7,10 @@ from plans.listing import remark
 from plans.policy import named_lines
 from plans.words import AREA, PAGE, TOP, Wrong, need, number, page_address
 from run_page.symbols import FUNCTION, NOTHING, entries_of
+from runs.wide import MOST_HARTS
 
 PROPERTIES = ("never", "ever", "must", "after", "count")
-ASKING = ("may", *PROPERTIES, "depth", "states")
+ASKING = ("may", "preempted", *PROPERTIES, "depth", "states")
 NOTHING_ASKED = "the plan has no line `never`, `ever`, `must`, `after` or `count`"
 FAULTS = ("InvalidDataReference", "InvalidCapReference", "DataAccessTypeError", "CapAccessTypeError", "AccessViolation",
           "MalformedSpace", "NoSchedule", "MalformedSyscall", "BadAlign", "BadOpcode", "Breakpoint")
@@ -49,7 +50,10 @@ def question_lines(plan, name):
 def asked(plan, words):
     """A line of the question."""
     said = " ".join(words)
+    if words[0] == "preempted":
+        return Asked(plan.at, said, turns(plan, words))
     if words[0] == "may":
+        need("preempted" not in plan.said, f"line {plan.said.get('preempted')} says preempted, in place of all lines may")
         told = choice(plan, words[1:])
         other = next((one for one in plan.question if one.told == told), None)
         need(other is None, f"line {other and other.at} has the same choice")
@@ -67,6 +71,17 @@ def asked(plan, words):
         return Asked(plan.at, said, line_of(("after", first), ("must", groups)), groups, first)
     groups = Line(words, Names(plan)).groups()
     return Asked(plan.at, said, line_of((words[0], groups)), groups)
+
+
+def turns(plan, words):
+    """The line by which each program has a hart of its own."""
+    need(words[1:] in ([], ["step"]), "preempted, or preempted step")
+    plan.once("preempted")
+    other = next((one for one in plan.question if one.kind() == "may"), None)
+    need(other is None, f"line {other and other.at} says may, and preempted stands in place of all lines may")
+    count = len(plan.all("program"))
+    need(count <= MOST_HARTS, f"each of the {count} programs takes a hart of its own, and a machine has {MOST_HARTS}")
+    return " ".join(words)
 
 
 def choice(plan, words):

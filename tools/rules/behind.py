@@ -20,7 +20,7 @@ def unknown(fault, word, forms, what):
             "a line of a schedule stands in no cut"
     elif word in ("left", "domains", "domain", "reads", "writes", "halts", "logs"):
         seen = "a cut is for `confine`, and a policy for `separation`"
-    elif word in ("may", "never", "ever", "must", "after", "count", "depth", "states"):
+    elif word in ("may", "preempted", "never", "ever", "must", "after", "count", "depth", "states"):
         seen = "a question is for `explore`"
     else:
         found = difflib.get_close_matches(word, forms, 1)

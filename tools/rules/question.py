@@ -6,7 +6,7 @@ from rules.statement import count_words, kind_of
 from rules.words import Refused, decimal_of, end_of, hexadecimal_of
 
 ATOMS_FORM = "ATOM [and ATOM ..] [or ATOM ..]"
-FORMS = {"may": "may step H [N], may run H, may tick H", "never": f"never {ATOMS_FORM}", "ever": f"ever {ATOMS_FORM}",
+FORMS = {"may": "may step H [N], may run H, may tick H", "preempted": "preempted [step]", "never": f"never {ATOMS_FORM}", "ever": f"ever {ATOMS_FORM}",
          "must": f"must {ATOMS_FORM}", "after": f"after {ATOMS_FORM} must {ATOMS_FORM}", "count": f"count {ATOMS_FORM}",
          "domain": "domain NAME KIND N [M]", "reads": "reads A B", "writes": "writes A B", "halts": "halts A",
          "logs": "logs A", "depth": "depth N", "states": "states N", "end": "end"}
@@ -29,7 +29,7 @@ BYTES = {"word": 4, "half": 2, "byte": 1}
 DEEPEST = 16
 FAULTS = ("InvalidDataReference", "InvalidCapReference", "DataAccessTypeError", "CapAccessTypeError", "AccessViolation",
           "MalformedSpace", "NoSchedule", "MalformedSyscall", "BadAlign", "BadOpcode", "Breakpoint")
-PAGE, LAST_REGISTER = 0x1000, 31
+PAGE, LAST_REGISTER, MOST_HARTS = 0x1000, 31, 8
 
 
 class Question:
@@ -37,6 +37,7 @@ class Question:
 
     def __init__(self, terms):
         self.terms, self.policy, self.choices = terms, Policy(terms), {}
+        self.preempted = None  # the number of the line that says so
 
     def line(self, words, number):
         """Judges a line; whether the question ends here."""
@@ -44,6 +45,8 @@ class Question:
             self.policy.line(words, number)
         elif words[0] == "may":
             self.choice(words, number)
+        elif words[0] == "preempted":
+            self.turns(words, number)
         elif words[0] in ("never", "ever", "must", "count"):
             self.atoms(words[1:], words)
         elif words[0] == "after":
@@ -67,6 +70,9 @@ class Question:
         return unknown("UnknownQuestion", word, FORMS, "a question")
 
     def choice(self, words, number):
+        if self.preempted:
+            raise Refused("WrongChoices", words[0], "no line `may` where processes take turns",
+                          f"line {self.preempted} says `preempted`")
         word = words[1] if words[1:] else end_of(words)
         if word not in CHOICES:
             raise Refused("UnknownEvent", word, "step, run or tick", "a choice has steps of one hart" if word == "round" else
@@ -80,6 +86,23 @@ class Question:
             raise Refused("Taken", word, "another choice than those of the lines before",
                           f"line {self.choices[choice]} has the same")
         self.choices[choice] = number
+
+    def turns(self, words, number):
+        count_words(words, 1, 2, FORMS["preempted"])
+        for word in words[1:]:
+            if word != "step":
+                raise Refused("UnknownEvent", word, "step, or nothing", "processes take turns, and no harts"
+                              if word in ("run", "tick") else "")
+        if self.preempted:
+            raise Refused("Taken", words[0], "one line `preempted`", f"line {self.preempted} is another")
+        if self.choices:
+            raise Refused("WrongChoices", words[0], "lines `may`, or a line `preempted`",
+                          f"line {min(self.choices.values())} says `may`")
+        processes = self.terms.sizes["process"]
+        if processes > MOST_HARTS:
+            raise Refused("TooManyProcesses", words[0], f"at most {MOST_HARTS} processes, with a hart for each",
+                          f"the machine has {processes}")
+        self.preempted = number
 
     def must_after(self, words):
         """The atoms between `after` and `must`, and those behind."""

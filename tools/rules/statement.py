@@ -16,7 +16,7 @@ FORMS = {
 LATER = ("name", "region")
 PLACES = {"step": "the schedule", "tick": "the schedule", "round": "the schedule", "left": "a cut",
           "domains": "a policy", "domain": "a policy", "reads": "a policy", "writes": "a policy", "halts": "a policy",
-          "logs": "a policy", "may": "a question", "never": "a question", "ever": "a question",
+          "logs": "a policy", "may": "a question", "preempted": "a question", "never": "a question", "ever": "a question",
           "depth": "a question", "states": "a question"}
 STATE_ONLY = ("state", "hart", "ready", "sleepers", "halted", "map", "records")
 

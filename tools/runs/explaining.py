@@ -11,6 +11,7 @@ from runs.ends import ends
 from runs.harts import UNKNOWN as UNKNOWN_CALL
 from runs.harts import Harts
 from runs.output import Output
+from runs.own_harts import own_schedule
 from runs.refused import MOST_SECONDS, TOLD, Refused, Trouble, grouped, in_a_line
 from runs.schedule import Schedule
 from runs.state import State
@@ -102,6 +103,7 @@ class Explainer(Teller):
     def tell_found(self, found):
         """What an answer of `explore` says, and how its line came to be so."""
         self.say(found.sentence())
+        self.say_all(self.own_harts(found))
         if found.loop:
             self.loop = found.loop_begins()
             self.say(f"The loop begins with event {self.loop}: the run ends in the state before it.")
@@ -110,6 +112,18 @@ class Explainer(Teller):
             self.say("")
             self.say_all(lines_of_table(names, rows))
         self.say("")
+
+    def own_harts(self, found):
+        """Whether the listing's own harts come to the same, where the answer has one for each process."""
+        if not found.wide or found.word != "found":
+            return
+        try:
+            lines = own_schedule(found, self.options.program)
+        except Trouble as trouble:
+            yield f"Whether the listing's own harts come there was not tried: {trouble}."
+            return
+        yield f"also on the listing's own harts: {', '.join(lines) or 'it begins there'}" if lines is not None else \
+            "on the listing's own harts: not with this order"
 
     # -- records
 

@@ -14,9 +14,10 @@ use Rattle.breadth_first.specs.declared.answer.Want.{Want}
 use Rattle.breadth_first.specs.declared.answer.Want.TheVariants.{Ever, Must, MustAfter}
 use Rattle.quiet_runs.specs.Finding.{is_quiet, quiet_within}
 use Rattle.quiet_runs.specs.Runs.{Watch, after_step}
+use Rattle.preemption.specs.Searched.{has_turn}
 use Rattle.questions.specs.declared.choice.Choice.{Choice}
-use Rattle.questions.specs.declared.choice.Choice.TheVariants.{Steps, Run, Tick}
-use Rattle.questions.specs.Choice.{AreChoices, IsChoiceOf, after_choice, choice_at, counted_choice, counted_path}
+use Rattle.questions.specs.declared.choice.Choice.TheVariants.{Steps, Run, Tick, Turn, TurnRun}
+use Rattle.questions.specs.Choice.{AreChoices, IsChoiceOf, after_choice, choice_at, counted_choice, counted_path, taken}
 use Rattle.questions.specs.Question.{QuestionValue, choices_of, is_count, watch_for}
 use Rattle.questions.specs.Asking.{asking}
 use Rattle.exploration.specs.Explored.{limits_of, system_of, wants_of}
@@ -68,11 +69,22 @@ few-quiet (suc most) watch s hart = by (is_quiet watch s hart) (few-quiet most w
     by true few = omega (arith, few)
     by false few = omega arith
 
+-- what a process that is chosen takes is a choice of the machine's
+taken-range : (harts : ℕ) (s : State) (p times : ℕ) (choice : Choice) → p < harts → 1 ≤ times → times ≤ 1000000 → IsChoiceOf harts choice → IsChoiceOf harts (taken s p times choice)
+taken-range harts s p times choice below some few is = by (has_turn s p)
+  where
+    by : (b : Bool) → IsChoiceOf harts (if b then Steps p times else choice)
+    by true = (below, some, few)
+    by false = is
+
 -- so a choice whose steps are counted is one of the machine's
 counted-range : (harts : ℕ) (watch : Watch) (s : State) (choice : Choice) → IsChoiceOf harts choice → IsChoiceOf harts (counted_choice watch s choice)
 counted-range harts watch s (Steps hart times) is = is
 counted-range harts watch s (Run hart) is = (is, omega arith, omega (arith, few-quiet 4096 watch (after_step s hart) hart))
 counted-range harts watch s (Tick hart) is = is
+counted-range harts watch s (Turn p) is = taken-range harts s p 1 (Turn p) is (omega arith) (omega arith) is
+counted-range harts watch s (TurnRun p) is =
+    taken-range harts s p (suc (quiet_within 4096 watch (after_step s p) p)) (TurnRun p) is (omega arith) (omega (arith, few-quiet 4096 watch (after_step s p) p)) is
 
 pub path-range : (harts : ℕ) (watch : Watch) (choices : List Choice) (s : State) (path : List ℕ) → All (IsChoiceOf harts) choices → AreChoices choices path → All (IsChoiceOf harts) (counted_path watch choices s path)
 unfolding counted_path

@@ -111,7 +111,7 @@ module _ {S K : Type 0} (held : S → Option (List ℕ)) (source_faults : S → 
         behind P is = on_stated first asked old.number mid.number (ahead old (held source)) (ahead mid (held between)) P over.known is
 
   -- where the question was not read to its end, the known lines ask nothing, unless memory was wanting or reading failed
-  pub asks-none : (P : Asked → State → Type 0) (out out' : K) (exit : Exit) (given : Exit) (stop : Stop Untaken) → StatesRest first asked old new (held source) (held source') stop
+  pub asks-none : (P : Asked → State → State → Type 0) (out out' : K) (exit : Exit) (given : Exit) (stop : Stop Untaken) → StatesRest first asked old new (held source) (held source') stop
       → stop_exit untaken_exit stop ≡ Some given → Concludes taken sink_faults given out out' exit → exit ≢ ReadFault → exit ≢ exits.OutOfMemory
       → OnParts (ahead old (held source)) (λ parts. IfPosed P (posed_by s harts (stated first old.number parts)))
   asks-none P out out' exit given stops.End r at c read memory = cc

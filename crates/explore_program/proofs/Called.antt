@@ -30,18 +30,18 @@ use Rattle.courses.specs.declared.exit.Exit.TheVariants.{Done, OutOfMemory, Read
 use Rattle.explore_program.specs.declared.asked.Asked.{Asked}
 use Rattle.explore_program.specs.declared.words.Wanted.{Wanted}
 use Rattle.explore_program.specs.declared.words.Wanted.TheVariants.{Help, Explore}
-use Rattle.explore_program.specs.Posed.{HasPosed, IfPosed, Posed, posed, posed_at, posed_behind, posed_by}
+use Rattle.explore_program.specs.Posed.{HasPosed, IfPosed, Posed, begun, posed, posed_at, posed_behind, posed_by}
 use Rattle.explore_program.specs.Program.{asked_by, explore, is_early}
 use Rattle.explore_program.specs.Stated.{PastEnd, RefusedAt, Stated, States, first_asked, stated}
 use Rattle.explore_program.specs.Theorem.{AnswersInput, AreAlike, Holds, IsViolated, Judges, OneOutputLaw, OneToldLaw, TellsFlushed, TellsInput}
-use Rattle.explore_program.specs.Told.{Answers, HoldsAlways, Stepwise, Tells, ended_output, exit_of, explore_course, stated_output, told_by}
+use Rattle.explore_program.specs.Told.{AnswersFrom, HoldsAlways, NeverPreempted, Stepwise, Tells, ended_output, exit_of, explore_course, stated_output, told_by}
 use Rattle.explore_program.proofs.Setting.{nothing_told}
 use Rattle.explore_program.proofs.Verdicts.{done-holds, exactly-done, told-alike, told-violated}
 
 -- ---- the listing
 
 -- where the lines of the known bytes make no listing, they ask nothing
-pub asks-unlisted : (P : Asked → State → Type 0) (held : Option (List ℕ)) → IfSome held (λ bytes. MakesNone (listing_of Header 1 (parts_of bytes)))
+pub asks-unlisted : (P : Asked → State → State → Type 0) (held : Option (List ℕ)) → IfSome held (λ bytes. MakesNone (listing_of Header 1 (parts_of bytes)))
     → IfSome held (λ bytes. IfPosed P (posed bytes))
 asks-unlisted P None none = tt
 asks-unlisted P (Some bytes) none = by (listing_of Header 1 (parts_of bytes)) none
@@ -98,7 +98,7 @@ abbrev pub Came : Output → Option Posed → Course → Type 0
 Came told asks course = ((p : Posed) × (asks ≡ Some p) × (course.last ≡ told)) ⊎ ((asks ≡ None) × (is_finished course.last.exit ≡ false))
 
 came-ended : (told : Output) (asked : Asked) (s : State) (ending : Ending) → Came told (posed_at asked s ending) (ends_in (ended_output told ending))
-came-ended told asked s AtEnd = inl (record { asked = asked; state = s }, refl, refl)
+came-ended told asked s AtEnd = inl (record { asked = asked; before = s; state = begun asked.question s }, refl, refl)
 came-ended told asked s (AtFault line fault) = inr (refl, refl)
 came-ended told asked s AtLimit = inr (refl, refl)
 
@@ -114,30 +114,30 @@ came-listed told (Refused line fault) = inr (refl, refl)
 came-listed told Past = inr (refl, refl)
 
 -- what is so of the one question that is asked
-pub asked-at : (P : Asked → State → Type 0) (asks : Option Posed) (p : Posed) → asks ≡ Some p → IfPosed P asks → P p.asked p.state
+pub asked-at : (P : Asked → State → State → Type 0) (asks : Option Posed) (p : Posed) → asks ≡ Some p → IfPosed P asks → P p.asked p.before p.state
 asked-at P asks p is all = subst (IfPosed P) is all
 
-has-asked : (P : Asked → State → Type 0) (asks : Option Posed) (p : Posed) → asks ≡ Some p → P p.asked p.state → HasPosed P asks
+has-asked : (P : Asked → State → State → Type 0) (asks : Option Posed) (p : Posed) → asks ≡ Some p → P p.asked p.before p.state → HasPosed P asks
 has-asked P asks p is so = subst (HasPosed P) (sym is) so
 
-if-asked : (P : Asked → State → Type 0) (asks : Option Posed) (p : Posed) → asks ≡ Some p → P p.asked p.state → IfPosed P asks
+if-asked : (P : Asked → State → State → Type 0) (asks : Option Posed) (p : Posed) → asks ≡ Some p → P p.asked p.before p.state → IfPosed P asks
 if-asked P asks p is so = subst (IfPosed P) (sym is) so
 
 module _ (bytes : List ℕ) (taken taken' : Option (List ℕ)) (exit : Exit) (told : Output)
-    (answers : exit ≢ ReadFault → exit ≢ OutOfMemory → IfPosed (λ asked s. Answers asked s told) (posed bytes))
+    (answers : exit ≢ ReadFault → exit ≢ OutOfMemory → IfPosed (λ asked before s. AnswersFrom asked before s told) (posed bytes))
     (written : Outputs taken taken' exit (course_output (lines_course (explore_course told) (parts_of bytes)))) where
   abbrev here : Course
   here = lines_course (explore_course told) (parts_of bytes)
 
   -- the question that was asked is answered, and the exit is that of the answer
-  answer-at : IsGiven exit → (p : Posed) → posed bytes ≡ Some p → Answers p.asked p.state told
-  answer-at given p is = asked-at (λ asked s. Answers asked s told) (posed bytes) p is (answers given.read given.memory)
+  answer-at : IsGiven exit → (p : Posed) → posed bytes ≡ Some p → AnswersFrom p.asked p.before p.state told
+  answer-at given p is = asked-at (λ asked before s. AnswersFrom asked before s told) (posed bytes) p is (answers given.read given.memory)
 
-  own-at : IsGiven exit → (p : Posed) (a : Answers p.asked p.state told) → here.last ≡ told → exit_of a.answer ≡ exit
-  own-at given p a last = sym ((written.whole given).0 ∙ ap (λ (o : Output). o.exit) last ∙ ap (λ (o : Output). o.exit) a.is)
+  own-at : IsGiven exit → (p : Posed) (a : AnswersFrom p.asked p.before p.state told) → here.last ≡ told → exit_of a.answers.answer ≡ exit
+  own-at given p a last = sym ((written.whole given).0 ∙ ap (λ (o : Output). o.exit) last ∙ ap (λ (o : Output). o.exit) a.answers.is)
 
   -- where all was done, what follows of the answer is so of the question
-  follows-done : (P : Asked → State → Type 0) → is_finished exit ≡ true → ((p : Posed) (a : Answers p.asked p.state told) → exit_of a.answer ≡ exit → P p.asked p.state)
+  follows-done : (P : Asked → State → State → Type 0) → is_finished exit ≡ true → ((p : Posed) (a : AnswersFrom p.asked p.before p.state told) → exit_of a.answers.answer ≡ exit → P p.asked p.before p.state)
       → Came told (posed bytes) here → HasPosed P (posed bytes)
   follows-done P done so (inl came) =
       let given = finished-given exit done in
@@ -147,7 +147,7 @@ module _ (bytes : List ℕ) (taken taken' : Option (List ℕ)) (exit : Exit) (to
       let given = finished-given exit done in
       let bad : false ≡ true = sym none.1 ∙ ap is_finished (sym (written.whole given).0) ∙ done in cc
 
-  follows-given : (P : Asked → State → Type 0) → IsGiven exit → ((p : Posed) (a : Answers p.asked p.state told) → exit_of a.answer ≡ exit → P p.asked p.state)
+  follows-given : (P : Asked → State → State → Type 0) → IsGiven exit → ((p : Posed) (a : AnswersFrom p.asked p.before p.state told) → exit_of a.answers.answer ≡ exit → P p.asked p.before p.state)
       → Came told (posed bytes) here → IfPosed P (posed bytes)
   follows-given P given so (inl came) =
       let a = answer-at given came.0 came.1 in
@@ -156,22 +156,24 @@ module _ (bytes : List ℕ) (taken taken' : Option (List ℕ)) (exit : Exit) (to
 
 -- a call that explored what its input asks
 pub judges-call : (words : List (List ℕ)) (held taken taken' : Option (List ℕ)) (exit : Exit) (told : Output)
-    → (exit ≢ ReadFault → exit ≢ OutOfMemory → IfSome held (λ bytes. IfPosed (λ asked s. Answers asked s told) (posed bytes)))
+    → (exit ≢ ReadFault → exit ≢ OutOfMemory → IfSome held (λ bytes. IfPosed (λ asked before s. AnswersFrom asked before s told) (posed bytes)))
     → IfSome held (λ bytes. Outputs taken taken' exit (course_output (lines_course (explore_course told) (parts_of bytes)))) → Judges words held exit
-judges-call words None taken taken' exit told answers written = record { holds = λ asked done. tt; always = λ asked done. tt; stepwise = λ asked done. tt; violated = λ bad. tt; exactly = λ asked given limit. tt }
+judges-call words None taken taken' exit told answers written = record { holds = λ asked done. tt; always = λ asked done. tt; stepwise = λ asked done. tt; preempted = λ asked done. tt; violated = λ bad. tt; exactly = λ asked given limit. tt }
 judges-call words (Some bytes) taken taken' exit told answers written =
     let came = came-listed told (listing_of Header 1 (parts_of bytes)) in
     record {
       holds = λ asked done.
-          follows-done bytes taken taken' exit told answers written Holds (ap is_finished done) (λ p a own. done-holds p.asked p.state a.answer a.exact (own ∙ done)) came;
-      always = λ asked done. follows-done bytes taken taken' exit told answers written HoldsAlways (ap is_finished done) (λ p a own. a.always (own ∙ done)) came;
-      stepwise = λ asked done. follows-done bytes taken taken' exit told answers written Stepwise (ap is_finished done) (λ p a own. a.stepwise (own ∙ done)) came;
+          follows-done bytes taken taken' exit told answers written (λ asked before s. Holds asked s) (ap is_finished done)
+          (λ p a own. done-holds p.asked p.state a.answers.answer a.answers.exact (own ∙ done)) came;
+      always = λ asked done. follows-done bytes taken taken' exit told answers written (λ asked before s. HoldsAlways asked s) (ap is_finished done) (λ p a own. a.answers.always (own ∙ done)) came;
+      stepwise = λ asked done. follows-done bytes taken taken' exit told answers written (λ asked before s. Stepwise asked s) (ap is_finished done) (λ p a own. a.answers.stepwise (own ∙ done)) came;
+      preempted = λ asked done. follows-done bytes taken taken' exit told answers written NeverPreempted (ap is_finished done) (λ p a own. a.never (own ∙ done)) came;
       violated = λ violated.
-          follows-done bytes taken taken' exit told answers written IsViolated (ap is_finished violated)
-          (λ p a own. told-violated p.asked p.state a.answer a.exact (own ∙ violated)) came;
+          follows-done bytes taken taken' exit told answers written (λ asked before s. IsViolated asked s) (ap is_finished violated)
+          (λ p a own. told-violated p.asked p.state a.answers.answer a.answers.exact (own ∙ violated)) came;
       exactly = λ asked given limit.
-          follows-given bytes taken taken' exit told answers written (λ asked s. (exit ≡ Done) ↔ Holds asked s) given
-          (λ p a own. subst (λ (e : Exit). (e ≡ Done) ↔ Holds p.asked p.state) own (exactly-done p.asked p.state a.answer a.exact (λ limited. limit (sym own ∙ limited)))) came;
+          follows-given bytes taken taken' exit told answers written (λ asked before s. (exit ≡ Done) ↔ Holds asked s) given
+          (λ p a own. subst (λ (e : Exit). (e ≡ Done) ↔ Holds p.asked p.state) own (exactly-done p.asked p.state a.answers.answer a.answers.exact (λ limited. limit (sym own ∙ limited)))) came;
     }
 
 -- one that was not asked to
@@ -180,6 +182,7 @@ judges-none words held exit other unasked = record {
   holds = λ asked done. absurd (unasked asked);
   always = λ asked done. absurd (unasked asked);
   stepwise = λ asked done. absurd (unasked asked);
+  preempted = λ asked done. absurd (unasked asked);
   violated = λ violated. absurd (other violated);
   exactly = λ asked given limit. absurd (unasked asked);
 }
@@ -188,9 +191,9 @@ judges-none words held exit other unasked = record {
 pub judges-after : {T E : Type 0} (words : List (List ℕ)) (held : Option (List ℕ)) (exit : Exit) (flushed : Result T E) → Judges words held exit → Judges words held (exit_after exit flushed)
 judges-after words held exit (Ok done) j = j
 judges-after words held ReadFault (Err fault) j =
-    record { holds = λ asked bad. cc; always = λ asked bad. cc; stepwise = λ asked bad. cc; violated = λ bad. cc; exactly = λ asked given limit. absurd (given.read refl) }
+    record { holds = λ asked bad. cc; always = λ asked bad. cc; stepwise = λ asked bad. cc; preempted = λ asked bad. cc; violated = λ bad. cc; exactly = λ asked given limit. absurd (given.read refl) }
 judges-after words held _ (Err fault) j =
-    record { holds = λ asked bad. cc; always = λ asked bad. cc; stepwise = λ asked bad. cc; violated = λ bad. cc; exactly = λ asked given limit. absurd (given.write refl) }
+    record { holds = λ asked bad. cc; always = λ asked bad. cc; stepwise = λ asked bad. cc; preempted = λ asked bad. cc; violated = λ bad. cc; exactly = λ asked given limit. absurd (given.write refl) }
 
 -- an output behind a flush
 given-after : {T E : Type 0} (exit : Exit) (flushed : Result T E) → IsGiven (exit_after exit flushed) → IsGiven exit
@@ -239,7 +242,7 @@ module _ {S K : Type 0} (held : S → Option (List ℕ)) (source_faults : S → 
 
   -- the input was explored
   pub tells-call : asked_by words ≡ Some Explore
-      → Tells exit (λ told. IfSome (held old) (λ bytes. IfPosed (λ asked s. Answers asked s told) (posed bytes))) (λ told. TakesListing held source_faults taken sink_faults old new out0 out1 0 0 exit cached (explore_course told))
+      → Tells exit (λ told. IfSome (held old) (λ bytes. IfPosed (λ asked before s. AnswersFrom asked before s told) (posed bytes))) (λ told. TakesListing held source_faults taken sink_faults old new out0 out1 0 0 exit cached (explore_course told))
       → TellsInput words (held old) exit AnswersWords
   tells-call is t = record {
     told = t.told;
@@ -334,7 +337,7 @@ alike-out words bytes a b alike = by (asked_by words)
   where
     ended : (asked : Asked) (s : State) (ending : Ending) → ((p : Posed) → posed_at asked s ending ≡ Some p → AreAlike a b)
         → AreAlike (ended_output a ending) (ended_output b ending)
-    ended asked s AtEnd alike = alike (record { asked = asked; state = s }) refl
+    ended asked s AtEnd alike = alike (record { asked = asked; before = s; state = begun asked.question s }) refl
     ended asked s (AtFault line fault) alike = inl refl
     ended asked s AtLimit alike = inl refl
 
@@ -365,8 +368,9 @@ pub one_output : OneAnswerLaw → OneOutputLaw
 one_output one words bytes a b first second =
     alike-out words bytes a b
     (λ p is.
-    let x = asked-at (λ asked s. Answers asked s a) (posed bytes) p is first in
-    let y = asked-at (λ asked s. Answers asked s b) (posed bytes) p is second in
-    let same = one_told one p.asked p.state a b x y in
-    subst (λ (o : Output). AreAlike o b) (sym x.is)
-    (subst (λ (o : Output). AreAlike (told_by p.asked p.state x.answer) o) (sym y.is) (told-alike p.asked p.state x.answer y.answer same)))
+    let x = asked-at (λ asked before s. AnswersFrom asked before s a) (posed bytes) p is first in
+    let y = asked-at (λ asked before s. AnswersFrom asked before s b) (posed bytes) p is second in
+    let same = one_told one p.asked p.state a b x.answers y.answers in
+    subst (λ (o : Output). AreAlike o b) (sym x.answers.is)
+    (subst (λ (o : Output). AreAlike (told_by p.asked p.state x.answers.answer) o) (sym y.answers.is)
+    (told-alike p.asked p.state x.answers.answer y.answers.answer same)))

@@ -9,7 +9,7 @@ use Rattle.coy_io.specs.Pieces.{AppendsSome}
 use Rattle.coy_io.specs.Written.{Wrote}
 use Rattle.coy_io.proofs.Texts.{Written, behind, caused, cut, cut_before, cut_behind, failed, same}
 use Rattle.std.proofs.lemmas.Grind.{flat_map-append}
-use Rattle.std.proofs.lemmas.List.Elements.{All-append, All-cons, All-drop, All-head, All-map, All-nil, All-tail, All-take, All-weaker}
+use Rattle.std.proofs.lemmas.List.Elements.{All-append, All-cons, All-drop, All-head, All-nil, All-tail, All-take}
 use Rattle.coy_io.specs.Lines.{line_feed, whole_lines}
 use Rattle.coy_io.proofs.LineLaws.{short_part, whole_lines-line_in_front}
 use Rattle.machine_state.specs.declared.event.Event.{Event}
@@ -25,7 +25,7 @@ use Rattle.schedule_replay.specs.Events.{line_events}
 use Rattle.schedule_replay.specs.Scheduled.{AtEnd, Scheduled, preceded, scheduled}
 use Rattle.schedule_replay.proofs.Scheduled.{scheduled-asked, scheduled-end}
 use Rattle.questions.specs.declared.choice.Choice.{Choice}
-use Rattle.questions.specs.declared.choice.Choice.TheVariants.{Steps, Run, Tick as TimerTick}
+use Rattle.questions.specs.declared.choice.Choice.TheVariants.{Steps, Run, Tick as TimerTick, Turn, TurnRun}
 use Rattle.questions.specs.Choice.{IsChoiceOf, counted_events, counted_path}
 use Rattle.questions.specs.Question.{choices_of, watch_for}
 use Rattle.breadth_first.specs.declared.answer.Avoided.{Avoided as Avoidance}
@@ -40,7 +40,7 @@ use Rattle.exploration.specs.Shown.{shown_of, told_path}
 use Rattle.explore_program.specs.declared.asked.Asked.{Asked}
 use Rattle.explore_program.specs.Told.{IsSchedule, LeadsBack, LeadsTo}
 use Rattle.explore_program.proofs.Cycles.{avoids-back, counted-front, counted-behind}
-use Rattle.explore_program.specs.explored_text.Schedule.{are_one, as_one, joined, joined_from, line_of_choice, next_line, schedule_of}
+use Rattle.explore_program.specs.explored_text.Schedule.{are_one, as_one, in_front, joined, joined_from, line_of_choice, lines_of, next_line, schedule_of}
 use Rattle.explore_program.specs.explored_text.Text.{choices_text, last_text, text_before}
 
 -- ---- lines that are one
@@ -107,21 +107,36 @@ all-range harts (line ∷ rest) all = joined-range harts line rest (All-head (Is
 
 -- ---- the schedule of choices
 
-choice-events : (harts : ℕ) (choice : Choice) → line_events harts (line_of_choice choice) ≡ counted_events choice
-choice-events harts (Steps hart times) = refl
-choice-events harts (Run hart) = refl
-choice-events harts (TimerTick hart) = refl
+-- the lines of choices
+abbrev listed : List Choice → List Timed
+listed choices = lines_of (map line_of_choice choices)
 
-lines-events : (harts : ℕ) (choices : List Choice) → flat_map (line_events harts) (map line_of_choice choices) ≡ flat_map counted_events choices
+choice-events : (harts : ℕ) (choice : Choice) (rest : List Timed)
+    → flat_map (line_events harts) (in_front (line_of_choice choice) rest) ≡ counted_events choice ++ flat_map (line_events harts) rest
+choice-events harts (Steps hart times) rest = refl
+choice-events harts (Run hart) rest = refl
+choice-events harts (TimerTick hart) rest = refl
+choice-events harts (Turn process) rest = refl
+choice-events harts (TurnRun process) rest = refl
+
+lines-events : (harts : ℕ) (choices : List Choice) → flat_map (line_events harts) (listed choices) ≡ flat_map counted_events choices
 lines-events harts [] = refl
 lines-events harts (choice ∷ choices) =
-    ap (λ (es : List Event). es ++ flat_map (line_events harts) (map line_of_choice choices)) (choice-events harts choice)
-    ∙ ap (λ (es : List Event). counted_events choice ++ es) (lines-events harts choices)
+    choice-events harts choice (listed choices) ∙ ap (λ (es : List Event). counted_events choice ++ es) (lines-events harts choices)
 
-choice-range : (harts : ℕ) (choice : Choice) → IsChoiceOf harts choice → IsTimed harts (line_of_choice choice)
-choice-range harts (Steps hart times) is = is
-choice-range harts (Run hart) is = (is, omega arith, omega arith)
-choice-range harts (TimerTick hart) is = is
+choice-range : (harts : ℕ) (choice : Choice) (rest : List Timed) → IsChoiceOf harts choice → All (IsTimed harts) rest
+    → All (IsTimed harts) (in_front (line_of_choice choice) rest)
+choice-range harts (Steps hart times) rest is all = All-cons (IsTimed harts) (Step hart times) rest is all
+choice-range harts (Run hart) rest is all = All-cons (IsTimed harts) (Step hart 1) rest (is, omega arith, omega arith) all
+choice-range harts (TimerTick hart) rest is all = All-cons (IsTimed harts) (Tick hart) rest is all
+choice-range harts (Turn process) rest is all = all
+choice-range harts (TurnRun process) rest is all = all
+
+lines-range : (harts : ℕ) (choices : List Choice) → All (IsChoiceOf harts) choices → All (IsTimed harts) (listed choices)
+lines-range harts [] all = All-nil (IsTimed harts)
+lines-range harts (choice ∷ choices) all =
+    choice-range harts choice (listed choices) (All-head (IsChoiceOf harts) choice choices all)
+    (lines-range harts choices (All-tail (IsChoiceOf harts) choice choices all))
 
 -- ---- lines as they are read
 
@@ -145,11 +160,10 @@ lines-read law harts n (line ∷ lines) few all =
     ∙ ap (preceded (line_events harts line)) (lines-read law harts (n + 1) lines few (All-tail (IsTimed harts) line lines all))
 
 schedule-events : (harts : ℕ) (choices : List Choice) → flat_map (line_events harts) (schedule_of choices) ≡ flat_map counted_events choices
-schedule-events harts choices = all-events harts (map line_of_choice choices) ∙ lines-events harts choices
+schedule-events harts choices = all-events harts (listed choices) ∙ lines-events harts choices
 
 schedule-range : (harts : ℕ) (choices : List Choice) → All (IsChoiceOf harts) choices → All (IsTimed harts) (schedule_of choices)
-schedule-range harts choices all =
-    all-range harts (map line_of_choice choices) (All-map (IsTimed harts) line_of_choice choices (All-weaker (IsChoiceOf harts) (λ choice. IsTimed harts (line_of_choice choice)) (choice-range harts) choices all))
+schedule-range harts choices all = all-range harts (listed choices) (lines-range harts choices all)
 
 -- what lines of these events are read as
 abbrev read_as : List Event → Scheduled
@@ -241,10 +255,13 @@ abbrev pub left_from : Option Timed → List Timed → List Timed
 left_from None lines = joined lines
 left_from (Some line) lines = joined_from line lines
 
-left-step : (line : Option Timed) (next : Timed) (rest : List Timed) → events_text (left_from line (next ∷ rest)) ≡ text_before line next ++ events_text (left_from (Some (next_line line next)) rest)
+left-step : (line next : Option Timed) (rest : List Timed)
+    → events_text (left_from line (in_front next rest)) ≡ text_before line next ++ events_text (left_from (next_line line next) rest)
 unfolding joined_from
-left-step None next rest = refl
-left-step (Some line) next rest = by (are_one line next)
+left-step None None rest = refl
+left-step (Some line) None rest = refl
+left-step None (Some next) rest = refl
+left-step (Some line) (Some next) rest = by (are_one line next)
   where
     by : (b : Bool) → events_text (if b then joined_from (as_one line next) rest else line ∷ joined_from next rest)
         ≡ (if b then [] else event_text line) ++ events_text (joined_from (if b then as_one line next else next) rest)
@@ -255,7 +272,7 @@ left-step (Some line) next rest = by (are_one line next)
 pub record IsPut (old new : Option (List ℕ)) (was now : ℕ) (choices : List Choice) (place : ℕ) (line : Option Timed) : Type 0 where
   pub text : List ℕ
   pub written : Written old new was now text
-  pub left : text ++ events_text (left_from line (drop place (map line_of_choice choices))) ≡ choices_text choices
+  pub left : text ++ events_text (left_from line (lines_of (drop place (map line_of_choice choices)))) ≡ choices_text choices
 
 pub put-none : (old : Option (List ℕ)) (was : ℕ) (choices : List Choice) → IsPut old old was was choices 0 None
 unfolding choices_text
@@ -267,19 +284,19 @@ last-text None = refl
 last-text (Some line) = append-nil (event_text line)
 
 module _ (choices : List Choice) (place : ℕ) (line : Option Timed) (a b c : Option (List ℕ)) (l m n : ℕ) (put : IsPut a b l m choices place line) where
-  module _ (next : Timed) (inside : place < length (map line_of_choice choices)) (is : next ≡ slice_index_or (map line_of_choice choices) place next) where
+  module _ (next : Option Timed) (inside : place < length (map line_of_choice choices)) (is : next ≡ slice_index_or (map line_of_choice choices) place next) where
     abbrev rest : List ℕ
-    rest = events_text (left_from (Some (next_line line next)) (drop (place + 1) (map line_of_choice choices)))
+    rest = events_text (left_from (next_line line next) (lines_of (drop (place + 1) (map line_of_choice choices))))
 
     whole-text : (put.text ++ text_before line next) ++ rest ≡ choices_text choices
     whole-text =
         append_assoc put.text (text_before line next) rest
-        ∙ sym (ap (λ (t : List ℕ). put.text ++ t) (at_drop_more (λ (ls : List Timed). events_text (left_from line ls)) (map line_of_choice choices) place next inside
-        ∙ ap (λ (t : Timed). events_text (left_from line (t ∷ drop (place + 1) (map line_of_choice choices)))) (sym is)
-        ∙ left-step line next (drop (place + 1) (map line_of_choice choices))))
+        ∙ sym (ap (λ (t : List ℕ). put.text ++ t) (at_drop_more (λ (ls : List (Option Timed)). events_text (left_from line (lines_of ls))) (map line_of_choice choices) place next inside
+        ∙ ap (λ (t : Option Timed). events_text (left_from line (lines_of (t ∷ drop (place + 1) (map line_of_choice choices))))) (sym is)
+        ∙ left-step line next (lines_of (drop (place + 1) (map line_of_choice choices)))))
         ∙ put.left
 
-    pub put-more : {T E : Type 0} (v : T) → Wrote {T = T} {E = E} b c m n (Ok v) (text_before line next) → IsPut a c l n choices (place + 1) (Some (next_line line next))
+    pub put-more : {T E : Type 0} (v : T) → Wrote {T = T} {E = E} b c m n (Ok v) (text_before line next) → IsPut a c l n choices (place + 1) (next_line line next)
     put-more v one = record {
       text = put.text ++ text_before line next;
       written = record {
@@ -298,7 +315,7 @@ module _ (choices : List Choice) (place : ℕ) (line : Option Timed) (a b c : Op
 
   pub put-last : {T E : Type 0} (r : Result T E) → length (map line_of_choice choices) ≤ place → Wrote b c m n r (last_text line) → Wrote a c l n r (choices_text choices)
   put-last r past one =
-      let none : events_text (left_from line (drop place (map line_of_choice choices))) ≡ last_text line =
-      at_drop_all (λ (ls : List Timed). events_text (left_from line ls)) (map line_of_choice choices) place past ∙ last-text line in
+      let none : events_text (left_from line (lines_of (drop place (map line_of_choice choices)))) ≡ last_text line =
+      at_drop_all (λ (ls : List (Option Timed)). events_text (left_from line (lines_of ls))) (map line_of_choice choices) place past ∙ last-text line in
       same r a c l n (put.text ++ last_text line) (choices_text choices) (ap (λ (t : List ℕ). put.text ++ t) (sym none) ∙ put.left)
       (record { text = behind r a b c put.text (last_text line) put.written.bytes one.text; cause = caused r l m n put.written.quiet one.cause })

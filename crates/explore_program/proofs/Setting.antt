@@ -131,7 +131,7 @@ module _ {S K : Type 0} (held : S → Option (List ℕ)) (source_faults : S → 
           subst (λ e. Q (posed_at asked (run_state start all.events) e)) (sym (ended-at _ _ all.ending a.1))
           (subst (λ es. Q (posed_at asked (run_state start es) AtEnd)) a.0 is)
 
-  module _ (P : Asked → State → Type 0) where
+  module _ (P : Asked → State → State → Type 0) where
     abbrev Asks_here : Type 0
     Asks_here = OnParts (ahead lines (held old)) (λ parts. IfPosed P (posed_of asked start (sched parts)))
 

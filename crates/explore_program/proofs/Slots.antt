@@ -1,5 +1,5 @@
 -- How many slots a call read, from what its parts read.
-use Rattle.std.proofs.Common.{◌≡◌, ◌≢◌, ◌≤◌, ◌⊎◌, ◌+◌, ◌∙◌, ◌++◌, ℕ, List, Option, Some, None, IfSome, Result, Ok, Err, inl, inr, refl, sym, ap, subst, arith}
+use Rattle.std.proofs.Common.{◌≡◌, ◌≢◌, ◌≤◌, ◌⊎◌, ◌+◌, ◌∙◌, ◌++◌, ℕ, List, Option, Some, None, IfSome, Ok, Err, inl, inr, refl, sym, ap, subst, arith}
 use Rattle.coy_io.specs.Lines.{Part, parts_of}
 use Rattle.coy_io.specs.Reader.{Reader, ahead, new_reader}
 use Rattle.map_cache.specs.Cache.{CacheValue, kept_of}
@@ -20,7 +20,7 @@ use Rattle.question_lines.specs.declared.fault.Untaken.{Untaken}
 use Rattle.question_lines.specs.declared.fault.Untaken.TheVariants as untaken
 use Rattle.exploration.proofs.Slots.{explores-none}
 use Rattle.schedule_replay.specs.Replay.{Accords, Follows, Ran, run_answer}
-use Rattle.schedule_replay.specs.Scheduled.{AtEnd, AtFault, AtLimit, Ending, OnParts, Scheduled, scheduled}
+use Rattle.schedule_replay.specs.Scheduled.{AtEnd, OnParts, Scheduled, scheduled}
 use Rattle.schedule_replay.specs.declared.counts.Counts.{Counts}
 use Rattle.schedule_replay.specs.declared.replayed.Replayed.{Replayed}
 use Rattle.schedule_replay.specs.declared.replayed.Replayed.TheVariants as answers
@@ -35,6 +35,7 @@ use Rattle.courses.specs.declared.exit.Exit.TheVariants as exits
 use Rattle.courses.proofs.Bytes.{on_listed}
 use Rattle.courses.proofs.Rests.{run-ends}
 use Rattle.explore_program.specs.declared.asked.Asked.{Asked}
+use Rattle.explore_program.specs.Posed.{begun}
 use Rattle.explore_program.specs.Slots.{EndedReads, Explores, InputReads, ListedReads, ScheduledReads, StatedReads, WantsBefore}
 use Rattle.explore_program.specs.Stated.{AreStated, PastEnd, RefusedAt, Stated, States, StatesRest, first_asked, stated, untaken_exit}
 use Rattle.explore_program.proofs.Asking.{on_stated}
@@ -72,7 +73,8 @@ module _ (m n : MachineValue CacheValue) (asked : Asked) (empty : kept_of m.tran
     read = ran.counted ∙ ap (λ (kept : KeptValue). f + spent cost_of kept_after kept_without kept (run_touches s events)) empty
 
     -- all lines were read, and then what is asked was searched for
-    pub slots-ended : (h : ℕ) (exit : Exit) (counts : Counts) → replay_exit answer ≡ Ok counts → exit ≢ exits.ReadFault → Explores asked (state_of n) g h exit
+    pub slots-ended : (h : ℕ) (exit : Exit) (counts : Counts) → replay_exit answer ≡ Ok counts → exit ≢ exits.ReadFault
+        → Explores asked (begun asked.question (state_of n)) g h exit
         → OnParts (ahead lines held) (λ parts. Reads h exit (sched parts))
     slots-ended h exit counts given other last = on_all (ahead lines held) _ _ (λ parts a. of_all (sched parts) a) (accords-at (answers.Ended counts) (run-ends counts answer given))
       where
@@ -81,7 +83,8 @@ module _ (m n : MachineValue CacheValue) (asked : Asked) (empty : kept_of m.tran
           ended = λ read_well.
               subst (λ e. EndedReads cached asked s all.events e f h exit) (sym (ended-at _ _ all.ending a.1))
               (subst (λ es. EndedReads cached asked s es AtEnd f h exit) a.0
-              (subst (λ x. Explores asked (run_state s events) x h exit) read (subst (λ state. Explores asked state g h exit) ran.state last)));
+              (subst (λ x. Explores asked (begun asked.question (run_state s events)) x h exit) read
+              (subst (λ state. Explores asked (begun asked.question state) g h exit) ran.state last)));
           cut = λ failed. absurd (other failed);
         }
 

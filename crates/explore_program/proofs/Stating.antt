@@ -14,16 +14,14 @@ use Rattle.question_lines.specs.declared.fault.Untaken.{Untaken}
 use Rattle.question_lines.specs.declared.fault.Untaken.TheVariants.{Refused, OutOfMemory}
 use Rattle.question_lines.specs.declared.said.Next.{Next}
 use Rattle.question_lines.specs.declared.said.Next.TheVariants as nexts
-use Rattle.question_lines.specs.declared.said.Said.{Said}
-use Rattle.question_lines.specs.declared.said.Said.TheVariants as saids
-use Rattle.question_lines.specs.QuestionLine.{after_line, after_said, is_of_policy, said_of}
-use Rattle.questions.specs.Question.{QuestionValue}
+use Rattle.question_lines.specs.QuestionLine.{after_line, is_of_policy, said_of}
 use Rattle.coy_text.specs.Words.{words_of}
 use Rattle.schedule_replay.specs.Lines.{FailsOn, ReadsOn}
 use Rattle.schedule_replay.proofs.ReadOn.{fails_on, on_lines, reads_on-line, reads_on-trans}
 use Rattle.schedule_replay.proofs.Reading.{on_begun, on_given, on_none}
 use Rattle.explore_program.specs.declared.asked.Asked.{Asked}
-use Rattle.explore_program.specs.Stated.{AreStated, IsOver, JudgesQuestionLine, PastEnd, RefusedAt, StateAll, States, StatesRest, StopsAtLine, answer_to, line_asked, stated, stated_with, without_end}
+use Rattle.explore_program.proofs.Taking.{after-line}
+use Rattle.explore_program.specs.Stated.{AreStated, IsAskedOf, IsOver, JudgesQuestionLine, KeepsAskedOf, PastEnd, RefusedAt, StateAll, States, StatesRest, StopsAtLine, answer_to, line_asked, stated, stated_with, without_end}
 
 -- ---- one line
 
@@ -82,27 +80,18 @@ module _ (asked : Asked) (n : ℕ) where
 
 -- ---- the machine that is asked about
 
--- what a line says is asked of the same machine
-said-sizes : (question : QuestionValue) (said : Said) → (after_said question said).sizes ≡ question.sizes
-said-sizes question saids.Nothing = refl
-said-sizes question (saids.May choice) = refl
-said-sizes question (saids.Asked property) = refl
-said-sizes question (saids.Depth depth) = refl
-said-sizes question (saids.States states) = refl
-said-sizes question saids.Ends = refl
-
-line-sizes : (asked : Asked) (n : ℕ) (line : List ℕ) → (line_asked asked n line).question.sizes ≡ asked.question.sizes
-line-sizes asked n line = by (is_of_policy (words_of line)) (said_of asked.question n line)
+-- a line is asked of the same machine, or has processes take turns on that with a hart for each
+line-sizes : (asked : Asked) (n : ℕ) (line : List ℕ) → KeepsAskedOf asked (line_asked asked n line)
+line-sizes asked n line sizes of = by (is_of_policy (words_of line))
   where
-    by : (policy : Bool) (said : Result Said QuestionFault) → (if policy then asked.question else after_line asked.question said).sizes ≡ asked.question.sizes
-    by true said = refl
-    by false (Ok said) = said-sizes asked.question said
-    by false (Err fault) = refl
+    by : (policy : Bool) → IsAskedOf (if policy then asked.question else after_line asked.question (said_of asked.question n line)) sizes
+    by true = of
+    by false = after-line asked.question n line sizes of
 
-judged-sizes : (n : ℕ) (asked : Asked) (line : List ℕ) (told : Result Next Untaken) (asked' : Asked) → JudgesQuestionLine n asked line told asked' → asked'.question.sizes ≡ asked.question.sizes
-judged-sizes n asked line (Ok next) asked' j = ap (λ (a : Asked). a.question.sizes) (j.after (λ bad. cc)) ∙ line-sizes asked n line
-judged-sizes n asked line (Err (Refused fault)) asked' j = ap (λ (a : Asked). a.question.sizes) (j.after (λ bad. cc)) ∙ line-sizes asked n line
-judged-sizes n asked line (Err OutOfMemory) asked' j = ap (λ (a : Asked). a.question.sizes) (j.before refl)
+judged-sizes : (n : ℕ) (asked : Asked) (line : List ℕ) (told : Result Next Untaken) (asked' : Asked) → JudgesQuestionLine n asked line told asked' → KeepsAskedOf asked asked'
+judged-sizes n asked line (Ok next) asked' j = subst (KeepsAskedOf asked) (sym (j.after (λ bad. cc))) (line-sizes asked n line)
+judged-sizes n asked line (Err (Refused fault)) asked' j = subst (KeepsAskedOf asked) (sym (j.after (λ bad. cc))) (line-sizes asked n line)
+judged-sizes n asked line (Err OutOfMemory) asked' j = subst (KeepsAskedOf asked) (sym (j.before refl)) (λ sizes of. of)
 
 -- ---- the question is over
 
@@ -138,16 +127,19 @@ module _ (first asked : Asked) (old new : Reader) (held held' : Option (List ℕ
   Came answer = JudgesNext (JudgesQuestionLine (old.number + 1)) (Refused LineTooLong) first asked old new held held' answer
 
   -- it is asked of the same machine
-  pub came-sizes : (answer : Result Next (Stop Untaken)) → Came answer → asked.question.sizes ≡ first.question.sizes
+  kept-same : asked ≡ first → KeepsAskedOf first asked
+  kept-same same = subst (KeepsAskedOf first) (sym same) (λ sizes of. of)
+
+  pub came-sizes : (answer : Result Next (Stop Untaken)) → Came answer → KeepsAskedOf first asked
   came-sizes (Ok next) c = judged-sizes (old.number + 1) first new.line (Ok next) asked c.1
-  came-sizes (Err stops.End) c = ap (λ (a : Asked). a.question.sizes) c.1
+  came-sizes (Err stops.End) c = kept-same c.1
   came-sizes (Err (stops.Refused line fault)) c = by c.1
     where
-      by : Refuses (JudgesQuestionLine (old.number + 1)) (Refused LineTooLong) first asked old new held held' fault → asked.question.sizes ≡ first.question.sizes
-      by (inl long) = ap (λ (a : Asked). a.question.sizes) long.2
+      by : Refuses (JudgesQuestionLine (old.number + 1)) (Refused LineTooLong) first asked old new held held' fault → KeepsAskedOf first asked
+      by (inl long) = kept-same long.2
       by (inr r) = judged-sizes (old.number + 1) first new.line (Err fault) asked r.judges
-  came-sizes (Err stops.TooLong) c = ap (λ (a : Asked). a.question.sizes) c.1
-  came-sizes (Err stops.ReadFault) c = ap (λ (a : Asked). a.question.sizes) c.1
+  came-sizes (Err stops.TooLong) c = kept-same c.1
+  came-sizes (Err stops.ReadFault) c = kept-same c.1
 
   -- it is taken in
   pub reads-line : Came (Ok nexts.Question) → ReadsOn (stated first old.number) (stated asked new.number) old new held held'

@@ -6,6 +6,7 @@ use Rattle.breadth_first.specs.Told.{MissedTold, Told, TellsFound, TellsClosed, 
 use Rattle.breadth_first.specs.declared.answer.Explored.{Explored}
 use Rattle.breadth_first.specs.declared.answer.Explored.TheVariants as answers
 use Rattle.breadth_first.specs.declared.answer.Missed.TheVariants.{Lost, Avoided}
+use Rattle.breadth_first.specs.declared.answer.Count.{Count}
 use Rattle.breadth_first.specs.declared.answer.Size.{Size}
 use Rattle.questions.specs.declared.choice.Choice.{Choice}
 use Rattle.questions.specs.Choice.{counted_path}
@@ -17,6 +18,7 @@ use Rattle.interleavings.specs.Laws.{EachHartRuns, OnlyRuns}
 use Rattle.interleavings.specs.Rounds.{RunsOnce}
 use Rattle.quiet_runs.specs.Laws.{AreHarts}
 use Rattle.quiet_runs.specs.Runs.{after_steps}
+use Rattle.explore_program.specs.explored_text.Spread.{is_spread, told_harts}
 use Rattle.explore_program.specs.explored_text.Text.{avoided_text, counts_text, explored_text, led_to, size_text, want_line}
 use Rattle.courses.specs.Ending.{Ends, Output}
 use Rattle.courses.specs.Exit.{is_finished}
@@ -112,18 +114,18 @@ module _ (asked : Asked) (s : State) where
   counted_from t path = counted_path (watch_for asked.question.properties) (choices_of asked.question) t path
 
   abbrev missed_by : MissedTold → List ℕ → List ℕ
-  missed_by (TellsLost want path) cycle = led_to (codes "lost") (want_line properties want) path (counted_from s path)
+  missed_by (TellsLost want path) cycle = led_to (codes "lost") (want_line properties want) path (told_harts asked.question) (counted_from s path)
   missed_by (TellsAvoided want path) cycle =
-      avoided_text (want_line properties want) (counted_from s path) (counted_from (come_to asked.question asked.policy s path) cycle)
+      avoided_text (want_line properties want) (told_harts asked.question) (counted_from s path) (counted_from (come_to asked.question asked.policy s path) cycle)
 
-  abbrev closed_by : Size → Option MissedTold → List ℕ → List ℕ
-  closed_by size None cycle = size_text (codes "holds") size
-  closed_by size (Some missed) cycle = missed_by missed cycle
+  abbrev closed_by : Size → List Count → Option MissedTold → List ℕ → List ℕ
+  closed_by size counts None cycle = size_text (codes "holds") size (is_spread asked.question counts)
+  closed_by size counts (Some missed) cycle = missed_by missed cycle
 
   abbrev text_by : Told → List ℕ → List ℕ
-  text_by (TellsFound n path) cycle = led_to (codes "found") (property_at properties n).line path (counted_from s path)
-  text_by (TellsClosed size counts missed) cycle = counts_text properties counts ++ closed_by size missed cycle
-  text_by (TellsOpen size counts) cycle = counts_text properties counts ++ size_text (codes "open") size
+  text_by (TellsFound n path) cycle = led_to (codes "found") (property_at properties n).line path (told_harts asked.question) (counted_from s path)
+  text_by (TellsClosed size counts missed) cycle = counts_text properties counts ++ closed_by size counts missed cycle
+  text_by (TellsOpen size counts) cycle = counts_text properties counts ++ size_text (codes "open") size (is_spread asked.question counts)
 
   abbrev exit_by : Told → Exit
   exit_by (TellsFound n path) = Violated
@@ -134,13 +136,13 @@ module _ (asked : Asked) (s : State) where
   abbrev output_by : Told → List ℕ → Output
   output_by all cycle = record { text = text_by all cycle; exit = exit_by all }
 
-  text-told : (answer : Explored) → explored_text properties (shown_of asked.question s answer) answer ≡ text_by (told answer) (cycle_of answer)
+  text-told : (answer : Explored) → explored_text asked.question (shown_of asked.question s answer) answer ≡ text_by (told answer) (cycle_of answer)
   unfolding explored_text
   text-told (answers.Found n path) = refl
   text-told (answers.Closed size counts None) = refl
   text-told (answers.Closed size counts (Some (Lost lost))) = refl
   text-told (answers.Closed size counts (Some (Avoided avoided))) =
-      ap₂ (λ (path cycle : List Choice). counts_text properties counts.items ++ avoided_text (want_line properties avoided.want) path cycle)
+      ap₂ (λ (path cycle : List Choice). counts_text properties counts.items ++ avoided_text (want_line properties avoided.want) (told_harts asked.question) path cycle)
       (counted-front (watch_for properties) (choices_of asked.question) s avoided.path.items avoided.cycle.items)
       (counted-behind (watch_for properties) (choices_of asked.question) s avoided.path.items avoided.cycle.items)
   text-told (answers.Open size counts) = refl
@@ -164,6 +166,7 @@ module _ (asked : Asked) (s : State) where
       inr (record {
         counts = counts_text properties counts;
         line = want_line properties want;
+        harts = told_harts asked.question;
         path = counted_from s path;
         cycle = counted_from end cycle;
         other_cycle = counted_from end other;

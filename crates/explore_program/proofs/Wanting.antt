@@ -1,6 +1,6 @@
 -- Where memory was wanting.
-use Rattle.std.proofs.Common.{◌≡◌, ◌∙◌, ◌⊎◌, ◌+◌, ◌∷◌, ◌++◌, [], ℕ, List, Option, Some, None, IfSome, false, inl, inr, refl, sym, ap, subst, append_assoc}
-use Rattle.std.specs.Io.KnownBytes.{IsAtEnd, prepend_known}
+use Rattle.std.proofs.Common.{◌≡◌, ◌+◌, ◌∷◌, ◌++◌, [], ℕ, List, Option, Some, IfSome, false, inl, inr, refl, sym, ap, subst, append_assoc}
+use Rattle.std.specs.Io.KnownBytes.{prepend_known}
 use Rattle.coy_io.specs.Lines.{Part, Line, parts_of}
 use Rattle.coy_io.specs.Reader.{Reader, Advances, GivesLines, ahead, bytes_ahead, last_taken, line_feed_of, new_reader}
 use Rattle.coy_io.proofs.GivenLaws.{GivesLines-before, GivesLines-trans}
@@ -8,7 +8,7 @@ use Rattle.image_builder.specs.Boot.{booted}
 use Rattle.kernel_core.specs.State.{State}
 use Rattle.judged_lines.specs.declared.stop.Stop.{Stop}
 use Rattle.judged_lines.specs.declared.stop.Stop.TheVariants as stops
-use Rattle.listing_read.specs.Listing.{Good, IsListed, Listed, listing_of}
+use Rattle.listing_read.specs.Listing.{Good, IsListed, listing_of}
 use Rattle.listing_read.specs.Reads.{GivesListing}
 use Rattle.listing_read.specs.Statement.{ListingValue}
 use Rattle.listing_read.specs.declared.object_fault.QuestionFault.TheVariants.{NoEnd}

@@ -17,6 +17,7 @@ use Rattle.courses.specs.declared.exit.Exit.{Exit}
 use Rattle.courses.specs.declared.exit.Exit.TheVariants.{OutOfMemory, ReadFault}
 use Rattle.explore_program.specs.declared.asked.Asked.{Asked}
 use Rattle.explore_program.specs.declared.words.Wanted.TheVariants.{Explore}
+use Rattle.explore_program.specs.Posed.{begun}
 use Rattle.explore_program.specs.Program.{asked_by}
 use Rattle.explore_program.specs.Stated.{Stated, States, first_asked, stated}
 
@@ -35,10 +36,10 @@ pub record Explores (asked : Asked) (s : State) (fetches fetches' : ℕ) (exit :
 
 -- by how many slots touches read
 module _ (count : List Touch → ℕ) where
-  -- the slots of the events of a schedule, and behind these no more than for what is asked of the state that they lead to; or only
+  -- the slots of the events of a schedule, and behind these no more than for what is asked behind the state that they lead to; or only
   -- the former, where a line is refused
   abbrev pub EndedReads : Asked → State → List Event → Ending → ℕ → ℕ → Exit → Type 0
-  EndedReads asked s events AtEnd fetches fetches' exit = Explores asked (run_state s events) (fetches + count (run_touches s events)) fetches' exit
+  EndedReads asked s events AtEnd fetches fetches' exit = Explores asked (begun asked.question (run_state s events)) (fetches + count (run_touches s events)) fetches' exit
   EndedReads asked s events _ fetches fetches' exit = fetches' ≡ fetches + count (run_touches s events)
 
   -- those of what the lines of a schedule ask for: where reading failed, no more than those of its events

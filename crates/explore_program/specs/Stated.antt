@@ -1,6 +1,6 @@
 -- What the lines behind a listing state: a question with its policy, and the lines of a schedule behind its end; or the first line
 -- that is refused, which is the one behind the last where the question has no end (this project's own).
-use Rattle.std.specs.Prelude.{◌≡◌, ◌≢◌, ◌≤◌, ℕ, ◌+◌, false, List, [], ◌∷◌, ◌++◌, length, true, Option, Some, None, Result, Ok, Err, ⊤}
+use Rattle.std.specs.Prelude.{◌≡◌, ◌≢◌, ◌≤◌, ℕ, ◌+◌, Bool, false, List, [], ◌∷◌, ◌++◌, length, true, Option, Some, None, Result, Ok, Err, ⊤}
 use Rattle.std.specs.Io.KnownBytes.{prepend_known}
 use Rattle.coy_io.specs.Lines.{Part, Line, LongLine, PastLimit}
 use Rattle.coy_io.specs.Limits.{window_limit}
@@ -8,7 +8,7 @@ use Rattle.coy_io.specs.Reader.{Reader, Advances, GivesLines, ahead, bytes_ahead
 use Rattle.coy_text.specs.Words.{words_of}
 use Rattle.object_store.specs.declared.sizes.Sizes.{Sizes}
 use Rattle.separation_policy.specs.Making.{first_policy}
-use Rattle.questions.specs.Question.{nothing_asked}
+use Rattle.questions.specs.Question.{QuestionValue, is_preempted, nothing_asked, sizes_for}
 use Rattle.question_lines.specs.QuestionLine.{as_untaken, is_of_policy, line_answer, line_policy, line_question, takes_memory}
 use Rattle.listing_read.specs.declared.object_fault.QuestionFault.{QuestionFault}
 use Rattle.listing_read.specs.declared.object_fault.QuestionFault.TheVariants.{LineTooLong, NoEnd}
@@ -72,6 +72,19 @@ pub record JudgesQuestionLine (n : ℕ) (asked : Asked) (line : List ℕ) (told 
 abbrev pub without_end : ℕ → Stop Untaken → Stop Untaken
 without_end n stops.End = stops.Refused (n + 1) (Refused NoEnd)
 without_end n stop = stop
+
+-- by whether processes take turns: sizes of a question are these, or those of that machine, of which there are few enough
+abbrev pub AreTakenOf : Bool → Sizes → Sizes → Type 0
+AreTakenOf true own sizes = (own ≡ sizes_for sizes) × (sizes.processes ≤ 8)
+AreTakenOf false own sizes = own ≡ sizes
+
+-- a question is asked of a machine of these sizes, or of that machine
+abbrev pub IsAskedOf : QuestionValue → Sizes → Type 0
+IsAskedOf question sizes = AreTakenOf (is_preempted question) question.sizes sizes
+
+-- whatever machine the first is asked of, so is the second
+abbrev pub KeepsAskedOf : Asked → Asked → Type 0
+KeepsAskedOf first asked = (sizes : Sizes) → IsAskedOf first.question sizes → IsAskedOf asked.question sizes
 
 -- ---- lines as they are read
 

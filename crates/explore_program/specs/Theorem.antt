@@ -14,7 +14,7 @@ use Rattle.explore_program.specs.declared.words.Wanted.TheVariants.{Explore}
 use Rattle.explore_program.specs.Posed.{HasPosed, IfPosed, posed}
 use Rattle.explore_program.specs.Program.{asked_by, explore}
 use Rattle.explore_program.specs.explored_text.Text.{avoided_text}
-use Rattle.explore_program.specs.Told.{Answers, HoldsAlways, Stepwise, Tells}
+use Rattle.explore_program.specs.Told.{Answers, AnswersFrom, HoldsAlways, NeverPreempted, Stepwise, Tells}
 
 -- ---- what holds
 
@@ -34,7 +34,7 @@ IsViolated asked s = Holds asked s → ⊥
 -- what is told answers what an input asks, where words ask for that
 abbrev pub AnswersInput : List (List ℕ) → Option (List ℕ) → Output → Type 0
 AnswersInput words held told =
-    asked_by words ≡ Some Explore → IfSome held (λ bytes. IfPosed (λ asked s. Answers asked s told) (posed bytes))
+    asked_by words ≡ Some Explore → IfSome held (λ bytes. IfPosed (λ asked before s. AnswersFrom asked before s told) (posed bytes))
 
 -- a call tells such an output, of which this is so
 abbrev pub TellsInput : List (List ℕ) → Option (List ℕ) → Exit → (Output → Type 0) → Type 0
@@ -52,28 +52,32 @@ pub record TellsFlushed (words : List (List ℕ)) (held : Option (List ℕ)) (ex
 -- of a state that isn't as the question says, it doesn't; and a call whose exit no fault and no limit gave ended as done exactly
 -- where all holds.
 pub record Judges (words : List (List ℕ)) (held : Option (List ℕ)) (exit : Exit) : Type 0 where
-  pub holds : asked_by words ≡ Some Explore → exit ≡ Done → IfSome held (λ bytes. HasPosed Holds (posed bytes))
-  pub always : asked_by words ≡ Some Explore → exit ≡ Done → IfSome held (λ bytes. HasPosed HoldsAlways (posed bytes))
-  pub stepwise : asked_by words ≡ Some Explore → exit ≡ Done → IfSome held (λ bytes. HasPosed Stepwise (posed bytes))
-  pub violated : exit ≡ Violated → IfSome held (λ bytes. HasPosed IsViolated (posed bytes))
+  pub holds : asked_by words ≡ Some Explore → exit ≡ Done → IfSome held (λ bytes. HasPosed (λ asked before s. Holds asked s) (posed bytes))
+  pub always : asked_by words ≡ Some Explore → exit ≡ Done → IfSome held (λ bytes. HasPosed (λ asked before s. HoldsAlways asked s) (posed bytes))
+  pub stepwise : asked_by words ≡ Some Explore → exit ≡ Done → IfSome held (λ bytes. HasPosed (λ asked before s. Stepwise asked s) (posed bytes))
+  pub preempted : asked_by words ≡ Some Explore → exit ≡ Done → IfSome held (λ bytes. HasPosed NeverPreempted (posed bytes))
+  pub violated : exit ≡ Violated → IfSome held (λ bytes. HasPosed (λ asked before s. IsViolated asked s) (posed bytes))
   pub exactly : asked_by words ≡ Some Explore → IsGiven exit → exit ≢ Open
-      → IfSome held (λ bytes. IfPosed (λ asked s. (exit ≡ Done) ↔ Holds asked s) (posed bytes))
+      → IfSome held (λ bytes. IfPosed (λ asked before s. (exit ≡ Done) ↔ Holds asked s) (posed bytes))
 
 -- ---- one output
 
--- what is told where a `must` can be avoided: counts, the line of the property, the choices that lead to a cycle, and its own
-abbrev pub avoided_output : List ℕ → ℕ → List Choice → List Choice → Output
-avoided_output counts line path cycle = record { text = counts ++ avoided_text line path cycle; exit = Violated }
+-- what is told where a `must` can be avoided: counts, the line of the property, the harts, the choices that lead to a cycle, and
+-- its own
+abbrev pub avoided_output : List ℕ → ℕ → Option ℕ → List Choice → List Choice → Output
+avoided_output counts line harts path cycle =
+    record { text = counts ++ avoided_text line harts path cycle; exit = Violated }
 
 -- two outputs tell that the same `must` can be avoided, with the same counts and the same path, each by a cycle of its own
 pub record DifferByCycle (told other : Output) : Type 0 where
   pub counts : List ℕ
   pub line : ℕ
+  pub harts : Option ℕ
   pub path : List Choice
   pub cycle : List Choice
   pub other_cycle : List Choice
-  pub first : told ≡ avoided_output counts line path cycle
-  pub second : other ≡ avoided_output counts line path other_cycle
+  pub first : told ≡ avoided_output counts line harts path cycle
+  pub second : other ≡ avoided_output counts line harts path other_cycle
 
 -- they are the same, but for a cycle
 abbrev pub AreAlike : Output → Output → Type 0
@@ -83,7 +87,8 @@ AreAlike told other = (told ≡ other) ⊎ DifferByCycle told other
 -- and the bytes, but for the cycle by which a `must` can be avoided.
 abbrev pub OneOutputLaw : Type 0
 OneOutputLaw = (words : List (List ℕ)) (bytes : List ℕ) (told other : Output)
-    → IfPosed (λ asked s. Answers asked s told) (posed bytes) → IfPosed (λ asked s. Answers asked s other) (posed bytes)
+    → IfPosed (λ asked before s. AnswersFrom asked before s told) (posed bytes)
+    → IfPosed (λ asked before s. AnswersFrom asked before s other) (posed bytes)
     → AreAlike (out (explore told) words bytes) (out (explore other) words bytes)
 
 -- Of one question the same is always told, but for a cycle: which property, which counts, and which path.

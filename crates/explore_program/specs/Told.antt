@@ -1,7 +1,7 @@
 -- What is told of a question, and what the program writes with it (this project's own).
 --
 -- No definition goes through the states: what is told is that of an answer of the search, which `Answers` says.
-use Rattle.std.specs.Prelude.{◌≡◌, ◌≢◌, ◌<◌, ◌≤◌, ℕ, ◌*◌, Bool, true, List, [], ◌++◌, length, take, drop, Some, None, Result, Ok, Err, ⊤}
+use Rattle.std.specs.Prelude.{◌≡◌, ◌≢◌, ◌<◌, ◌≤◌, ℕ, ◌*◌, Bool, true, false, List, [], ◌++◌, length, take, drop, Some, None, Result, Ok, Err, ⊤}
 use Rattle.std.specs.List.{All}
 use Rattle.machine_state.specs.Machine.{hart_in}
 use Rattle.machine_state.specs.declared.event.Event.{Event}
@@ -10,16 +10,22 @@ use Rattle.kernel_core.specs.State.{State}
 use Rattle.breadth_first.specs.declared.answer.Explored.{Explored}
 use Rattle.breadth_first.specs.declared.answer.Explored.TheVariants as answers
 use Rattle.breadth_first.specs.declared.answer.Missed.TheVariants.{Avoided}
-use Rattle.exploration.specs.Explored.{AsksEver, AsksMust, AsksMustAfter, IsAskedFrom, IsExact, IsSafe, Says, come_to, next_state, wanted}
+use Rattle.exploration.specs.Explored.{AsksEver, AsksNever, AsksMust, AsksMustAfter, IsAskedFrom, IsExact, IsSafe, Says, come_to, next_state, wanted}
 use Rattle.fair_rounds.specs.Rounds.{IsEvasion, after as led_by}
 use Rattle.questions.specs.declared.choice.Choice.{Choice}
-use Rattle.questions.specs.Question.{first_holds, holds}
+use Rattle.preemption.specs.Begun.{at_rest}
+use Rattle.preemption.specs.Searched.{HoldsAfterNone, HoldsNever}
+use Rattle.questions.specs.declared.choice.Turns.{Turns}
+use Rattle.questions.specs.Asking.{property_at}
+use Rattle.questions.specs.Question.{first_holds, holds, is_preempted}
 use Rattle.exploration.specs.Laws.{IsAnswerTo}
 use Rattle.exploration.specs.Shown.{shown_of, told_path}
 use Rattle.interleavings.specs.Laws.{EachHartRuns, OnlyRuns}
+use Rattle.interleavings.specs.Turns.{AllScheduled, AllScheduledWithin, EachTakesTurns, sees_harts}
 use Rattle.interleavings.specs.Rounds.{AlwaysStep, MustStep, RunsOnce, steps_chosen}
 use Rattle.quiet_runs.specs.Laws.{AreHarts, CanCome}
 use Rattle.quiet_runs.specs.Runs.{after_step, after_steps}
+use Rattle.explore_program.specs.explored_text.Spread.{is_spread}
 use Rattle.explore_program.specs.explored_text.Text.{choices_text, explored_text}
 use Rattle.schedule_replay.specs.Scheduled.{Ending, AtEnd, AtFault, AtLimit, scheduled}
 use Rattle.coy_io.specs.Lines.{whole_lines}
@@ -50,7 +56,7 @@ written_exit exit (Err fault) = WriteFault
 -- what is told of a question by an answer, where these choices lead to the state that it tells, or show what isn't met
 abbrev pub told_with : Asked → List Choice → Explored → Output
 told_with asked shown answer = record {
-  text = explored_text asked.question.properties shown answer;
+  text = explored_text asked.question shown answer;
   exit = exit_of answer;
 }
 
@@ -138,6 +144,47 @@ IsSchedule asked s answer =
     LeadsTo asked.question.sizes.harts (choices_text (shown_of asked.question s answer)) s
     (come_to asked.question asked.policy s (told_path answer))
 
+-- ---- turns
+
+-- each process can be chosen to take its turn, and this is so of who has a schedule
+pub record TakeTurns (asked : Asked) (Scheduled : Type 0) : Type 0 where
+  pub turns : Turns
+  pub each : EachTakesTurns asked.question turns
+  pub scheduled : Scheduled
+
+-- Where it is told that an answer is of any number of harts: each process can take its turn, and whoever is on a hart has a
+-- schedule, whatever the choices, or after as many as were gone through where a limit ended the search.
+abbrev pub SaysSpread : Asked → State → Explored → Type 0
+SaysSpread asked s (answers.Found n path) = ⊤
+SaysSpread asked s (answers.Closed size counts missed) = is_spread asked.question counts.items ≡ true
+    → TakeTurns asked (AllScheduled asked.question asked.policy s)
+SaysSpread asked s (answers.Open size counts) = is_spread asked.question counts.items ≡ true
+    → TakeTurns asked (AllScheduledWithin asked.question asked.policy s size.depth)
+
+-- Of a test that asks of no `never` who is on a hart: this is so of it, of the machine with its own harts in the state behind a
+-- schedule, and, where nobody is on a hart there, of one with any number of harts.
+pub record OfAnyHarts (asked : Asked) (before s : State) (After : ℕ → (State → Bool) → State → Type 0) : Type 0 where
+  pub own : (n : ℕ) → AsksNever asked.question n → sees_harts (property_at asked.question.properties n) ≡ false
+      → After (length before.queues.harts) (λ t. holds asked.question asked.policy t n) before
+  pub idle : s ≡ at_rest asked.question.sizes.harts s → (few n : ℕ) → AsksNever asked.question n
+      → sees_harts (property_at asked.question.properties n) ≡ false
+      → After few (λ t. holds asked.question asked.policy t n) (at_rest few s)
+
+-- Never, of all steps and ticks: where each process can take its turn and whoever is on a hart has a schedule, no `never` that
+-- doesn't ask who is on a hart fails after any of them, in whatever order. (No line can ask that.)
+abbrev pub NeverPreempted : Asked → State → State → Type 0
+NeverPreempted asked before s = is_preempted asked.question ≡ true
+    → TakeTurns asked (AllScheduled asked.question asked.policy s) → OfAnyHarts asked before s HoldsNever
+
+-- where a limit ended the search: the same of as many steps and ticks as choices were gone through
+abbrev pub PreemptedWithin : Asked → State → State → Explored → Type 0
+PreemptedWithin asked before s (answers.Open size counts) = is_preempted asked.question ≡ true
+    → TakeTurns asked (AllScheduledWithin asked.question asked.policy s size.depth)
+    → OfAnyHarts asked before s (λ few test t. HoldsAfterNone few size.depth test t)
+PreemptedWithin asked before s _ = ⊤
+
+-- ---- answers
+
 -- What is told of a question asked of this state is that of an answer of the search. All that the answer says is so, of the
 -- abstract machine, and it is yes exactly where the question's is; and the choices that are told are a schedule that leads there.
 pub record Answers (asked : Asked) (s : State) (told : Output) : Type 0 where
@@ -149,7 +196,15 @@ pub record Answers (asked : Asked) (s : State) (told : Output) : Type 0 where
   pub stepwise : exit_of answer ≡ Done → Stepwise asked s
   pub within : StepwiseWithin asked s answer
   pub schedule : IsSchedule asked s answer
+  pub spread : SaysSpread asked s answer
   pub is : told ≡ told_by asked s answer
+
+-- The same of a question that is asked behind a schedule that leads to a state of the listing's machine, with what turns of
+-- processes say of that: where all holds, and where a limit ended the search.
+pub record AnswersFrom (asked : Asked) (before s : State) (told : Output) : Type 0 where
+  pub answers : Answers asked s told
+  pub never : exit_of answers.answer ≡ Done → NeverPreempted asked before s
+  pub within : PreemptedWithin asked before s answers.answer
 
 -- Of an output this is so, and where a call comes to tell one, it answers: the call may end for want of memory, or since reading
 -- failed, before it does.

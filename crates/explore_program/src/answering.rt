@@ -96,9 +96,8 @@ fn tell<K: Sink>(
     ensures memory { result ≢ Exit.OutOfMemory }
     ensures read { result ≢ Exit.ReadFault }
 {
-    let properties = asked.question.properties();
     let written = put_explored(
-        properties,
+        &asked.question,
         answered.shown.as_slice(),
         wants,
         counted,

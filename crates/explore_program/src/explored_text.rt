@@ -6,6 +6,7 @@
 mod choices;
 mod counts;
 mod sizes;
+mod spread;
 mod telling;
 
 pub use telling::put_explored;

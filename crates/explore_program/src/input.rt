@@ -11,8 +11,8 @@ ghost use Rattle.courses.specs.Stopped.{stop_exit};
 ghost use Rattle.courses.specs.Taken.{TakesLines, TakesListing};
 ghost use Rattle.explore_program.specs.Posed.{IfPosed, posed, posed_by};
 ghost use Rattle.explore_program.specs.Slots.{InputReads, StatedReads, WantsBefore};
-ghost use Rattle.explore_program.specs.Stated.{stated, untaken_exit};
-ghost use Rattle.explore_program.specs.Told.{Answers, Tells, explore_course, stated_output};
+ghost use Rattle.explore_program.specs.Stated.{IsAskedOf, stated, untaken_exit};
+ghost use Rattle.explore_program.specs.Told.{AnswersFrom, Tells, explore_course, stated_output};
 ghost use Rattle.explore_program.specs.Wanting.{Wants, WantsBehind};
 
 use crate::asked::Asked;
@@ -40,7 +40,8 @@ pub(crate) fn explore_input<S: Source, K: Sink, W: Watcher, L: Ledger>(
     fetches: &mut Steps<L>,
 ) -> Exit
     ensures tells { Tells result
-        (λ told. IfSome (S.held input.old) (λ bytes. IfPosed (λ asked s. Answers asked s told) (posed bytes)))
+        (λ told. IfSome (S.held input.old) (λ bytes.
+        IfPosed (λ asked before s. AnswersFrom asked before s told) (posed bytes)))
         (λ told. TakesListing S.held S.faults K.taken K.faults
         input.old input.new output.old output.new 0 0 result cached (explore_course told)) }
     ensures least { fetches.old ≤ fetches.new }
@@ -80,10 +81,11 @@ fn ask_lines<S: Source, K: Sink, W: Watcher, L: Ledger>(
 ) -> Exit
     requires reader { lines.old.failed ≡ false }
     requires told { TellsEnd lines.old (S.held input.old) }
-    requires sizes { asked.question.sizes ≡ sizes_of machine.objects }
+    requires sizes { IsAskedOf asked.question (sizes_of machine.objects) }
     requires nothing { kept_of machine.translator ≡ nothing }
     ensures tells { Tells result
-        (λ told. OnParts (ahead lines.old (S.held input.old)) (λ parts. IfPosed (λ asked s. Answers asked s told)
+        (λ told. OnParts (ahead lines.old (S.held input.old)) (λ parts.
+        IfPosed (λ asked before s. AnswersFrom asked before s told)
         (posed_by (state_of machine) machine.objects.harts (stated asked lines.old.number parts))))
         (λ told. TakesLines S.held S.faults K.taken K.faults lines.old lines.new
         input.old input.new output.old output.new 0 0 result cached (λ parts.

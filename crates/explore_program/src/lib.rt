@@ -6,6 +6,7 @@
 
 mod answering;
 mod asked;
+mod beginning;
 pub mod explored_text;
 mod input;
 mod laws;

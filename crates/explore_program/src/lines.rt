@@ -4,7 +4,7 @@ ghost use Rattle.coy_io.specs.Causes.{Rose};
 ghost use Rattle.coy_io.specs.Reader.{TellsEnd};
 ghost use Rattle.listing_read.specs.declared.object_fault.QuestionFault.TheVariants.{LineTooLong};
 ghost use Rattle.question_lines.specs.declared.fault.Untaken.TheVariants.{Refused};
-ghost use Rattle.explore_program.specs.Stated.{without_end, JudgesQuestionLine, StatesRest};
+ghost use Rattle.explore_program.specs.Stated.{without_end, JudgesQuestionLine, KeepsAskedOf, StatesRest};
 
 use crate::asked::Asked;
 use coy_io::{LineReader, Source};
@@ -56,7 +56,7 @@ pub(crate) fn read_questions<S: Source>(
     requires { lines.old.failed ≡ false }
     ensures states { StatesRest asked.old asked.new lines.old lines.new
         (S.held source.old) (S.held source.new) result }
-    ensures sizes { asked.new.question.sizes ≡ asked.old.question.sizes }
+    ensures sizes { KeepsAskedOf asked.old asked.new }
     ensures going { result ≡ Stop.End → lines.new.failed ≡ false }
     ensures told { TellsEnd lines.old (S.held source.old) → TellsEnd lines.new (S.held source.new) }
     ensures read { result ≡ Stop.ReadFault → Rose (S.faults source.old) (S.faults source.new) }

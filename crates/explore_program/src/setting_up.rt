@@ -11,10 +11,11 @@ ghost use Rattle.courses.specs.Course.{cached, ends_in};
 ghost use Rattle.courses.specs.Taken.{TakesLines};
 ghost use Rattle.explore_program.specs.Posed.{IfPosed, IsPosed, posed_of};
 ghost use Rattle.explore_program.specs.Slots.{ScheduledReads};
-ghost use Rattle.explore_program.specs.Told.{Answers, Tells, ended_output};
+ghost use Rattle.explore_program.specs.Stated.{IsAskedOf};
+ghost use Rattle.explore_program.specs.Told.{AnswersFrom, Tells, ended_output};
 
-use crate::answering::answer;
 use crate::asked::Asked;
+use crate::beginning::answer_begun;
 use breadth_first::Watcher;
 use courses::{Exit, conclude, counts_or_exit};
 use coy_io::{LineReader, Sink, Source};
@@ -38,10 +39,11 @@ pub(crate) fn set_up<S: Source, K: Sink, W: Watcher, L: Ledger>(
 ) -> Exit
     requires reader { lines.old.failed ≡ false }
     requires told { TellsEnd lines.old (S.held input.old) }
-    requires sizes { asked.now.question.sizes ≡ sizes_of machine.objects }
+    requires sizes { IsAskedOf asked.now.question (sizes_of machine.objects) }
     requires nothing { kept_of machine.translator ≡ nothing }
     ensures tells { Tells result
-        (λ told. OnParts (ahead lines.old (S.held input.old)) (λ parts. IfPosed (λ asked s. Answers asked s told)
+        (λ told. OnParts (ahead lines.old (S.held input.old)) (λ parts.
+        IfPosed (λ asked before s. AnswersFrom asked before s told)
         (posed_of asked.now (state_of machine) (scheduled machine.objects.harts lines.old.number parts))))
         (λ told. TakesLines S.held S.faults K.taken K.faults lines.old lines.new
         input.old input.new output.old output.new 0 0 result cached (λ parts.
@@ -57,7 +59,7 @@ pub(crate) fn set_up<S: Source, K: Sink, W: Watcher, L: Ledger>(
 {
     let replayed = replay(&mut machine, lines, input, Mode::Silent, output, fetches);
     match counts_or_exit(replayed) {
-        Ok(_counts) => answer(alloc, machine, asked, output, watcher, fetches),
+        Ok(_counts) => answer_begun(alloc, machine, asked, output, watcher, fetches),
         Err(exit) => conclude(exit, output),
     }
 }

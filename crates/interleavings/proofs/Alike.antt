@@ -17,6 +17,15 @@ use Rattle.separation_check.specs.declared.crossing.Crossing.{Crossing}
 use Rattle.separation_check.specs.Crossings.{kind_crossings, sleeper_crossings}
 use Rattle.questions.specs.Atom.{is_any, crosses}
 
+-- what the policy doesn't allow, by what is held, how many objects there are, and who stands where
+abbrev pub crossed : PolicyValue → (CapKind → ℕ → ℕ → Capability) → Items → QueuesValue → List Crossing
+crossed policy held items q =
+    (kind_crossings policy held CapPage (size_of items CapPage)
+    ++ (kind_crossings policy held Gpt (size_of items Gpt)
+    ++ (kind_crossings policy held Endpoint (size_of items Endpoint)
+    ++ kind_crossings policy held Process (size_of items Process))))
+    ++ sleeper_crossings policy q
+
 module _ (s t : State) (same : SameButData s t) where
   -- the capability in each place
   cap-same : (kind : CapKind) (n i : ℕ) → cap_in s.store kind n i ≡ cap_in t.store kind n i
@@ -32,16 +41,7 @@ module _ (s t : State) (same : SameButData s t) where
   pub caps-same : cap_in s.store ≡ cap_in t.store
   caps-same = fun_ext (λ kind. fun_ext (λ n. fun_ext (λ i. cap-same kind n i)))
 
-  -- what the policy doesn't allow, by what is held, how many objects there are, and who stands where
-  abbrev crossed : PolicyValue → (CapKind → ℕ → ℕ → Capability) → Items → QueuesValue → List Crossing
-  crossed policy held items q =
-      (kind_crossings policy held CapPage (size_of items CapPage)
-      ++ (kind_crossings policy held Gpt (size_of items Gpt)
-      ++ (kind_crossings policy held Endpoint (size_of items Endpoint)
-      ++ kind_crossings policy held Process (size_of items Process))))
-      ++ sleeper_crossings policy q
-
-  -- is there in both or in neither
+  -- what the policy doesn't allow is there in both or in neither
   pub crosses-same : (policy : PolicyValue) → crosses policy s ≡ crosses policy t
   crosses-same policy =
       ap₂ (λ (held : CapKind → ℕ → ℕ → Capability) (items : Items). is_any (crossed policy held items s.queues)) caps-same same.items

@@ -1,7 +1,11 @@
 mod Watched
 mod Alike
+mod Below
+mod Harts
 mod Seeing
+mod Placeless
 mod Paths
 mod Stepwise
+mod Turning
 mod Rounds
 mod Must

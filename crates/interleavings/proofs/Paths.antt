@@ -10,7 +10,7 @@ use Rattle.quiet_runs.specs.Runs.{Watch, after_run, after_runs, after_step, afte
 use Rattle.quiet_runs.specs.Finding.{quiet_steps}
 use Rattle.quiet_runs.specs.Laws.{AreHarts}
 use Rattle.questions.specs.declared.choice.Choice.{Choice}
-use Rattle.questions.specs.declared.choice.Choice.TheVariants.{Steps, Run, Tick}
+use Rattle.questions.specs.declared.choice.Choice.TheVariants.{Steps, Run, Tick, Turn, TurnRun}
 use Rattle.questions.specs.Choice.{AreChoices, after, after_choice, choice_at}
 use Rattle.interleavings.specs.Laws.{IsRunOf}
 
@@ -38,11 +38,11 @@ module _ (watch : Watch) where
     after-append s [] on = refl
     after-append s (i ∷ path) on = after-append (after_choice watch s (choice_at choices i)) path on
 
-    after-nil : (s : State) → after watch choices s [] ≡ s
+    pub after-nil : (s : State) → after watch choices s [] ≡ s
     unfolding after
     after-nil s = refl
 
-    after-cons : (s : State) (i : ℕ) (path : List ℕ)
+    pub after-cons : (s : State) (i : ℕ) (path : List ℕ)
         → after watch choices s (i ∷ path) ≡ after watch choices
         (after_choice watch s (choice_at choices i)) path
     unfolding after
@@ -122,6 +122,8 @@ module _ (watch : Watch) where
     run-of count (Steps hart times) is = absurd is
     run-of count (Run hart) is = record { hart = hart; below = is; is = refl }
     run-of count (Tick hart) is = absurd is
+    run-of count (Turn process) is = absurd is
+    run-of count (TurnRun process) is = absurd is
 
     -- each does, where nothing else can be chosen
     pub runs-one : (count : ℕ) → All (IsRunOf count) choices → (i : ℕ) → i < length choices

@@ -29,6 +29,7 @@ use Rattle.questions.specs.Question.{PropertyValue, QuestionValue, any_holds, pa
 use Rattle.interleavings.specs.Laws.{FirstSeesOnlyLaw, SeesOnlyLaw}
 use Rattle.interleavings.proofs.Watched.{stands-alone, stands-first, stands-of, stands-second}
 use Rattle.interleavings.proofs.Alike.{caps-same, crosses-same}
+use Rattle.interleavings.proofs.Harts.{unscheduled-same}
 
 module _ (policy : PolicyValue) (s t : State) (same : SameButData s t) where
   -- all processes of a list are the same in both
@@ -89,6 +90,7 @@ module _ (policy : PolicyValue) (s t : State) (same : SameButData s t) where
       (term-same b (λ p stands. processes p (stands-second (read_by operand_processes a) (read_by operand_processes b) p stands))
       (λ n stands. pages n (stands-second (read_by operand_pages a) (read_by operand_pages b) n stands)))
   condition-same conditions.Crossing processes pages = crosses-same s t same policy
+  condition-same conditions.Unscheduled processes pages = unscheduled-same s t same
 
   atom-same : (atom : Atom) → SameProcesses (processes_in atom.condition) → SamePages (pages_in atom.condition)
       → atom_holds (crosses policy s) s atom ≡ atom_holds (crosses policy t) t atom

@@ -1,2 +1,3 @@
 pub mod Laws
+pub mod Turns
 pub mod Rounds

@@ -8,7 +8,7 @@ use Rattle.fair_rounds.specs.Fair.{IsFair, part}
 use Rattle.machine_state.specs.State.{State}
 use Rattle.quiet_runs.specs.Runs.{SeesOnly, after_step}
 use Rattle.questions.specs.declared.choice.Choice.{Choice}
-use Rattle.questions.specs.declared.choice.Choice.TheVariants.{Steps, Run, Tick}
+use Rattle.questions.specs.declared.choice.Choice.TheVariants.{Steps, Run, Tick, Turn, TurnRun}
 use Rattle.questions.specs.Choice.{choice_at, counted_path}
 use Rattle.questions.specs.Question.{QuestionValue, choices_of, watch_for}
 use Rattle.exploration.specs.Explored.{next_state}
@@ -83,11 +83,13 @@ AlwaysFairLaw = (question : QuestionValue) (goal first : State → Bool) (s : St
 
 -- ---- what evades
 
--- the harts of the steps of a choice whose steps are counted; a tick is none
+-- the harts of the steps of a choice whose steps are counted; a tick is none, nor is a turn that wasn't taken
 abbrev pub steps_of_choice : Choice → List ℕ
 steps_of_choice (Steps hart times) = replicate times hart
 steps_of_choice (Run hart) = hart ∷ []
 steps_of_choice (Tick hart) = []
+steps_of_choice (Turn process) = []
+steps_of_choice (TurnRun process) = []
 
 -- those of a list of a question's choices
 abbrev pub steps_chosen : QuestionValue → State → List ℕ → List ℕ

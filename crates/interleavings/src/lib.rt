@@ -5,7 +5,10 @@
 //! chosen, the same is so of `ever`. For no property tells two states apart that are the same to one who looks at what the
 //! question looks at, and after each list of steps the state is the same to him as after some runs.
 //!
-//! Nothing is said of ticks: a list of steps has none. Nor is anything said of `count`, since runs pass over the states within
+//! Where each process can be chosen to take its turn, on a machine with a hart for each, what no turns lead
+//! to no steps and ticks of few harts lead to, if whoever is on a hart always has a schedule (`preempted_law`).
+//!
+//! Of runs nothing is said of ticks: a list of steps has none. Nor is anything said of `count`, since runs pass over the states within
 //! them. Where a limit ended an exploration, what it says of so many choices is so of as many steps.
 //!
 //! What must come on every fair schedule is asked of rounds of choices. Where the choices are one run
@@ -17,11 +20,14 @@
 //! how quiet steps are found, or how states are gone through.
 #![tactic(auto)]
 
-ghost use Rattle.interleavings.specs.Laws.{SeesOnlyLaw, FirstSeesOnlyLaw, NeverStepwiseLaw, WithinStepwiseLaw, EverStepwiseLaw};
+ghost use Rattle.interleavings.specs.Laws.{SeesOnlyLaw, FirstSeesOnlyLaw};
+ghost use Rattle.interleavings.specs.Laws.{NeverStepwiseLaw, WithinStepwiseLaw, EverStepwiseLaw};
+ghost use Rattle.interleavings.specs.Turns.{SeesNoPlacesLaw, PreemptedLaw, PreemptedWithinLaw};
 ghost use Rattle.interleavings.specs.Rounds.{MustStepwiseLaw, AlwaysStepwiseLaw};
 ghost use Rattle.interleavings.specs.Rounds.{FairStepwiseLaw, AlwaysFairLaw};
 ghost use Rattle.interleavings.specs.Rounds.{LassoStepwiseLaw, EvasionStepwiseLaw};
 
+use preemption::{sees_law, test_law, turn_runs_law, turns_law};
 use quiet_runs::{ever_law, found_law, lasso_law, must_law, never_law, short_law, simulation_law};
 
 /// A property sees nothing of a state but what its question looks at.
@@ -33,6 +39,24 @@ pub fn sees_only_law()
 pub fn first_sees_only_law()
     ensures { FirstSeesOnlyLaw }
 {}
+
+/// A property that doesn't ask who is on a hart doesn't see where a process stands that has one or waits
+/// for one. So what `preemption` says of tests that see no places it says of such properties.
+pub fn sees_no_places_law()
+    ensures { SeesNoPlacesLaw }
+{}
+
+/// Where processes take turns on the machine with a hart for each, and whoever is on a hart has a schedule,
+/// what no turns lead to no steps and ticks of few harts lead to.
+pub fn preempted_law()
+    ensures always { PreemptedLaw }
+    ensures within { PreemptedWithinLaw }
+{
+    turns_law();
+    turn_runs_law();
+    test_law();
+    found_law();
+}
 
 /// Where each hart can be run, what no choices lead to no steps lead to.
 pub fn never_stepwise_law()

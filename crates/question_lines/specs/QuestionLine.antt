@@ -1,5 +1,5 @@
 -- A line of a question: what it says, or its first fault, and the question after it. (Own.)
-use Rattle.std.specs.Prelude.{ℕ, suc, ◌≤◌, ◌==◌, ◌||◌, nat_le, Bool, if◌then◌else◌, List, length, drop, take, bytes_eq, codes, Result, Ok, Err, ⊤, ◌≡◌, true, false}
+use Rattle.std.specs.Prelude.{ℕ, suc, ◌≤◌, ◌==◌, ◌||◌, nat_le, not, Bool, if◌then◌else◌, List, length, drop, take, bytes_eq, codes, Result, Ok, Err, ⊤, ◌≡◌, true, false}
 use Rattle.coy_io.specs.Limits.{line_limit}
 use Rattle.coy_text.specs.Line.{is_visible_line, is_skipped}
 use Rattle.coy_text.specs.Words.{words_of, field}
@@ -13,16 +13,18 @@ use Rattle.questions.specs.declared.asks.Asks.{Asks}
 use Rattle.questions.specs.declared.asks.Asks.TheVariants.{Never, Ever, Must, MustAfter, Count}
 use Rattle.questions.specs.declared.choice.Choice.{Choice}
 use Rattle.questions.specs.declared.choice.Choice.TheVariants.{Steps, Run, Tick}
+use Rattle.questions.specs.declared.choice.Turns.{Turns}
+use Rattle.questions.specs.declared.choice.Turns.TheVariants as turns
 use Rattle.questions.specs.Choice.{IsChoiceOf, is_among}
-use Rattle.questions.specs.Question.{IsPropertyOf, QuestionValue, property_of, property_with, with_choice, with_depth, with_property, with_states}
+use Rattle.questions.specs.Question.{IsPropertyOf, QuestionValue, has_choices, is_preempted, preempted, property_of, property_with, with_choice, with_depth, with_property, with_states}
 use Rattle.listing_read.specs.declared.object_fault.QuestionFault.{QuestionFault}
-use Rattle.listing_read.specs.declared.object_fault.QuestionFault.TheVariants.{LineTooLong, BadByte, UnknownQuestion, UnknownEvent, WrongWords, OfPolicy, Taken}
+use Rattle.listing_read.specs.declared.object_fault.QuestionFault.TheVariants.{LineTooLong, BadByte, UnknownQuestion, UnknownEvent, WrongWords, OfPolicy, Taken, WrongChoices, TooManyProcesses}
 use Rattle.question_lines.specs.declared.fault.Untaken.{Untaken}
 use Rattle.question_lines.specs.declared.fault.Untaken.TheVariants.{Refused, OutOfMemory}
 use Rattle.question_lines.specs.declared.said.Next.{Next}
 use Rattle.question_lines.specs.declared.said.Next.TheVariants as nexts
 use Rattle.question_lines.specs.declared.said.Said.{Said}
-use Rattle.question_lines.specs.declared.said.Said.TheVariants.{Nothing, May, Asked, Depth, States, Ends}
+use Rattle.question_lines.specs.declared.said.Said.TheVariants.{Nothing, May, Preempted, Asked, Depth, States, Ends}
 use Rattle.question_lines.specs.Fields.{hart_from, limit_from, number_from, times_from}
 use Rattle.question_lines.specs.Parts.{before}
 use Rattle.question_lines.specs.AtomLine.{groups_from}
@@ -62,11 +64,35 @@ choice_line sizes words =
     else (if bytes_eq (field words 1) (codes "run") then run_line sizes words
     else (if bytes_eq (field words 1) (codes "tick") then tick_line sizes words else Err UnknownEvent))
 
--- `may ..`
-unfoldable pub may_line : Sizes → List (List ℕ) → Result Said QuestionFault
-may_line sizes words = do
-  choice ← choice_line sizes words
+-- `may ..`, in a question in which no processes take turns: a choice that no line above states
+unfoldable pub may_line : QuestionValue → List (List ℕ) → Result Said QuestionFault
+may_line question words = do
+  _ ← ensured (not (is_preempted question)) WrongChoices
+  choice ← choice_line question.sizes words
+  _ ← ensured (not (is_among question.choices choice)) Taken
   Ok (May choice)
+
+-- ---- turns
+
+-- how many harts a machine may have
+abbrev pub most_harts : ℕ
+most_harts = 8
+
+-- what a process does where it has a turn: behind the word `step` its next event alone
+unfoldable pub turns_of : List (List ℕ) → Result Turns QuestionFault
+turns_of words = if length words == 1 then Ok turns.Runs else (do
+  _ ← ensured (bytes_eq (field words 1) (codes "step")) UnknownEvent
+  Ok turns.Steps)
+
+-- `preempted` or `preempted step`, line `n`: no line above says so or states a choice, and each process can have a hart
+unfoldable pub preempted_line : QuestionValue → ℕ → List (List ℕ) → Result Said QuestionFault
+preempted_line question n words = do
+  _ ← ensured (length words == 1 || length words == 2) WrongWords
+  turn ← turns_of words
+  _ ← ensured (not (is_preempted question)) Taken
+  _ ← ensured (not (has_choices question)) WrongChoices
+  _ ← ensured (nat_le question.sizes.processes most_harts) TooManyProcesses
+  Ok (Preempted n turn)
 
 -- ---- properties and limits
 
@@ -109,47 +135,44 @@ end_line words = do
 
 -- ---- lines
 
--- a line that asks nothing, by its first word
-unfoldable pub plain_line : Sizes → List (List ℕ) → Result Said QuestionFault
-plain_line sizes words =
-    if bytes_eq (field words 0) (codes "may") then may_line sizes words
-    else (if bytes_eq (field words 0) (codes "depth") then depth_line words
+-- a line of other words
+unfoldable pub plain_line : List (List ℕ) → Result Said QuestionFault
+plain_line words =
+    if bytes_eq (field words 0) (codes "depth") then depth_line words
     else (if bytes_eq (field words 0) (codes "states") then states_line words
-    else (if bytes_eq (field words 0) (codes "end") then end_line words else Err UnknownQuestion)))
+    else (if bytes_eq (field words 0) (codes "end") then end_line words else Err UnknownQuestion))
+
+-- a line that asks nothing, by its first word
+unfoldable pub unasked_line : QuestionValue → ℕ → List (List ℕ) → Result Said QuestionFault
+unasked_line question n words =
+    if bytes_eq (field words 0) (codes "may") then may_line question words
+    else (if bytes_eq (field words 0) (codes "preempted") then preempted_line question n words else plain_line words)
 
 -- any line that is not skipped
-unfoldable pub said_by : Sizes → ℕ → List (List ℕ) → Result Said QuestionFault
-said_by sizes n words =
-    if bytes_eq (field words 0) (codes "never") then asks_line sizes n Never words
-    else (if bytes_eq (field words 0) (codes "ever") then asks_line sizes n Ever words
-    else (if bytes_eq (field words 0) (codes "must") then asks_line sizes n Must words
-    else (if bytes_eq (field words 0) (codes "after") then must_after_line sizes n words
-    else (if bytes_eq (field words 0) (codes "count") then asks_line sizes n Count words
-    else plain_line sizes words))))
+unfoldable pub said_by : QuestionValue → ℕ → List (List ℕ) → Result Said QuestionFault
+said_by question n words =
+    if bytes_eq (field words 0) (codes "never") then asks_line question.sizes n Never words
+    else (if bytes_eq (field words 0) (codes "ever") then asks_line question.sizes n Ever words
+    else (if bytes_eq (field words 0) (codes "must") then asks_line question.sizes n Must words
+    else (if bytes_eq (field words 0) (codes "after") then must_after_line question.sizes n words
+    else (if bytes_eq (field words 0) (codes "count") then asks_line question.sizes n Count words
+    else unasked_line question n words))))
 
 -- a line by its words
-abbrev pub question_words : Sizes → ℕ → List (List ℕ) → Result Said QuestionFault
-question_words sizes n words = if is_skipped words then Ok Nothing else said_by sizes n words
-
--- what line `n` says
-unfoldable pub question_line : Sizes → ℕ → List ℕ → Result Said QuestionFault
-question_line sizes n line = do
-  _ ← ensured (nat_le (length line) line_limit) LineTooLong
-  _ ← ensured (is_visible_line line) BadByte
-  question_words sizes n (words_of line)
-
--- what a line says, or its fault where a line above it states the same choice
-abbrev pub new_said : List Choice → Said → Result Said QuestionFault
-new_said choices (May choice) = if is_among choices choice then Err Taken else Ok (May choice)
-new_said choices said = Ok said
+abbrev pub question_words : QuestionValue → ℕ → List (List ℕ) → Result Said QuestionFault
+question_words question n words = if is_skipped words then Ok Nothing else said_by question n words
 
 -- what line `n` of a question says
-abbrev pub said_of : QuestionValue → ℕ → List ℕ → Result Said QuestionFault
-said_of question n line = question_line question.sizes n line >>= new_said question.choices
+unfoldable pub said_of : QuestionValue → ℕ → List ℕ → Result Said QuestionFault
+said_of question n line = do
+  _ ← ensured (nat_le (length line) line_limit) LineTooLong
+  _ ← ensured (is_visible_line line) BadByte
+  question_words question n (words_of line)
 
 -- the question after what a line says
 abbrev pub after_said : QuestionValue → Said → QuestionValue
 after_said question (May choice) = with_choice question choice
+after_said question (Preempted line turn) = preempted question line turn
 after_said question (Asked property) = with_property question property
 after_said question (Depth depth) = with_depth question depth
 after_said question (States states) = with_states question states
@@ -170,16 +193,18 @@ abbrev pub answered : Result Said QuestionFault → Result Next QuestionFault
 answered (Ok said) = Ok (next_of said)
 answered (Err fault) = Err fault
 
--- what is so of what a line says: it names what a machine of these sizes has
-abbrev pub IsSaid : Sizes → Said → Type 0
-IsSaid sizes (May choice) = IsChoiceOf sizes.harts choice
-IsSaid sizes (Asked property) = IsPropertyOf sizes property
-IsSaid sizes (States states) = 1 ≤ states
-IsSaid sizes _ = Unit {0}
+-- what is so of what a line says: it names what a machine of the question's sizes has, and a choice is a new one
+abbrev pub IsSaid : QuestionValue → Said → Type 0
+IsSaid question (May choice) = IsChoiceOf question.sizes.harts choice × (is_among question.choices choice ≡ false)
+IsSaid question (Preempted line turn) = question.sizes.processes ≤ most_harts
+IsSaid question (Asked property) = IsPropertyOf question.sizes property
+IsSaid question (States states) = 1 ≤ states
+IsSaid question _ = Unit {0}
 
--- whether what a line says takes memory: a choice and a property do
+-- whether what a line says takes memory: choices and a property do
 abbrev pub is_kept : Said → Bool
 is_kept (May choice) = true
+is_kept (Preempted line turn) = true
 is_kept (Asked property) = true
 is_kept said = false
 
@@ -188,6 +213,7 @@ abbrev pub takes_memory : List (List ℕ) → Bool
 takes_memory words =
     bytes_eq (field words 0) (codes "never") || bytes_eq (field words 0) (codes "ever") || bytes_eq (field words 0) (codes "must")
     || bytes_eq (field words 0) (codes "after") || bytes_eq (field words 0) (codes "count") || bytes_eq (field words 0) (codes "may")
+    || bytes_eq (field words 0) (codes "preempted")
 
 -- ---- lines of the policy among them
 

@@ -11,6 +11,7 @@ mod conditions;
 mod fault;
 mod fields;
 mod holding;
+mod limits;
 mod line;
 mod phrase;
 mod process_conditions;

@@ -1,5 +1,5 @@
 //! What a line of a question says.
-use questions::{Choice, Property};
+use questions::{Choice, Property, Turns};
 
 /// What the next line belongs to.
 #[derive(Clone, Copy)]
@@ -17,6 +17,8 @@ pub enum Said {
     Nothing,
     /// This may come next.
     May(Choice),
+    /// Processes take such turns, as line `line` says.
+    Preempted { line: u32, turns: Turns },
     /// This is asked.
     Asked(Property),
     /// States are gone through to this depth.

@@ -37,6 +37,7 @@ module _ (c d : Bool) (s : State) where
   condition-alike (conditions.Holds kind n holding) none = refl
   condition-alike (conditions.Compares comparison a b) none = refl
   condition-alike conditions.Crossing none = absurd (cc (none))
+  condition-alike conditions.Unscheduled none = refl
 
   atom-alike : (atom : Atom) → is_of_policy atom ≡ false → atom_holds c s atom ≡ atom_holds d s atom
   atom-alike atom none = ap (λ (b : Bool). if atom.negated then not b else b) (condition-alike atom.condition none)

@@ -1,13 +1,17 @@
 -- Choices: those of one event, hart by hart, and that none is among them twice.
-use Rattle.std.proofs.Common.{◌≡◌, ℕ, zero, suc, ◌+◌, ◌<◌, ◌≤◌, ◌&&◌, ◌||◌, ◌⊎◌, ◌++◌, ◌∷◌, [], Bool, true, false, List, Some, length, slice_get, get_or, refl, sym, ap, ap₂, ◌∙◌, subst, inl, inr, arith, append-nil, append_assoc, length-append}
+use Rattle.std.proofs.Common.{◌≡◌, ℕ, zero, suc, ◌+◌, ◌<◌, ◌≤◌, ◌==◌, ◌&&◌, ◌||◌, ◌⊎◌, ◌++◌, ◌∷◌, [], Bool, true, false, List, Some, length, slice_get, get_or, refl, sym, ap, ap₂, ◌∙◌, subst, inl, inr, arith, append-nil, append_assoc, length-append}
+use Rattle.std.specs.List.{Contains}
 use Rattle.std.proofs.lemmas.Bool.{cases_lt, eq-eqb, ne_eqb}
 use Rattle.std.proofs.Math.Seq.{get_or-append_seam}
 use Rattle.std.proofs.lemmas.List.{get_or_append_left}
+use Rattle.std.proofs.lemmas.List.Elements.{Contains-append_left, Contains-append_right}
 use Rattle.std.proofs.lemmas.List.Folds.{list_any-append, list_any_at}
 use Rattle.std.proofs.lemmas.Option.{get_or_from_slice_get, slice_get-get_or, slice_get_within}
 use Rattle.questions.specs.declared.choice.Choice.{Choice}
-use Rattle.questions.specs.declared.choice.Choice.TheVariants.{Steps, Run, Tick}
-use Rattle.questions.specs.Choice.{EachOnce, all_choices, is_among, same_choice, step_below, tick_below}
+use Rattle.questions.specs.declared.choice.Choice.TheVariants.{Steps, Run, Tick, Turn, TurnRun}
+use Rattle.questions.specs.declared.choice.Turns.{Turns}
+use Rattle.questions.specs.declared.choice.Turns.TheVariants as turns
+use Rattle.questions.specs.Choice.{EachOnce, IsChoiceOf, all_choices, is_among, same_choice, step_below, tick_below, turn_below, turn_of}
 
 pub steps_none : step_below 0 ≡ []
 unfolding step_below
@@ -25,6 +29,14 @@ tick_suc : (hart : ℕ) → tick_below (suc hart) ≡ tick_below hart ++ Tick ha
 unfolding tick_below
 tick_suc hart = refl
 
+pub turns_none : (turns : Turns) → turn_below turns 0 ≡ []
+unfolding turn_below
+turns_none turns = refl
+
+turn_suc : (turns : Turns) (process : ℕ) → turn_below turns (suc process) ≡ turn_below turns process ++ turn_of turns process ∷ []
+unfolding turn_below
+turn_suc turns process = refl
+
 -- a step of one hart more
 pub step_more : (hart : ℕ) → step_below (hart + 1) ≡ step_below hart ++ Steps hart 1 ∷ []
 step_more hart = let one : hart + 1 ≡ suc hart = omega arith in ap step_below one ∙ step_suc hart
@@ -33,6 +45,15 @@ step_more hart = let one : hart + 1 ≡ suc hart = omega arith in ap step_below 
 pub tick_more : (hart : ℕ) → tick_below (hart + 1) ≡ tick_below hart ++ Tick hart ∷ []
 tick_more hart = let one : hart + 1 ≡ suc hart = omega arith in ap tick_below one ∙ tick_suc hart
 
+-- a turn of one process more
+pub turn_more : (turns : Turns) (process : ℕ) → turn_below turns (process + 1) ≡ turn_below turns process ++ turn_of turns process ∷ []
+turn_more turns process = let one : process + 1 ≡ suc process = omega arith in ap (turn_below turns) one ∙ turn_suc turns process
+
+-- a turn of a process that has a hart of its own number
+pub turn-range : (turns : Turns) (harts process : ℕ) → process < harts → IsChoiceOf harts (turn_of turns process)
+turn-range turns.Steps harts process below = below
+turn-range turns.Runs harts process below = below
+
 -- ---- no choice twice
 
 -- a choice is the same as itself
@@ -40,6 +61,8 @@ same_choice-self : (choice : Choice) → same_choice choice choice ≡ true
 same_choice-self (Steps hart times) = ap₂ (λ (a b : Bool). a && b) (eq-eqb hart hart refl) (eq-eqb times times refl)
 same_choice-self (Run hart) = eq-eqb hart hart refl
 same_choice-self (Tick hart) = eq-eqb hart hart refl
+same_choice-self (Turn process) = eq-eqb process process refl
+same_choice-self (TurnRun process) = eq-eqb process process refl
 
 once-none : EachOnce []
 once-none i j choice first second = absurd (cc (first))
@@ -117,3 +140,35 @@ events-once harts (suc n) =
 -- all choices of one event
 pub all-once : (harts : ℕ) → EachOnce (all_choices harts)
 all-once harts = events-once harts harts
+
+-- turns of different processes are not the same
+other_turn : (turns : Turns) (p q : ℕ) → same_choice (turn_of turns p) (turn_of turns q) ≡ (p == q)
+other_turn turns.Steps p q = refl
+other_turn turns.Runs p q = refl
+
+-- a turn of a process isn't among those of the processes below it
+no_turn : (turns : Turns) (p n : ℕ) → n ≤ p → is_among (turn_below turns n) (turn_of turns p) ≡ false
+no_turn turns p zero few = ap (λ (cs : List Choice). is_among cs (turn_of turns p)) (turns_none turns)
+no_turn turns p (suc n) few =
+    ap (λ (cs : List Choice). is_among cs (turn_of turns p)) (turn_suc turns n)
+    ∙ list_any-append (same_choice (turn_of turns p)) (turn_below turns n) (turn_of turns n ∷ [])
+    ∙ ap₂ (λ (a b : Bool). a || (b || false)) (no_turn turns p n (omega (arith, few)))
+    (other_turn turns p n ∙ ne_eqb p n (λ same. omega (arith, same, few)))
+
+-- no turn is there twice
+pub turns-once : (turns : Turns) (n : ℕ) → EachOnce (turn_below turns n)
+turns-once turns zero = subst EachOnce (sym (turns_none turns)) once-none
+turns-once turns (suc n) =
+    subst EachOnce (sym (turn_suc turns n)) (once-push (turn_below turns n) (turn_of turns n) (turns-once turns n) (no_turn turns n n (omega arith)))
+
+-- each process has one
+pub turns-each : (turns : Turns) (n p : ℕ) → p < n → Contains (turn_below turns n) (turn_of turns p)
+turns-each turns zero p below = absurd (omega (arith, below))
+turns-each turns (suc n) p below =
+    subst (λ (cs : List Choice). Contains cs (turn_of turns p)) (sym (turn_suc turns n)) (by (cases_lt p n) (λ lower. turns-each turns n p lower))
+  where
+    by : (p < n) ⊎ (n ≤ p) → (p < n → Contains (turn_below turns n) (turn_of turns p)) → Contains (turn_below turns n ++ turn_of turns n ∷ []) (turn_of turns p)
+    by (inl lower) among = Contains-append_left (turn_below turns n) (turn_of turns n ∷ []) (turn_of turns p) (among lower)
+    by (inr past) among =
+        let last : n ≡ p = omega (arith, below, past) in
+        Contains-append_right (turn_below turns n) (turn_of turns n ∷ []) (turn_of turns p) (0, omega arith, ap (turn_of turns) last)

@@ -20,6 +20,7 @@ use Rattle.separation_policy.specs.Policy.{PolicyValue}
 use Rattle.separation_check.specs.Crossings.{crossings_in}
 use Rattle.quiet_runs.specs.Finding.{is_below, runs}
 use Rattle.quiet_runs.specs.Reaching.{names}
+use Rattle.preemption.specs.Tested.{is_for_each}
 use Rattle.questions.specs.declared.atom.Atom.{Atom}
 use Rattle.questions.specs.declared.atom.Holding.{Holding}
 use Rattle.questions.specs.declared.atom.Holding.TheVariants.{Object, Writable, Kind}
@@ -96,6 +97,11 @@ is_any (x ∷ xs) = true
 abbrev pub crosses : PolicyValue → State → Bool
 crosses policy s = is_any (crossings_in policy s)
 
+-- Somebody is on a hart who has no schedule, of a priority that there is. (In a machine with no more processes than harts all
+-- else that is tested here holds.)
+abbrev pub is_unscheduled : State → Bool
+is_unscheduled s = not (is_for_each (length s.queues.harts) s)
+
 -- ---- atoms
 
 -- whether a condition holds of a state, in which the policy doesn't hold if `crossing`
@@ -116,6 +122,7 @@ condition_holds crossing (conditions.SleepsOn p on) s = stands_in (sleepers_of s
 condition_holds crossing (conditions.Holds kind n holding) s = object_holds s.store kind n holding
 condition_holds crossing (conditions.Compares comparison a b) s = compares comparison (term_value s a) (term_value s b)
 condition_holds crossing conditions.Crossing s = crossing
+condition_holds crossing conditions.Unscheduled s = is_unscheduled s
 
 -- whether an atom holds of it
 abbrev pub atom_holds : Bool → State → Atom → Bool
@@ -137,7 +144,7 @@ is_of_policy atom = is_crossing atom.condition
 
 -- ---- ranges
 
--- a condition on a machine of these sizes names what the machine has
+-- a condition on a machine of these sizes names what the machine has, and `Unscheduled` is about one with a hart for each process
 abbrev pub IsConditionOf : Sizes → Condition → Type 0
 IsConditionOf sizes (conditions.Running p) = p < sizes.processes
 IsConditionOf sizes (conditions.Receiving p) = p < sizes.processes
@@ -152,6 +159,7 @@ IsConditionOf sizes (conditions.Accepts p) = p < sizes.processes
 IsConditionOf sizes (conditions.SleepsOn p on) = (p < sizes.processes) × (on < sizes.processes)
 IsConditionOf sizes (conditions.Holds kind n holding) = n < size_in sizes kind
 IsConditionOf sizes (conditions.Compares comparison a b) = IsTermOf sizes a × IsTermOf sizes b
+IsConditionOf sizes conditions.Unscheduled = sizes.processes ≤ sizes.harts
 IsConditionOf sizes _ = Unit {0}
 
 -- so does an atom

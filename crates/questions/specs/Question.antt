@@ -1,5 +1,5 @@
 -- Questions: what may come next, and what is asked of the states that are reached. (Own.)
-use Rattle.std.specs.Prelude.{◌≡◌, ℕ, ◌≤◌, ◌&&◌, ◌||◌, ◌⊎◌, Bool, true, false, List, [], ◌∷◌, ◌++◌, Option, Some, None, IfSome, flat_map, length, slice_index_or}
+use Rattle.std.specs.Prelude.{◌≡◌, ℕ, max, ◌≤◌, ◌&&◌, ◌||◌, ◌⊎◌, Bool, true, false, List, [], ◌∷◌, ◌++◌, Option, Some, None, IfSome, flat_map, length, slice_index_or}
 use Rattle.std.specs.List.{All, list_any, position, sum_by}
 use Rattle.object_store.specs.declared.sizes.Sizes.{Sizes}
 use Rattle.machine_state.specs.State.{State}
@@ -12,9 +12,10 @@ use Rattle.questions.specs.declared.atom.Atom.{Atom}
 use Rattle.questions.specs.declared.atom.Condition.{Condition}
 use Rattle.questions.specs.declared.atom.Condition.TheVariants as conditions
 use Rattle.questions.specs.declared.choice.Choice.{Choice}
-use Rattle.questions.specs.Choice.{EachOnce, IsChoiceOf, all_choices}
+use Rattle.questions.specs.declared.choice.Turns.{Turns}
+use Rattle.questions.specs.Choice.{EachOnce, IsChoiceOf, all_choices, is_turn, turn_below}
 use Rattle.questions.specs.Term.{operand_pages, operand_processes, read_by}
-use Rattle.questions.specs.Atom.{IsAtomOf, all_hold, crosses, is_of_policy}
+use Rattle.questions.specs.Atom.{IsAtomOf, all_hold, crosses, is_any, is_of_policy}
 
 -- ---- properties
 
@@ -129,6 +130,36 @@ with_depth question depth = record question { depth = Some depth }
 -- where so many states are kept
 abbrev pub with_states : QuestionValue → ℕ → QuestionValue
 with_states question states = record question { states = Some states }
+
+-- the harts of a machine with one for each process, and one where there is none
+abbrev pub harts_for : Sizes → ℕ
+harts_for sizes = max 1 sizes.processes
+
+-- the sizes of that machine
+abbrev pub sizes_for : Sizes → Sizes
+sizes_for sizes = record sizes { harts = harts_for sizes }
+
+-- states are counted in which somebody on a hart has no schedule
+abbrev pub unscheduled_count : ℕ → PropertyValue
+unscheduled_count line =
+    property_of line Count ((record { negated = false; condition = conditions.Unscheduled } ∷ []) ∷ [])
+
+-- The same question of the machine with a hart for each process: what may come next is a turn of each, whatever was stated
+-- before. This line counts states as well.
+abbrev pub preempted : QuestionValue → ℕ → Turns → QuestionValue
+preempted question line turns = record question {
+  sizes = sizes_for question.sizes;
+  choices = turn_below turns (harts_for question.sizes);
+  properties = question.properties ++ unscheduled_count line ∷ [];
+}
+
+-- processes take turns
+abbrev pub is_preempted : QuestionValue → Bool
+is_preempted question = list_any is_turn question.choices
+
+-- lines state choices
+abbrev pub has_choices : QuestionValue → Bool
+has_choices question = is_any question.choices
 
 -- the choices of a question: those that lines state, or each event of each hart where none does
 abbrev pub choices_by : ℕ → List Choice → List Choice

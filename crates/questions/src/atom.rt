@@ -88,6 +88,9 @@ pub enum Condition {
     },
     /// The policy of the question doesn't hold.
     Crossing,
+    /// Somebody is on a hart who has no schedule. It is asked of a machine with no more processes than harts. No line has a word
+    /// for it.
+    Unscheduled,
 }
 
 /// A condition, or that it doesn't hold.

@@ -1,7 +1,7 @@
 //! What may come next.
 ghost use Rattle.std.specs.Prelude.{◌≡◌, ◌≤◌, ◌++◌, ◌∷◌, IfOk};
 ghost use Rattle.std.specs.List.{All};
-ghost use Rattle.questions.specs.Choice.{IsChoiceOf, all_choices, same_choice, step_below, tick_below};
+ghost use Rattle.questions.specs.Choice.{IsChoiceOf, all_choices, is_turn, same_choice, step_below, tick_below, turn_below, turn_of};
 
 use cap_format::OutOfMemory;
 use std::alloc::Global;
@@ -15,6 +15,20 @@ pub enum Choice {
     Run { hart: u8 },
     /// A tick of a hart's timer.
     Tick { hart: u8 },
+    /// The next event of a process on the hart of its own number. It has a turn where it is on that hart, or where the hart is
+    /// idle and it is the first of the highest ready queue that isn't empty. Otherwise nothing happens.
+    Turn { process: u8 },
+    /// The same, and then its steps that are quiet, as of a `Run`.
+    TurnRun { process: u8 },
+}
+
+/// What a process does where it has a turn.
+#[derive(Clone, Copy)]
+pub enum Turns {
+    /// Its next event: `Turn`.
+    Steps,
+    /// That, and its quiet steps after it: `TurnRun`.
+    Runs,
 }
 
 /// Whether two choices are the same.
@@ -31,6 +45,8 @@ pub(crate) fn is_same(a: Choice, b: Choice) -> bool
         ) => { hart == other && times == count }
         (Choice::Run { hart }, Choice::Run { hart: other }) => hart == other,
         (Choice::Tick { hart }, Choice::Tick { hart: other }) => hart == other,
+        (Choice::Turn { process }, Choice::Turn { process: other }) => process == other,
+        (Choice::TurnRun { process }, Choice::TurnRun { process: other }) => process == other,
         _ => false,
     }
 }
@@ -47,6 +63,40 @@ pub fn all_choices(alloc: Global, harts: u8) -> Result<Vec<Choice>, OutOfMemory>
     }
     'ticks: for hart in 0..harts {
         choices.push(Choice::Tick { hart })?;
+    }
+    Ok(choices)
+}
+
+/// Whether a choice is a turn of a process.
+pub(crate) fn is_turn(choice: Choice) -> bool
+    ensures { result ≡ is_turn choice }
+{
+    matches!(choice, Choice::Turn { .. } | Choice::TurnRun { .. })
+}
+
+/// A turn of a process.
+fn turn_of(turns: Turns, process: u8) -> Choice
+    ensures { result ≡ turn_of turns process }
+{
+    match turns {
+        Turns::Steps => Choice::Turn { process },
+        Turns::Runs => Choice::TurnRun { process },
+    }
+}
+
+/// A turn of each process of so many.
+#[tactic(auto, using(crate::proofs::Choices::turn_more, crate::proofs::Choices::turns_none))]
+pub(crate) fn all_turns(
+    alloc: Global,
+    turns: Turns,
+    processes: u8,
+) -> Result<Vec<Choice>, OutOfMemory>
+    ensures value { IfOk result (λ choices. choices.items ≡ turn_below turns processes) }
+    ensures range { IfOk result (λ choices. All (IsChoiceOf processes) choices.items) }
+{
+    let mut choices = Vec::new(alloc);
+    'each: for process in 0..processes {
+        choices.push(turn_of(turns, process))?;
     }
     Ok(choices)
 }

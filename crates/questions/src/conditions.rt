@@ -9,6 +9,7 @@ ghost use Rattle.questions.specs.Atom.{IsConditionOf, accepts_some, condition_ho
 use crate::atom::Condition;
 use crate::object_holds::object_holds;
 use crate::operand::Width;
+use crate::scheduled::is_unscheduled;
 use crate::standing::{is_asleep, some_on_hart, some_ready};
 use crate::term_values::{number_in, terms_compare};
 use cap_format::FaultCode;
@@ -68,6 +69,7 @@ pub(crate) fn condition_holds<T: Translator, L: Ledger>(
             second,
         } => terms_compare(machine, *comparison, first, second),
         Condition::Crossing => crossing,
+        Condition::Unscheduled => is_unscheduled(machine),
     }
 }
 

@@ -15,6 +15,7 @@ mod operand;
 mod properties;
 mod property;
 mod question;
+mod scheduled;
 mod standing;
 mod term;
 mod term_values;
@@ -22,7 +23,7 @@ mod watching;
 
 pub use asks::Asks;
 pub use atom::{Atom, Condition, Holding};
-pub use choice::{Choice, all_choices};
+pub use choice::{Choice, Turns, all_choices};
 pub use crossing::crosses;
 pub use judging::{first_failing, first_holds, holds, is_indifferent};
 pub use operand::{Comparison, Operand, Operator, Width};

@@ -2,10 +2,12 @@
 ghost use Rattle.std.specs.Prelude.{◌≡◌, ◌<◌, ◌≤◌, false, OnOk, OnErr, IfOk, length, IfSome};
 ghost use Rattle.std.specs.List.{All};
 ghost use Rattle.questions.specs.Choice.{EachOnce, IsChoiceOf, is_among};
-ghost use Rattle.questions.specs.Question.{IsPropertyOf, nothing_asked, with_choice, with_property, with_depth, with_states, choices_of};
+ghost use Rattle.questions.specs.Question.{IsPropertyOf, choices_of, harts_for, has_choices, is_preempted, nothing_asked, preempted, unscheduled_count, with_choice, with_depth, with_property, with_states};
 
-use crate::choice::{Choice, all_choices, is_same};
-use crate::property::Property;
+use crate::asks::Asks;
+use crate::atom::{Atom, Condition};
+use crate::choice::{Choice, Turns, all_choices, all_turns, is_same, is_turn};
+use crate::property::{Group, Property};
 use cap_format::OutOfMemory;
 use object_store::Sizes;
 use std::alloc::Global;
@@ -111,6 +113,37 @@ impl Question {
         Ok(())
     }
 
+    /// Asks the same of the machine with a hart for each process, and at least one: what may come next is a turn of each process,
+    /// in the place of all choices that were stated. It is counted in how many states somebody on a hart has no schedule, as if
+    /// this line asked for that. Where memory is wanting, the question is as it was.
+    pub fn preempt(&mut self, alloc: Global, line: u32, turns: Turns) -> Result<(), OutOfMemory>
+        requires { self.old.sizes.processes ≤ 8 }
+        ensures ok { OnOk result (self.new ≡ preempted self.old line turns) }
+        ensures err { OnErr result (self.new ≡ self.old) }
+    {
+        let harts = harts_for(self.sizes);
+        let choices = all_turns(alloc, turns, harts)?;
+        let property = unscheduled_count(alloc, line)?;
+        self.properties.push(property)?;
+        self.choices = choices;
+        self.sizes.harts = harts;
+        Ok(())
+    }
+
+    /// Whether processes take turns.
+    pub fn is_preempted(&self) -> bool
+        ensures { result ≡ is_preempted self.now }
+    {
+        self.choices.iter().any(|choice| is_turn(*choice))
+    }
+
+    /// Whether any choice was stated.
+    pub fn has_choices(&self) -> bool
+        ensures { result ≡ has_choices self.now }
+    {
+        !self.choices.is_empty()
+    }
+
     /// Asks something.
     pub fn ask(&mut self, property: Property) -> Result<(), OutOfMemory>
         requires { IsPropertyOf self.old.sizes property }
@@ -135,4 +168,30 @@ impl Question {
     {
         self.states = Some(states);
     }
+}
+
+/// The harts of a machine of such sizes with one for each process, and one where there is none.
+fn harts_for(sizes: Sizes) -> u8
+    requires { sizes.processes ≤ 8 }
+    ensures { result ≡ harts_for sizes }
+{
+    if sizes.processes == 0 {
+        1
+    } else {
+        sizes.processes as u8
+    }
+}
+
+/// What counts the states in which somebody on a hart has no schedule, as the line of this number.
+fn unscheduled_count(alloc: Global, line: u32) -> Result<Property, OutOfMemory>
+    ensures { IfOk result (λ property. property ≡ unscheduled_count line) }
+{
+    let mut atoms = Vec::new(alloc);
+    atoms.push(Atom {
+        negated: false,
+        condition: Condition::Unscheduled,
+    })?;
+    let mut groups = Vec::new(alloc);
+    groups.push(Group::new(atoms))?;
+    Ok(Property::new(alloc, line, Asks::Count, groups))
 }

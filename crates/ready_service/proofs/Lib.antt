@@ -2,4 +2,4 @@ mod Positions
 mod Rows
 mod Parts
 mod Instructions
-mod Served
+pub mod Served

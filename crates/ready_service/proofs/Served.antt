@@ -30,9 +30,9 @@ same_or_other (Some q) p = elim (cases_eq q p) [
 
 module _ (p priority : ℕ) where
   -- the process is `taken` places further to the front, or in any case not further back, or was stopped
-  record Moves (taken : ℕ) (s t : State) : Type 0 where
-    harts : length t.queues.harts ≡ length s.queues.harts
-    place : ((n : ℕ) → IsAmongFirst p n (ready_queue s.queues priority) → IsAmongFirst p (n - taken) (ready_queue t.queues priority)) ⊎ IsStopped p t.store.contents.processes
+  pub record Moves (taken : ℕ) (s t : State) : Type 0 where
+    pub harts : length t.queues.harts ≡ length s.queues.harts
+    pub place : ((n : ℕ) → IsAmongFirst p n (ready_queue s.queues priority) → IsAmongFirst p (n - taken) (ready_queue t.queues priority)) ⊎ IsStopped p t.store.contents.processes
 
   -- nobody comes before it
   waits-moves : (s t : State) → Waits p priority s t → Moves 0 s t
@@ -74,7 +74,7 @@ module _ (p priority : ℕ) where
     by-moves (Tick hart) there other = tick-moves (performer_by s (Tick hart)) other
 
     -- an event that it doesn't perform
-    event-moves : (e : Event) → hart_in e < length s.queues.harts → performer s e ≢ Some p → Moves (one_from priority (source_of s e)) s (event_of s e).state
+    pub event-moves : (e : Event) → hart_in e < length s.queues.harts → performer s e ≢ Some p → Moves (one_from priority (source_of s e)) s (event_of s e).state
     event-moves e there = by s.halted
       where
         by : (halted : Bool) → (if halted then None else performer_by s e) ≢ Some p → Moves (one_from priority (if halted then None else source_by s e)) s (if halted then done s else event_by s e).state

@@ -1,5 +1,5 @@
 -- How many slots of GPTs are read at most to make a choice. (Own.)
-use Rattle.std.specs.Prelude.{ℕ, zero, suc, ◌+◌, ◌*◌, List, [], ◌∷◌}
+use Rattle.std.specs.Prelude.{ℕ, zero, suc, ◌+◌, ◌*◌, if◌then◌else◌, List, [], ◌∷◌}
 use Rattle.cap_format.specs.declared.kind.CapKind.TheVariants.{Gpt}
 use Rattle.object_store.specs.Store.{size_of}
 use Rattle.machine_state.specs.declared.event.Event.TheVariants.{Step, Tick}
@@ -8,8 +8,9 @@ use Rattle.event_reach.specs.Reads.{a_plain_look}
 use Rattle.state_parts.specs.Slots.{event_slots}
 use Rattle.quiet_runs.specs.Runs.{Watch, after_step}
 use Rattle.quiet_runs.specs.Finding.{quiet_steps}
+use Rattle.preemption.specs.Searched.{has_turn}
 use Rattle.questions.specs.declared.choice.Choice.{Choice}
-use Rattle.questions.specs.declared.choice.Choice.TheVariants.{Steps, Run, Tick as TimerTick}
+use Rattle.questions.specs.declared.choice.Choice.TheVariants.{Steps, Run, Tick as TimerTick, Turn, TurnRun}
 use Rattle.questions.specs.Choice.{after_choice, choice_at}
 use Rattle.state_choices.specs.Steps.{after_steps}
 
@@ -34,12 +35,18 @@ reaching_slots s = let gpts = size_of s.store.items Gpt in 16 * gpts + 16 * gpts
 abbrev pub looks_slots : ℕ → ℕ → State → ℕ
 looks_slots hart times s = suc times * a_plain_look + steps_slots hart times s
 
--- by the events of a choice: a run of a hart is a step of it, and then those that are quiet
+-- by a run of a hart: a step of it, and then those that are quiet
+abbrev pub run_slots : Watch → State → ℕ → ℕ
+run_slots watch s hart =
+    let t = after_step s hart in event_slots s (Step hart) + (reaching_slots t + looks_slots hart (quiet_steps watch t hart) t)
+
+-- by the events of a choice: a process that has no turn reads nothing
 abbrev pub made_slots : Watch → State → Choice → ℕ
 made_slots watch s (Steps hart times) = steps_slots hart times s
-made_slots watch s (Run hart) =
-    let t = after_step s hart in event_slots s (Step hart) + (reaching_slots t + looks_slots hart (quiet_steps watch t hart) t)
+made_slots watch s (Run hart) = run_slots watch s hart
 made_slots watch s (TimerTick hart) = event_slots s (Tick hart)
+made_slots watch s (Turn process) = if has_turn s process then event_slots s (Step process) else 0
+made_slots watch s (TurnRun process) = if has_turn s process then run_slots watch s process else 0
 
 -- by a choice from a state: to go there, by its events, and for the key of the state to which it leads, which has as many GPTs
 abbrev pub choice_slots : Watch → State → Choice → ℕ

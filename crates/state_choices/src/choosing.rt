@@ -6,6 +6,7 @@ ghost use Rattle.machine_state.specs.Machine.{hart_in};
 ghost use Rattle.machine_state.specs.State.{state_of};
 ghost use Rattle.quiet_runs.specs.Runs.{after_step};
 ghost use Rattle.quiet_runs.specs.Finding.{quiet_steps};
+ghost use Rattle.preemption.specs.Searched.{has_turn};
 ghost use Rattle.quiet_finding.specs.Reaching.{IsReaching};
 ghost use Rattle.quiet_finding.specs.Walks.{AreKeptOn};
 ghost use Rattle.quiet_finding.specs.Watched.{watch_of};
@@ -59,7 +60,7 @@ pub fn chosen<L: Ledger>(
     Ok(key)
 }
 
-/// Performs the events of a choice, and answers it with its steps counted.
+/// Performs the events of a choice, and answers it with its steps counted. A process that has no turn performs none.
 fn choose<L: Ledger>(
     alloc: Global,
     states: &mut States,
@@ -92,6 +93,40 @@ fn choose<L: Ledger>(
             states.perform(Event::Tick(hart), records, fetches)?;
             Ok(choice)
         }
+        Choice::Turn { process } => {
+            if !has_turn(states.machine(), process) {
+                return Ok(choice);
+            }
+            states.perform(Event::Step(process), records, fetches)?;
+            Ok(Choice::Steps {
+                hart: process,
+                times: 1,
+            })
+        }
+        Choice::TurnRun { process } => {
+            if !has_turn(states.machine(), process) {
+                return Ok(choice);
+            }
+            let times = run(alloc, states, process, watched, looks, records, fetches)?;
+            Ok(Choice::Steps {
+                hart: process,
+                times,
+            })
+        }
+    }
+}
+
+/// Whether a process has a turn: it would perform the step of the hart of its own number.
+fn has_turn(machine: &Machine<MapCache>, process: u8) -> bool
+    requires { process < machine.now.objects.harts }
+    ensures { result ≡ has_turn (state_of machine.now) process }
+{
+    if machine.halted() {
+        return false;
+    }
+    match machine.queues().next_on(process) {
+        Some(p) => p == u16::from(process),
+        None => false,
     }
 }
 

@@ -4,7 +4,7 @@ use crate::starts::barred;
 use listing_read::PolicyFault;
 use object_store::Sizes;
 use question_lines::{Next, QuestionFault, Untaken, read_question};
-use questions::{Asks, Group, Question};
+use questions::{Asks, Choice, Group, Question};
 use separation_policy::Policy;
 use std::alloc::Global;
 use std::process::Abort;
@@ -36,6 +36,12 @@ Taken |may run 0|
 Taken |may step 1 1|
 question |may step 1 2|
 Taken |may tick 0|
+WrongChoices |preempted|
+WrongChoices |preempted step|
+WrongWords |preempted step 0|
+WrongWords |preempted run 0|
+UnknownEvent |preempted run|
+UnknownQuestion |Preempted|
 UnknownEvent |may|
 UnknownEvent |may round 1|
 WrongWords |may step|
@@ -208,6 +214,29 @@ NoDomain |logs b|
 WrongWords |end 1|
 schedule |end|";
 
+/// The same where a first line says that processes take turns: no line behind it may say so again, or state a choice.
+const TURNS: &str = "\
+question |preempted step|
+Taken |preempted|
+Taken |preempted step|
+WrongWords |preempted step 1|
+UnknownEvent |preempted tick|
+WrongChoices |may step 0|
+WrongChoices |may tick 9|
+WrongChoices |may round|
+question |never stuck|
+question |depth 4|
+WrongChoices |may run 1|";
+
+/// The same of a machine with nine processes.
+const TOO_MANY: &str = "\
+TooManyProcesses |preempted|
+TooManyProcesses |preempted step|
+WrongWords |preempted step 1|
+UnknownEvent |preempted nine|
+question |may tick 1|
+WrongChoices |preempted|";
+
 /// What a line asks, how many atoms each of the groups has in front of its `must`, how many each of the others, and the line in
 /// bars.
 const MADE: &str = "\
@@ -274,16 +303,59 @@ fn check_row(
     assert!(rt; name == wanted, "{row}: {name}");
 }
 
+/// Reads the lines of rows, one behind the other, of a machine with so many processes.
+fn read_rows(rt: &impl Abort, alloc: Global, processes: u16, rows: &str) -> Question {
+    let mut sizes = SIZES;
+    sizes.processes = processes;
+    let mut question = Question::new(alloc, sizes);
+    let mut policy = Policy::new(alloc, sizes).expect(rt, rows);
+    for row in rows.lines() {
+        check_row(rt, alloc, row, &mut question, &mut policy);
+    }
+    question
+}
+
 #[test]
 fn the_first_fault_of_a_line_is_told(rt: HostRuntime) -> Result<(), Fail> {
-    let alloc = rt.alloc();
-    let mut question = Question::new(alloc, SIZES);
-    let mut policy = Policy::new(alloc, SIZES)?;
-    for row in LINES.lines() {
-        check_row(&rt, alloc, row, &mut question, &mut policy);
-    }
+    let question = read_rows(&rt, rt.alloc(), 3, LINES);
     assert_eq!(rt; question.depth(), Some(0));
     assert_eq!(rt; question.states(), Some(1));
+    Ok(())
+}
+
+/// Tells choices by their letters: the turn of a process, with its quiet steps or without them, or another choice.
+fn told_choices(rt: &impl Abort, alloc: Global, row: &str, choices: &[Choice]) -> String {
+    let mut text = String::new(alloc);
+    for choice in choices {
+        let (letter, number) = match choice {
+            Choice::Turn { process } => ("s", *process),
+            Choice::TurnRun { process } => ("r", *process),
+            Choice::Steps { hart, .. } => ("steps", *hart),
+            Choice::Run { hart } => ("run", *hart),
+            Choice::Tick { hart } => ("tick", *hart),
+        };
+        text = format!(in alloc; "{text}{letter}{number} ").expect(rt, row);
+    }
+    text
+}
+
+/// Reads rows of a machine with so many processes, and tells the choices that they make, and how many properties.
+fn check_choices(rt: &impl Abort, alloc: Global, processes: u16, rows: &str, wanted: &str) {
+    let question = read_rows(rt, alloc, processes, rows);
+    let choices = question.choices(alloc).expect(rt, rows);
+    let made = told_choices(rt, alloc, rows, &choices);
+    let count = question.properties().len();
+    let made = format!(in alloc; "{made}{count}").expect(rt, rows);
+    assert!(rt; made.as_str() == wanted, "{rows}: {made}");
+}
+
+#[test]
+fn a_line_makes_turns_of_all_processes(rt: HostRuntime) -> Result<(), Fail> {
+    let alloc = rt.alloc();
+    check_choices(&rt, alloc, 3, TURNS, "s0 s1 s2 2");
+    check_choices(&rt, alloc, 8, "question |preempted|", "r0 r1 r2 r3 r4 r5 r6 r7 1");
+    check_choices(&rt, alloc, 0, "question |preempted|", "r0 1");
+    check_choices(&rt, alloc, 9, TOO_MANY, "tick1 0");
     Ok(())
 }
 

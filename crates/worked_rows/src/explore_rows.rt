@@ -1176,6 +1176,86 @@ end
 found 16 depth=4
 step 0 5
 ==
+0 none: a process takes turns
+coyotos 1
+machine 1 1 0 1 1 0
+code 0 000 addi x1 x0 5
+code 0 004 ebreak
+slot 0 0 page:0@12/0
+process 0 0 gpt:0@16/0 schedule:3 null run
+end
+preempted step
+never halted
+end
+=>
+holds states=3 tried=3 depth=2 harts=any
+==
+11 none: a process takes one turn at most
+coyotos 1
+machine 1 1 0 1 1 0
+code 0 000 addi x1 x0 5
+code 0 004 ebreak
+slot 0 0 page:0@12/0
+process 0 0 gpt:0@16/0 schedule:3 null run
+end
+preempted step
+depth 1
+never faulted 0
+end
+=>
+open states=2 tried=2 depth=1 harts=any
+==
+0 none: two processes take turns, the second where the first is on a hart or no more
+coyotos 1
+machine 1 1 0 1 2 0
+code 0 000 addi x1 x0 1
+code 0 004 ebreak
+slot 0 0 page:0@12/0
+process 0 0 gpt:0@16/0 schedule:3 null run
+process 1 0 gpt:0@16/0 schedule:3 null run
+end
+preempted step
+count faulted 0 and faulted 1
+never halted
+end
+=>
+count 10 states=1 depth=4
+holds states=7 tried=14 depth=4 harts=any
+==
+10 none: the schedule is one of two harts
+coyotos 1
+machine 1 1 0 1 2 0
+code 0 000 addi x1 x0 1
+code 0 004 ebreak
+slot 0 0 page:0@12/0
+process 0 0 gpt:0@16/0 schedule:3 null run
+process 1 0 gpt:0@16/0 schedule:3 null run
+end
+preempted
+never faulted 1
+end
+=>
+found 10 depth=3 harts=2
+step 0 1
+step 1 2
+==
+10 none: who is on a hart behind the schedule is on his own
+coyotos 1
+machine 1 1 0 1 2 0
+code 0 000 addi x1 x0 1
+code 0 004 ebreak
+slot 0 0 page:0@12/0
+process 0 0 gpt:0@16/0 schedule:3 null run
+process 1 0 gpt:0@16/0 schedule:3 null run
+end
+preempted step
+never faulted 1
+end
+step 0 3
+=>
+found 10 depth=1 harts=2
+step 1 1
+==
 0 --help
 =>
 usage: explore

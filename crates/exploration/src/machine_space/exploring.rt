@@ -31,8 +31,8 @@ use steps::Steps;
 #[derive(Drop)]
 pub struct Answered {
     pub explored: Explored,
-    /// The choices that the answer tells, each as so many steps or a tick: those that lead to the state that it tells, and
-    /// behind them, where something is avoided, those of the cycle; none where it tells of nothing.
+    /// The choices that the answer tells, each as so many steps, a tick, or the turn of a process that has none: those that lead to
+    /// the state that it tells, and behind them, where something is avoided, those of the cycle; none where it tells of nothing.
     pub shown: Vec<Choice>,
 }
 

@@ -3,13 +3,26 @@ use Rattle.std.specs.Prelude.{◌+◌, ◌==◌, ◌&&◌, nat_le, Bool, false, 
 use Rattle.listing_read.specs.declared.schedule.Timed.{Timed}
 use Rattle.listing_read.specs.declared.schedule.Timed.TheVariants.{Step, Tick, Round}
 use Rattle.questions.specs.declared.choice.Choice.{Choice}
-use Rattle.questions.specs.declared.choice.Choice.TheVariants.{Steps, Run, Tick as TimerTick}
+use Rattle.questions.specs.declared.choice.Choice.TheVariants.{Steps, Run, Tick as TimerTick, Turn, TurnRun}
 
--- what the line of a choice asks for whose steps are counted; a run of which they aren't is its first step
-abbrev pub line_of_choice : Choice → Timed
-line_of_choice (Steps hart times) = Step hart times
-line_of_choice (Run hart) = Step hart 1
-line_of_choice (TimerTick hart) = Tick hart
+-- what the line of a choice asks for whose steps are counted; a run of which they aren't is its first step, and a turn is of a
+-- process that had none, which has no line
+abbrev pub line_of_choice : Choice → Option Timed
+line_of_choice (Steps hart times) = Some (Step hart times)
+line_of_choice (Run hart) = Some (Step hart 1)
+line_of_choice (TimerTick hart) = Some (Tick hart)
+line_of_choice (Turn process) = None
+line_of_choice (TurnRun process) = None
+
+-- a line before others, if there is one
+abbrev pub in_front : Option Timed → List Timed → List Timed
+in_front None rest = rest
+in_front (Some line) rest = line ∷ rest
+
+-- the lines that there are
+abbrev pub lines_of : List (Option Timed) → List Timed
+lines_of [] = []
+lines_of (line ∷ rest) = in_front line (lines_of rest)
 
 -- both are steps of one hart, and together no more than one line may ask for
 abbrev pub are_one : Timed → Timed → Bool
@@ -39,9 +52,14 @@ joined (line ∷ rest) = joined_from line rest
 
 -- the schedule of choices whose steps are counted
 abbrev pub schedule_of : List Choice → List Timed
-schedule_of choices = joined (map line_of_choice choices)
+schedule_of choices = joined (lines_of (map line_of_choice choices))
 
--- the line to which the next one leads, where a line may stand before it
-abbrev pub next_line : Option Timed → Timed → Timed
-next_line None next = next
-next_line (Some line) next = if are_one line next then as_one line next else next
+-- the line to which one leads that stands before the next
+abbrev pub line_with : Timed → Timed → Timed
+line_with line next = if are_one line next then as_one line next else next
+
+-- the line to which the next one leads, where either may be there
+abbrev pub next_line : Option Timed → Option Timed → Option Timed
+next_line line None = line
+next_line None (Some next) = Some next
+next_line (Some line) (Some next) = Some (line_with line next)

@@ -1,6 +1,6 @@
 -- What is told of an exploration: whether all properties hold, or the choices that lead to a state in which one doesn't, or to
 -- a cycle that avoids what must come. (Own.)
-use Rattle.std.specs.Prelude.{ℕ, List, [], ◌++◌, length, take, drop, codes, decimal, slice_index, slice_index_or, if◌then◌else◌, Option, Some, None}
+use Rattle.std.specs.Prelude.{ℕ, Bool, true, false, List, [], ◌++◌, length, take, drop, codes, decimal, slice_index, slice_index_or, if◌then◌else◌, Option, Some, None}
 use Rattle.breadth_first.specs.declared.answer.Count.{Count}
 use Rattle.breadth_first.specs.declared.answer.Explored.{Explored}
 use Rattle.breadth_first.specs.declared.answer.Explored.TheVariants.{Found, Closed, Open}
@@ -9,11 +9,12 @@ use Rattle.breadth_first.specs.declared.answer.Missed.TheVariants.{Lost, Avoided
 use Rattle.breadth_first.specs.declared.answer.Size.{Size}
 use Rattle.listing_read.specs.declared.schedule.Timed.{Timed}
 use Rattle.questions.specs.declared.choice.Choice.{Choice}
-use Rattle.questions.specs.Question.{PropertyValue, is_count}
+use Rattle.questions.specs.Question.{PropertyValue, QuestionValue}
 use Rattle.questions.specs.Asking.{asking, is_want, property_at}
 use Rattle.run_text.specs.Each.{each_below}
 use Rattle.statement_text.specs.Text.{event_text, events_text}
 use Rattle.explore_program.specs.explored_text.Schedule.{are_one, schedule_of}
+use Rattle.explore_program.specs.explored_text.Spread.{counted_property, counts_unscheduled, is_spread, no_count, told_harts}
 
 -- ---- choices
 
@@ -27,25 +28,39 @@ last_text None = []
 last_text (Some line) = event_text line
 
 -- and where the next line isn't one with it
-abbrev pub text_before : Option Timed → Timed → List ℕ
+abbrev pub text_before : Option Timed → Option Timed → List ℕ
 text_before None next = []
-text_before (Some line) next = if are_one line next then [] else event_text line
+text_before (Some line) None = []
+text_before (Some line) (Some next) = if are_one line next then [] else event_text line
 
 -- ---- lines
 
--- the line of a word, the line of a property and how many choices lead to a state
-unfoldable pub led_text : List ℕ → ℕ → ℕ → List ℕ
-led_text word line depth = word ++ codes " " ++ decimal line ++ codes " depth=" ++ decimal depth ++ codes "\n"
+-- of how many harts the machine is whose schedules are told, where it isn't that of the listing
+abbrev pub harts_text : Option ℕ → List ℕ
+harts_text None = []
+harts_text (Some harts) = codes " harts=" ++ decimal harts
 
--- the line of a property that can be avoided, how many choices lead to a state of a cycle, and how many the cycle has
-unfoldable pub avoided_line : ℕ → ℕ → ℕ → List ℕ
-avoided_line line depth loop =
-    codes "avoided " ++ decimal line ++ codes " depth=" ++ decimal depth ++ codes " loop=" ++ decimal loop ++ codes "\n"
+-- that something is said of any number of harts, where it is
+abbrev pub spread_text : Bool → List ℕ
+spread_text true = codes " harts=any"
+spread_text false = []
 
--- how far an exploration came
-unfoldable pub size_text : List ℕ → Size → List ℕ
-size_text word size =
-    word ++ codes " states=" ++ decimal size.states ++ codes " tried=" ++ decimal size.tried ++ codes " depth=" ++ decimal size.depth ++ codes "\n"
+-- the line of a word, the line of a property, how many choices lead to a state, and the harts
+unfoldable pub led_text : List ℕ → ℕ → ℕ → Option ℕ → List ℕ
+led_text word line depth harts =
+    word ++ codes " " ++ decimal line ++ codes " depth=" ++ decimal depth ++ harts_text harts ++ codes "\n"
+
+-- the line of a property that can be avoided, how many choices lead to a state of a cycle, how many the cycle has, and the harts
+unfoldable pub avoided_line : ℕ → ℕ → ℕ → Option ℕ → List ℕ
+avoided_line line depth loop harts =
+    codes "avoided " ++ decimal line ++ codes " depth=" ++ decimal depth ++ codes " loop=" ++ decimal loop ++ harts_text harts
+    ++ codes "\n"
+
+-- how far an exploration came, and whether that is said of any number of harts
+unfoldable pub size_text : List ℕ → Size → Bool → List ℕ
+size_text word size spread =
+    word ++ codes " states=" ++ decimal size.states ++ codes " tried=" ++ decimal size.tried
+    ++ codes " depth=" ++ decimal size.depth ++ spread_text spread ++ codes "\n"
 
 -- how many choices lead to the first of some states, where there are any
 abbrev pub first_text : Option ℕ → List ℕ
@@ -58,25 +73,24 @@ count_text line count = codes "count " ++ decimal line ++ codes " states=" ++ de
 
 -- ---- all
 
--- nothing was counted
-abbrev pub no_count : Count
-no_count = record { states = 0; first = None }
-
--- the line of the count with this place
+-- the line of the count with this place; that of who has no schedule has none, and stands in `harts=any`
 abbrev pub counted_text : List PropertyValue → List Count → ℕ → List ℕ
-counted_text properties counts i = count_text (property_at properties (slice_index (asking is_count properties) i)).line (slice_index_or counts i no_count)
+counted_text properties counts i =
+    if counts_unscheduled properties i then []
+    else count_text (counted_property properties i).line (slice_index_or counts i no_count)
 
 -- the lines of all counts
 abbrev pub counts_text : List PropertyValue → List Count → List ℕ
 counts_text properties counts = each_below (counted_text properties counts) (length counts)
 
 -- a state that a property is about, how many choices lead to it, and these with their steps counted
-unfoldable pub led_to : List ℕ → ℕ → List ℕ → List Choice → List ℕ
-led_to word line path shown = led_text word line (length path) ++ choices_text shown
+unfoldable pub led_to : List ℕ → ℕ → List ℕ → Option ℕ → List Choice → List ℕ
+led_to word line path harts shown = led_text word line (length path) harts ++ choices_text shown
 
 -- a property that can be avoided, the choices that lead to a state of a cycle, and those of the cycle
-unfoldable pub avoided_text : ℕ → List Choice → List Choice → List ℕ
-avoided_text line path cycle = avoided_line line (length path) (length cycle) ++ (choices_text path ++ choices_text cycle)
+unfoldable pub avoided_text : ℕ → Option ℕ → List Choice → List Choice → List ℕ
+avoided_text line harts path cycle =
+    avoided_line line (length path) (length cycle) harts ++ (choices_text path ++ choices_text cycle)
 
 -- the line of the property that is this one of those that ask what comes
 abbrev pub want_line : List PropertyValue → ℕ → ℕ
@@ -84,18 +98,23 @@ want_line properties want = (property_at properties (slice_index (asking is_want
 
 -- what is told of a property that isn't met: the choices to a state from which nothing leads to its atoms; or those to a cycle
 -- that avoids them, and those of the cycle, which stand behind them
-abbrev pub missed_text : List PropertyValue → List Choice → Missed → List ℕ
-missed_text properties shown (Lost lost) = led_to (codes "lost") (want_line properties lost.want) lost.path.items shown
-missed_text properties shown (Avoided avoided) =
-    avoided_text (want_line properties avoided.want) (take (length avoided.path.items) shown) (drop (length avoided.path.items) shown)
+abbrev pub missed_text : QuestionValue → List Choice → Missed → List ℕ
+missed_text question shown (Lost lost) =
+    led_to (codes "lost") (want_line question.properties lost.want) lost.path.items (told_harts question) shown
+missed_text question shown (Avoided avoided) =
+    avoided_text (want_line question.properties avoided.want) (told_harts question)
+    (take (length avoided.path.items) shown) (drop (length avoided.path.items) shown)
 
--- what is told where all states were seen: that all holds, or what isn't met
-abbrev pub closed_text : List PropertyValue → List Choice → Size → Option Missed → List ℕ
-closed_text properties shown size None = size_text (codes "holds") size
-closed_text properties shown size (Some missed) = missed_text properties shown missed
+-- what is told where all states were seen: that all holds, and whether of any number of harts, or what isn't met
+abbrev pub closed_text : QuestionValue → List Choice → Size → Bool → Option Missed → List ℕ
+closed_text question shown size spread None = size_text (codes "holds") size spread
+closed_text question shown size spread (Some missed) = missed_text question shown missed
 
 -- what is told of an exploration, where these are the choices that lead to the state that it tells, or show what isn't met
-unfoldable pub explored_text : List PropertyValue → List Choice → Explored → List ℕ
-explored_text properties shown (Found n path) = led_to (codes "found") (property_at properties n).line path.items shown
-explored_text properties shown (Closed size counts missed) = counts_text properties counts.items ++ closed_text properties shown size missed
-explored_text properties shown (Open size counts) = counts_text properties counts.items ++ size_text (codes "open") size
+unfoldable pub explored_text : QuestionValue → List Choice → Explored → List ℕ
+explored_text question shown (Found n path) =
+    led_to (codes "found") (property_at question.properties n).line path.items (told_harts question) shown
+explored_text question shown (Closed size counts missed) =
+    counts_text question.properties counts.items ++ closed_text question shown size (is_spread question counts.items) missed
+explored_text question shown (Open size counts) =
+    counts_text question.properties counts.items ++ size_text (codes "open") size (is_spread question counts.items)

@@ -3,8 +3,10 @@ ghost use Rattle.std.specs.Prelude.{◌≡◌, ◌≤◌, ◌<◌, ◌+◌, ◌+
 ghost use Rattle.coy_io.specs.Written.{WroteTo};
 ghost use Rattle.questions.specs.Question.{is_count};
 ghost use Rattle.questions.specs.Asking.{asking};
-ghost use Rattle.explore_program.specs.explored_text.Text.{count_text, counted_text, counts_text, first_text, no_count};
+ghost use Rattle.explore_program.specs.explored_text.Spread.{no_count};
+ghost use Rattle.explore_program.specs.explored_text.Text.{count_text, counted_text, counts_text, first_text};
 
+use crate::explored_text::spread::asks_unscheduled;
 use breadth_first::Count;
 use coy_io::{Sink, WriteFault, put_bytes};
 use coy_text::LineBuf;
@@ -27,7 +29,7 @@ pub(crate) fn put_counts<K: Sink>(
     Ok(())
 }
 
-/// Writes the line of one.
+/// Writes the line of one, unless it is of who has no schedule.
 fn put_counted<K: Sink>(
     properties: &[Property],
     counted: &[usize],
@@ -40,12 +42,12 @@ fn put_counted<K: Sink>(
     ensures { WroteTo K.taken K.faults output.old output.new result
         (counted_text properties.now counts.now i) }
 {
+    let number = number_at(counted, i);
+    if asks_unscheduled(properties, number) {
+        return Ok(());
+    }
     let mut line = LineBuf::new();
-    push_count(
-        line_of(properties, number_at(counted, i)),
-        count_at(counts, i),
-        &mut line,
-    );
+    push_count(line_of(properties, number), count_at(counts, i), &mut line);
     put_bytes(line.as_bytes(), output)
 }
 
@@ -60,7 +62,7 @@ pub(crate) fn number_at(numbers: &[usize], i: usize) -> usize
 }
 
 /// The count at a place of a list.
-fn count_at(counts: &[Count], i: usize) -> Count
+pub(crate) fn count_at(counts: &[Count], i: usize) -> Count
     requires { i < length counts.now }
     ensures { result ≡ slice_index_or counts.now i no_count }
 {

@@ -5,6 +5,7 @@ use Rattle.machine_state.specs.State.{state_of}
 use Rattle.courses.specs.Ending.{EndsIn}
 use Rattle.questions.specs.declared.choice.Choice.{Choice}
 use Rattle.explore_program.specs.Told.{told_by, told_with}
+use Rattle.explore_program.proofs.Preempting.{says-spread}
 use Rattle.explore_program.proofs.Rounds.{avoids-steps, must-steps}
 use Rattle.explore_program.proofs.Schedules.{leads-to}
 use Rattle.exploration.specs.Slots.{explored_in}
@@ -53,6 +54,7 @@ returns-in-Ok-explore_machine-clause-tells g c =
         within = stepwise-within asked s answer says (c.within_stepwise_law.ensures asked.question asked.policy s) rounds
             (avoids-steps c.lasso_stepwise_law.ensures.evasion c.sees_only_law.ensures searched.same searched.decides asked s);
         schedule = leads-to c.migrated_is_read.ensures.events asked s few laws.shown answer says c.in-Ok-explore_machine.answered.shown.items c.in-Ok-explore_machine.ensures.shown c.in-Ok-explore_machine.ensures.range;
+        spread = says-spread asked s answer says;
         is = refl;
       };
       so = λ memory.

@@ -5,7 +5,7 @@ use Rattle.courses.proofs.Rests.{stop-end}
 use Rattle.courses.specs.declared.exit.Exit.TheVariants.{OutOfMemory}
 use Rattle.explore_program.specs.Posed.{IfPosed, IsPosed, posed_by}
 use Rattle.explore_program.specs.Stated.{Stated, untaken_exit}
-use Rattle.explore_program.specs.Told.{Answers}
+use Rattle.explore_program.specs.Told.{AnswersFrom}
 use Rattle.explore_program.proofs.Asking.{asks-none, on_stated, over-at, question-over, question-stopped}
 use Rattle.explore_program.proofs.Setting.{nothing_told}
 use Rattle.explore_program.proofs.Slots.{slots-over, slots-unstated}
@@ -14,7 +14,7 @@ use Rattle.explore_program.proofs.input.ask_lines.Goals as goal
 
 -- the question is over
 pub set_up-requires-clause-sizes : goal.set_up-requires-clause-sizes
-set_up-requires-clause-sizes g c = c.read_questions-stop.ensures.sizes ∙ c.requires.sizes
+set_up-requires-clause-sizes g c = c.read_questions-stop.ensures.sizes _ c.requires.sizes
 
 pub returns-in-None-clause-tells : goal.returns-in-None-clause-tells
 returns-in-None-clause-tells g c =
@@ -28,7 +28,7 @@ returns-in-None-clause-tells g c =
       finished = t.finished;
       answers = λ read memory.
           on_stated c.args.asked c.read_questions-stop.new.asked c.args.lines.now.number c.read_questions-stop.new.lines.number _ _
-          (λ (st : Stated). IfPosed (λ asked s. Answers asked s t.told) (posed_by (state_of m) m.objects.harts st)) over.known (t.answers read memory);
+          (λ (st : Stated). IfPosed (λ asked before s. AnswersFrom asked before s t.told) (posed_by (state_of m) m.objects.harts st)) over.known (t.answers read memory);
       so =
           question-over g.S.Source.held g.S.Source.faults g.K.Sink.taken g.K.Sink.faults c.args.asked c.read_questions-stop.new.asked (state_of m) m.objects.harts
           c.args.lines.now c.set_up.new.lines _ _ t.told t.finished c.read_questions-stop.new.lines _ _ _ _ over (e.quiet (λ same. let bad = sym is ∙ same in cc)) t.so;
@@ -45,7 +45,7 @@ returns-in-Some-clause-tells g c =
       finished = refl;
       answers = λ read memory.
           asks-none g.S.Source.held g.S.Source.faults g.K.Sink.taken g.K.Sink.faults c.args.asked c.read_questions-stop.new.asked (state_of m) m.objects.harts
-          c.args.lines.now c.read_questions-stop.new.lines _ _ (λ asked s. Answers asked s nothing_told) _ _ c.conclude.result c.in-Some.exit c.read_questions-stop.result e.states given c.conclude.ensures read memory;
+          c.args.lines.now c.read_questions-stop.new.lines _ _ (λ asked before s. AnswersFrom asked before s nothing_told) _ _ c.conclude.result c.in-Some.exit c.read_questions-stop.result e.states given c.conclude.ensures read memory;
       so =
           question-stopped g.S.Source.held g.S.Source.faults g.K.Sink.taken g.K.Sink.faults c.args.asked c.read_questions-stop.new.asked (state_of m) m.objects.harts
           c.args.lines.now c.read_questions-stop.new.lines _ _ nothing_told refl _ _ _ c.in-Some.exit c.read_questions-stop.result e.states given e.read e.quiet c.conclude.ensures;

@@ -1,10 +1,12 @@
-use Rattle.std.proofs.Common.{◌∙◌, ap, inl, refl, sym}
+use Rattle.std.proofs.Common.{◌∙◌, ap, inl, refl, subst, sym}
+use Rattle.object_store.specs.Store.{sizes_of}
 use Rattle.map_cache.specs.Cache.{kept_of}
 use Rattle.courses.specs.Course.{cached}
 use Rattle.courses.proofs.Taken.{takes-listing, takes-same}
+use Rattle.explore_program.specs.declared.asked.Asked.{Asked}
 use Rattle.explore_program.specs.Posed.{IfPosed}
-use Rattle.explore_program.specs.Stated.{first_asked}
-use Rattle.explore_program.specs.Told.{Answers, explore_course}
+use Rattle.explore_program.specs.Stated.{IsAskedOf, first_asked}
+use Rattle.explore_program.specs.Told.{AnswersFrom, explore_course}
 use Rattle.explore_program.proofs.Called.{asks-bytes, asks-unlisted, of-listing, takes-none}
 use Rattle.explore_program.proofs.Setting.{nothing_told}
 use Rattle.explore_program.proofs.Slots.{slots-behind, slots-unlisted, slots-wanting}
@@ -18,7 +20,7 @@ returns-in-Err-clause-tells g c =
     record {
       told = nothing_told;
       finished = refl;
-      answers = λ read memory. asks-unlisted (λ asked s. Answers asked s nothing_told) _ (e.unlisted read memory);
+      answers = λ read memory. asks-unlisted (λ asked before s. AnswersFrom asked before s nothing_told) _ (e.unlisted read memory);
       so = e.takes (explore_course nothing_told) cached refl 0;
     }
 
@@ -51,7 +53,7 @@ returns-in_default-boot-clause-tells g c = record {
 pub ask_lines-requires-clause-sizes : goal.ask_lines-requires-clause-sizes
 ask_lines-requires-clause-sizes g c =
     let start = c.in-Ok-new-2.ensures ∙ ap first_asked c.sizes-2.ensures.value in
-    ap (λ a. a.question.sizes) start ∙ sym c.in-Ok-boot.ensures.sizes
+    subst (λ (a : Asked). IsAskedOf a.question (sizes_of c.in-Ok-boot.machine.objects)) (sym start) (sym c.in-Ok-boot.ensures.sizes)
 
 pub returns-clause-tells : goal.returns-clause-tells
 returns-clause-tells g c =
@@ -62,7 +64,7 @@ returns-clause-tells g c =
       told = t.told;
       finished = t.finished;
       answers = λ read memory.
-          asks-bytes c.in-Ok.listing _ _ _ _ c.in-Ok-boot.ensures.state harts start (IfPosed (λ asked s. Answers asked s t.told)) _ _ c.new-lines.result c.read_head.new.lines refl
+          asks-bytes c.in-Ok.listing _ _ _ _ c.in-Ok-boot.ensures.state harts start (IfPosed (λ asked before s. AnswersFrom asked before s t.told)) _ _ c.new-lines.result c.read_head.new.lines refl
           c.new-lines.ensures c.in-Ok.ensures.listed (t.answers read memory);
       so =
           takes-listing g.S.Source.held g.S.Source.faults g.K.Sink.taken g.K.Sink.faults c.new-lines.result c.read_head.new.lines _ c.in-Ok.listing _ _ _ _ _ _ 0 0 _ cached (explore_course t.told)

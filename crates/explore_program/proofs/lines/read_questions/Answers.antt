@@ -11,7 +11,7 @@ use Rattle.explore_program.proofs.lines.read_questions.Goals as goal
 pub lines-init : goal.lines-init
 lines-init g c = record {
   reads = reads_on-none (stated c.args.asked.now c.args.lines.now.number) c.args.lines.now _;
-  sizes = refl;
+  sizes = λ sizes of. of;
   going = c.requires;
   told = λ told. told;
   read = refl;
@@ -24,7 +24,7 @@ lines-preserved g c =
       reads =
           reads_on-trans (stated c.args.asked.now c.args.lines.now.number) (stated c.lines.asked c.lines.lines.number) (stated c.judge_next.new.made c.judge_next.new.lines.number)
           c.args.lines.now c.lines.lines c.judge_next.new.lines _ _ _ c.lines.invariant.reads (reads-line c.lines.asked c.judge_next.new.made c.lines.lines c.judge_next.new.lines _ _ e.next);
-      sizes = came-sizes c.lines.asked c.judge_next.new.made c.lines.lines c.judge_next.new.lines (g.S.Source.held c.lines.source) (g.S.Source.held c.judge_next.new.source) (Ok nexts.Question) e.next ∙ c.lines.invariant.sizes;
+      sizes = λ sizes of. came-sizes c.lines.asked c.judge_next.new.made c.lines.lines c.judge_next.new.lines (g.S.Source.held c.lines.source) (g.S.Source.held c.judge_next.new.source) (Ok nexts.Question) e.next sizes (c.lines.invariant.sizes sizes of);
       going = e.going;
       told = λ told. e.told (c.lines.invariant.told told);
       read = e.quiet (λ same. cc) ∙ c.lines.invariant.read;
@@ -36,10 +36,10 @@ returns-in-Ok-Schedule-clause-states g c =
     states-over c.args.asked.now c.lines.asked c.judge_next.new.made c.args.lines.now c.lines.lines c.judge_next.new.lines _ _ _ c.lines.invariant.reads e.next
 
 pub returns-in-Ok-Schedule-clause-sizes : goal.returns-in-Ok-Schedule-clause-sizes
-returns-in-Ok-Schedule-clause-sizes g c =
+returns-in-Ok-Schedule-clause-sizes g c = λ sizes of.
     let e = rw c.next_number-number.ensures at (rw c.in-Ok-Schedule.field-0-is at c.in-Ok-Schedule.ensures) in
     came-sizes c.lines.asked c.judge_next.new.made c.lines.lines c.judge_next.new.lines (g.S.Source.held c.lines.source) (g.S.Source.held c.judge_next.new.source) (Ok nexts.Schedule) e.next
-    ∙ c.lines.invariant.sizes
+    sizes (c.lines.invariant.sizes sizes of)
 
 pub returns-in-Err-clause-states : goal.returns-in-Err-clause-states
 returns-in-Err-clause-states g c =
@@ -51,8 +51,9 @@ returns-in-Err-clause-states g c =
     (states-rest c.args.asked.now c.lines.asked c.judge_next.new.made c.args.lines.now c.lines.lines c.judge_next.new.lines _ _ _ c.lines.invariant.reads c.in-Err.stop next)
 
 pub returns-in-Err-clause-sizes : goal.returns-in-Err-clause-sizes
-returns-in-Err-clause-sizes g c =
+returns-in-Err-clause-sizes g c = λ sizes of.
     let next =
     subst (λ n. JudgesNext (JudgesQuestionLine n) (Refused LineTooLong) c.lines.asked c.judge_next.new.made c.lines.lines c.judge_next.new.lines (g.S.Source.held c.lines.source) (g.S.Source.held c.judge_next.new.source) (Err c.in-Err.stop))
     c.next_number-number.ensures c.in-Err.ensures.next in
-    came-sizes c.lines.asked c.judge_next.new.made c.lines.lines c.judge_next.new.lines (g.S.Source.held c.lines.source) (g.S.Source.held c.judge_next.new.source) (Err c.in-Err.stop) next ∙ c.lines.invariant.sizes
+    came-sizes c.lines.asked c.judge_next.new.made c.lines.lines c.judge_next.new.lines (g.S.Source.held c.lines.source) (g.S.Source.held c.judge_next.new.source) (Err c.in-Err.stop) next
+    sizes (c.lines.invariant.sizes sizes of)

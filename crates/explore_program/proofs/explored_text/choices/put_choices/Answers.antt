@@ -1,4 +1,4 @@
-use Rattle.std.proofs.Common.{◌≤◌, ◌<◌, ◌+◌, length, map, Some, sym, subst, arith}
+use Rattle.std.proofs.Common.{◌≤◌, ◌<◌, ◌+◌, length, map, sym, subst, arith}
 use Rattle.std.proofs.lemmas.List.{length-map}
 use Rattle.explore_program.specs.explored_text.Schedule.{line_of_choice}
 use Rattle.explore_program.proofs.Schedules.{IsPut, put-none, put-more, put-stops, put-last}
@@ -10,8 +10,8 @@ each-init g c = put-none (g.K.Sink.taken c.args.output.now) (g.K.Sink.faults c.a
 pub each-preserved : goal.each-preserved
 each-preserved g c =
     let inside : c.each.place < length (map line_of_choice c.args.choices.now) = omega (arith, c.each-test.true, length-map c.args.choices.now line_of_choice) in
-    subst (λ t. IsPut (g.K.Sink.taken c.args.output.now) (g.K.Sink.taken c.put_before.new.output) (g.K.Sink.faults c.args.output.now) (g.K.Sink.faults c.put_before.new.output) c.args.choices.now (c.each.place + 1) (Some t))
-    (sym c.with_next.ensures)
+    subst (λ t. IsPut (g.K.Sink.taken c.args.output.now) (g.K.Sink.taken c.put_before.new.output) (g.K.Sink.faults c.args.output.now) (g.K.Sink.faults c.put_before.new.output) c.args.choices.now (c.each.place + 1) t)
+    (sym c.with_next-line.ensures)
     (put-more c.args.choices.now c.each.place c.each.line _ _ _ _ _ _ c.each.invariant c.line_at-next.result inside c.line_at-next.ensures _ c.in_ok-put_before.ensures)
 
 pub returns-in_err-put_before : goal.returns-in_err-put_before
