@@ -3,7 +3,7 @@ use Rattle.std.proofs.Common.{◌≡◌, ℕ, zero, suc, ◌+◌, ◌<◌, ◌++
 use Rattle.std.proofs.lemmas.List.{take_more, length-map}
 use Rattle.separation_policy.specs.declared.policy.Domain.{Domain}
 use Rattle.separation_policy.specs.declared.stage.Stage.{Stage}
-use Rattle.separation_policy.specs.declared.stage.Stage.TheVariants.{Empty, Open, Listed}
+use Rattle.separation_policy.specs.declared.stage.Stage.TheVariants.{Empty, Open, Listing, Listed}
 use Rattle.separation_policy.specs.Policy.{PolicyValue, unmade, domain_at}
 use Rattle.separation_policy.specs.Making.{begun, domain_bare, bare_policy}
 use Rattle.policy_lines.specs.declared.permission.Permission.{Permission}
@@ -31,6 +31,7 @@ one-allowed policy so_far after lines i line there same is more =
 begun-twice : (stage : Stage) → begun (begun stage) ≡ begun stage
 begun-twice Empty = refl
 begun-twice Open = refl
+begun-twice Listing = refl
 begun-twice Listed = refl
 
 map-twice : (domains : List Domain) → map domain_bare (map domain_bare domains) ≡ map domain_bare domains

@@ -28,7 +28,7 @@ use Rattle.policy_lines.specs.Needed.{line_by, if_made, made_line_for}
 use Rattle.policy_lines.proofs.Filtered.{of-none}
 use Rattle.policy_lines.proofs.Made.{made-domain, all-has}
 use Rattle.policy_lines.proofs.More.{stands-more}
-use Rattle.policy_lines.proofs.With.{says, assigned-lines, count-lines, lines-say, lines-are, bare-says, allows-more}
+use Rattle.policy_lines.proofs.With.{says, assigned-lines, count-lines, lines-say, lines-are, bare-says, allows-more, never-apart}
 use Rattle.policy_lines.proofs.Named.{made-some, some-made}
 
 -- what isn't true is false
@@ -92,6 +92,7 @@ module _ (policy : PolicyValue) where
           record { at = so.at; held = so.held; forbidden = denied (may_log bare domain) (λ may. bare-says policy (Logs domain) may); home = so.home ∙ home kind n }
       bare-so (crossings.Sleeper p from to) so =
           record { on = so.on; sleeps = so.sleeps; domain = so.domain ∙ home Process p; other = so.other ∙ home Process so.on; apart = so.apart }
+      bare-so (crossings.View from to) so = absurd (never-apart policy lines from to so.forbidden)
 
       -- ---- what these lines allow
 
@@ -142,6 +143,7 @@ module _ (policy : PolicyValue) where
       allowed law (crossings.Logs kind n i domain) line has at so =
           let told = made-some count (Some (Logs domain)) line has in said-one (Logs domain) line told.0 told.1 at so.forbidden
       allowed law (crossings.Sleeper p from to) line has at so = absurd (cc (has))
+      allowed law (crossings.View from to) line has at so = absurd (cc (has))
 
       -- ---- what no line allows
 
@@ -230,3 +232,4 @@ module _ (policy : PolicyValue) where
         }
         still-so (crossings.Sleeper p from to) none so =
             record { on = so.on; sleeps = so.sleeps; domain = so.domain ∙ sym (home Process p); other = so.other ∙ sym (home Process so.on); apart = so.apart }
+        still-so (crossings.View from to) none so = absurd (never-apart policy [] from to so.forbidden)

@@ -3,17 +3,18 @@ use Rattle.std.proofs.Common.{◌≡◌, ◌≢◌, ◌↔◌, ℕ, true, List, 
 use Rattle.std.specs.List.{Contains}
 use Rattle.machine_state.specs.State.{State}
 use Rattle.confinement.specs.Acts.{system_of}
-use Rattle.separation_policy.specs.Policy.{PolicyValue, PolicyHolds}
+use Rattle.separation_policy.specs.Policy.{PolicyValue, PolicyStands}
 use Rattle.separation_policy.specs.Making.{bare_policy}
 use Rattle.separation_check.specs.declared.crossing.Crossing.{Crossing}
-use Rattle.separation_check.specs.Crossings.{crossings_in}
+use Rattle.separation_check.specs.Crossings.{forbidden_in}
 use Rattle.separation_check.specs.Each.{IsSo, AllLaw, RemedyLaw}
 use Rattle.separation_check.proofs.Listed.{first-element}
 use Rattle.policy_lines.specs.declared.permission.Permission.{Permission}
 use Rattle.policy_lines.specs.Permission.{IsMade}
 use Rattle.policy_lines.specs.Unused.{holds_in}
 use Rattle.policy_lines.specs.Least.{only, AreLeast}
-use Rattle.policy_lines.specs.Needed.{made_line_for, named_by, bare_crossings, barred_in, candidates, least_in, needed_by, needed_in, AreBarred, IsNeeded, IsExact, NeededLaw}
+use Rattle.policy_lines.specs.Needed.{made_line_for, named_by, bare_crossings, barred_in, candidates, least_in, needed_by, needed_in, AreBarred, IsNeeded, NeededLaw}
+use Rattle.policy_lines.specs.Unused.{IsExact}
 use Rattle.policy_lines.proofs.Made.{made-domain, all-has}
 use Rattle.policy_lines.proofs.Filtered.{empty, none, of-none, without-any}
 use Rattle.policy_lines.proofs.With.{lines-say, more_law}
@@ -38,8 +39,8 @@ module _ (all : AllLaw) (remedy : RemedyLaw) (policy : PolicyValue) (s : State) 
   -- ---- where each has a line
 
   -- nothing crosses with the lines that are named
-  none-crosses : barred_in policy s ≡ [] → crossings_in (only policy named) s ≡ []
-  none-crosses e = without-any (crossings_in (only policy named) s) (λ x at.
+  none-crosses : barred_in policy s ≡ [] → forbidden_in (only policy named) s ≡ []
+  none-crosses e = without-any (forbidden_in (only policy named) s) (λ x at.
       let so = ((all (only policy named) s).each x).0 at in
       by x so (((all bare s).each x).1 (bare-so policy named s x so)) (made_line_for count x) refl)
     where
@@ -55,10 +56,10 @@ module _ (all : AllLaw) (remedy : RemedyLaw) (policy : PolicyValue) (s : State) 
       among (only policy named) line (subst (λ (n : ℕ). IsMade n line) (sym (these-count policy named)) made)
       (lines-say bare named line (omega (arith, bare-count policy, domain)) at)
 
-  decides : (lines : List Permission) → (holds_in (only policy lines) s ≡ true) ↔ PolicyHolds (only policy lines) (system_of s)
+  decides : (lines : List Permission) → (holds_in (only policy lines) s ≡ true) ↔ PolicyStands (only policy lines) (system_of s)
   decides lines =
       let law = exact (only policy lines) in
-      (λ none_found. law.0 (empty (crossings_in (only policy lines) s) none_found), λ holds. none (crossings_in (only policy lines) s) (law.1 holds))
+      (λ none_found. law.0 (empty (forbidden_in (only policy lines) s) none_found), λ holds. none (forbidden_in (only policy lines) s) (law.1 holds))
 
   least : barred_in policy s ≡ [] → AreLeast policy (system_of s) (least_in policy s)
   least e =

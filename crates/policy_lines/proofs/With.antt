@@ -6,8 +6,9 @@ use Rattle.std.proofs.lemmas.List.{get_or_past, get_or-set_same, get_or-set_othe
 use Rattle.std.proofs.Math.ListN.{get_or-map}
 use Rattle.operations.specs.System.{System}
 use Rattle.separation_policy.specs.declared.policy.Domain.{Domain}
+use Rattle.separation_policy.specs.declared.domain_set.DomainSet.{DomainSet}
 use Rattle.separation_policy.specs.DomainSet.{has_domain}
-use Rattle.separation_policy.specs.Policy.{PolicyValue, PolicyHolds, unmade, domain_at, may_write}
+use Rattle.separation_policy.specs.Policy.{PolicyValue, PolicyStands, IsApart, is_apart, unmade, domain_at, may_write}
 use Rattle.separation_policy.specs.Making.{domain_bare, bare_policy, domain_reading, domain_writing, domain_halting, domain_logging}
 use Rattle.separation_policy.proofs.Closing.{has-with, has-none}
 use Rattle.separation_policy.proofs.Reaching.{both}
@@ -211,6 +212,45 @@ lines-are policy (line ∷ lines) other said = first (lines-are (with_line polic
     first (inl at) = let same = count-after policy line in let made = at.1 in inl (later-element line lines other at.0, omega (arith, same, made))
     first (inr said) = second (said-is policy line other said)
 
+-- ---- what is apart
+
+-- a line leaves apart what was
+apart-after : (policy : PolicyValue) (line : Permission) (b : ℕ) → (domain_at (with_line policy line) b).apart ≡ (domain_at policy b).apart
+apart-after policy line b = elim (cases_eq b (domain_of_line line)) [
+  | inr other ↦ ap (λ (d : Domain). d.apart) (there-other policy line (Halts b) other)
+  | inl same ↦ elim (cases_lt (domain_of_line line) (length policy.domains)) [
+    | inl made ↦
+        ap (λ (d : Domain). d.apart) (there-same policy line (Halts b) same made)
+        ∙ (kept line (domain_at policy (domain_of_line line))
+        ∙ ap (λ (n : ℕ). (domain_at policy n).apart) (sym same))
+    | inr past ↦
+        let over : length policy.domains ≤ b = omega (arith, past, same) in
+        ap (λ (d : Domain). d.apart) (there-none policy line (Halts b) over ∙ sym (get_or_past policy.domains b unmade over))
+  ]
+]
+  where
+    kept : (line : Permission) (domain : Domain) → (domain_after line domain).apart ≡ domain.apart
+    kept (Reads a b) domain = refl
+    kept (Writes a b) domain = refl
+    kept (Halts a) domain = refl
+    kept (Logs a) domain = refl
+
+apart-lines : (policy : PolicyValue) (lines : List Permission) (b : ℕ) → (domain_at (with_lines policy lines) b).apart ≡ (domain_at policy b).apart
+apart-lines policy [] b = refl
+apart-lines policy (line ∷ lines) b = apart-lines (with_line policy line) lines b ∙ apart-after policy line b
+
+-- a policy with some lines and no other says that nothing is apart
+pub never-apart : (policy : PolicyValue) (lines : List Permission) (a b : ℕ) → is_apart (only policy lines) a b ≡ true → ⊥
+never-apart policy lines a b said =
+    let none = has-none b in
+    let bare = ap (λ (d : Domain). has_domain d.apart b) (get_or-map domain_bare policy.domains a unmade) in
+    let same = ap (λ (apart : DomainSet). has_domain apart b) (apart-lines (bare_policy policy) lines a) in
+    let has = (and_parts (nat_lt b (length (only policy lines).domains)) (has_domain (domain_at (only policy lines) a).apart b) said).1 in
+    absurd (cc (none, bare, same, has))
+
+pub only-apart : (policy : PolicyValue) (lines : List Permission) → IsApart (only policy lines)
+only-apart policy lines a b said viewed = never-apart policy lines a b said
+
 -- ---- these lines and no other
 
 pub bare-says : (policy : PolicyValue) (other : Permission) → says (bare_policy policy) other ≡ true → ⊥
@@ -240,9 +280,12 @@ module _ (policy : PolicyValue) (fewer lines : List Permission) (within : (line 
     logs = λ a may. says-more (Logs a) may;
   }
 
-  pub more-holds : (w : System) → PolicyHolds (only policy fewer) w → PolicyHolds (only policy lines) w
-  more-holds w holds = holds-more (only policy fewer) (only policy lines) allows-more w holds
+  pub more-stands : (w : System) → PolicyStands (only policy fewer) w → PolicyStands (only policy lines) w
+  more-stands w stands = record {
+    holds = holds-more (only policy fewer) (only policy lines) allows-more w stands.holds;
+    apart = only-apart policy lines;
+  }
 
 -- the law of more lines
 pub more_law : MoreLaw
-more_law policy w fewer lines within holds = more-holds policy fewer lines within w holds
+more_law policy w fewer lines within stands = more-stands policy fewer lines within w stands

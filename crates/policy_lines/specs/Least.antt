@@ -2,7 +2,7 @@
 use Rattle.std.specs.Prelude.{◌≡◌, ◌↔◌, true, Bool, if◌then◌else◌, List, [], ◌∷◌, ◌++◌}
 use Rattle.std.specs.List.{Contains}
 use Rattle.operations.specs.System.{System}
-use Rattle.separation_policy.specs.Policy.{PolicyValue, PolicyHolds}
+use Rattle.separation_policy.specs.Policy.{PolicyValue, PolicyStands}
 use Rattle.separation_policy.specs.Making.{bare_policy, with_reading, with_writing, with_halting, with_logging}
 use Rattle.policy_lines.specs.declared.permission.Permission.{Permission}
 use Rattle.policy_lines.specs.declared.permission.Permission.TheVariants.{Reads, Writes, Halts, Logs}
@@ -32,21 +32,21 @@ abbrev pub thinned : (List Permission → Bool) → List Permission → List Per
 thinned enough kept [] = kept
 thinned enough kept (line ∷ rest) = thinned enough (if enough (kept ++ rest) then kept else kept ++ line ∷ []) rest
 
--- with these lines alone a policy holds of a system, and with no fewer of them
+-- with these lines alone a policy stands, of a system, and with no fewer of them
 pub record AreLeast (policy : PolicyValue) (w : System) (lines : List Permission) : Type 0 where
-  pub holds : PolicyHolds (only policy lines) w
+  pub holds : PolicyStands (only policy lines) w
   pub none_over : (fewer : List Permission) (line : Permission) → ((other : Permission) → Contains fewer other → Contains lines other)
-      → Contains lines line → (Contains fewer line → ⊥) → PolicyHolds (only policy fewer) w → ⊥
+      → Contains lines line → (Contains fewer line → ⊥) → PolicyStands (only policy fewer) w → ⊥
 
 -- ---- the law
 
 -- Where a policy holds with some lines and no other, it holds with these among others.
 abbrev pub MoreLaw : Type 0
 MoreLaw = (policy : PolicyValue) (w : System) (fewer lines : List Permission)
-    → ((line : Permission) → Contains fewer line → Contains lines line) → PolicyHolds (only policy fewer) w → PolicyHolds (only policy lines) w
+    → ((line : Permission) → Contains fewer line → Contains lines line) → PolicyStands (only policy fewer) w → PolicyStands (only policy lines) w
 
 -- Lines with which a policy holds, tried one by one, leave the least.
 abbrev pub ThinnedLaw : Type 0
 ThinnedLaw = (policy : PolicyValue) (w : System) (enough : List Permission → Bool)
-    → ((lines : List Permission) → (enough lines ≡ true) ↔ PolicyHolds (only policy lines) w)
-    → (lines : List Permission) → PolicyHolds (only policy lines) w → AreLeast policy w (thinned enough [] lines)
+    → ((lines : List Permission) → (enough lines ≡ true) ↔ PolicyStands (only policy lines) w)
+    → (lines : List Permission) → PolicyStands (only policy lines) w → AreLeast policy w (thinned enough [] lines)

@@ -4,20 +4,20 @@ use Rattle.std.specs.Prelude.{◌≡◌, ◌≢◌, ◌↔◌, ℕ, ◌+◌, ◌
 use Rattle.std.specs.List.{All, Contains, filter, flat_map}
 use Rattle.machine_state.specs.State.{State}
 use Rattle.confinement.specs.Acts.{system_of}
-use Rattle.separation_policy.specs.Policy.{PolicyValue, PolicyHolds}
+use Rattle.separation_policy.specs.Policy.{PolicyValue, PolicyStands}
 use Rattle.separation_policy.specs.Making.{bare_policy}
 use Rattle.separation_check.specs.declared.crossing.Crossing.{Crossing}
 use Rattle.separation_check.specs.declared.crossing.Crossing.TheVariants as crossings
 use Rattle.separation_check.specs.declared.remedy.Remedy.{Remedy}
 use Rattle.separation_check.specs.declared.remedy.Remedy.TheVariants as remedies
-use Rattle.separation_check.specs.Crossings.{listed, remedy_of, crossings_in, meant_crossing}
+use Rattle.separation_check.specs.Crossings.{listed, remedy_of, forbidden_in, meant_crossing}
 use Rattle.separation_check.specs.Each.{IsSo}
 use Rattle.policy_lines.specs.declared.permission.Permission.{Permission}
 use Rattle.policy_lines.specs.declared.permission.Permission.TheVariants.{Reads, Writes, Halts, Logs}
 use Rattle.policy_lines.specs.declared.needed.Needed.{Needed}
 use Rattle.policy_lines.specs.declared.needed.Needed.TheVariants as needs
 use Rattle.policy_lines.specs.Permission.{IsMade, lines_of}
-use Rattle.policy_lines.specs.Unused.{holds_in}
+use Rattle.policy_lines.specs.Unused.{holds_in, IsExact}
 use Rattle.policy_lines.specs.Least.{only, thinned, AreLeast}
 
 -- ---- what would allow a crossing
@@ -28,13 +28,14 @@ line_by remedies.Reads a b = Some (Reads a b)
 line_by remedies.Writes a b = Some (Writes a b)
 line_by remedies.Never a b = None
 
--- the line that would allow a crossing: none allows a Range, nor one that sleeps across domains
+-- the line that would allow a crossing: none allows a Range, one that sleeps across domains, or a view
 abbrev pub line_for : Crossing → Option Permission
 line_for (crossings.Capability kind n i c from to) = line_by (remedy_of c) from to
 line_for (crossings.Range kind n i domain) = None
 line_for (crossings.Halts kind n i domain) = Some (Halts domain)
 line_for (crossings.Logs kind n i domain) = Some (Logs domain)
 line_for (crossings.Sleeper p from to) = None
+line_for (crossings.View from to) = None
 
 -- whether the domains of a line are among so many
 abbrev pub is_made : ℕ → Permission → Bool
@@ -62,9 +63,9 @@ named_by count found = flat_map (λ x. listed (made_line_for count x)) found
 
 -- ---- the least lines of a policy for a state
 
--- all that crosses where no domain may do anything beyond itself
+-- all that is forbidden where no domain may do anything beyond itself
 abbrev pub bare_crossings : PolicyValue → State → List Crossing
-bare_crossings policy s = crossings_in (bare_policy policy) s
+bare_crossings policy s = forbidden_in (bare_policy policy) s
 
 -- what of it no line allows
 abbrev pub barred_in : PolicyValue → State → List Crossing
@@ -113,17 +114,12 @@ passages_in policy s = passages_by (length (candidates policy s)) (barred_in pol
 pub record AreBarred (policy : PolicyValue) (s : State) (found : List Crossing) : Type 0 where
   pub some : found ≢ []
   pub each : (x : Crossing) → Contains found x ↔ (IsSo (bare_policy policy) s x × (made_line_for (length policy.domains) x ≡ None))
-  pub never : (lines : List Permission) → All (IsMade (length policy.domains)) lines → PolicyHolds (only policy lines) (system_of s) → ⊥
+  pub never : (lines : List Permission) → All (IsMade (length policy.domains)) lines → PolicyStands (only policy lines) (system_of s) → ⊥
 
 -- lines are the least with which the policy holds, or crossings those that no line allows
 abbrev pub IsNeeded : PolicyValue → State → NeededValue → Type 0
 IsNeeded policy s (LinesAre lines) = AreLeast policy (system_of s) lines
 IsNeeded policy s (BarredAre found) = AreBarred policy s found
-
--- nothing crosses any policy in this state exactly where the policy holds of it, as where objects have all of their places
--- (`ExactlyLaw` of separation_check)
-abbrev pub IsExact : State → Type 0
-IsExact s = (policy : PolicyValue) → (crossings_in policy s ≡ []) ↔ PolicyHolds policy (system_of s)
 
 -- So it is of what is found for such a state.
 abbrev pub NeededLaw : Type 0

@@ -5,7 +5,7 @@ ghost use Rattle.cap_format.specs.declared.kind.CapKind.TheVariants.{Gpt};
 ghost use Rattle.object_store.specs.Store.{size_of};
 ghost use Rattle.machine_state.specs.State.{state_of};
 ghost use Rattle.separation_policy.specs.Making.{bare_policy};
-ghost use Rattle.separation_check.specs.Crossings.{crossings_in, meant_crossing};
+ghost use Rattle.separation_check.specs.Crossings.{forbidden_in, meant_crossing};
 ghost use Rattle.policy_lines.specs.Passages.{ReadsWhole};
 ghost use Rattle.policy_lines.specs.Permission.{IsMade, lines_of};
 ghost use Rattle.policy_lines.specs.Unused.{holds_in};
@@ -92,7 +92,7 @@ fn bare_crossings<T: Translator, L: Ledger>(
     fetches: &mut Steps<L>,
 ) -> Result<Vec<Crossing>, OutOfMemory>
     ensures means { IfOk result (λ found. map meant_crossing found.items ≡
-        crossings_in (bare_policy policy.old) (state_of machine.now)) }
+        forbidden_in (bare_policy policy.old) (state_of machine.now)) }
     ensures after { policy.new ≡ bare_policy policy.old }
     ensures counted { IfOk result (λ found. fetches.new ≡
         fetches.old + 16 * size_of machine.now.objects.items Gpt) }

@@ -14,7 +14,7 @@ mod needed;
 mod permission;
 mod unused_lines;
 
-pub use laws::{more_law, needed_law, thinned_law};
+pub use laws::{more_law, needed_law, thinned_law, unused_law};
 pub use least_lines::least;
 pub use listing::{channels, lines};
 pub use needed::Needed;

@@ -34,6 +34,7 @@ fn line_for(crossing: &Crossing) -> Option<Permission>
         Crossing::Halts { domain, .. } => Some(Permission::Halts { domain: *domain }),
         Crossing::Logs { domain, .. } => Some(Permission::Logs { domain: *domain }),
         Crossing::Sleeper { .. } => None,
+        Crossing::View { .. } => None,
     }
 }
 

@@ -15,9 +15,10 @@ use Rattle.confine_check.specs.Breach.{is_range, is_sysctl, is_kernlog}
 use Rattle.confine_check.proofs.Decided.{is_range-kind}
 use Rattle.separation_policy.specs.Policy.{PolicyValue, domain_of, domain_named, may_halt, may_log, MayStand}
 use Rattle.separation_check.specs.declared.crossing.Crossing.{Crossing}
-use Rattle.separation_check.specs.declared.crossing.Crossing.TheVariants.{Capability as CapabilityCrosses, Range as RangeStands, Halts, Logs, Sleeper}
-use Rattle.separation_check.specs.Crossings.{listed, may_name, halts_by, logs_by, crosses_by, crossing_with, crossing_by, object_crossings, kind_crossings, capability_crossings, sleeper_by, sleeper_on, process_crossings, sleeper_limit, sleeper_crossings, crossings_in}
-use Rattle.separation_check.specs.Each.{IsPlace, CapabilityStands, RangeStandsIn, SysCtlStands, KernLogStands, SleepsAcross, IsSo, rank, Spot, spot, SpotBefore, spot_of, sleeper_of, SpotsBefore, Before, AllLaw}
+use Rattle.separation_check.specs.declared.crossing.Crossing.TheVariants.{Capability as CapabilityCrosses, Range as RangeStands, Halts, Logs, Sleeper, View}
+use Rattle.separation_check.specs.Crossings.{listed, may_name, halts_by, logs_by, crosses_by, crossing_with, crossing_by, object_crossings, kind_crossings, capability_crossings, sleeper_by, sleeper_on, process_crossings, sleeper_limit, sleeper_crossings, view_crossings, forbidden_in, crossings_in}
+use Rattle.separation_check.specs.Each.{IsPlace, CapabilityStands, RangeStandsIn, SysCtlStands, KernLogStands, SleepsAcross, ViewHas, IsSo, rank, Spot, spot, SpotBefore, spot_of, sleeper_of, SpotsBefore, viewing_of, ViewsBefore, Before, AllLaw}
+use Rattle.separation_check.proofs.Viewed.{has-view, view-has, views-order}
 use Rattle.separation_check.proofs.Allowed.{is_sysctl-kind, is_kernlog-kind, denied, tested, none-may, may-none}
 use Rattle.separation_check.proofs.Most.{sleeps-there, below-limit}
 use Rattle.separation_check.proofs.Listed.{below-has, has-below, listed-is, is-listed, pairs-append, pairs-below, pairs-listed}
@@ -214,7 +215,7 @@ module _ (policy : PolicyValue) (s : State) where
 
   -- a crossing is of this process
   abbrev IsOfSleeper : ℕ → Crossing → Type 0
-  IsOfSleeper p x = (spot_of x ≡ None) × (sleeper_of x ≡ p)
+  IsOfSleeper p x = (viewing_of x ≡ None) × ((spot_of x ≡ None) × (sleeper_of x ≡ p))
 
   record SleeperTold (x : Crossing) : Type 0 where
     process : ℕ
@@ -244,7 +245,7 @@ module _ (policy : PolicyValue) (s : State) where
           let is = found-is true false a b in
           let same : Sleeper p (domain_of policy Process p) (domain_of policy Process on) ≡ x = cc (is) in
           subst (λ (y : Crossing). IsSo policy s y × IsOfSleeper p y) same
-          (record { on = on; sleeps = a; domain = refl; other = refl; apart = λ equal. let yes = eq-eqb _ _ equal in absurd (cc (b, yes)) }, (refl, refl))
+          (record { on = on; sleeps = a; domain = refl; other = refl; apart = λ equal. let yes = eq-eqb _ _ equal in absurd (cc (b, yes)) }, (refl, (refl, refl)))
 
   so-sleeper : (p from to : ℕ) → SleepsAcross policy s.queues p from to → Contains Sleepers (Sleeper p from to)
   so-sleeper p from to so =
@@ -261,39 +262,73 @@ module _ (policy : PolicyValue) (s : State) where
 
   -- ---- each
 
-  told-so : (x : Crossing) → Contains (crossings_in policy s) x → IsSo policy s x
-  told-so x has = elim (Contains-append_cases OfPlaces Sleepers x has) [
+  -- what crosses in the state
+  abbrev Crossed : List Crossing
+  Crossed = crossings_in policy s
+
+  across-so : (x : Crossing) → Contains Crossed x → IsSo policy s x
+  across-so x has = elim (Contains-append_cases OfPlaces Sleepers x has) [
     | inl place ↦ let found = places-told x place in let of = found.of in place-so found.kind of.number of.place x of.at of.told
     | inr sleeper ↦ let found = sleepers-told x sleeper in (sleeper-so found.process found.on x found.told).0
   ]
 
-  so-told : (x : Crossing) → IsSo policy s x → Contains (crossings_in policy s) x
-  so-told (CapabilityCrosses kind n i c from to) so = Contains-append_left OfPlaces Sleepers _ (told-places kind n i _ so.at (capability-told kind n i c from to so))
-  so-told (RangeStands kind n i domain) so = Contains-append_left OfPlaces Sleepers _ (told-places kind n i _ so.at (range-told kind n i domain so))
-  so-told (Halts kind n i domain) so = Contains-append_left OfPlaces Sleepers _ (told-places kind n i _ so.at (halts-told kind n i domain so))
-  so-told (Logs kind n i domain) so = Contains-append_left OfPlaces Sleepers _ (told-places kind n i _ so.at (logs-told kind n i domain so))
-  so-told (Sleeper p from to) so = Contains-append_right OfPlaces Sleepers _ (so-sleeper p from to so)
+  told-so : (x : Crossing) → Contains (forbidden_in policy s) x → IsSo policy s x
+  told-so x has = elim (Contains-append_cases Crossed (view_crossings policy) x has) [
+    | inl across ↦ across-so x across
+    | inr viewed ↦ let found = has-view policy x viewed in subst (λ (y : Crossing). IsSo policy s y) found.1.1.1 found.1.1.0
+  ]
+
+  of-place : (x : Crossing) → Contains OfPlaces x → Contains (forbidden_in policy s) x
+  of-place x has = Contains-append_left Crossed (view_crossings policy) x (Contains-append_left OfPlaces Sleepers x has)
+
+  so-told : (x : Crossing) → IsSo policy s x → Contains (forbidden_in policy s) x
+  so-told (CapabilityCrosses kind n i c from to) so = of-place _ (told-places kind n i _ so.at (capability-told kind n i c from to so))
+  so-told (RangeStands kind n i domain) so = of-place _ (told-places kind n i _ so.at (range-told kind n i domain so))
+  so-told (Halts kind n i domain) so = of-place _ (told-places kind n i _ so.at (halts-told kind n i domain so))
+  so-told (Logs kind n i domain) so = of-place _ (told-places kind n i _ so.at (logs-told kind n i domain so))
+  so-told (Sleeper p from to) so =
+      Contains-append_left Crossed (view_crossings policy) _ (Contains-append_right OfPlaces Sleepers _ (so-sleeper p from to so))
+  so-told (View from to) so = Contains-append_right Crossed (view_crossings policy) _ (view-has policy from to so)
 
   -- ---- order
+
+  -- what is of no view comes before what is of none as it does among these
+  others-before : (x y : Crossing) → viewing_of x ≡ None → viewing_of y ≡ None → SpotsBefore (spot_of x) (spot_of y) (sleeper_of x) (sleeper_of y) → Before x y
+  others-before x y a b h =
+      let others = SpotsBefore (spot_of x) (spot_of y) (sleeper_of x) (sleeper_of y) in
+      subst (λ (v : Option (ℕ × ℕ)). ViewsBefore v (viewing_of y) others) (sym a)
+      (subst (λ (v : Option (ℕ × ℕ)). ViewsBefore None v others) (sym b) h)
+
+  -- what is of a place is of no view
+  place-unviewed : (kind : CapKind) (n i : ℕ) (x : Crossing) → IsOf kind n i x → viewing_of x ≡ None
+  place-unviewed kind n i (CapabilityCrosses k m j c from to) at = refl
+  place-unviewed kind n i (RangeStands k m j domain) at = refl
+  place-unviewed kind n i (Halts k m j domain) at = refl
+  place-unviewed kind n i (Logs k m j domain) at = refl
+  place-unviewed kind n i (Sleeper p from to) at = refl
+  place-unviewed kind n i (View from to) at = absurd (cc (at))
 
   -- crossings are in the order of their places
   in-order : (kind kind' : CapKind) (n i n' i' : ℕ) (x y : Crossing) → IsOf kind n i x → IsOf kind' n' i' y → SpotBefore (spot kind n i) (spot kind' n' i') → Before x y
   in-order kind kind' n i n' i' x y a b h =
-      subst (λ (v : Option Spot). SpotsBefore v (spot_of y) (sleeper_of x) (sleeper_of y)) (sym a)
-      (subst (λ (v : Option Spot). SpotsBefore (Some (spot kind n i)) v (sleeper_of x) (sleeper_of y)) (sym b) h)
+      others-before x y (place-unviewed kind n i x a) (place-unviewed kind' n' i' y b)
+      (subst (λ (v : Option Spot). SpotsBefore v (spot_of y) (sleeper_of x) (sleeper_of y)) (sym a)
+      (subst (λ (v : Option Spot). SpotsBefore (Some (spot kind n i)) v (sleeper_of x) (sleeper_of y)) (sym b) h))
 
   before_sleeper : (kind : CapKind) (n i p : ℕ) (x y : Crossing) → IsOf kind n i x → IsOfSleeper p y → Before x y
   before_sleeper kind n i p x y a b =
-      subst (λ (v : Option Spot). SpotsBefore v (spot_of y) (sleeper_of x) (sleeper_of y)) (sym a)
-      (subst (λ (v : Option Spot). SpotsBefore (Some (spot kind n i)) v (sleeper_of x) (sleeper_of y)) (sym b.0) tt)
+      others-before x y (place-unviewed kind n i x a) b.0
+      (subst (λ (v : Option Spot). SpotsBefore v (spot_of y) (sleeper_of x) (sleeper_of y)) (sym a)
+      (subst (λ (v : Option Spot). SpotsBefore (Some (spot kind n i)) v (sleeper_of x) (sleeper_of y)) (sym b.1.0) tt))
 
   among_sleepers : (p q : ℕ) (x y : Crossing) → IsOfSleeper p x → IsOfSleeper q y → p ≤ q → Before x y
   among_sleepers p q x y a b h =
-      let first = a.1 in
-      let second = b.1 in
+      let first = a.1.1 in
+      let second = b.1.1 in
       let in_turn : sleeper_of x ≤ sleeper_of y = omega (arith, first, second, h) in
-      subst (λ (v : Option Spot). SpotsBefore v (spot_of y) (sleeper_of x) (sleeper_of y)) (sym a.0)
-      (subst (λ (v : Option Spot). SpotsBefore None v (sleeper_of x) (sleeper_of y)) (sym b.0) in_turn)
+      others-before x y a.0 b.0
+      (subst (λ (v : Option Spot). SpotsBefore v (spot_of y) (sleeper_of x) (sleeper_of y)) (sym a.1.0)
+      (subst (λ (v : Option Spot). SpotsBefore None v (sleeper_of x) (sleeper_of y)) (sym b.1.0) in_turn))
 
   object-order : (kind : CapKind) (n : ℕ) → AllPairs Before (object_crossings policy (cap_in s.store) kind n)
   object-order kind n =
@@ -349,13 +384,27 @@ module _ (policy : PolicyValue) (s : State) where
       among_sleepers p p x y (sleeper-so p i x (listed-is (sleeper_on policy s.queues p i) x at)).1 (sleeper-so p j y (listed-is (sleeper_on policy s.queues p j) y bt)).1 (omega arith)))
       (λ p q less lt x y at bt. among_sleepers p q x y (process-of p x at) (process-of q y bt) (omega (arith, less)))
 
-  order : AllPairs Before (crossings_in policy s)
-  order =
+  across-order : AllPairs Before Crossed
+  across-order =
       pairs-append Before OfPlaces Sleepers places-order sleepers-order (λ x y at bt.
       let a = places-told x at in
       let of = a.of in
       let b = sleepers-told y bt in
       before_sleeper a.kind of.number of.place b.process x y (place-of a.kind of.number of.place x of.told) (sleeper-so b.process b.on y b.told).1)
+
+  -- what crosses is of no view
+  across-unviewed : (x : Crossing) → Contains Crossed x → viewing_of x ≡ None
+  across-unviewed x has = elim (Contains-append_cases OfPlaces Sleepers x has) [
+    | inl place ↦ let found = places-told x place in let of = found.of in place-unviewed found.kind of.number of.place x (place-of found.kind of.number of.place x of.told)
+    | inr sleeper ↦ let found = sleepers-told x sleeper in (sleeper-so found.process found.on x found.told).1.0
+  ]
+
+  order : AllPairs Before (forbidden_in policy s)
+  order =
+      pairs-append Before Crossed (view_crossings policy) across-order (views-order policy) (λ x y at bt.
+      let view = has-view policy y bt in
+      subst (λ (z : Crossing). Before x z) view.1.1.1
+      (subst (λ (v : Option (ℕ × ℕ)). ViewsBefore v (Some (view.0, view.1.0)) (SpotsBefore (spot_of x) None (sleeper_of x) 0)) (sym (across-unviewed x at)) tt))
 
 -- the law
 pub all_law : AllLaw

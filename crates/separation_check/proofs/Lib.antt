@@ -6,6 +6,8 @@ pub mod Exactly
 pub mod Meant
 pub mod Marking
 pub mod Listed
+pub mod Viewed
+pub mod Forbidden
 mod Every
 pub mod Placed
 mod Remedies

@@ -11,11 +11,12 @@ use Rattle.run_places.proofs.Reading.{slot-read, cap-read, capreg-read, process_
 use Rattle.object_store.specs.Places.{places_in, cap_in}
 use Rattle.separation_policy.specs.Policy.{PolicyValue, domain_of, MayStand, EachMayStand}
 use Rattle.separation_check.specs.declared.crossing.Crossing.{Crossing}
-use Rattle.separation_check.specs.Crossings.{listed, crossing_by, object_crossings, kind_crossings, capability_crossings, sleeper_crossings}
+use Rattle.separation_check.specs.Crossings.{listed, crossing_by, object_crossings, kind_crossings, capability_crossings, sleeper_crossings, view_crossings, crossings_in}
 use Rattle.separation_check.specs.Placed.{ExactlyLaw}
 use Rattle.separation_check.proofs.Gathered.{both-empty, empty-both, none-each, each-none, listed-none, none-listed}
 use Rattle.separation_check.proofs.Allowed.{none-may, may-none}
 use Rattle.separation_check.proofs.Exactly.{none-home, home-none}
+use Rattle.separation_check.proofs.Viewed.{none-apart, apart-none}
 
 module _ (policy : PolicyValue) (s : Store) where
   -- ---- place by place
@@ -95,15 +96,22 @@ module _ (policy : PolicyValue) (s : Store) where
       (empty-both (ToldOf Gpt) _ (kind-none Gpt (λ g i there place. each.slots g i))
       (empty-both (ToldOf Endpoint) (ToldOf Process) (kind-none Endpoint (λ e i there place. each.recipients e)) (kind-none Process (process-places each))))
 
--- ---- both
+-- ---- all
 
 -- the law
 pub exactly_law : ExactlyLaw
 exactly_law policy s has = (
   λ e.
-      let both = both-empty (capability_crossings policy (cap_in s.store) s.store) (sleeper_crossings policy s.queues) e in
-      record { each = each-stands policy s.store has both.0; sleepers = none-home policy s.queues both.1 },
-  λ holds.
-      empty-both (capability_crossings policy (cap_in s.store) s.store) (sleeper_crossings policy s.queues)
-      (stands-none policy s.store holds.each) (home-none policy s.queues holds.sleepers),
+      let all = both-empty (crossings_in policy s) (view_crossings policy) e in
+      let both = both-empty (capability_crossings policy (cap_in s.store) s.store) (sleeper_crossings policy s.queues) all.0 in
+      record {
+        holds = record { each = each-stands policy s.store has both.0; sleepers = none-home policy s.queues both.1 };
+        apart = none-apart policy all.1;
+      },
+  λ stands.
+      let holds = stands.holds in
+      empty-both (crossings_in policy s) (view_crossings policy)
+      (empty-both (capability_crossings policy (cap_in s.store) s.store) (sleeper_crossings policy s.queues)
+      (stands-none policy s.store holds.each) (home-none policy s.queues holds.sleepers))
+      (apart-none policy stands.apart),
 )

@@ -1,5 +1,5 @@
--- All that a policy doesn't allow in a machine: capabilities in the order in which a state is printed, and then sleepers.
--- (Own.)
+-- All that a policy doesn't allow in a machine: capabilities in the order in which a state is printed, and then sleepers; and
+-- behind them the views that have what the policy says they haven't. (Own.)
 use Rattle.std.specs.Prelude.{ℕ, zero, suc, ◌+◌, max, ◌==◌, ◌&&◌, ◌||◌, not, Bool, true, false, if◌then◌else◌, List, [], ◌∷◌, ◌++◌, length, slice_index, Option, Some, None}
 use Rattle.cap_format.specs.declared.kind.CapKind.{CapKind}
 use Rattle.cap_format.specs.declared.kind.CapKind.TheVariants.{Page, CapPage, Gpt, Endpoint, Process}
@@ -12,9 +12,9 @@ use Rattle.schedules.specs.Queues.{QueuesValue, sleepers_of, stands_in}
 use Rattle.machine_state.specs.State.{State}
 use Rattle.object_store.specs.Places.{places_in, cap_in}
 use Rattle.confine_check.specs.Breach.{is_range, is_sysctl, is_kernlog}
-use Rattle.separation_policy.specs.Policy.{PolicyValue, domain_of, domain_named, may_write, may_halt, may_log, sees, sees_written}
+use Rattle.separation_policy.specs.Policy.{PolicyValue, domain_of, domain_named, is_apart, may_write, may_halt, may_log, sees, sees_written, views}
 use Rattle.separation_check.specs.declared.crossing.Crossing.{Crossing}
-use Rattle.separation_check.specs.declared.crossing.Crossing.TheVariants.{Capability as CapabilityCrosses, Range as RangeStands, Halts, Logs, Sleeper}
+use Rattle.separation_check.specs.declared.crossing.Crossing.TheVariants.{Capability as CapabilityCrosses, Range as RangeStands, Halts, Logs, Sleeper, View}
 use Rattle.separation_check.specs.declared.remedy.Remedy.{Remedy}
 use Rattle.separation_check.specs.declared.remedy.Remedy.TheVariants.{Reads, Writes, Never}
 
@@ -129,15 +129,37 @@ sleeper_limit q = most_below (limit_on q) (length q.sleepers)
 abbrev pub sleeper_crossings : PolicyValue → QueuesValue → List Crossing
 sleeper_crossings policy q = all_below (process_crossings policy q) (sleeper_limit q)
 
+-- ---- views
+
+-- domain `b`, where the view of domain `a` has it, and the policy says that it hasn't
+abbrev pub view_by : PolicyValue → ℕ → ℕ → Option Crossing
+view_by policy a b = if is_apart policy a b && views policy a b then Some (View a b) else None
+
+-- those of the view of domain `a`, by their numbers
+abbrev pub domain_views : PolicyValue → ℕ → List Crossing
+domain_views policy a = all_below (λ b. listed (view_by policy a b)) (length policy.domains)
+
+-- of the views of all domains, by theirs
+abbrev pub view_crossings : PolicyValue → List Crossing
+view_crossings policy = all_below (domain_views policy) (length policy.domains)
+
 -- ---- all
 
 -- all of stored objects and of who sleeps where: a capability that is dead is nothing
 abbrev pub crossings_of : PolicyValue → Store → QueuesValue → List Crossing
 crossings_of policy s q = capability_crossings policy (stored_cap s) s ++ sleeper_crossings policy q
 
+-- and all that the policy forbids: these, and then views
+abbrev pub forbidden_of : PolicyValue → Store → QueuesValue → List Crossing
+forbidden_of policy s q = crossings_of policy s q ++ view_crossings policy
+
 -- all of a state, in which each capability stands as it means
 abbrev pub crossings_in : PolicyValue → State → List Crossing
 crossings_in policy s = capability_crossings policy (cap_in s.store) s.store ++ sleeper_crossings policy s.queues
+
+-- and all that the policy forbids in it
+abbrev pub forbidden_in : PolicyValue → State → List Crossing
+forbidden_in policy s = crossings_in policy s ++ view_crossings policy
 
 -- a crossing by what its capability means, which has no count
 abbrev pub meant_crossing : Crossing → Crossing
@@ -146,3 +168,4 @@ meant_crossing (RangeStands kind n i domain) = RangeStands kind n i domain
 meant_crossing (Halts kind n i domain) = Halts kind n i domain
 meant_crossing (Logs kind n i domain) = Logs kind n i domain
 meant_crossing (Sleeper p from to) = Sleeper p from to
+meant_crossing (View from to) = View from to

@@ -9,11 +9,11 @@ use Rattle.object_store.specs.Store.{Store, size_of}
 use Rattle.schedules.specs.Queues.{QueuesValue, sleepers_of, stands_in}
 use Rattle.machine_state.specs.State.{State}
 use Rattle.object_store.specs.Places.{places_in, cap_in}
-use Rattle.separation_policy.specs.Policy.{PolicyValue, domain_of, domain_named, may_halt, may_log, MayStand}
+use Rattle.separation_policy.specs.Policy.{PolicyValue, domain_of, domain_named, is_apart, may_halt, may_log, Views, MayStand}
 use Rattle.separation_policy.specs.Making.{with_reading, with_writing}
-use Rattle.separation_check.specs.Crossings.{crossings_in, remedy_of}
+use Rattle.separation_check.specs.Crossings.{forbidden_in, remedy_of}
 use Rattle.separation_check.specs.declared.crossing.Crossing.{Crossing}
-use Rattle.separation_check.specs.declared.crossing.Crossing.TheVariants.{Capability as CapabilityCrosses, Range as RangeStands, Halts, Logs, Sleeper}
+use Rattle.separation_check.specs.declared.crossing.Crossing.TheVariants.{Capability as CapabilityCrosses, Range as RangeStands, Halts, Logs, Sleeper, View}
 use Rattle.separation_check.specs.declared.remedy.Remedy.{Remedy}
 use Rattle.separation_check.specs.declared.remedy.Remedy.TheVariants.{Reads, Writes, Never}
 
@@ -62,6 +62,11 @@ pub record SleepsAcross (policy : PolicyValue) (q : QueuesValue) (p from to : �
   pub other : to ≡ domain_of policy Process on
   pub apart : from ≢ to
 
+-- the view of domain `from` has domain `to`, and the policy says that it hasn't
+pub record ViewHas (policy : PolicyValue) (from to : ℕ) : Type 0 where
+  pub forbidden : is_apart policy from to ≡ true
+  pub has : Views policy from to
+
 -- what a crossing says is so
 abbrev pub IsSo : PolicyValue → State → Crossing → Type 0
 IsSo policy s (CapabilityCrosses kind n i c from to) = CapabilityStands policy s.store kind n i c from to
@@ -69,6 +74,7 @@ IsSo policy s (RangeStands kind n i domain) = RangeStandsIn policy s.store kind 
 IsSo policy s (Halts kind n i domain) = SysCtlStands policy s.store kind n i domain
 IsSo policy s (Logs kind n i domain) = KernLogStands policy s.store kind n i domain
 IsSo policy s (Sleeper p from to) = SleepsAcross policy s.queues p from to
+IsSo policy s (View from to) = ViewHas policy from to
 
 -- ---- in which order they come
 
@@ -102,6 +108,7 @@ spot_of (RangeStands kind n i domain) = Some (spot kind n i)
 spot_of (Halts kind n i domain) = Some (spot kind n i)
 spot_of (Logs kind n i domain) = Some (spot kind n i)
 spot_of (Sleeper p from to) = None
+spot_of (View from to) = None
 
 -- the process of a crossing that is of none
 abbrev pub sleeper_of : Crossing → ℕ
@@ -115,16 +122,29 @@ SpotsBefore (Some x) None p q = ⊤
 SpotsBefore None (Some y) p q = ⊥
 SpotsBefore None None p q = p ≤ q
 
--- one crossing comes before another: those of places by their places, no place twice, and then sleepers by their numbers
+-- the two domains of a crossing that is of a view
+abbrev pub viewing_of : Crossing → Option (ℕ × ℕ)
+viewing_of (View from to) = Some (from, to)
+viewing_of _ = None
+
+-- those of views come behind all others, by the first domain and then by the second; the others as they do
+abbrev pub ViewsBefore : Option (ℕ × ℕ) → Option (ℕ × ℕ) → Type 0 → Type 0
+ViewsBefore None None others = others
+ViewsBefore None (Some y) others = ⊤
+ViewsBefore (Some x) None others = ⊥
+ViewsBefore (Some x) (Some y) others = (x.0 < y.0) ⊎ ((x.0 ≡ y.0) × (x.1 < y.1))
+
+-- one crossing comes before another: those of places by their places, no place twice, then sleepers by their numbers, and then
+-- views, none twice
 abbrev pub Before : Crossing → Crossing → Type 0
-Before x y = SpotsBefore (spot_of x) (spot_of y) (sleeper_of x) (sleeper_of y)
+Before x y = ViewsBefore (viewing_of x) (viewing_of y) (SpotsBefore (spot_of x) (spot_of y) (sleeper_of x) (sleeper_of y))
 
 -- ---- the law
 
 -- a crossing is told of a state exactly where what it says is so, and they come in their order
 pub record AreAll (policy : PolicyValue) (s : State) : Type 0 where
-  pub each : (x : Crossing) → Contains (crossings_in policy s) x ↔ IsSo policy s x
-  pub order : AllPairs Before (crossings_in policy s)
+  pub each : (x : Crossing) → Contains (forbidden_in policy s) x ↔ IsSo policy s x
+  pub order : AllPairs Before (forbidden_in policy s)
 
 -- so it is of every policy and state
 abbrev pub AllLaw : Type 0

@@ -1,7 +1,7 @@
 //! What may not be, by a policy.
 use cap_format::{Cap, CapKind};
 
-/// Something in a machine that its policy doesn't allow. Domains are told by their numbers; places have the numbers that
+/// Something in a machine that its policy doesn't allow, or in the policy itself. Domains are told by their numbers; places have the numbers that
 /// they have in `confine_check`: of a process first its slots, 0 to 2, and then its capability registers.
 #[derive(Clone, Copy)]
 pub enum Crossing {
@@ -39,6 +39,11 @@ pub enum Crossing {
     /// This process is of domain `from`, and sleeps on one of domain `to`.
     Sleeper {
         process: u16,
+        from: u8,
+        to: u8,
+    },
+    /// The view of domain `from` has domain `to`, and the policy says that it hasn't.
+    View {
         from: u8,
         to: u8,
     },

@@ -1,6 +1,6 @@
-//! The finding of all that crosses the domains of a policy in a machine: each capability that may not stand where it does,
-//! each Range, SysCtl and KernLog that may not, and each process that sleeps on one of another domain; and what line would
-//! allow a capability. By the same passage, which domains hold what is shared by all.
+//! The finding of all that a policy forbids in a machine: each capability that may not stand where it does, each Range, SysCtl
+//! and KernLog that may not, each process that sleeps on one of another domain, and each view that has a domain which it may
+//! not have; and what line would allow a capability. By the same passage, which domains hold what is shared by all.
 //!
 //! The passage over all places and sleepers is public by its parts, for other questions about a machine. Nothing here reads
 //! lines, runs a machine or prints.
@@ -15,6 +15,7 @@ mod marks;
 mod remedy;
 mod room;
 mod sleeping;
+mod viewing;
 
 pub use capabilities::{crossing_by, stored_cap};
 pub use checking::crossings;

@@ -8,8 +8,8 @@ use Rattle.confine_check.specs.declared.block.Block.{Block}
 use Rattle.listing_read.specs.declared.object_fault.PolicyFault.TheVariants.{NoDomain, TooManyDomains}
 use Rattle.separation_policy.specs.declared.policy.Domain.{Domain}
 use Rattle.separation_policy.specs.declared.stage.Stage.{Stage}
-use Rattle.separation_policy.specs.declared.stage.Stage.TheVariants.{Empty, Open, Listed}
-use Rattle.separation_policy.specs.Making.{begun, domain_bare, domain_called, domain_with, is_empty, is_listed, with_assigned_of, with_domain_at, with_listed, with_made}
+use Rattle.separation_policy.specs.declared.stage.Stage.TheVariants.{Empty, Open, Listing, Listed}
+use Rattle.separation_policy.specs.Making.{begun, domain_bare, domain_called, domain_with, may_list, is_listed, with_assigned_of, with_domain_at, with_listed, with_made}
 use Rattle.separation_policy.specs.Policy.{Assigned, PolicyValue, domain_at, unmade}
 use Rattle.separation_lines.specs.Fields.{block_from, domain_numbered, next_domain, objects_from, or_next}
 use Rattle.separation_lines.specs.PolicyLine.{after_said}
@@ -20,21 +20,24 @@ pub record IsBare (policy bare : PolicyValue) : Type 0 where
   pub domains : bare.domains ≡ map domain_bare policy.domains
   pub assigned : bare.assigned ≡ policy.assigned
   pub stage : begun bare.stage ≡ begun policy.stage
-  pub empty : is_empty policy.stage ≡ true → is_empty bare.stage ≡ true
+  pub lists : may_list policy.stage ≡ true → may_list bare.stage ≡ true
 
 begun-again : (stage : Stage) → begun (begun stage) ≡ begun stage
 begun-again Empty = refl
 begun-again Open = refl
+begun-again Listing = refl
 begun-again Listed = refl
 
-begun-empty : (stage : Stage) → is_empty (begun stage) ≡ true → ⊥
-begun-empty Empty is = cc
-begun-empty Open is = cc
-begun-empty Listed is = cc
+begun-over : (stage : Stage) → may_list (begun stage) ≡ true → ⊥
+begun-over Empty is = cc
+begun-over Open is = cc
+begun-over Listing is = cc
+begun-over Listed is = cc
 
 listed-begun : (stage : Stage) → is_listed stage ≡ is_listed (begun stage)
 listed-begun Empty = refl
 listed-begun Open = refl
+listed-begun Listing = refl
 listed-begun Listed = refl
 
 -- a name stands at the same place
@@ -77,7 +80,7 @@ module _ (policy bare : PolicyValue) (is : IsBare policy bare) where
     domains = is.domains ∙ sym (map-set_same domain_bare policy.domains a domain unmade same);
     assigned = is.assigned;
     stage = is.stage ∙ sym (begun-again policy.stage);
-    empty = λ e. absurd (begun-empty policy.stage e);
+    lists = λ e. absurd (begun-over policy.stage e);
   }
 
   -- both have a domain more
@@ -86,11 +89,11 @@ module _ (policy bare : PolicyValue) (is : IsBare policy bare) where
     domains = ap (λ (ds : List Domain). ds ++ domain_with name ∷ []) is.domains ∙ sym (map-append domain_bare policy.domains (domain_with name ∷ []));
     assigned = is.assigned;
     stage = is.stage;
-    empty = is.empty;
+    lists = is.lists;
   }
 
   pub bare-listed : IsBare (with_listed policy) (with_listed bare)
-  bare-listed = record { domains = is.domains; assigned = is.assigned; stage = refl; empty = λ e. e }
+  bare-listed = record { domains = is.domains; assigned = is.assigned; stage = refl; lists = λ e. e }
 
 -- both are assigned objects
 pub bare-objects : (policy bare : PolicyValue) → IsBare policy bare → (domain : ℕ) (name : List ℕ) (block : Block) → IsBare (after_said policy (says.Objects domain name block)) (after_said bare (says.Objects domain name block))
@@ -107,7 +110,7 @@ bare-objects policy bare is domain name block =
       domains = is.domains;
       assigned = ap (λ (a : Assigned). with_assigned_of a block.kind block.from block.to domain) is.assigned;
       stage = ap begun is.stage;
-      empty = λ e. absurd (begun-empty some.stage e);
+      lists = λ e. absurd (begun-over some.stage e);
     }
 
     by : (there : Bool) → IsBare (assigned-to (if there then policy else with_made policy name)) (assigned-to (if there then bare else with_made bare name))

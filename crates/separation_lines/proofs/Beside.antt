@@ -1,4 +1,4 @@
--- A line in a policy, and in the one of its domains and objects where no domain may do anything.
+-- A line in a policy, and in the one of its domains and objects where nothing is said of any domain.
 use Rattle.std.proofs.Common.{◌≡◌, ◌∙◌, ◌==◌, ◌||◌, ◌∷◌, [], ℕ, Bool, true, false, not, List, length, nat_lt, Result, Ok, Err, refl, sym, ap, subst}
 use Rattle.std.specs.Prelude.{IfOk, bytes_eq, codes, nat_le}
 use Rattle.std.proofs.lemmas.Slice.Eq.{bytes_eq-Decides}
@@ -8,14 +8,14 @@ use Rattle.coy_text.specs.Words.{field, words_of}
 use Rattle.listing_read.specs.Faults.{◌>>=◌, ensured}
 use Rattle.listing_read.specs.declared.object_fault.PolicyFault.{PolicyFault}
 use Rattle.listing_read.specs.declared.object_fault.PolicyFault.TheVariants.{BadByte, LineTooLong, NameTaken, NotFirst, TooManyDomains, WrongWords}
-use Rattle.separation_policy.specs.Making.{domain_called, is_empty, with_listed}
+use Rattle.separation_policy.specs.Making.{domain_called, may_list, with_listed}
 use Rattle.separation_policy.specs.Policy.{PolicyValue}
 use Rattle.separation_lines.specs.Fields.{domain_numbered, name_from, objects_from}
-use Rattle.separation_lines.specs.PolicyLine.{after_said, domain_line, halts_line, logs_line, policy_line, reads_line, said_by, writes_line}
+use Rattle.separation_lines.specs.PolicyLine.{after_said, apart_line, domain_line, halts_line, logs_line, policy_line, reads_line, said_by, writes_line}
 use Rattle.separation_lines.specs.DomainsLine.{domains_line, domains_words, is_called, listed_each, listed_one}
 use Rattle.separation_lines.specs.declared.said.Said.{Said}
 use Rattle.separation_lines.specs.declared.said.Said.TheVariants as says
-use Rattle.separation_lines.specs.Replaced.{permits}
+use Rattle.separation_lines.specs.Replaced.{binds}
 use Rattle.separation_lines.proofs.Steps.{same-if, same-steps}
 use Rattle.separation_lines.proofs.Saying.{by-line}
 use Rattle.separation_lines.proofs.Bare.{IsBare, bare-at, bare-listed, bare-made, bare-objects, same-called, same-count, same-numbered, same-objects}
@@ -65,11 +65,11 @@ follows-each policy bare (word ∷ words) is =
     follows-on (listed_one policy word) (listed_one bare word) (λ one. listed_each one words) (λ one. listed_each one words) (follows-one policy bare word is)
     (λ one other both. follows-each one other words both)
 
--- a word that lets domains do something is none that doesn't
-pub no-word : (word other : List ℕ) (b : Bool) → permits other ≡ not b → permits word ≡ b → bytes_eq word other ≡ true → ⊥
+-- a word of lines that are left out is none of others
+pub no-word : (word other : List ℕ) (b : Bool) → binds other ≡ not b → binds word ≡ b → bytes_eq word other ≡ true → ⊥
 no-word word other b known is e =
     let same = (bytes_eq-Decides word other).0 e in
-    let both : b ≡ not b = sym is ∙ ap permits same ∙ known in
+    let both : b ≡ not b = sym is ∙ ap binds same ∙ known in
     by b both
   where
     by : (b : Bool) → b ≡ not b → ⊥
@@ -83,7 +83,7 @@ module _ (policy bare : PolicyValue) (is : IsBare policy bare) where
       follows-behind (ensured (nat_le (length line) line_limit) LineTooLong) _ _ _ refl (λ short.
       follows-behind (ensured (is_visible_line line) BadByte) _ _ _ refl (λ visible.
       follows-behind (ensured (nat_le 2 (length (words_of line))) WrongWords) _ _ _ refl (λ some.
-      follows-test (is_empty policy.stage) (is_empty bare.stage) NotFirst _ _ is.empty
+      follows-test (may_list policy.stage) (may_list bare.stage) NotFirst _ _ is.lists
       (follows-on (listed_each policy _) (listed_each bare _) (λ all. Ok (with_listed all)) (λ all. Ok (with_listed all)) (follows-each policy bare _ is)
       (λ one other both. bare-listed one other both)))))
 
@@ -95,7 +95,7 @@ module _ (policy bare : PolicyValue) (is : IsBare policy bare) where
       same-steps (domain_numbered bare name) (domain_numbered policy name) _ _ (same-numbered policy bare is name) (λ domain.
       same-steps (objects_from bare domain words) (objects_from policy domain words) _ _ (same-objects policy bare is domain words) (λ block. refl))))
 
-  module _ (words : List (List ℕ)) (other : permits (field words 0) ≡ false) where
+  module _ (words : List (List ℕ)) (other : binds (field words 0) ≡ false) where
     abbrev first : List ℕ → Bool
     first word = bytes_eq (field words 0) word
 
@@ -106,13 +106,14 @@ module _ (policy bare : PolicyValue) (is : IsBare policy bare) where
         same-if (first (codes "reads")) (reads_line bare words) _ (reads_line policy words) _ (λ e. absurd (no-word (field words 0) (codes "reads") false refl other e)) (λ e.
         same-if (first (codes "writes")) (writes_line bare words) _ (writes_line policy words) _ (λ e. absurd (no-word (field words 0) (codes "writes") false refl other e)) (λ e.
         same-if (first (codes "halts")) (halts_line bare words) _ (halts_line policy words) _ (λ e. absurd (no-word (field words 0) (codes "halts") false refl other e)) (λ e.
-        same-if (first (codes "logs")) (logs_line bare words) _ (logs_line policy words) _ (λ e. absurd (no-word (field words 0) (codes "logs") false refl other e)) (λ e. refl)))))
+        same-if (first (codes "logs")) (logs_line bare words) _ (logs_line policy words) _ (λ e. absurd (no-word (field words 0) (codes "logs") false refl other e)) (λ e.
+        same-if (first (codes "apart")) (apart_line bare words) _ (apart_line policy words) _ (λ e. absurd (no-word (field words 0) (codes "apart") false refl other e)) (λ e. refl))))))
 
   -- what both are behind what a line says
   abbrev pub Both : Said → Type 0
   Both said = IsBare (after_said policy said) (after_said bare said)
 
-  module _ (line : List ℕ) (other : permits (field (words_of line) 0) ≡ false) where
+  module _ (line : List ℕ) (other : binds (field (words_of line) 0) ≡ false) where
     -- what it says is done to both
     pub both-line : IfOk (policy_line policy line) Both
     both-line = by-line policy line Both (record {
@@ -122,6 +123,7 @@ module _ (policy bare : PolicyValue) (is : IsBare policy bare) where
       writes = λ a b e. absurd (no-word (field (words_of line) 0) (codes "writes") false refl other e);
       halts = λ a e. absurd (no-word (field (words_of line) 0) (codes "halts") false refl other e);
       logs = λ a e. absurd (no-word (field (words_of line) 0) (codes "logs") false refl other e);
+      aparts = λ a b e. absurd (no-word (field (words_of line) 0) (codes "apart") false refl other e);
       ends = λ e. is;
     })
 
@@ -139,7 +141,7 @@ module _ (policy bare : PolicyValue) (is : IsBare policy bare) where
   abbrev pub Beside : Said → Type 0
   Beside said = IsBare (after_said policy said) bare
 
-  pub beside-line : (line : List ℕ) → permits (field (words_of line) 0) ≡ true → IfOk (policy_line policy line) Beside
+  pub beside-line : (line : List ℕ) → binds (field (words_of line) 0) ≡ true → IfOk (policy_line policy line) Beside
   beside-line line left = by-line policy line Beside (record {
     nothing = is;
     objects = λ domain name block e spells numbered. absurd (no-word (field (words_of line) 0) (codes "domain") true refl left e);
@@ -147,5 +149,6 @@ module _ (policy bare : PolicyValue) (is : IsBare policy bare) where
     writes = λ a b e. bare-at policy bare is a _ refl;
     halts = λ a e. bare-at policy bare is a _ refl;
     logs = λ a e. bare-at policy bare is a _ refl;
+    aparts = λ a b e. bare-at policy bare is a _ refl;
     ends = λ e. is;
   })

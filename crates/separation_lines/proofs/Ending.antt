@@ -34,6 +34,7 @@ module _ (policy other : PolicyValue) (line : List ℕ) where
     writes = λ a b is e. cc;
     halts = λ a is e. cc;
     logs = λ a is e. cc;
+    aparts = λ a b is e. cc;
     ends = λ is e. is;
   })
 

@@ -7,13 +7,12 @@ use Rattle.std.proofs.lemmas.Result.{IfOk-at_ok}
 use Rattle.coy_io.specs.Limits.{line_limit}
 use Rattle.coy_text.specs.Line.{is_visible_line}
 use Rattle.coy_text.specs.Words.{words_of}
-use Rattle.cap_words.specs.Name.{is_name}
 use Rattle.listing_read.specs.Faults.{ensured}
 use Rattle.listing_read.specs.declared.object_fault.PolicyFault.{PolicyFault}
 use Rattle.listing_read.specs.declared.object_fault.PolicyFault.TheVariants.{BadByte, LineTooLong, NameTaken, NotFirst, TooManyDomains, WrongWords}
-use Rattle.separation_policy.specs.Making.{domain_called, first_policy, is_empty, with_listed, with_made}
+use Rattle.separation_policy.specs.Making.{domain_called, first_policy, may_list, with_listed, with_made}
 use Rattle.separation_policy.specs.Policy.{PolicyValue, unmade}
-use Rattle.separation_lines.specs.Fields.{domain_numbered, name_from, or_next}
+use Rattle.separation_lines.specs.Fields.{domain_numbered, is_domain_name, name_from, or_next}
 use Rattle.separation_lines.specs.PolicyLine.{after_line, after_said, policy_line, with_named}
 use Rattle.separation_lines.specs.DomainsLine.{domains_line, domains_words, is_called, line_policy, list_policy, listed_each, listed_one, lists_domains}
 use Rattle.separation_lines.specs.declared.said.Said.{Said}
@@ -55,7 +54,7 @@ differ-domains policy line names =
     IfOk-behind (ensured (nat_le (length line) line_limit) LineTooLong) _ NamesDiffer (λ short e.
     IfOk-behind (ensured (is_visible_line line) BadByte) _ NamesDiffer (λ visible e.
     IfOk-behind (ensured (nat_le 2 (length (words_of line))) WrongWords) _ NamesDiffer (λ some e.
-    IfOk-behind (ensured (is_empty policy.stage) NotFirst) _ NamesDiffer (λ first e.
+    IfOk-behind (ensured (may_list policy.stage) NotFirst) _ NamesDiffer (λ first e.
     IfOk-behind (listed_each policy _) _ NamesDiffer (λ all is.
     differ-listed all (IfOk-at_ok NamesDiffer is (differ-each policy _ names)))))))
 
@@ -63,7 +62,7 @@ differ-domains policy line names =
 
 module _ (policy : PolicyValue) (names : NamesDiffer policy) where
   -- a domain that is named is there, or is made with a name that none has
-  differ-named : (domain : ℕ) (name : List ℕ) → is_name name ≡ true → domain_numbered policy name ≡ Ok domain → NamesDiffer (with_named policy domain name)
+  differ-named : (domain : ℕ) (name : List ℕ) → is_domain_name name ≡ true → domain_numbered policy name ≡ Ok domain → NamesDiffer (with_named policy domain name)
   differ-named domain name spells numbered =
       cond_both (nat_lt domain (length policy.domains)) policy (with_made policy name) NamesDiffer (λ there. names)
       (λ next. differ-made policy name names spells (by (domain_called policy name) refl numbered next))
@@ -84,6 +83,7 @@ module _ (policy : PolicyValue) (names : NamesDiffer policy) where
     writes = λ a b word. differ-same policy _ (same-at policy a _ refl) names;
     halts = λ a word. differ-same policy _ (same-at policy a _ refl) names;
     logs = λ a word. differ-same policy _ (same-at policy a _ refl) names;
+    aparts = λ a b word. differ-same policy _ (same-at policy a _ refl) names;
     ends = λ word. names;
   })
 
@@ -107,7 +107,7 @@ next_names_law policy line names =
 
 -- ---- all lines
 
-spells-first : (sizes : _) (a : ℕ) → a < 1 → is_name (domain_name (first_policy sizes) a) ≡ true
+spells-first : (sizes : _) (a : ℕ) → a < 1 → is_domain_name (domain_name (first_policy sizes) a) ≡ true
 spells-first sizes zero made = refl
 spells-first sizes (suc a) made = absurd (omega (arith, made))
 

@@ -1,13 +1,13 @@
 -- Word by word, what a line makes of a policy that lists its domains.
-use Rattle.std.proofs.Common.{◌≡◌, ◌∙◌, ◌++◌, ◌∷◌, [], ℕ, Bool, true, false, not, List, length, nat_lt, Option, Some, None, ok_or, Result, Ok, Err, refl, sym, ap, ap₂, append_assoc}
+use Rattle.std.proofs.Common.{◌≡◌, ◌∙◌, ◌++◌, ◌∷◌, [], ℕ, Bool, true, false, not, List, length, nat_lt, Result, Ok, Err, refl, sym, ap, ap₂, append_assoc}
 use Rattle.std.proofs.lemmas.List.{take_at}
-use Rattle.cap_words.specs.Name.{name_of}
 use Rattle.listing_read.specs.Faults.{◌>>=◌, ensured}
 use Rattle.listing_read.specs.declared.object_fault.PolicyFault.{PolicyFault}
-use Rattle.listing_read.specs.declared.object_fault.PolicyFault.TheVariants.{BadName, NameTaken, TooManyDomains}
+use Rattle.listing_read.specs.declared.object_fault.PolicyFault.TheVariants.{NameTaken, TooManyDomains}
 use Rattle.separation_policy.specs.declared.policy.Domain.{Domain}
 use Rattle.separation_policy.specs.Making.{domain_called, domain_with, with_first, with_made}
 use Rattle.separation_policy.specs.Policy.{PolicyValue}
+use Rattle.separation_lines.specs.Fields.{name_from}
 use Rattle.separation_lines.specs.DomainsLine.{is_called, listed_each, listed_one}
 
 -- ---- the words of a line
@@ -39,7 +39,7 @@ with_more policy more = record policy { domains = policy.domains ++ more }
 -- a word that is taken makes one domain more
 made-by : (policy one : PolicyValue) (word : List ℕ) → listed_one policy word ≡ Ok one → (name : List ℕ) × (one ≡ with_made policy name)
 unfolding listed_one
-made-by policy one word is = by-name (name_of word) is
+made-by policy one word is = by-name (name_from word) is
   where
     Makes : Type 0
     Makes = (name : List ℕ) × (one ≡ with_made policy name)
@@ -52,11 +52,11 @@ made-by policy one word is = by-name (name_of word) is
     by-others name true e = by-room name (nat_lt (length policy.domains) 64) e
     by-others name false e = cc
 
-    by-name : (named : Option (List ℕ))
-        → (ok_or named BadName >>= λ name. ensured (not (is_called (domain_called policy name))) NameTaken >>= λ _. ensured (nat_lt (length policy.domains) 64) TooManyDomains >>= λ _. Ok (with_made policy name)) ≡ Ok one
+    by-name : (named : Result (List ℕ) PolicyFault)
+        → (named >>= λ name. ensured (not (is_called (domain_called policy name))) NameTaken >>= λ _. ensured (nat_lt (length policy.domains) 64) TooManyDomains >>= λ _. Ok (with_made policy name)) ≡ Ok one
         → Makes
-    by-name None e = cc
-    by-name (Some name) e = by-others name (not (is_called (domain_called policy name))) e
+    by-name (Err fault) e = cc
+    by-name (Ok name) e = by-others name (not (is_called (domain_called policy name))) e
 
 pub more-behind : (first policy one : PolicyValue) (word : List ℕ) (more : List Domain) → policy ≡ with_more first more → listed_one policy word ≡ Ok one → (more : List Domain) × (one ≡ with_more first more)
 more-behind first policy one word more is listed =

@@ -7,10 +7,10 @@ use Rattle.std.proofs.lemmas.List.{get_or_append_left, get_or_past, get_or-set_s
 use Rattle.std.proofs.lemmas.List.Sums.{fails_before_first, position_or_len_is}
 use Rattle.std.proofs.lemmas.Slice.Eq.{bytes_eq-Decides}
 use Rattle.std.proofs.Math.Seq.{get_or-append_seam}
-use Rattle.cap_words.specs.Name.{is_name}
 use Rattle.separation_policy.specs.declared.policy.Domain.{Domain}
 use Rattle.separation_policy.specs.Making.{domain_called, domain_with, with_domain_at, with_made}
 use Rattle.separation_policy.specs.Policy.{PolicyValue, domain_at, unmade}
+use Rattle.separation_lines.specs.Fields.{is_domain_name}
 use Rattle.separation_lines.specs.Names.{NamesDiffer, SameNames, domain_name}
 
 -- ---- one name
@@ -54,7 +54,7 @@ called-none policy name a none made same =
 -- where domains are called the same, names differ as well
 pub differ-same : (policy other : PolicyValue) → SameNames policy other → NamesDiffer policy → NamesDiffer other
 differ-same policy other same names = record {
-  spelled = λ a made. subst (λ name. is_name name ≡ true) (same.names a) (names.spelled a (omega (arith, same.count, made)));
+  spelled = λ a made. subst (λ name. is_domain_name name ≡ true) (same.names a) (names.spelled a (omega (arith, same.count, made)));
   differ = λ a b one two e. names.differ a b (omega (arith, same.count, one)) (omega (arith, same.count, two)) (same.names a ∙ e ∙ sym (same.names b));
 }
 
@@ -95,13 +95,13 @@ module _ (policy : PolicyValue) (name : List ℕ) where
       ∙ ap (λ (d : Domain). d.name) (get_or-append_seam policy.domains (domain_with name) [] unmade)
 
   -- where no other has its name
-  pub differ-made : NamesDiffer policy → is_name name ≡ true → domain_called policy name ≡ None → NamesDiffer (with_made policy name)
+  pub differ-made : NamesDiffer policy → is_domain_name name ≡ true → domain_called policy name ≡ None → NamesDiffer (with_made policy name)
   differ-made names spells none = record { spelled = spelled; differ = differ }
     where
       last : (a : ℕ) → a < length (with_made policy name).domains → length policy.domains ≤ a → a ≡ length policy.domains
       last a made old = let long = length-append policy.domains (domain_with name ∷ []) in omega (arith, long, made, old)
 
-      spelled : (a : ℕ) → a < length (with_made policy name).domains → is_name (domain_name (with_made policy name) a) ≡ true
+      spelled : (a : ℕ) → a < length (with_made policy name).domains → is_domain_name (domain_name (with_made policy name) a) ≡ true
       spelled a made = elim (cases_lt a (length policy.domains)) [
         | inl old ↦ rw (name-old a old) (names.spelled a old)
         | inr new ↦ rw (name-new a (last a made new)) spells

@@ -1,5 +1,5 @@
 -- Lines that are written with the names of domains are read as what they say.
-use Rattle.std.proofs.Common.{◌≡◌, ◌∙◌, ◌*◌, ◌<◌, ◌≤◌, ◌==◌, ◌&&◌, ◌∷◌, [], ℕ, true, false, not, List, length, length-append, map, ok_or, Ok, refl, sym, ap, subst, arith}
+use Rattle.std.proofs.Common.{◌≡◌, ◌∙◌, ◌*◌, ◌<◌, ◌≤◌, ◌==◌, ◌&&◌, ◌∷◌, [], ℕ, Bool, true, false, not, List, length, length-append, map, ok_or, Ok, refl, sym, ap, subst, arith}
 use Rattle.std.specs.Prelude.{codes, nat_le}
 use Rattle.std.specs.List.{AllByRecursion, join_with_byte, list_all}
 use Rattle.std.proofs.lemmas.Bool.{and_from, and_parts, le-leb, leb-true}
@@ -15,7 +15,7 @@ use Rattle.cap_words.specs.Name.{is_name, is_name_byte, is_small, name_of}
 use Rattle.listing_read.specs.declared.object_fault.PolicyFault.TheVariants.{NoDomain}
 use Rattle.separation_policy.specs.Making.{domain_called}
 use Rattle.separation_policy.specs.Policy.{PolicyValue}
-use Rattle.separation_lines.specs.Fields.{domain_from}
+use Rattle.separation_lines.specs.Fields.{domain_from, is_domain_name, is_remedy}
 use Rattle.separation_lines.specs.PolicyLine.{after_said, alone_line, halts_line, logs_line, next_of, policy_line, reads_line, said_by, writes_line}
 use Rattle.separation_lines.specs.DomainsLine.{lists_domains}
 use Rattle.separation_lines.specs.declared.said.Next.TheVariants.{Policy}
@@ -27,6 +27,16 @@ use Rattle.separation_lines.specs.Laws.{LinesReadBackLaw, ReadBackLaw}
 use Rattle.separation_lines.proofs.Names.{called-name, differ-same, same-at, same-behind}
 
 -- ---- names as words
+
+-- the name of a domain is a name, and says no remedy
+domain-name : (name : List ℕ) → is_domain_name name ≡ true → (is_remedy name ≡ false) × (is_name name ≡ true)
+domain-name name is =
+    let parts = and_parts (not (is_remedy name)) (is_name name) is in
+    (by (is_remedy name) parts.0, parts.1)
+  where
+    by : (remedy : Bool) → not remedy ≡ true → remedy ≡ false
+    by true e = cc
+    by false e = refl
 
 visible-byte : (byte : ℕ) → is_name_byte byte ≡ true → is_visible byte ≡ true
 visible-byte byte is = grind (arith, nat_tests)
@@ -132,9 +142,11 @@ module _ (policy : PolicyValue) where
   -- ---- domains
 
   -- a domain is read from its name
-  read-name : (name : List ℕ) (a : ℕ) → is_name name ≡ true → ok_or (domain_called policy name) NoDomain ≡ Ok a → domain_from policy name ≡ Ok a
+  read-name : (name : List ℕ) (a : ℕ) → is_domain_name name ≡ true → ok_or (domain_called policy name) NoDomain ≡ Ok a → domain_from policy name ≡ Ok a
   unfolding domain_from name_of
-  read-name name a is called = rw is called
+  read-name name a is called =
+      let parts = domain-name name is in
+      rw (parts.0, parts.1) called
 
 module _ (policy : PolicyValue) (differ : NamesDiffer policy) where
   abbrev count : ℕ
@@ -167,10 +179,10 @@ module _ (policy : PolicyValue) (differ : NamesDiffer policy) where
   -- ---- lines
 
   one-name : (a : ℕ) → a < count → list_all is_name (name a ∷ []) ≡ true
-  one-name a made = and_from (is_name (name a)) true (differ.spelled a made) refl
+  one-name a made = and_from (is_name (name a)) true (domain-name (name a) (differ.spelled a made)).1 refl
 
   two-names : (a b : ℕ) → a < count → b < count → list_all is_name (name a ∷ name b ∷ []) ≡ true
-  two-names a b one two = and_from (is_name (name a)) (list_all is_name (name b ∷ [])) (differ.spelled a one) (one-name b two)
+  two-names a b one two = and_from (is_name (name a)) (list_all is_name (name b ∷ [])) (domain-name (name a) (differ.spelled a one)).1 (one-name b two)
 
   read-back : (said : Said) → IsPermission count said → IsReadAs policy (written_line policy said) said
   read-back (Reads a b) made = read-names policy (codes "reads" ∷ name a ∷ name b ∷ []) (Reads a b) (two-names a b made.0 made.1) (omega arith) refl refl (said-reads a b made.0 made.1) refl

@@ -18,7 +18,7 @@ use Rattle.separation_lines.specs.declared.said.Said.{Said}
 use Rattle.separation_lines.specs.declared.said.Said.TheVariants as says
 use Rattle.separation_lines.specs.Names.{SameNames}
 use Rattle.separation_lines.specs.Written.{AreTaken, IsPermission, after_each, lines_policy, written_line}
-use Rattle.separation_lines.specs.Replaced.{SameDomains, other_lines, permits}
+use Rattle.separation_lines.specs.Replaced.{SameDomains, other_lines, binds}
 use Rattle.separation_lines.proofs.Kept.{names_law}
 use Rattle.separation_lines.proofs.ReadBack.{lines_read_back_law}
 use Rattle.separation_lines.specs.Laws.{ReplacedLaw}
@@ -29,7 +29,7 @@ use Rattle.separation_lines.proofs.Beside.{Beside, Both, Follows, beside-line, b
 
 module _ (policy bare : PolicyValue) (is : IsBare policy bare) (line : List ℕ) where
   -- one that is left out changes what domains may do alone
-  left-out : permits (field (words_of line) 0) ≡ true → IsBare (line_policy policy line) bare
+  left-out : binds (field (words_of line) 0) ≡ true → IsBare (line_policy policy line) bare
   left-out left =
       cond_both (lists_domains (words_of line)) (list_policy policy (domains_line policy line)) (after_line policy (policy_line policy line)) (λ (p : PolicyValue). IsBare p bare)
       (λ lists. absurd (no-word (field (words_of line) 0) (codes "domains") true refl left lists))
@@ -53,7 +53,7 @@ module _ (policy bare : PolicyValue) (is : IsBare policy bare) (line : List ℕ)
   goes-said (Ok said) behind = behind
   goes-said (Err fault) behind = is
 
-  goes-on : permits (field (words_of line) 0) ≡ false → line_answer policy line ≡ Ok nexts.Policy → GoesOn (line_answer bare line) (line_policy policy line) (line_policy bare line)
+  goes-on : binds (field (words_of line) 0) ≡ false → line_answer policy line ≡ Ok nexts.Policy → GoesOn (line_answer bare line) (line_policy policy line) (line_policy bare line)
   goes-on other takes = by (lists_domains (words_of line)) takes
     where
       same : policy_line bare line ≡ policy_line policy line
@@ -78,18 +78,18 @@ record IsBareBehind (policy bare : PolicyValue) (lines : List (List ℕ)) : Type
 
 bare-lines : (policy bare : PolicyValue) (lines : List (List ℕ)) → IsBare policy bare → AreTaken policy lines → IsBareBehind policy bare lines
 bare-lines policy bare [] is taken = record { taken = tt; behind = is }
-bare-lines policy bare (line ∷ lines) is taken = by (permits (field (words_of line) 0)) refl (λ policy bare is taken. bare-lines policy bare lines is taken)
+bare-lines policy bare (line ∷ lines) is taken = by (binds (field (words_of line) 0)) refl (λ policy bare is taken. bare-lines policy bare lines is taken)
   where
     kept : Bool → List (List ℕ)
     kept left = if not left then line ∷ other_lines lines else other_lines lines
 
-    all : (left : Bool) → permits (field (words_of line) 0) ≡ left → AreTaken bare (kept left) → IsBare (lines_policy policy (line ∷ lines)) (lines_policy bare (kept left)) → IsBareBehind policy bare (line ∷ lines)
+    all : (left : Bool) → binds (field (words_of line) 0) ≡ left → AreTaken bare (kept left) → IsBare (lines_policy policy (line ∷ lines)) (lines_policy bare (kept left)) → IsBareBehind policy bare (line ∷ lines)
     all left is taken behind = record {
       taken = subst (λ left. AreTaken bare (kept left)) (sym is) taken;
       behind = subst (λ left. IsBare (lines_policy policy (line ∷ lines)) (lines_policy bare (kept left))) (sym is) behind;
     }
 
-    by : (left : Bool) → permits (field (words_of line) 0) ≡ left → ((policy bare : PolicyValue) → IsBare policy bare → AreTaken policy lines → IsBareBehind policy bare lines)
+    by : (left : Bool) → binds (field (words_of line) 0) ≡ left → ((policy bare : PolicyValue) → IsBare policy bare → AreTaken policy lines → IsBareBehind policy bare lines)
         → IsBareBehind policy bare (line ∷ lines)
     by true left others =
         let behind = others (line_policy policy line) bare (left-out policy bare is line left) taken.1 in
@@ -133,7 +133,7 @@ same-each policy other most [] made same = same
 same-each policy other most (said ∷ rest) made same = same-each (after_said policy said) (after_said other said) most rest made.1 (same-said_of policy other most said made.0 same)
 
 bare-first : (sizes : _) → IsBare (first_policy sizes) (first_policy sizes)
-bare-first sizes = record { domains = refl; assigned = refl; stage = refl; empty = λ e. e }
+bare-first sizes = record { domains = refl; assigned = refl; stage = refl; lists = λ e. e }
 
 -- the law
 pub replaced_law : ReplacedLaw

@@ -11,29 +11,32 @@ use Rattle.listing_read.specs.Faults.{ensured}
 use Rattle.listing_read.specs.declared.object_fault.PolicyFault.{PolicyFault}
 use Rattle.listing_read.specs.declared.object_fault.PolicyFault.TheVariants.{BadByte, BadName, LineTooLong, UnknownPolicy, WrongWords}
 use Rattle.separation_policy.specs.Policy.{PolicyValue}
-use Rattle.separation_lines.specs.Fields.{domain_from, domain_numbered, name_from, objects_from}
-use Rattle.separation_lines.specs.PolicyLine.{alone_line, domain_line, end_line, halts_line, logs_line, policy_line, reads_line, said_by, writes_line}
+use Rattle.separation_lines.specs.Fields.{domain_from, domain_numbered, is_domain_name, is_remedy, name_from, objects_from}
+use Rattle.separation_lines.specs.PolicyLine.{alone_line, apart_line, domain_line, end_line, halts_line, logs_line, policy_line, reads_line, said_by, writes_line}
 use Rattle.separation_lines.specs.declared.said.Said.{Said}
 use Rattle.separation_lines.specs.declared.said.Said.TheVariants as says
 use Rattle.separation_lines.proofs.Steps.{IfOk-behind}
 
 -- a word that is taken as a name is one
-pub spells-name : (word name : List ℕ) → name_from word ≡ Ok name → is_name name ≡ true
+pub spells-name : (word name : List ℕ) → name_from word ≡ Ok name → is_domain_name name ≡ true
 unfolding name_of
-spells-name word name is = by (is_name word) refl is
+spells-name word name is = by (is_remedy word) (is_name word) refl refl is
   where
-    by : (spells : Bool) → is_name word ≡ spells → ok_or (if spells then Some word else None) BadName ≡ Ok name → is_name name ≡ true
-    by true e is = let same : word ≡ name = cc in subst (λ bytes. is_name bytes ≡ true) same e
-    by false e is = cc
+    by : (remedy spells : Bool) → is_remedy word ≡ remedy → is_name word ≡ spells
+        → (if remedy then Err BadName else ok_or (if spells then Some word else None) BadName) ≡ Ok name → is_domain_name name ≡ true
+    by true spells e f is = cc
+    by false true e f is = let same : word ≡ name = cc in subst (λ bytes. is_domain_name bytes ≡ true) same (rw (e, f) refl)
+    by false false e f is = cc
 
 -- it is so of each thing that a line can say whose first word is this
 pub record Each (policy : PolicyValue) (word : List ℕ) (P : Said → Type 0) : Type 0 where
   pub nothing : P says.Nothing
-  pub objects : (domain : ℕ) (name : List ℕ) (block : Block) → bytes_eq word (codes "domain") ≡ true → is_name name ≡ true → domain_numbered policy name ≡ Ok domain → P (says.Objects domain name block)
+  pub objects : (domain : ℕ) (name : List ℕ) (block : Block) → bytes_eq word (codes "domain") ≡ true → is_domain_name name ≡ true → domain_numbered policy name ≡ Ok domain → P (says.Objects domain name block)
   pub reads : (a b : ℕ) → bytes_eq word (codes "reads") ≡ true → P (says.Reads a b)
   pub writes : (a b : ℕ) → bytes_eq word (codes "writes") ≡ true → P (says.Writes a b)
   pub halts : (a : ℕ) → bytes_eq word (codes "halts") ≡ true → P (says.Halts a)
   pub logs : (a : ℕ) → bytes_eq word (codes "logs") ≡ true → P (says.Logs a)
+  pub aparts : (a b : ℕ) → bytes_eq word (codes "apart") ≡ true → P (says.Apart a b)
   pub ends : bytes_eq word (codes "end") ≡ true → P says.Ends
 
 module _ (policy : PolicyValue) (words : List (List ℕ)) (P : Said → Type 0) (each : Each policy (field words 0) P) where
@@ -71,6 +74,13 @@ module _ (policy : PolicyValue) (words : List (List ℕ)) (P : Said → Type 0) 
   unfolding logs_line
   by-logs word = IfOk-behind (alone_line policy words) _ P (λ a e. each.logs a word)
 
+  by-apart : bytes_eq (field words 0) (codes "apart") ≡ true → So (apart_line policy words)
+  unfolding apart_line
+  by-apart word =
+      IfOk-behind (ensured (length words == 3) WrongWords) _ P (λ some e.
+      IfOk-behind (domain_from policy (field words 1)) _ P (λ a e.
+      IfOk-behind (domain_from policy (field words 2)) _ P (λ b e. each.aparts a b word)))
+
   by-end : bytes_eq (field words 0) (codes "end") ≡ true → So (end_line words)
   unfolding end_line
   by-end word = IfOk-behind (ensured (length words == 1) WrongWords) _ P (λ one e. each.ends word)
@@ -84,7 +94,8 @@ module _ (policy : PolicyValue) (words : List (List ℕ)) (P : Said → Type 0) 
       cond_both (first (codes "writes")) (writes_line policy words) _ So by-writes (λ e.
       cond_both (first (codes "halts")) (halts_line policy words) _ So by-halts (λ e.
       cond_both (first (codes "logs")) (logs_line policy words) _ So by-logs (λ e.
-      cond_both (first (codes "end")) (end_line words) (Err UnknownPolicy) So by-end (λ e. tt))))))
+      cond_both (first (codes "apart")) (apart_line policy words) _ So by-apart (λ e.
+      cond_both (first (codes "end")) (end_line words) (Err UnknownPolicy) So by-end (λ e. tt)))))))
 
 -- so it is of what the line says
 pub by-line : (policy : PolicyValue) (line : List ℕ) (P : Said → Type 0) → Each policy (field (words_of line) 0) P → IfOk (policy_line policy line) P

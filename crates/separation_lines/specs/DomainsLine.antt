@@ -1,11 +1,11 @@
--- The line that lists all domains of a policy: what the policy is after it, or its first fault; and any line of a policy that may
--- begin with one. (Own.)
+-- The lines that list all domains of a policy: what the policy is after one, or its first fault; and any line of a policy that may
+-- begin with such. (Own.)
 use Rattle.std.specs.Prelude.{ℕ, nat_le, nat_lt, Bool, true, false, not, if◌then◌else◌, List, [], ◌∷◌, length, drop, bytes_eq, codes, Option, Some, None, Result, Ok, Err}
 use Rattle.coy_io.specs.Limits.{line_limit}
 use Rattle.coy_text.specs.Line.{is_visible_line}
 use Rattle.coy_text.specs.Words.{words_of, field}
 use Rattle.listing_read.specs.Faults.{◌>>=◌, ensured}
-use Rattle.separation_policy.specs.Making.{domain_called, is_empty, with_listed, with_made}
+use Rattle.separation_policy.specs.Making.{domain_called, may_list, with_listed, with_made}
 use Rattle.separation_policy.specs.Policy.{PolicyValue}
 use Rattle.separation_lines.specs.Fields.{name_from}
 use Rattle.separation_lines.specs.PolicyLine.{after_line, answered, policy_line}
@@ -34,11 +34,12 @@ listed_each policy (word ∷ words) = do
   one ← listed_one policy word
   listed_each one words
 
--- `domains A B ..`: the policy with these domains and no others besides `rest`
+-- `domains A B ..`: the policy with these domains too, and no others but `rest` and those of such lines directly before it or
+-- behind it
 unfoldable pub domains_words : PolicyValue → List (List ℕ) → Result PolicyValue PolicyFault
 domains_words policy words = do
   _ ← ensured (nat_le 2 (length words)) WrongWords
-  _ ← ensured (is_empty policy.stage) NotFirst
+  _ ← ensured (may_list policy.stage) NotFirst
   all ← listed_each policy (drop 1 words)
   Ok (with_listed all)
 

@@ -1,6 +1,6 @@
 -- The fields of a line of a policy, each with its faults in the order in which they are tried. (Own.)
-use Rattle.std.specs.Prelude.{ℕ, nat_lt, not, if◌then◌else◌, List, length, ok_or, Option, Some, None, Result, Ok, Err}
-use Rattle.cap_words.specs.Name.{name_of}
+use Rattle.std.specs.Prelude.{ℕ, nat_lt, not, ◌&&◌, ◌||◌, Bool, if◌then◌else◌, List, length, bytes_eq, codes, ok_or, Option, Some, None, Result, Ok, Err}
+use Rattle.cap_words.specs.Name.{is_name, name_of}
 use Rattle.listing_read.specs.Faults.{◌>>=◌, ensured}
 use Rattle.coy_text.specs.Words.{field}
 use Rattle.separation_policy.specs.Making.{domain_called, is_assigned_other, is_listed}
@@ -13,9 +13,19 @@ use Rattle.confine_check.specs.Fields.{kind_of, named_block}
 use Rattle.listing_read.specs.declared.object_fault.PolicyFault.{PolicyFault}
 use Rattle.listing_read.specs.declared.object_fault.PolicyFault.TheVariants.{BadName, TooManyDomains, Taken, NoDomain}
 
--- NAME: a name as version 2 of listings has them
+-- whether a word says in the line of a crossing what would allow it, so that no domain is called so
+abbrev pub is_remedy : List ℕ → Bool
+is_remedy word =
+    bytes_eq word (codes "reads") || bytes_eq word (codes "writes") || bytes_eq word (codes "sends")
+    || bytes_eq word (codes "view") || bytes_eq word (codes "priority") || bytes_eq word (codes "never")
+
+-- whether a domain may be called so: by a name as version 2 of listings has them, and none of these words
+abbrev pub is_domain_name : List ℕ → Bool
+is_domain_name word = not (is_remedy word) && is_name word
+
+-- NAME: such a name
 abbrev pub name_from : List ℕ → Result (List ℕ) PolicyFault
-name_from word = ok_or (name_of word) BadName
+name_from word = if is_remedy word then Err BadName else ok_or (name_of word) BadName
 
 -- the number of the next of so many domains, if one may still be made, and there is room for it
 abbrev pub next_domain : Stage → ℕ → Result ℕ PolicyFault

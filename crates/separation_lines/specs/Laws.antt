@@ -27,8 +27,9 @@ abbrev pub LinesReadBackLaw : Type 0
 LinesReadBackLaw = (names policy : PolicyValue) (all : List Said) → NamesDiffer names → SameNames names policy
     → All (IsPermission (length names.domains)) all → AreReadAs policy (map (written_line names) all) all
 
--- Where the lines of a policy are taken in, so are those with written ones in place of those that let domains do something.
--- They give the policy of its domains and objects where no domain may do anything but what was written.
+-- Where the lines of a policy are taken in, so are those with written ones in place of those that say what domains may do, or
+-- what they are apart from. They give the policy of its domains and objects where nothing is said of any domain but what was
+-- written.
 abbrev pub ReplacedLaw : Type 0
 ReplacedLaw = (sizes : _) (lines : List (List ℕ)) (all : List Said) →
     let policy = lines_policy (first_policy sizes) lines in

@@ -4,7 +4,7 @@ use Rattle.coy_io.specs.Limits.{line_limit}
 use Rattle.coy_text.specs.Line.{is_visible_line, is_skipped}
 use Rattle.coy_text.specs.Words.{words_of, field}
 use Rattle.listing_read.specs.Faults.{◌>>=◌, ensured}
-use Rattle.separation_policy.specs.Making.{with_assigned, with_halting, with_logging, with_made, with_reading, with_writing}
+use Rattle.separation_policy.specs.Making.{with_apart, with_assigned, with_halting, with_logging, with_made, with_reading, with_writing}
 use Rattle.separation_policy.specs.Policy.{PolicyValue, assigned_of}
 use Rattle.separation_lines.specs.Fields.{domain_from, domain_numbered, name_from, objects_from}
 use Rattle.listing_read.specs.declared.object_fault.PolicyFault.{PolicyFault}
@@ -12,7 +12,7 @@ use Rattle.listing_read.specs.declared.object_fault.PolicyFault.TheVariants.{Lin
 use Rattle.separation_lines.specs.declared.said.Next.{Next}
 use Rattle.separation_lines.specs.declared.said.Next.TheVariants.{Policy, Schedule}
 use Rattle.separation_lines.specs.declared.said.Said.{Said}
-use Rattle.separation_lines.specs.declared.said.Said.TheVariants.{Nothing, Objects, Reads, Writes, Halts, Logs, Ends}
+use Rattle.separation_lines.specs.declared.said.Said.TheVariants.{Nothing, Objects, Reads, Writes, Halts, Logs, Apart, Ends}
 
 -- `domain NAME KIND N` or `domain NAME KIND N M`
 unfoldable pub domain_line : PolicyValue → List (List ℕ) → Result Said PolicyFault
@@ -57,6 +57,14 @@ logs_line policy words = do
   domain ← alone_line policy words
   Ok (Logs domain)
 
+-- `apart A B`
+unfoldable pub apart_line : PolicyValue → List (List ℕ) → Result Said PolicyFault
+apart_line policy words = do
+  _ ← ensured (length words == 3) WrongWords
+  viewer ← domain_from policy (field words 1)
+  viewed ← domain_from policy (field words 2)
+  Ok (Apart viewer viewed)
+
 -- `end`
 unfoldable pub end_line : List (List ℕ) → Result Said PolicyFault
 end_line words = do
@@ -71,7 +79,8 @@ said_by policy words =
     else (if bytes_eq (field words 0) (codes "writes") then writes_line policy words
     else (if bytes_eq (field words 0) (codes "halts") then halts_line policy words
     else (if bytes_eq (field words 0) (codes "logs") then logs_line policy words
-    else (if bytes_eq (field words 0) (codes "end") then end_line words else Err UnknownPolicy)))))
+    else (if bytes_eq (field words 0) (codes "apart") then apart_line policy words
+    else (if bytes_eq (field words 0) (codes "end") then end_line words else Err UnknownPolicy))))))
 
 -- a line by its words
 abbrev pub policy_words : PolicyValue → List (List ℕ) → Result Said PolicyFault
@@ -95,6 +104,7 @@ after_said policy (Reads reader read) = with_reading policy reader read
 after_said policy (Writes writer written) = with_writing policy writer written
 after_said policy (Halts domain) = with_halting policy domain
 after_said policy (Logs domain) = with_logging policy domain
+after_said policy (Apart viewer viewed) = with_apart policy viewer viewed
 after_said policy _ = policy
 
 -- the policy after a line, as before where it is refused
@@ -120,4 +130,5 @@ IsSaid policy (Reads reader read) = (reader < length policy.domains) × (read < 
 IsSaid policy (Writes writer written) = (writer < length policy.domains) × (written < length policy.domains)
 IsSaid policy (Halts domain) = domain < length policy.domains
 IsSaid policy (Logs domain) = domain < length policy.domains
+IsSaid policy (Apart viewer viewed) = (viewer < length policy.domains) × (viewed < length policy.domains)
 IsSaid policy _ = Unit {0}

@@ -1,7 +1,7 @@
 //! Lines of a policy whose domains may be listed.
 ghost use Rattle.std.specs.Prelude.{◌≡◌, drop, Ok, Err, IfErr, OnErr, OnOk};
 ghost use Rattle.coy_text.specs.Words.{words_of};
-ghost use Rattle.separation_policy.specs.Making.{is_empty};
+ghost use Rattle.separation_policy.specs.Making.{may_list};
 ghost use Rattle.separation_lines.specs.DomainsLine.{domains_line, domains_words, line_answer, line_policy, listed_each, listed_one, lists_domains};
 
 use crate::fields::name;
@@ -12,7 +12,7 @@ use coy_text::{is_visible, word, word_count};
 use listing_read::PolicyFault;
 use separation_policy::{DOMAIN_LIMIT, Policy, Stage};
 
-/// Takes a line in, which may list the domains, and answers what the next line belongs to. After a fault the policy is as
+/// Takes a line in, which may list domains, and answers what the next line belongs to. After a fault the policy is as
 /// before.
 pub fn read_listed(line: &[u8], policy: &mut Policy) -> Result<Next, PolicyFault>
     ensures answer { result ≡ line_answer policy.old line.now }
@@ -32,7 +32,7 @@ fn lists_domains(line: &[u8]) -> bool
     word(line, 0) == b"domains".as_slice()
 }
 
-/// Makes the domains that a line lists, and no others from then on.
+/// Makes the domains that a line lists, and from then on no others but those that lines directly behind it list.
 #[tactic(auto, unfolding(crate::specs::DomainsLine::domains_line))]
 fn list_line(line: &[u8], policy: &mut Policy) -> Result<(), PolicyFault>
     ensures ok { OnOk result (domains_line policy.old line.now ≡ Ok policy.new) }
@@ -58,7 +58,7 @@ fn list_words(line: &[u8], policy: &mut Policy) -> Result<(), PolicyFault>
     if word_count(line) < 2 {
         return Err(PolicyFault::WrongWords);
     }
-    if !is_empty(policy) {
+    if !may_list(policy) {
         return Err(PolicyFault::NotFirst);
     }
     list_each(line, policy)?;
@@ -66,13 +66,13 @@ fn list_words(line: &[u8], policy: &mut Policy) -> Result<(), PolicyFault>
     Ok(())
 }
 
-/// Whether nothing was said of a policy yet.
-fn is_empty(policy: &Policy) -> bool
-    ensures { result ≡ is_empty policy.now.stage }
+/// Whether domains may be listed: nothing was said of a policy yet but lists of domains.
+fn may_list(policy: &Policy) -> bool
+    ensures { result ≡ may_list policy.now.stage }
 {
     match policy.stage() {
-        Stage::Empty => true,
-        _ => false,
+        Stage::Empty | Stage::Listing => true,
+        Stage::Open | Stage::Listed => false,
     }
 }
 

@@ -2,7 +2,7 @@
 ghost use Rattle.std.specs.Prelude.{◌≡◌, ◌<◌, ◌≤◌, length, IfOk};
 ghost use Rattle.coy_text.specs.Words.{words_of};
 ghost use Rattle.separation_policy.specs.Policy.{assigned_of};
-ghost use Rattle.separation_lines.specs.Fields.{block_from, domain_from, domain_numbered, name_from, next_domain, objects_from};
+ghost use Rattle.separation_lines.specs.Fields.{block_from, domain_from, domain_numbered, is_remedy, name_from, next_domain, objects_from};
 
 use cap_words::{Name, read_name};
 use confine_check::{Block, read_block, read_kind};
@@ -10,10 +10,25 @@ use coy_text::word;
 use listing_read::PolicyFault;
 use separation_policy::{DOMAIN_LIMIT, Policy, Stage};
 
+/// Whether a word says in the line of a crossing what would allow it.
+fn is_remedy(word: &[u8]) -> bool
+    ensures { result ≡ is_remedy word.now }
+{
+    word == b"reads".as_slice()
+        || word == b"writes".as_slice()
+        || word == b"sends".as_slice()
+        || word == b"view".as_slice()
+        || word == b"priority".as_slice()
+        || word == b"never".as_slice()
+}
+
 /// The name that a word is.
 pub(crate) fn name(word: &[u8]) -> Result<Name, PolicyFault>
     ensures { result ≡ name_from word.now }
 {
+    if is_remedy(word) {
+        return Err(PolicyFault::BadName);
+    }
     match read_name(word) {
         Some(name) => Ok(name),
         None => Err(PolicyFault::BadName),
@@ -40,7 +55,7 @@ fn next_domain(stage: Stage, count: usize) -> Result<u8, PolicyFault>
     ensures next { IfOk result (λ domain. domain ≡ count) }
 {
     match stage {
-        Stage::Listed => Err(PolicyFault::NoDomain),
+        Stage::Listing | Stage::Listed => Err(PolicyFault::NoDomain),
         _ if count < DOMAIN_LIMIT => Ok(count as u8),
         _ => Err(PolicyFault::TooManyDomains),
     }

@@ -21,8 +21,8 @@ pub fn lines_read_back_law()
     ensures { LinesReadBackLaw }
 {}
 
-/// Written lines in place of those that let domains do something give the same domains and objects, and let domains do what
-/// was written alone.
+/// Written lines in place of those that say what domains may do, or what they are apart from, give the same domains and
+/// objects, and let domains do what was written alone.
 pub fn replaced_law()
     ensures { ReplacedLaw }
 {}

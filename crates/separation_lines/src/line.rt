@@ -1,7 +1,7 @@
 //! Lines of a policy.
 ghost use Rattle.std.specs.Prelude.{◌≡◌, ◌<◌, ◌≤◌, length, IfOk};
 ghost use Rattle.coy_text.specs.Words.{words_of};
-ghost use Rattle.separation_lines.specs.PolicyLine.{after_line, after_said, alone_line, answered, domain_line, end_line, halts_line, logs_line, next_of, policy_line, reads_line, said_by, writes_line, IsSaid};
+ghost use Rattle.separation_lines.specs.PolicyLine.{after_line, after_said, alone_line, apart_line, answered, domain_line, end_line, halts_line, logs_line, next_of, policy_line, reads_line, said_by, writes_line, IsSaid};
 
 use crate::fields::{made, name, numbered, objects};
 use crate::said::{Next, Said};
@@ -52,6 +52,10 @@ fn take_in(said: Said, policy: &mut Policy) -> Next
         }
         Said::Logs(domain) => {
             policy.allow_logging(domain);
+            Next::Policy
+        }
+        Said::Apart { viewer, viewed } => {
+            policy.keep_apart(viewer, viewed);
             Next::Policy
         }
         Said::Ends => Next::Schedule,
@@ -107,6 +111,9 @@ fn by_first_word(line: &[u8], policy: &Policy) -> Result<Said, PolicyFault>
     }
     if first == b"logs".as_slice() {
         return logs(line, policy);
+    }
+    if first == b"apart".as_slice() {
+        return apart(line, policy);
     }
     if first == b"end".as_slice() {
         return end(line);
@@ -175,6 +182,19 @@ fn logs(line: &[u8], policy: &Policy) -> Result<Said, PolicyFault>
 {
     let domain = alone(line, policy)?;
     Ok(Said::Logs(domain))
+}
+
+#[tactic(auto, unfolding(crate::specs::PolicyLine::apart_line))]
+fn apart(line: &[u8], policy: &Policy) -> Result<Said, PolicyFault>
+    ensures value { result ≡ apart_line policy.now (words_of line.now) }
+    ensures said { IfOk result (IsSaid policy.now) }
+{
+    if word_count(line) != 3 {
+        return Err(PolicyFault::WrongWords);
+    }
+    let viewer = made(word(line, 1), policy)?;
+    let viewed = made(word(line, 2), policy)?;
+    Ok(Said::Apart { viewer, viewed })
 }
 
 /// The domain of a line that names no other.

@@ -36,6 +36,11 @@ pub enum Said {
     Halts(u8),
     /// Objects of this domain may hold KernLog.
     Logs(u8),
+    /// The view of one domain hasn't another.
+    Apart {
+        viewer: u8,
+        viewed: u8,
+    },
     /// The policy is over.
     Ends,
 }

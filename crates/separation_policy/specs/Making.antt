@@ -7,13 +7,13 @@ use Rattle.object_store.specs.declared.sizes.Sizes.{Sizes}
 use Rattle.separation_policy.specs.declared.policy.Domain.{Domain}
 use Rattle.separation_policy.specs.declared.rights.Rights.{Rights}
 use Rattle.separation_policy.specs.declared.stage.Stage.{Stage}
-use Rattle.separation_policy.specs.declared.stage.Stage.TheVariants.{Empty, Open, Listed}
+use Rattle.separation_policy.specs.declared.stage.Stage.TheVariants.{Empty, Open, Listing, Listed}
 use Rattle.separation_policy.specs.DomainSet.{no_domains, with_domain}
 use Rattle.separation_policy.specs.Policy.{Assigned, PolicyValue, assigned_of, domain_at, domain_or_rest}
 
--- a domain as it is made: it may do nothing beyond itself
+-- a domain as it is made: it may do nothing beyond itself, and may have any other in its view
 abbrev pub domain_with : List ℕ → Domain
-domain_with name = record { name = name; reads = no_domains; writes = no_domains; halts = false; logs = false }
+domain_with name = record { name = name; reads = no_domains; writes = no_domains; halts = false; logs = false; apart = no_domains }
 
 -- no object of a machine of these sizes was assigned a domain
 abbrev pub none_assigned : Sizes → Assigned
@@ -37,22 +37,25 @@ with_made policy name = record policy { domains = policy.domains ++ domain_with 
 abbrev pub with_first : PolicyValue → ℕ → PolicyValue
 with_first policy count = record policy { domains = take count policy.domains }
 
--- where no domain is made any more
+-- where domains are made by lists alone
 abbrev pub with_listed : PolicyValue → PolicyValue
-with_listed policy = record policy { stage = Listed }
+with_listed policy = record policy { stage = Listing }
 
--- whether nothing was said yet
-abbrev pub is_empty : Stage → Bool
-is_empty Empty = true
-is_empty _ = false
+-- whether domains may be listed: nothing was said yet, or only lists of domains were
+abbrev pub may_list : Stage → Bool
+may_list Empty = true
+may_list Listing = true
+may_list _ = false
 
--- whether the domains were listed
+-- whether domains were listed
 abbrev pub is_listed : Stage → Bool
+is_listed Listing = true
 is_listed Listed = true
 is_listed _ = false
 
--- the stage once something was said
+-- the stage once something was said that lists no domains
 abbrev pub begun : Stage → Stage
+begun Listing = Listed
 begun Listed = Listed
 begun _ = Open
 
@@ -101,6 +104,10 @@ domain_halting domain = record domain { halts = true }
 abbrev pub domain_logging : Domain → Domain
 domain_logging domain = record domain { logs = true }
 
+-- one whose view hasn't domain `b` either
+abbrev pub domain_apart : Domain → ℕ → Domain
+domain_apart domain b = record domain { apart = with_domain domain.apart b }
+
 -- the policy where domain `a` may read domain `b` too
 abbrev pub with_reading : PolicyValue → ℕ → ℕ → PolicyValue
 with_reading policy a b = with_domain_at policy a (domain_reading (domain_at policy a) b)
@@ -117,6 +124,10 @@ with_halting policy a = with_domain_at policy a (domain_halting (domain_at polic
 abbrev pub with_logging : PolicyValue → ℕ → PolicyValue
 with_logging policy a = with_domain_at policy a (domain_logging (domain_at policy a))
 
+-- where its view hasn't domain `b`
+abbrev pub with_apart : PolicyValue → ℕ → ℕ → PolicyValue
+with_apart policy a b = with_domain_at policy a (domain_apart (domain_at policy a) b)
+
 -- what domain `a` may do
 abbrev pub rights_at : PolicyValue → ℕ → Rights
 rights_at policy a =
@@ -131,6 +142,7 @@ domain_allowed rights domain = record {
   writes = rights.writes;
   halts = rights.halts;
   logs = rights.logs;
+  apart = domain.apart;
 }
 
 -- the policy where domain `a` is such a one, and all else as it was
@@ -141,7 +153,7 @@ with_rights policy a rights = record policy { domains = slice_set policy.domains
 abbrev pub domain_bare : Domain → Domain
 domain_bare domain = domain_with domain.name
 
--- the policy of the same domains and their objects where none may do anything beyond itself
+-- the policy of the same domains and their objects where none may do anything beyond itself, and nothing else is said of any
 abbrev pub bare_policy : PolicyValue → PolicyValue
 bare_policy policy = record {
   domains = map domain_bare policy.domains;

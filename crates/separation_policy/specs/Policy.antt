@@ -79,7 +79,7 @@ domain_named policy c = domain_of policy (object_kind c.kind) c.object
 
 -- a domain that was never made: it has no name, and may do nothing
 abbrev pub unmade : Domain
-unmade = record { name = []; reads = no_domains; writes = no_domains; halts = false; logs = false }
+unmade = record { name = []; reads = no_domains; writes = no_domains; halts = false; logs = false; apart = no_domains }
 
 -- domain `a`, as the policy has it
 abbrev pub domain_at : PolicyValue → ℕ → Domain
@@ -100,6 +100,10 @@ may_halt policy a = (domain_at policy a).halts
 -- whether they may hold KernLog
 abbrev pub may_log : PolicyValue → ℕ → Bool
 may_log policy a = (domain_at policy a).logs
+
+-- whether it says that the view of domain `a` hasn't domain `b`, one that was made
+abbrev pub is_apart : PolicyValue → ℕ → ℕ → Bool
+is_apart policy a b = nat_lt b (length policy.domains) && has_domain (domain_at policy a).apart b
 
 -- the closure of a relation: each comes to itself, and to what another comes to that it leads to
 pub data Reach (leads : ℕ → ℕ → Bool) : ℕ → ℕ → Type 0 where
@@ -161,6 +165,15 @@ SleepAtHome policy q = (on p : ℕ) → stands_in (sleepers_of q on) p ≡ true 
 pub record PolicyHolds (policy : PolicyValue) (w : System) : Type 0 where
   pub each : EachMayStand policy w.store
   pub sleepers : SleepAtHome policy w.queues
+
+-- the domains are as far apart as the policy says: no view has a domain that it says it hasn't
+abbrev pub IsApart : PolicyValue → Type 0
+IsApart policy = (a b : ℕ) → is_apart policy a b ≡ true → Views policy a b → ⊥
+
+-- The policy stands: it holds, and its domains are as far apart as it says.
+pub record PolicyStands (policy : PolicyValue) (w : System) : Type 0 where
+  pub holds : PolicyHolds policy w
+  pub apart : IsApart policy
 
 -- ---- who reads whom, decided
 

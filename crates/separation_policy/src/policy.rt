@@ -1,7 +1,7 @@
 //! Policies: domains, their objects, and what each may do.
 ghost use Rattle.std.specs.Prelude.{ℕ, ◌≡◌, ◌≤◌, ◌<◌, ◌+◌, ◌==◌, ◌++◌, ◌∷◌, [], bytes_eq, codes, length, map, position, IfOk, IfSome, MatchOption};
-ghost use Rattle.separation_policy.specs.Policy.{assigned_of, domain_at, domain_of, may_halt, may_log, may_write};
-ghost use Rattle.separation_policy.specs.Making.{domain_with, first_policy, with_first, with_listed, with_made, with_assigned, with_halting, with_logging, with_reading, with_writing, with_rights, rights_at, domain_allowed, domain_bare, bare_policy, domain_called, is_assigned_other, object_count, process_count};
+ghost use Rattle.separation_policy.specs.Policy.{assigned_of, domain_at, domain_of, is_apart, may_halt, may_log, may_write};
+ghost use Rattle.separation_policy.specs.Making.{domain_with, first_policy, with_first, with_listed, with_made, with_apart, with_assigned, with_halting, with_logging, with_reading, with_writing, with_rights, rights_at, domain_allowed, domain_bare, bare_policy, domain_called, is_assigned_other, object_count, process_count};
 
 use crate::domain_set::DomainSet;
 use crate::object_domains::ObjectDomains;
@@ -28,6 +28,8 @@ pub struct Domain {
     pub halts: bool,
     /// Whether they may hold KernLog.
     pub logs: bool,
+    /// The domains that its view hasn't.
+    pub apart: DomainSet,
 }
 
 /// Which domain each object has, what the domains are called, and what each may do. Domain 0 is `rest`, and has each
@@ -143,6 +145,23 @@ impl Policy {
         (domain as usize) < self.domains.len() && self.domains[domain as usize].logs
     }
 
+    /// Which domains the view of a domain hasn't, as lines say it.
+    pub fn apart(&self, domain: u8) -> DomainSet
+        ensures { result ≡ (domain_at self.now domain).apart }
+    {
+        if domain as usize >= self.domains.len() {
+            return DomainSet::empty();
+        }
+        self.domains[domain as usize].apart
+    }
+
+    /// Whether the view of one domain hasn't another, which was made, as lines say it.
+    pub fn is_apart(&self, viewer: u8, viewed: u8) -> bool
+        ensures { result ≡ is_apart self.now viewer viewed }
+    {
+        (viewed as usize) < self.domains.len() && self.apart(viewer).contains(viewed)
+    }
+
     /// The domain of this name, if it was made.
     pub fn domain_called(&self, name: &[u8]) -> Option<u8>
         ensures value { result ≡ domain_called self.now name.now }
@@ -235,11 +254,11 @@ impl Policy {
         self.domains.truncate(count);
     }
 
-    /// Makes no domain any more.
+    /// Lets domains be made by lists alone, and by these until something else is said.
     pub fn close(&mut self)
         ensures { self.new ≡ with_listed self.old }
     {
-        self.stage = Stage::Listed;
+        self.stage = Stage::Listing;
     }
 
     /// Assigns a domain to the objects `from` to `to` of a kind, both of them included.
@@ -299,6 +318,17 @@ impl Policy {
         self.domains[domain as usize].logs = true;
     }
 
+    /// Says that the view of domain `viewer` hasn't domain `viewed` either.
+    pub fn keep_apart(&mut self, viewer: u8, viewed: u8)
+        requires viewer { viewer < length self.old.domains }
+        requires viewed { viewed < length self.old.domains }
+        ensures { self.new ≡ with_apart self.old viewer viewed }
+    {
+        self.stage = self.stage.begun();
+        let now = self.domains[viewer as usize].apart;
+        self.domains[viewer as usize].apart = now.with(viewed);
+    }
+
     /// What a domain may do, as lines say it.
     pub fn rights(&self, domain: u8) -> Rights
         ensures { result ≡ rights_at self.now domain }
@@ -319,7 +349,7 @@ impl Policy {
         allow(&mut self.domains[domain as usize], rights);
     }
 
-    /// Lets no domain do anything beyond itself.
+    /// Lets no domain do anything beyond itself, and says nothing else of any.
     pub fn clear(&mut self)
         ensures { self.new ≡ bare_policy self.old }
     {
@@ -338,7 +368,7 @@ fn allow(domain: &mut Domain, rights: Rights)
     domain.logs = rights.logs;
 }
 
-/// Lets a domain do nothing beyond itself.
+/// Makes a domain as it was made: it may do nothing beyond itself, and have any other in its view.
 fn forbid(domain: &mut Domain)
     ensures { domain.new ≡ domain_bare domain.old }
 {
@@ -346,6 +376,7 @@ fn forbid(domain: &mut Domain)
     domain.writes = DomainSet::empty();
     domain.halts = false;
     domain.logs = false;
+    domain.apart = DomainSet::empty();
 }
 
 /// Lets none of these domains do anything beyond itself.
@@ -357,7 +388,7 @@ fn forbid_all(domains: &mut [Domain])
     }
 }
 
-/// A domain as it is made: it may do nothing beyond itself.
+/// A domain as it is made: it may do nothing beyond itself, and have any other in its view.
 fn domain_with(name: Name) -> Domain
     ensures { result ≡ domain_with name }
 {
@@ -367,6 +398,7 @@ fn domain_with(name: Name) -> Domain
         writes: DomainSet::empty(),
         halts: false,
         logs: false,
+        apart: DomainSet::empty(),
     }
 }
 

@@ -9,6 +9,8 @@ pub enum Stage {
     Empty,
     /// A domain is made where it is first named.
     Open,
+    /// The last line listed domains: the next may list more, and nothing else makes one.
+    Listing,
     /// The domains were listed, and no other is made.
     Listed,
 }
@@ -19,8 +21,8 @@ impl Stage {
         ensures { result ≡ begun self }
     {
         match self {
-            Stage::Listed => Stage::Listed,
-            _ => Stage::Open,
+            Stage::Listing | Stage::Listed => Stage::Listed,
+            Stage::Empty | Stage::Open => Stage::Open,
         }
     }
 }

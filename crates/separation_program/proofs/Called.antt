@@ -10,7 +10,7 @@ use Rattle.listing_read.specs.Listing.{Listed, Good, Refused, Past, IsListed, li
 use Rattle.listing_read.specs.Statement.{ListingValue}
 use Rattle.listing_read.specs.declared.place.Place.TheVariants.{Header}
 use Rattle.separation_policy.specs.Making.{first_policy}
-use Rattle.separation_policy.specs.Policy.{PolicyHolds, PolicyValue}
+use Rattle.separation_policy.specs.Policy.{PolicyStands, PolicyValue}
 use Rattle.schedule_replay.specs.Scheduled.{AtEnd, AtFault, AtLimit, Ending, OnParts, Scheduled, scheduled}
 use Rattle.courses.specs.Course.{ComesTo, Course, cached, course_output, ends_in}
 use Rattle.coy_io.specs.Causes.{Rose}
@@ -29,7 +29,7 @@ use Rattle.separation_program.specs.Program.{FetchesFor, Judges, asked_by, is_ea
 use Rattle.separation_program.specs.Slots.{LacksFor, input_slots}
 use Rattle.separation_program.specs.declared.words.Asked.{Asked}
 use Rattle.separation_program.specs.Stated.{PastEnd, RefusedAt, Stated, States, stated}
-use Rattle.separation_program.specs.Theorem.{IsAffirmed, IsAsked, IsDenied, IsExact, TellsOf}
+use Rattle.separation_program.specs.Theorem.{IsAffirmed, IsAsked, IsDenied, IsExact, IsUpheld, TellsOf}
 use Rattle.separation_program.specs.Text.{told_for}
 use Rattle.separation_program.specs.declared.words.Aim.{Aim}
 use Rattle.separation_program.specs.declared.words.Aim.TheVariants.{Holds, Least}
@@ -67,7 +67,7 @@ told-of aim P exit (Some j) follows t = follows j.policy j.state t
 
 -- what is so where all is as was asked tells that it is
 asked-so : (aim : Aim) (policy : PolicyValue) (s : State) → IsAffirmed aim policy s → IsAsked aim policy s
-asked-so Holds policy s is = is.holds
+asked-so Holds policy s is = is.separated.holds
 asked-so Least policy s supplied = can-with policy s supplied
 
 -- and what is so where it isn't, that it isn't
@@ -146,6 +146,16 @@ judges-for aim (Some bytes) taken taken' exit comes tells = record {
         let own = (comes.output.whole given).0 in
         exact-listed aim (IsAsked aim) exit (listing_of Header 1 (parts_of bytes)) (ap is_finished (sym own) ∙ is)
 
+-- of a policy that holds, so are its parts
+judged-part : (P : PolicyValue → State → Type 0) → ((policy : PolicyValue) (s : State) → IsUpheld policy s → P policy s) → (o : Option Judged) → HasJudged IsUpheld o → HasJudged P o
+judged-part P part None is = is
+judged-part P part (Some j) is = part j.policy j.state is
+
+upheld : (held : Option (List ℕ)) {P : PolicyValue → State → Type 0} → ((policy : PolicyValue) (s : State) → IsUpheld policy s → P policy s)
+    → IfSome held (λ bytes. HasJudged IsUpheld (judged bytes)) → IfSome held (λ bytes. HasJudged P (judged bytes))
+upheld None part is = tt
+upheld (Some bytes) {P} part is = judged-part P part (judged bytes) is
+
 -- words ask for one thing alone
 pub aims-same : (words : List (List ℕ)) (aim other : Aim) → asked_by words ≡ Some (Judge aim) → asked_by words ≡ Some (Judge other) → aim ≡ other
 aims-same words aim other asked also = let same : Some (Judge aim) ≡ Some (Judge other) = sym asked ∙ also in cc
@@ -157,9 +167,10 @@ pub judges-call : (words : List (List ℕ)) (aim : Aim) → asked_by words ≡ S
 judges-call words Holds asked held taken taken' exit comes tells =
     let j = judges-for Holds held taken taken' exit comes tells in
     record {
-      separated = λ same. j.affirmed;
+      separated = λ same done. upheld held (λ policy s is. is.separated) (j.affirmed done);
       violated = λ same. j.denied;
       exactly = λ same. j.exactly;
+      unused = λ same done. upheld held (λ policy s is. is.unused) (j.affirmed done);
       least = λ other. let bad = aims-same words Holds Least asked other in cc;
       barred = λ other. let bad = aims-same words Holds Least asked other in cc;
       enough = λ other. let bad = aims-same words Holds Least asked other in cc;
@@ -170,6 +181,7 @@ judges-call words Least asked held taken taken' exit comes tells =
       separated = λ other. let bad = aims-same words Least Holds asked other in cc;
       violated = λ other. let bad = aims-same words Least Holds asked other in cc;
       exactly = λ other. let bad = aims-same words Least Holds asked other in cc;
+      unused = λ other. let bad = aims-same words Least Holds asked other in cc;
       least = λ same. j.affirmed;
       barred = λ same. j.denied;
       enough = λ same. j.exactly;
@@ -181,6 +193,7 @@ judges-none words held exit other = record {
   separated = λ asked. absurd (other Holds asked);
   violated = λ asked. absurd (other Holds asked);
   exactly = λ asked. absurd (other Holds asked);
+  unused = λ asked. absurd (other Holds asked);
   least = λ asked. absurd (other Least asked);
   barred = λ asked. absurd (other Least asked);
   enough = λ asked. absurd (other Least asked);
@@ -195,6 +208,7 @@ judges-failed words held exit unfinished failed =
       separated = λ asked done. absurd (undone done);
       violated = λ asked crossed. absurd (uncrossed crossed);
       exactly = λ asked given. absurd (failed given);
+      unused = λ asked done. absurd (undone done);
       least = λ asked done. absurd (undone done);
       barred = λ asked crossed. absurd (uncrossed crossed);
       enough = λ asked given. absurd (failed given);

@@ -7,7 +7,7 @@ use Rattle.std.proofs.lemmas.List.Elements.{All-map, All-weaker, All-head, All-t
 use Rattle.coy_io.specs.Lines.{IsFront, Part, Line, line_feed, whole_lines}
 use Rattle.operations.specs.System.{System}
 use Rattle.separation_policy.specs.Making.{bare_policy, first_policy}
-use Rattle.separation_policy.specs.Policy.{PolicyValue, PolicyHolds, may_read, may_write, may_halt, may_log}
+use Rattle.separation_policy.specs.Policy.{PolicyValue, PolicyHolds, PolicyStands, IsApart, may_read, may_write, may_halt, may_log}
 use Rattle.separation_policy.specs.declared.policy.Domain.{Domain}
 use Rattle.separation_lines.specs.Names.{NamesDiffer}
 use Rattle.separation_lines.specs.Written.{IsPermission, after_each, written_line}
@@ -62,6 +62,10 @@ all-after (Logs a ∷ lines) policy = all-after lines _
 
 -- ---- policies of the same domains
 
+-- they are as far apart
+same-apart : (p q : PolicyValue) → SameDomains q p → IsApart p → IsApart q
+same-apart p q same apart = subst (λ (ds : List Domain). IsApart (record { domains = ds; assigned = q.assigned; stage = q.stage })) (sym same.domains) apart
+
 -- they hold alike
 same-holds : (p q : PolicyValue) (w : System) → SameDomains q p → PolicyHolds p w → PolicyHolds q w
 same-holds p q w same holds = holds-more p q (record {
@@ -72,6 +76,9 @@ same-holds p q w same holds = holds-more p q (record {
   logs = λ a is. subst (λ (ds : List Domain). may_log (record { domains = ds; assigned = p.assigned; stage = p.stage }) a ≡ true) (sym same.domains) is;
 }) w holds
 
+same-stands : (p q : PolicyValue) (w : System) → SameDomains q p → PolicyStands p w → PolicyStands q w
+same-stands p q w same stands = record { holds = same-holds p q w same stands.holds; apart = same-apart p q same stands.apart }
+
 -- ---- the law
 
 -- each written line is a line of an input
@@ -81,7 +88,7 @@ fronts law policy differ [] made = tt
 fronts law policy differ (said ∷ all) made = ((law policy said differ (All-head (IsPermission (length policy.domains)) said all made)).front, fronts law policy differ all (All-tail (IsPermission (length policy.domains)) said all made))
 
 pub fed_back_law : NamesLaw → ReadBackLaw → ReplacedLaw → EndLaw → FedBackLaw
-fed_back_law names back replaced ends sizes policy n last parts rest lines w states made holds =
+fed_back_law names back replaced ends sizes policy n last parts rest lines w states made stands =
     let first = first_policy sizes in
     let all = map said_of lines in
     let by = stated-by first policy n last parts rest states in
@@ -104,7 +111,7 @@ fed_back_law names back replaced ends sizes policy n last parts rest lines w sta
             policy = put.other;
             last = put.last;
             states = ap (λ (ps : List Part). stated first n ps) same ∙ put.states;
-            holds = same-holds (only policy lines) put.other w
-                (subst (λ (p : PolicyValue). SameDomains put.other p) (all-after lines (bare_policy policy)) put.same) holds;
+            holds = same-stands (only policy lines) put.other w
+                (subst (λ (p : PolicyValue). SameDomains put.other p) (all-after lines (bare_policy policy)) put.same) stands;
           };
     }

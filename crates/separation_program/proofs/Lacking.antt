@@ -9,7 +9,7 @@ use Rattle.listing_read.specs.Statement.{ListingValue}
 use Rattle.listing_read.specs.declared.place.Place.TheVariants.{Header}
 use Rattle.separation_policy.specs.Making.{first_policy}
 use Rattle.separation_policy.specs.Policy.{PolicyValue}
-use Rattle.separation_check.specs.Crossings.{crossings_in, meant_crossing}
+use Rattle.separation_check.specs.Crossings.{forbidden_in, meant_crossing}
 use Rattle.separation_check.specs.declared.crossing.Crossing.{Crossing}
 use Rattle.policy_lines.specs.Needed.{BarredAre, LinesAre, NeededValue}
 use Rattle.policy_lines.specs.Passages.{ReadsWhole}
@@ -29,7 +29,7 @@ pub reads-all : (slots times start end : ℕ) → end ≡ start + slots * times 
 reads-all slots times start end read = record { times = times; few = omega arith; read = read }
 
 -- nothing crosses: all slots were gone through once, and then so many times more
-pub lacks-held : (policy : PolicyValue) (s : State) (found : List Crossing) → map meant_crossing found ≡ crossings_in policy s → found ≡ [] → (f g h : ℕ) → g ≡ f + 16 * gpts_of s
+pub lacks-held : (policy : PolicyValue) (s : State) (found : List Crossing) → map meant_crossing found ≡ forbidden_in policy s → found ≡ [] → (f g h : ℕ) → g ≡ f + 16 * gpts_of s
     → ReadsWhole (16 * gpts_of s) (length (channels_of policy)) g h → LacksJudging Holds policy s f h
 lacks-held policy s [] means none f g h first more = reads-more _ _ _ f g h (ap (passed_before policy) (sym means)) first more
 lacks-held policy s (first ∷ rest) means none f g h once more = cc

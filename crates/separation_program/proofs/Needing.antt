@@ -24,7 +24,7 @@ use Rattle.policy_lines.proofs.Made.{made-lines}
 use Rattle.courses.specs.Ending.{Output}
 use Rattle.courses.specs.declared.exit.Exit.{Exit}
 use Rattle.courses.specs.declared.exit.Exit.TheVariants.{Done, Crossings, WriteFault}
-use Rattle.separation_program.specs.Text.{channel_text, crossing_text, crossings_text, head_text, line_text, lines_text, name_of, own_text, pair_text, remedy_text, right_text, tail_text, told_least, told_needed, total_text}
+use Rattle.separation_program.specs.Text.{both_text, channel_text, crossing_text, crossings_text, head_text, line_text, lines_text, name_of, own_text, pair_text, remedy_text, right_text, tail_text, told_least, told_needed, total_text}
 use Rattle.separation_program.specs.Theorem.{CanHold, IsBarred, IsSupplied, TellsOf}
 use Rattle.separation_program.specs.declared.words.Aim.TheVariants.{Least}
 use Rattle.separation_program.proofs.Verdicts.{all-meant}
@@ -42,6 +42,10 @@ module _ (policy : PolicyValue) where
   pair-bare : (a b : ℕ) (ending : List ℕ) → pair_text (bare_policy policy) a b ending ≡ pair_text policy a b ending
   unfolding pair_text
   pair-bare a b ending = ap₂ (λ (x y : List ℕ). x ++ (codes " -> " ++ (y ++ ending))) (name-bare a) (name-bare b)
+
+  both-bare : (a b : ℕ) → both_text (bare_policy policy) a b ≡ both_text policy a b
+  unfolding both_text
+  both-bare a b = ap₂ (λ (x y : List ℕ). x ++ (codes " " ++ y)) (name-bare a) (own-bare b (codes "\n"))
 
   channel-bare : (word : List ℕ) (a b : ℕ) → channel_text (bare_policy policy) word a b ≡ channel_text policy word a b
   unfolding channel_text
@@ -67,6 +71,7 @@ module _ (policy : PolicyValue) where
   tail-bare (crossings.Halts kind n place domain) = own-bare domain (codes "\n")
   tail-bare (crossings.Logs kind n place domain) = own-bare domain (codes "\n")
   tail-bare (crossings.Sleeper process from to) = pair-bare from to (remedy_text remedies.Never)
+  tail-bare (crossings.View from to) = both-bare from to
 
   crossing-bare : (crossing : Crossing) → crossing_text (bare_policy policy) crossing ≡ crossing_text policy crossing
   unfolding crossing_text
@@ -141,8 +146,8 @@ module _ (policy : PolicyValue) (s : State) where
     least = least;
     separated = record {
       holds = least.holds;
-      integrity = integrity (only policy lines) s least.holds;
-      noninterference = noninterference (only policy lines) s least.holds;
+      integrity = (let stands = least.holds in integrity (only policy lines) s stands.holds);
+      noninterference = (let stands = least.holds in noninterference (only policy lines) s stands.holds);
     };
   }
 

@@ -11,14 +11,14 @@ use Rattle.run_places.specs.Places.{HasPlaces}
 use Rattle.run_places.specs.Laws.{BootedHasPlaces, RunsKeepPlaces}
 use Rattle.separation_policy.specs.Laws.{IntegrityLaw, NoninterferenceLaw}
 use Rattle.separation_policy.specs.Making.{first_policy}
-use Rattle.separation_policy.specs.Policy.{PolicyValue, PolicyHolds}
-use Rattle.separation_check.specs.Crossings.{crossings_in}
+use Rattle.separation_policy.specs.Policy.{PolicyValue, PolicyStands}
+use Rattle.separation_check.specs.Crossings.{forbidden_in}
 use Rattle.separation_check.specs.Each.{AllLaw}
 use Rattle.separation_check.specs.Placed.{ExactlyLaw}
 use Rattle.separation_check.specs.Marks.{marks_in}
 use Rattle.separation_check.specs.declared.crossing.Crossing.{Crossing}
 use Rattle.policy_lines.specs.Needed.{BarredAre, IsNeeded, LinesAre, NeededLaw, NeededValue, needed_in}
-use Rattle.policy_lines.specs.Unused.{unused_in}
+use Rattle.policy_lines.specs.Unused.{unused_in, UnusedLaw}
 use Rattle.schedule_replay.specs.Scheduled.{Ending, AtEnd, AtFault, AtLimit, Scheduled, scheduled}
 use Rattle.courses.specs.Course.{course_output}
 use Rattle.courses.specs.Ending.{Output}
@@ -37,6 +37,7 @@ use Rattle.separation_program.specs.declared.words.Aim.TheVariants.{Holds, Least
 use Rattle.separation_program.specs.declared.words.Asked.{Asked}
 use Rattle.separation_program.specs.declared.words.Asked.TheVariants.{Judge}
 use Rattle.separation_program.proofs.Needing.{barred-by, can-not, can-with, supplied-by}
+use Rattle.separation_program.proofs.Verdicts.{held-unused}
 
 -- what was judged of a policy and a state
 abbrev of-state : PolicyValue → State → Option Judged
@@ -81,35 +82,38 @@ module _ (aim : Aim) (Tells : Output → Option Judged → Type 0) (nothing : (o
 judged-none : (o : Output) → is_finished o.exit ≡ false → TellsJudged o None
 judged-none o unfinished = record {
   separated = (λ done. undone o unfinished done, λ none. absurd none);
+  unused = λ done. undone o unfinished done;
   violated = (λ crossed. uncrossed o unfinished crossed, λ none. absurd none);
   listed = λ crossed. uncrossed o unfinished crossed;
 }
 
-module _ (exactly : ExactlyLaw) (all : AllLaw) (integrity : IntegrityLaw) (noninterference : NoninterferenceLaw) (policy : PolicyValue) (s : State) (has : HasPlaces s.store) where
-  separated-by : PolicyHolds policy (system_of s) → IsSeparated policy s
-  separated-by holds = record { holds = holds; integrity = integrity policy s holds; noninterference = noninterference policy s holds }
+module _ (exactly : ExactlyLaw) (unused : UnusedLaw) (all : AllLaw) (integrity : IntegrityLaw) (noninterference : NoninterferenceLaw) (policy : PolicyValue) (s : State) (has : HasPlaces s.store) where
+  separated-by : PolicyStands policy (system_of s) → IsSeparated policy s
+  separated-by stands = record { holds = stands; integrity = integrity policy s stands.holds; noninterference = noninterference policy s stands.holds }
 
   judged-state : TellsJudged (told policy s) (of-state policy s)
-  judged-state = by (crossings_in policy s) refl
+  judged-state = by (forbidden_in policy s) refl
     where
-      by : (found : List Crossing) → crossings_in policy s ≡ found → TellsJudged (told_by policy (marks_in policy s) (unused_in policy s) found) (of-state policy s)
+      by : (found : List Crossing) → forbidden_in policy s ≡ found → TellsJudged (told_by policy (marks_in policy s) (unused_in policy s) found) (of-state policy s)
       by [] none =
           let holds = (exactly policy s has).0 none in
           record {
             separated = (λ done. separated-by holds, λ is. refl);
+            unused = λ done. held-unused policy s [] (sym none) refl (unused policy s (λ other. exactly other s has));
             violated = (λ crossed. cc, λ violated. absurd (violated holds));
             listed = λ crossed. cc;
           }
       by (first ∷ rest) some = record {
         separated = (λ done. cc, λ is. let none = sym some ∙ (exactly policy s has).1 is.holds in cc (none));
+        unused = λ done. cc;
         violated = (λ crossed holds. let none = sym some ∙ (exactly policy s has).1 holds in cc (none), λ violated. refl);
         listed = λ crossed. record { text_is = ap (crossings_text policy) (sym some); all = all policy s };
       }
 
 -- the law
-pub judged_law : BootedHasPlaces → RunsKeepPlaces → ExactlyLaw → AllLaw → IntegrityLaw → NoninterferenceLaw → JudgedLaw
-judged_law start runs exactly all integrity noninterference words bytes is =
-    tells-bytes Holds TellsJudged judged-none start runs (judged-state exactly all integrity noninterference) bytes _ is
+pub judged_law : BootedHasPlaces → RunsKeepPlaces → ExactlyLaw → UnusedLaw → AllLaw → IntegrityLaw → NoninterferenceLaw → JudgedLaw
+judged_law start runs exactly unused all integrity noninterference words bytes is =
+    tells-bytes Holds TellsJudged judged-none start runs (judged-state exactly unused all integrity noninterference) bytes _ is
 
 -- ---- with which lines it would
 

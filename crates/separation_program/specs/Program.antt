@@ -10,7 +10,7 @@ use Rattle.courses.specs.declared.exit.Exit.TheVariants.{Done, Crossings, OutOfM
 use Rattle.separation_program.specs.Judged.{HasJudged, judged, separation_course}
 use Rattle.separation_program.specs.Slots.{input_slots, LacksFor}
 use Rattle.separation_program.specs.Text.{told_for}
-use Rattle.separation_program.specs.Theorem.{CanHold, HoldsIn, IsBarred, IsExact, IsSeparated, IsSupplied, IsViolated}
+use Rattle.separation_program.specs.Theorem.{CanHold, HoldsIn, IsBarred, IsExact, IsSeparated, IsSupplied, IsViolated, TellsUnused}
 use Rattle.separation_program.specs.declared.words.Asked.{Asked}
 use Rattle.separation_program.specs.declared.words.Asked.TheVariants.{Help, Judge}
 use Rattle.separation_program.specs.declared.words.Aim.{Aim}
@@ -60,8 +60,8 @@ separation = record {
 }
 
 -- What is so of the state that was judged of an input, by the exit of the call. Where no words asked for it: where it told that the
--- policy holds, it does, with both theorems, and where it told crossings, it doesn't; and a call whose exit no fault gave ended as
--- done exactly where the policy holds.
+-- policy holds, it does, with both theorems, and without each of the lines that it told as unused; where it told crossings, it
+-- doesn't; and a call whose exit no fault gave ended as done exactly where the policy holds.
 --
 -- Where the word `least` did: where it ended as done, the lines that it told are the least with which the policy holds, and with
 -- them both theorems do; where it told crossings, these are those that no line allows, and there are no lines with which it holds;
@@ -70,6 +70,7 @@ pub record Judges (words : List (List ℕ)) (held : Option (List ℕ)) (exit : E
   pub separated : asked_by words ≡ Some (Judge Holds) → exit ≡ Done → IfSome held (λ bytes. HasJudged IsSeparated (judged bytes))
   pub violated : asked_by words ≡ Some (Judge Holds) → exit ≡ Crossings → IfSome held (λ bytes. HasJudged IsViolated (judged bytes))
   pub exactly : asked_by words ≡ Some (Judge Holds) → IsGiven exit → IfSome held (λ bytes. IsExact HoldsIn exit (judged bytes))
+  pub unused : asked_by words ≡ Some (Judge Holds) → exit ≡ Done → IfSome held (λ bytes. HasJudged TellsUnused (judged bytes))
   pub least : asked_by words ≡ Some (Judge Least) → exit ≡ Done → IfSome held (λ bytes. HasJudged IsSupplied (judged bytes))
   pub barred : asked_by words ≡ Some (Judge Least) → exit ≡ Crossings → IfSome held (λ bytes. HasJudged IsBarred (judged bytes))
   pub enough : asked_by words ≡ Some (Judge Least) → IsGiven exit → IfSome held (λ bytes. IsExact CanHold exit (judged bytes))

@@ -12,7 +12,7 @@ use Rattle.listing_read.specs.Listing.{Listed, Good, listing_of}
 use Rattle.listing_read.specs.declared.place.Place.TheVariants.{Header}
 use Rattle.separation_policy.specs.Making.{first_policy}
 use Rattle.separation_policy.specs.Policy.{PolicyValue}
-use Rattle.separation_check.specs.Crossings.{crossings_in}
+use Rattle.separation_check.specs.Crossings.{forbidden_in}
 use Rattle.separation_check.specs.declared.crossing.Crossing.{Crossing}
 use Rattle.policy_lines.specs.Passages.{ReadsWhole}
 use Rattle.policy_lines.specs.Permission.{channels_of}
@@ -42,7 +42,7 @@ passed_by policy (first ∷ rest) all = all
 
 -- those that are read to judge a policy of a state, or to find the least lines with which it would hold
 abbrev pub judged_slots : Aim → PolicyValue → State → ℕ
-judged_slots Holds policy s = passed_by policy (crossings_in policy s) (16 * gpts_of s)
+judged_slots Holds policy s = passed_by policy (forbidden_in policy s) (16 * gpts_of s)
 judged_slots Least policy s = 16 * gpts_of s * passages_in policy s
 
 -- how often all slots may have been gone through where memory is wanting for more, by what crosses: never where something does, as
@@ -53,7 +53,7 @@ passed_before policy (first ∷ rest) = 0
 
 -- to judge a policy of a state, or to find the least lines with which it would hold
 abbrev pub passages_before : Aim → PolicyValue → State → ℕ
-passages_before Holds policy s = passed_before policy (crossings_in policy s)
+passages_before Holds policy s = passed_before policy (forbidden_in policy s)
 passages_before Least policy s = passages_in policy s
 
 -- memory was wanting for that: all slots were gone through so often, and no slot else was read

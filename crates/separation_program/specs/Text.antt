@@ -9,7 +9,7 @@ use Rattle.run_text.specs.Each.{each_below}
 use Rattle.separation_policy.specs.DomainSet.{has_domain}
 use Rattle.separation_policy.specs.Making.{object_count, process_count}
 use Rattle.separation_policy.specs.Policy.{PolicyValue, domain_at, may_write, sees, views}
-use Rattle.separation_check.specs.Crossings.{crossings_in, remedy_of}
+use Rattle.separation_check.specs.Crossings.{forbidden_in, remedy_of}
 use Rattle.separation_check.specs.Marks.{marks_in}
 use Rattle.separation_check.specs.declared.marks.Marks.{Marks}
 use Rattle.separation_check.specs.declared.crossing.Crossing.{Crossing}
@@ -141,6 +141,7 @@ head_text (crossings.Range kind n place domain) = codes "range " ++ place_text k
 head_text (crossings.Halts kind n place domain) = codes "halts " ++ place_text kind n place
 head_text (crossings.Logs kind n place domain) = codes "logs " ++ place_text kind n place
 head_text (crossings.Sleeper process from to) = codes "sleeper " ++ decimal process ++ codes " "
+head_text (crossings.View from to) = codes "view "
 
 -- what line would allow it, at the end of its own
 abbrev pub remedy_text : Remedy → List ℕ
@@ -152,6 +153,10 @@ remedy_text remedies.Never = codes " never\n"
 unfoldable pub pair_text : PolicyValue → ℕ → ℕ → List ℕ → List ℕ
 pair_text policy from to ending = name_of policy from ++ (codes " -> " ++ (name_of policy to ++ ending))
 
+-- two domains, at the end of a line
+unfoldable pub both_text : PolicyValue → ℕ → ℕ → List ℕ
+both_text policy a b = name_of policy a ++ (codes " " ++ own_text policy b (codes "\n"))
+
 -- the names of the domains of a crossing, and what line would allow it: no policy allows a Range, nor a sleeper
 abbrev pub tail_text : PolicyValue → Crossing → List ℕ
 tail_text policy (crossings.Capability kind n place cap from to) = pair_text policy from to (remedy_text (remedy_of cap))
@@ -159,6 +164,7 @@ tail_text policy (crossings.Range kind n place domain) = own_text policy domain 
 tail_text policy (crossings.Halts kind n place domain) = own_text policy domain (codes "\n")
 tail_text policy (crossings.Logs kind n place domain) = own_text policy domain (codes "\n")
 tail_text policy (crossings.Sleeper process from to) = pair_text policy from to (remedy_text remedies.Never)
+tail_text policy (crossings.View from to) = both_text policy from to
 
 -- the line of a crossing
 unfoldable pub crossing_text : PolicyValue → Crossing → List ℕ
@@ -181,7 +187,7 @@ told_by policy marks unused (first ∷ rest) = record { text = crossings_text po
 
 -- what is told of a policy and a state
 abbrev pub told : PolicyValue → State → Output
-told policy s = told_by policy (marks_in policy s) (unused_in policy s) (crossings_in policy s)
+told policy s = told_by policy (marks_in policy s) (unused_in policy s) (forbidden_in policy s)
 
 -- ---- the least lines
 

@@ -1,33 +1,47 @@
 -- The theorem of the program: what is so of a state of which it tells that its policy holds, or with which lines it would (this
 -- project's own).
 use Rattle.std.specs.Prelude.{◌≡◌, ◌↔◌, List, length, Option, Some, None, ⊤}
-use Rattle.std.specs.List.{All}
+use Rattle.std.specs.List.{All, Contains}
 use Rattle.kernel_core.specs.State.{State}
 use Rattle.confinement.specs.Acts.{system_of}
-use Rattle.separation_policy.specs.Policy.{PolicyValue, PolicyHolds, Integrity, Noninterference}
+use Rattle.separation_policy.specs.Policy.{PolicyValue, PolicyStands, Integrity, Noninterference}
 use Rattle.separation_check.specs.declared.crossing.Crossing.{Crossing}
+use Rattle.separation_check.specs.Marks.{marks_in}
 use Rattle.policy_lines.specs.Least.{AreLeast, only}
 use Rattle.policy_lines.specs.Needed.{AreBarred}
 use Rattle.policy_lines.specs.Permission.{IsMade}
+use Rattle.policy_lines.specs.Unused.{IsUnused}
 use Rattle.policy_lines.specs.declared.permission.Permission.{Permission}
 use Rattle.courses.specs.declared.exit.Exit.{Exit}
 use Rattle.courses.specs.declared.exit.Exit.TheVariants.{Done, Crossings}
 use Rattle.separation_program.specs.Judged.{Judged}
-use Rattle.separation_program.specs.Text.{crossings_text, lines_text, told_least}
+use Rattle.separation_program.specs.Text.{crossings_text, lines_text, separated_by, told, told_least}
 use Rattle.separation_program.specs.declared.words.Aim.{Aim}
 use Rattle.separation_program.specs.declared.words.Aim.TheVariants.{Holds, Least}
 
 -- ---- whether the policy holds
 
--- the policy holds of the state
+-- the policy stands, of the state: it holds, and its domains are as far apart as it says
 abbrev pub HoldsIn : PolicyValue → State → Type 0
-HoldsIn policy s = PolicyHolds policy (system_of s)
+HoldsIn policy s = PolicyStands policy (system_of s)
 
--- the policy holds; from here on nobody writes across domains, and nobody sees across them, but who reads
+-- so it is; and from here on nobody writes across domains, and nobody sees across them, but who reads
 pub record IsSeparated (policy : PolicyValue) (s : State) : Type 0 where
-  pub holds : PolicyHolds policy (system_of s)
+  pub holds : HoldsIn policy s
   pub integrity : Integrity policy s
   pub noninterference : Noninterference policy s
+
+-- the lines that are told as unused are those lines `reads` and `writes` of the policy without which it holds as well, each by
+-- itself, and none of these is missing
+pub record TellsUnused (policy : PolicyValue) (s : State) : Type 0 where
+  pub lines : List Permission
+  pub told_is : told policy s ≡ record { text = separated_by policy (marks_in policy s) lines; exit = Done }
+  pub each : (line : Permission) → Contains lines line ↔ IsUnused policy (system_of s) line
+
+-- the policy holds, with both theorems, and so are the lines that are told as unused
+pub record IsUpheld (policy : PolicyValue) (s : State) : Type 0 where
+  pub separated : IsSeparated policy s
+  pub unused : TellsUnused policy s
 
 -- the policy doesn't hold
 abbrev pub IsViolated : PolicyValue → State → Type 0
@@ -64,7 +78,7 @@ IsAsked Least policy s = CanHold policy s
 
 -- what is so where it is
 abbrev pub IsAffirmed : Aim → PolicyValue → State → Type 0
-IsAffirmed Holds policy s = IsSeparated policy s
+IsAffirmed Holds policy s = IsUpheld policy s
 IsAffirmed Least policy s = IsSupplied policy s
 
 -- and what is where it isn't

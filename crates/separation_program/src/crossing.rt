@@ -4,7 +4,7 @@ ghost use Rattle.coy_io.specs.Written.{WroteTo};
 ghost use Rattle.courses.specs.Ending.{EndsIn};
 ghost use Rattle.separation_program.specs.Text.{capability_text, crossing_text, crossings_text, head_text, place_text, remedy_text, tail_text, total_text};
 
-use crate::names::{put_own, put_pair};
+use crate::names::{put_both, put_own, put_pair};
 use cap_format::{Cap, CapKind};
 use cap_words::{kind_word, push_capability};
 use courses::Exit;
@@ -116,6 +116,7 @@ fn push_head(crossing: &Crossing, line: &mut LineBuf)
             line.push_dec(*process as u64);
             line.push_word(" ");
         }
+        Crossing::View { .. } => line.push_word("view "),
     }
 }
 
@@ -171,6 +172,7 @@ fn put_tail<K: Sink>(policy: &Policy, crossing: &Crossing, output: &mut K) -> Re
         Crossing::Sleeper { from, to, .. } => {
             put_pair(policy, *from, *to, remedy_word(Remedy::Never), output)
         }
+        Crossing::View { from, to } => put_both(policy, *from, *to, output),
     }
 }
 

@@ -1,13 +1,16 @@
 //! A machine set up by its schedule, and judged.
-ghost use Rattle.std.specs.Prelude.{◌≡◌, ◌≢◌, ◌*◌, false, true, length};
+ghost use Rattle.std.specs.Prelude.{◌≡◌, ◌≢◌, ◌↔◌, ◌*◌, false, true, length};
+ghost use Rattle.std.specs.List.{Contains};
 ghost use Rattle.std.specs.Io.KnownBytes.{IsAtEnd};
 ghost use Rattle.coy_io.specs.Reader.{TellsEnd, ahead};
 ghost use Rattle.kernel_core.specs.Outcome.{spent};
 ghost use Rattle.kernel_core.specs.State.{state_of};
+ghost use Rattle.confinement.specs.Acts.{system_of};
 ghost use Rattle.separation_policy.specs.Closure.{IsClosure};
 ghost use Rattle.policy_lines.specs.Passages.{ReadsWhole};
 ghost use Rattle.policy_lines.specs.Permission.{channels_of};
-ghost use Rattle.policy_lines.specs.Unused.{unused_in};
+ghost use Rattle.policy_lines.specs.Unused.{IsUnused, unused_in};
+ghost use Rattle.policy_lines.specs.declared.permission.Permission.{Permission};
 ghost use Rattle.schedule_replay.specs.Scheduled.{OnParts, scheduled};
 ghost use Rattle.courses.specs.Course.{cached, ends_in};
 ghost use Rattle.courses.specs.Ending.{EndsIn, Fetches};
@@ -147,6 +150,8 @@ fn tell_held<T: Translator, K: Sink, L: Ledger>(
     ensures unwritten { result ≡ Exit.OutOfMemory → output.new ≡ output.old }
     ensures same { policy.new ≡ policy.old }
     ensures crossed { result ≢ Exit.Crossings }
+    ensures unused { let s = state_of machine.now in result ≡ Exit.Done → (line : Permission) →
+        Contains (unused_in policy.old s) line ↔ IsUnused policy.old (system_of s) line }
     ensures fetched { let all = 16 * gpts_of (state_of machine.now)
         * length (channels_of policy.old) in
         Fetches fetches.old fetches.new result all }

@@ -2,7 +2,7 @@
 ghost use Rattle.separation_program.specs.Written.{JudgedLaw, LeastLaw};
 ghost use Rattle.separation_program.specs.FedBack.{FedBackLaw};
 
-use policy_lines::needed_law;
+use policy_lines::{needed_law, unused_law};
 use run_places::{places_at_start, places_of_runs};
 use separation_check::{all_law, exactly_law};
 use separation_lines::{end_law, names_law, read_back_law, replaced_law};
@@ -16,6 +16,7 @@ pub fn judged_law()
     places_at_start();
     places_of_runs();
     exactly_law();
+    unused_law();
     all_law();
     integrity();
     noninterference();

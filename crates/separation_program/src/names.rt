@@ -2,7 +2,7 @@
 ghost use Rattle.std.specs.Prelude.{◌≡◌, ◌<◌, ◌≤◌, ◌+◌, ◌++◌, ◌∷◌, length, flat_map, slice_index_or};
 ghost use Rattle.coy_io.specs.Written.{WroteTo};
 ghost use Rattle.separation_policy.specs.Closure.{IsClosure};
-ghost use Rattle.separation_program.specs.Text.{further_text, name_of, names_text, one_if, own_text, pair_text, related_below, related_other, relation_text};
+ghost use Rattle.separation_program.specs.Text.{both_text, further_text, name_of, names_text, one_if, own_text, pair_text, related_below, related_other, relation_text};
 
 use crate::relation::{Relation, related};
 use arrayvec::ArrayVec;
@@ -35,6 +35,20 @@ pub(crate) fn put_pair<K: Sink>(
     put_text(" -> ", output)?;
     put_name(policy, to, output)?;
     put_text(ending, output)
+}
+
+/// Writes two domains, and ends the line.
+pub(crate) fn put_both<K: Sink>(
+    policy: &Policy,
+    a: u8,
+    b: u8,
+    output: &mut K,
+) -> Result<(), WriteFault>
+    ensures { WroteTo K.taken K.faults output.old output.new result (both_text policy.now a b) }
+{
+    put_name(policy, a, output)?;
+    put_text(" ", output)?;
+    put_own(policy, b, "\n", output)
 }
 
 /// Writes a domain, and how the line ends.

@@ -3,8 +3,8 @@ use Rattle.machine_state.specs.State.{state_of}
 use Rattle.confine_check.specs.Full.{AreFull}
 use Rattle.separation_check.specs.declared.crossing.Crossing.{Crossing}
 use Rattle.separation_check.specs.Crossings.{meant_crossing}
-use Rattle.separation_check.proofs.Exactly.{crossings-exactly}
-use Rattle.separation_check.proofs.Meant.{all-meant, none-meant}
+use Rattle.separation_check.proofs.Meant.{none-meant}
+use Rattle.separation_check.proofs.Forbidden.{forbidden-exactly, forbidden-meant}
 use Rattle.separation_check.proofs.Marking.{marks-meant}
 use Rattle.separation_check.proofs.checking.crossings.Goals as goal
 
@@ -17,7 +17,7 @@ pub returns-clause-means : goal.returns-clause-means
 returns-clause-means g c =
     let policy = c.args.policy.now in
     let m = c.args.machine.now in
-    if_ok c.all_crossings.result _ _ (λ found is. ap (λ (xs : List Crossing). map meant_crossing xs) is ∙ sym (all-meant policy m.objects m.queues)) c.all_crossings.ensures.value
+    if_ok c.all_crossings.result _ _ (λ found is. ap (λ (xs : List Crossing). map meant_crossing xs) is ∙ sym (forbidden-meant policy m.objects m.queues)) c.all_crossings.ensures.value
 
 pub returns-clause-marks : goal.returns-clause-marks
 returns-clause-marks g c =
@@ -28,8 +28,8 @@ pub returns-clause-exactly : goal.returns-clause-exactly
 returns-clause-exactly g c =
     let policy = c.args.policy.now in
     let m = c.args.machine.now in
-    let law = crossings-exactly policy m.objects m.queues (subst AreFull c.objects.ensures c.tell_full.ensures) in
-    let same = all-meant policy m.objects m.queues in
+    let law = forbidden-exactly policy m.objects m.queues (subst AreFull c.objects.ensures c.tell_full.ensures) in
+    let same = forbidden-meant policy m.objects m.queues in
     if_ok c.all_crossings.result _ _ (λ found is. (
       λ e. law.0 (same ∙ ap (λ (xs : List Crossing). map meant_crossing xs) (sym is ∙ e)),
       λ holds. is ∙ none-meant _ (sym same ∙ law.1 holds),
@@ -38,9 +38,9 @@ returns-clause-exactly g c =
 pub returns-clause-integrity : goal.returns-clause-integrity
 returns-clause-integrity g c =
     let m = c.args.machine.now in
-    if_ok c.all_crossings.result _ _ (λ found exactly e. c.integrity.ensures c.args.policy.now (state_of m) (exactly.0 e)) (returns-clause-exactly g c)
+    if_ok c.all_crossings.result _ _ (λ found exactly e. c.integrity.ensures c.args.policy.now (state_of m) (let stands = exactly.0 e in stands.holds)) (returns-clause-exactly g c)
 
 pub returns-clause-noninterference : goal.returns-clause-noninterference
 returns-clause-noninterference g c =
     let m = c.args.machine.now in
-    if_ok c.all_crossings.result _ _ (λ found exactly e. c.noninterference.ensures c.args.policy.now (state_of m) (exactly.0 e)) (returns-clause-exactly g c)
+    if_ok c.all_crossings.result _ _ (λ found exactly e. c.noninterference.ensures c.args.policy.now (state_of m) (let stands = exactly.0 e in stands.holds)) (returns-clause-exactly g c)

@@ -7,7 +7,7 @@ use Rattle.separation_check.specs.Crossings.{meant_crossing}
 use Rattle.separation_program.specs.Slots.{LacksJudging, gpts_of}
 use Rattle.separation_program.specs.declared.words.Aim.TheVariants.{Holds}
 use Rattle.separation_program.proofs.Lacking.{lacks-held}
-use Rattle.separation_program.proofs.Verdicts.{none-found, passed-some, some-found, told-none, told-some}
+use Rattle.separation_program.proofs.Verdicts.{held-unused, none-found, passed-some, some-found, told-none, told-some}
 use Rattle.separation_program.proofs.judging.tell.Goals as goal
 
 pub returns-then-not-is_empty-clause-ends : goal.returns-then-not-is_empty-clause-ends
@@ -39,8 +39,14 @@ returns-clause-ends g c = λ other.
 pub returns-clause-tells : goal.returns-clause-tells
 returns-clause-tells g c =
     let none = sym c.as_slice-crossing.ensures.value ∙ none-found c.as_slice-crossing.result.now (sym c.is_empty.ensures ∙ c.if-not-is_empty.false) in
+    let means = ap (map meant_crossing) c.as_slice-crossing.ensures.value ∙ c.in-Ok.ensures.means in
     record {
-      affirmed = λ is. record { holds = c.in-Ok.ensures.exactly.0 none; integrity = c.in-Ok.ensures.integrity none; noninterference = c.in-Ok.ensures.noninterference none };
+      affirmed = λ is. record {
+        separated = record { holds = c.in-Ok.ensures.exactly.0 none; integrity = c.in-Ok.ensures.integrity none; noninterference = c.in-Ok.ensures.noninterference none };
+        unused =
+            held-unused c.args.policy.now (state_of c.args.machine.now) c.as_slice-crossing.result.now means
+            (none-found c.as_slice-crossing.result.now (sym c.is_empty.ensures ∙ c.if-not-is_empty.false)) (c.tell_held.ensures.unused is);
+      };
       denied = λ is. absurd (c.tell_held.ensures.crossed is);
     }
 
