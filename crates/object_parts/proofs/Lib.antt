@@ -3,3 +3,4 @@ pub mod Mapped
 pub mod Buried
 pub mod Tables
 pub mod Revived
+pub mod Remembered

@@ -6,3 +6,4 @@ pub mod There
 pub mod Objects
 pub mod Slots
 pub mod Table
+pub mod Overwrites

@@ -11,5 +11,7 @@ pub mod Unchanged
 pub mod Holding
 pub mod Alike
 pub mod Stepping
+pub mod Stored
 pub mod Shown
+pub mod Rewritten
 pub mod Idle

@@ -7,6 +7,7 @@ pub mod Key
 pub mod KeyLaws
 pub mod Looking
 pub mod Marking
+pub mod Stored
 pub mod Shown
 pub mod Space
 pub mod Slots

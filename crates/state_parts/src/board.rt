@@ -11,6 +11,7 @@ ghost use Rattle.machine_state.specs.Taking.{names_of};
 ghost use Rattle.kernel_core.specs.Event.{event_of};
 ghost use Rattle.object_parts.specs.Live.{live_store};
 ghost use Rattle.object_parts.specs.Objects.{object_in};
+ghost use Rattle.object_parts.specs.Overwrites.{AreOverwrites};
 ghost use Rattle.object_parts.specs.Table.{Grows};
 ghost use Rattle.state_parts.specs.Keys.{AreAll, objects_of, values_of, Reads, store_by};
 ghost use Rattle.state_parts.specs.Looking.{IsTarget, AreRanged};
@@ -21,13 +22,14 @@ ghost use Rattle.state_parts.specs.StandingLaws.{standing_in};
 
 use crate::fetched::{Fetched, nothing_fetched};
 use crate::going::{bring_all, mark_all};
-use crate::look::{counts_same, look, look_anew};
+use crate::look::{counts_same, look, look_anew, overwritten};
 use crate::performing::perform_event;
+use crate::showing::StoredWord;
 use crate::standing::Standing;
 use cap_format::OutOfMemory;
 use machine_state::{Event, Machine, Name, Records};
 use map_cache::MapCache;
-use object_parts::{Part, Table};
+use object_parts::{Overwrites, Part, Table};
 use object_store::Objects;
 use std::alloc::Global;
 use std::marker::Model;
@@ -41,19 +43,24 @@ pub(crate) struct Board {
     desk: Objects,
     /// What may have changed since.
     changed: Vec<Name>,
+    /// The word that changed since, where the one event since was a store.
+    stored: Option<StoredWord>,
     /// Where each process fetched last.
     fetched: Vec<Fetched>,
 }
 
 impl Model for Board {
     ghost use Rattle.machine_state.specs.Taking.{names_of};
+    ghost use Rattle.std.specs.Prelude.{IfSome};
     ghost use Rattle.state_parts.specs.Board.{BoardValue, IsBoard};
+    ghost use Rattle.state_parts.specs.Stored.{ChangesWord};
 
     ghost Value = { BoardValue };
 
     ghost view = { λ b. record { machine = b.machine; desk = b.desk; changed = names_of b.changed.items } };
 
-    ghost invariant = { λ b. IsBoard b.machine.objects b.desk (names_of b.changed.items) };
+    ghost invariant = { λ b. IsBoard b.machine.objects b.desk (names_of b.changed.items)
+        × IfSome b.stored (ChangesWord b.desk b.machine.objects) };
 }
 
 impl Board {
@@ -76,6 +83,7 @@ impl Board {
             machine,
             desk,
             changed,
+            stored: None,
             fetched,
         })
     }
@@ -155,6 +163,7 @@ impl Board {
             );
         }
         self.changed.clear();
+        self.stored = None;
         Ok(())
     }
 
@@ -164,6 +173,7 @@ impl Board {
         &self,
         alloc: Global,
         table: &mut Table<Part>,
+        overwrites: &mut Overwrites,
         names: &[Name],
         numbers: &[u32],
         fetches: &mut Steps<L>,
@@ -173,7 +183,9 @@ impl Board {
             (objects_of (names_of names.now) self.now.desk) }
         requires live { live_store self.now.desk ≡ self.now.desk }
         requires ranges { EachCapability IsCapability self.now.desk }
+        requires known { AreOverwrites (map object_in table.old) overwrites.old }
         ensures grows { Grows (map object_in table.old) (map object_in table.new) }
+        ensures known { AreOverwrites (map object_in table.new) overwrites.new }
         ensures reads { IfOk result (λ found. Reads (map object_in table.new) found.items
             (objects_of (names_of names.now) (live_store self.now.machine.objects))) }
         ensures ranged { IfOk result (λ found.
@@ -187,7 +199,17 @@ impl Board {
         let _here = objects.sizes();
         let _there = self.desk.sizes();
         if counts_same(objects, &self.desk, changed) {
-            return look(alloc, table, objects, changed, numbers, fetches);
+            let overwritten = overwritten(objects.sizes(), self.stored, numbers);
+            return look(
+                alloc,
+                table,
+                overwrites,
+                objects,
+                changed,
+                numbers,
+                overwritten,
+                fetches,
+            );
         }
         look_anew(alloc, table, objects, names, fetches)
     }
@@ -213,7 +235,9 @@ impl Board {
         ensures least { fetches.old ≤ fetches.new }
         ensures most { fetches.new ≤ fetches.old + event_slots (state_of self.old.machine) event }
     {
-        let still = perform_event(
+        let alone = self.is_still();
+        self.stored = None;
+        let performed = perform_event(
             &mut self.machine,
             event,
             names,
@@ -225,6 +249,7 @@ impl Board {
         // Sizes that are read tell that there are as many objects as counts.
         let _here = self.machine.objects().sizes();
         let _there = self.desk.sizes();
-        Ok(still)
+        self.stored = if alone { performed.word } else { None };
+        Ok(performed.still)
     }
 }

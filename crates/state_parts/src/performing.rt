@@ -1,7 +1,8 @@
 //! Performing an event, with all marked that it may change.
 ghost use Rattle.std.specs.Prelude.{◌≡◌, ◌<◌, ◌≤◌, ◌+◌, ◌∷◌, [], IsTrue, IfOk, IfSome, None, OnOk, OnErr, MatchOption, length};
 ghost use Rattle.cap_format.specs.declared.kind.CapKind.TheVariants.{Page, Process};
-ghost use Rattle.object_store.specs.Store.{size_of, sizes_of};
+ghost use Rattle.page_store.specs.Page.{IsPage};
+ghost use Rattle.object_store.specs.Store.{size_of, sizes_of, page_at};
 ghost use Rattle.object_store.specs.Object.{object_name, Stays};
 ghost use Rattle.object_store.specs.Saved.{AreThere};
 ghost use Rattle.machine_state.specs.Machine.{hart_in};
@@ -14,25 +15,34 @@ ghost use Rattle.state_parts.specs.Keys.{AreAll};
 ghost use Rattle.state_parts.specs.Looking.{HasAll, IsMore};
 ghost use Rattle.state_parts.specs.Marking.{AddsThere, HasThere, StandsStill};
 ghost use Rattle.event_reach.specs.FreshWalks.{walked};
-ghost use Rattle.event_reach.specs.Plain.{stored_names};
-ghost use Rattle.state_parts.specs.Shown.{IsBy, begun, IsShown};
+ghost use Rattle.state_parts.specs.Shown.{IsBy, begun, IsShown, IsWordOf, stored_in};
 ghost use Rattle.state_parts.specs.Slots.{event_slots};
+ghost use Rattle.state_parts.specs.Stored.{ChangesWord};
 
 use crate::fetched::{Fetched, note_fetch, note_stumble, seems_plain};
 use crate::look::is_named;
 use crate::marking::{mark_event, mark_object};
-use crate::showing::plain_shown;
+use crate::showing::{ShownPlain, StoredWord, plain_shown};
 use cap_format::{CapKind, OutOfMemory};
-use event_reach::PlainInsn;
 use machine_state::{Event, Machine, Name, Records};
 use map_cache::MapCache;
 use object_store::Objects;
 use std::sync::ledger::Ledger;
 use steps::Steps;
 use undo_economy::walks_at_most;
+use walk_meaning::page_law;
 
-/// Performs an event, marks all that it may change, and tells whether the queues and the harts are sure to have stayed.
-/// Where memory is wanting it wasn't performed, and some is marked.
+/// What is known of an event that was performed.
+#[derive(Clone, Copy)]
+pub(crate) struct Performed {
+    /// Whether the queues and the harts are sure to have stayed.
+    pub still: bool,
+    /// The word to which it stored, where it is known. No other byte of that page changed.
+    pub word: Option<StoredWord>,
+}
+
+/// Performs an event, marks all that it may change, and tells what is known of it. Where memory is wanting it wasn't performed,
+/// and some is marked.
 ///
 /// An event that nobody performs marks nothing. Where the next instruction seems to be plain there is no look ahead: the
 /// records tell afterwards whether it was. If not, all objects are marked.
@@ -44,14 +54,16 @@ pub(crate) fn perform_event<L: Ledger>(
     fetched: &mut Vec<Fetched>,
     records: &mut Records,
     fetches: &mut Steps<L>,
-) -> Result<bool, OutOfMemory>
+) -> Result<Performed, OutOfMemory>
     requires hart { hart_in event < machine.old.objects.harts }
     requires all { AreAll (sizes_of machine.old.objects) (names_of names.now) }
     requires known { AreThere machine.old.objects (names_of marked.old.items) }
     ensures state { OnOk result (state_of machine.new
         ≡ (event_of (state_of machine.old) event).state) }
     ensures still { let s = state_of machine.old in
-        IfOk result (λ still. IsTrue still → StandsStill s (event_of s event).state) }
+        IfOk result (λ r. IsTrue r.still → StandsStill s (event_of s event).state) }
+    ensures word { IfOk result
+        (λ r. IfSome r.word (ChangesWord machine.old.objects machine.new.objects)) }
     ensures err { OnErr result (state_of machine.new ≡ state_of machine.old) }
     ensures objects { OnErr result (machine.new.objects ≡ machine.old.objects) }
     ensures adds { AddsThere machine.old.objects (names_of marked.old.items)
@@ -67,7 +79,10 @@ pub(crate) fn perform_event<L: Ledger>(
     match performer(machine, event) {
         None => {
             records.clear();
-            Ok(true)
+            Ok(Performed {
+                still: true,
+                word: None,
+            })
         }
         Some(p) => perform_by(machine, event, p, names, marked, fetched, records, fetches),
     }
@@ -100,7 +115,7 @@ fn perform_by<L: Ledger>(
     fetched: &mut Vec<Fetched>,
     records: &mut Records,
     fetches: &mut Steps<L>,
-) -> Result<bool, OutOfMemory>
+) -> Result<Performed, OutOfMemory>
     requires hart { hart_in event < machine.old.objects.harts }
     requires by { IsBy p machine.old event }
     requires all { AreAll (sizes_of machine.old.objects) (names_of names.now) }
@@ -108,7 +123,9 @@ fn perform_by<L: Ledger>(
     ensures state { OnOk result (state_of machine.new
         ≡ (event_of (state_of machine.old) event).state) }
     ensures still { let s = state_of machine.old in
-        IfOk result (λ still. IsTrue still → StandsStill s (event_of s event).state) }
+        IfOk result (λ r. IsTrue r.still → StandsStill s (event_of s event).state) }
+    ensures word { IfOk result
+        (λ r. IfSome r.word (ChangesWord machine.old.objects machine.new.objects)) }
     ensures err { OnErr result (state_of machine.new ≡ state_of machine.old) }
     ensures objects { OnErr result (machine.new.objects ≡ machine.old.objects) }
     ensures adds { AddsThere machine.old.objects (names_of marked.old.items)
@@ -124,9 +141,9 @@ fn perform_by<L: Ledger>(
     if is_step(event) && seems_plain(machine, p, fetched.as_slice()) {
         return perform_plainly(machine, event, p, names, marked, fetched, records, fetches);
     }
-    let still = perform_marked(machine, event, marked, records, fetches)?;
+    let performed = perform_marked(machine, event, marked, records, fetches)?;
     note_fetch(fetched, records);
-    Ok(still)
+    Ok(performed)
 }
 
 /// Whether an event is a step.
@@ -144,12 +161,14 @@ fn perform_marked<L: Ledger>(
     marked: &mut Vec<Name>,
     records: &mut Records,
     fetches: &mut Steps<L>,
-) -> Result<bool, OutOfMemory>
+) -> Result<Performed, OutOfMemory>
     requires { hart_in event < machine.old.objects.harts }
     ensures state { OnOk result (state_of machine.new
         ≡ (event_of (state_of machine.old) event).state) }
     ensures still { let s = state_of machine.old in
-        IfOk result (λ still. IsTrue still → StandsStill s (event_of s event).state) }
+        IfOk result (λ r. IsTrue r.still → StandsStill s (event_of s event).state) }
+    ensures word { IfOk result
+        (λ r. IfSome r.word (ChangesWord machine.old.objects machine.new.objects)) }
     ensures err { OnErr result (state_of machine.new ≡ state_of machine.old) }
     ensures objects { OnErr result (machine.new.objects ≡ machine.old.objects) }
     ensures adds { AddsThere machine.old.objects (names_of marked.old.items)
@@ -165,7 +184,7 @@ fn perform_marked<L: Ledger>(
     let still = mark_event(machine, event, marked, fetches)?;
     walks_at_most();
     kernel_core::event_into(machine, event, records, fetches);
-    Ok(still)
+    Ok(Performed { still, word: None })
 }
 
 /// The same of an event of a process, by what the records tell of it.
@@ -178,7 +197,7 @@ fn perform_plainly<L: Ledger>(
     fetched: &mut Vec<Fetched>,
     records: &mut Records,
     fetches: &mut Steps<L>,
-) -> Result<bool, OutOfMemory>
+) -> Result<Performed, OutOfMemory>
     requires hart { hart_in event < machine.old.objects.harts }
     requires by { IsBy p machine.old event }
     requires all { AreAll (sizes_of machine.old.objects) (names_of names.now) }
@@ -186,7 +205,9 @@ fn perform_plainly<L: Ledger>(
     ensures state { OnOk result (state_of machine.new
         ≡ (event_of (state_of machine.old) event).state) }
     ensures still { let s = state_of machine.old in
-        IfOk result (λ still. IsTrue still → StandsStill s (event_of s event).state) }
+        IfOk result (λ r. IsTrue r.still → StandsStill s (event_of s event).state) }
+    ensures word { IfOk result
+        (λ r. IfSome r.word (ChangesWord machine.old.objects machine.new.objects)) }
     ensures err { OnErr result (state_of machine.new ≡ state_of machine.old) }
     ensures objects { OnErr result (machine.new.objects ≡ machine.old.objects) }
     ensures adds { AddsThere machine.old.objects (names_of marked.old.items)
@@ -208,7 +229,24 @@ fn perform_plainly<L: Ledger>(
     if shown.is_none() {
         note_stumble(fetched, p, pc);
     }
-    Ok(stood && shown.is_some())
+    Ok(Performed {
+        still: stood && shown.is_some(),
+        word: word_there(machine.objects(), shown),
+    })
+}
+
+/// The word of what was shown, if its page is one.
+fn word_there(objects: &Objects, shown: Option<ShownPlain>) -> Option<StoredWord>
+    ensures word { IfSome result (IsWordOf shown) }
+    ensures there { IfSome result (λ w. w.page < size_of objects.now.items Page) }
+    ensures whole { IfSome result (λ w. IsPage (page_at objects.now w.page)) }
+{
+    let word = shown?.word?;
+    if word.page >= objects.sizes().pages {
+        return None;
+    }
+    objects.page(word.page).tell_range();
+    Some(word)
 }
 
 /// Whether it is sure that no hart takes a process at an event.
@@ -246,7 +284,7 @@ fn perform_shown<L: Ledger>(
     p: u16,
     records: &mut Records,
     fetches: &mut Steps<L>,
-) -> Option<PlainInsn>
+) -> Option<ShownPlain>
     requires hart { hart_in event < machine.old.objects.harts }
     requires by { IsBy p machine.old event }
     ensures state { state_of machine.new ≡ (event_of (state_of machine.old) event).state }
@@ -259,6 +297,10 @@ fn perform_shown<L: Ledger>(
     ensures most { fetches.new ≤ fetches.old
         + walked (event_of (state_of machine.old) event).touches }
 {
+    page_law();
+    machine.objects().in_ranges();
+    // A capability that is read tells its ranges.
+    let _kind = machine.space(p).kind();
     let regs = *machine.registers(p);
     let pc = machine.pc(p);
     walks_at_most();
@@ -267,18 +309,18 @@ fn perform_shown<L: Ledger>(
 }
 
 /// Marks the page of the store that was shown, or all objects where nothing was shown. There is room for their names.
-fn mark_shown(objects: &Objects, shown: Option<PlainInsn>, names: &[Name], marked: &mut Vec<Name>)
+fn mark_shown(objects: &Objects, shown: Option<ShownPlain>, names: &[Name], marked: &mut Vec<Name>)
     requires all { AreAll (sizes_of objects.now) (names_of names.now) }
     requires known { AreThere objects.now (names_of marked.old.items) }
     requires some { 1 ≤ length names.now }
     requires room { vec_len marked.old + length names.now ≤ vec_capacity marked.old }
     ensures adds { AddsThere objects.now (names_of marked.old.items) (names_of marked.new.items) }
     ensures has { MatchOption shown (HasAll (names_of names.now) (names_of marked.new.items))
-        (λ plain. HasThere objects.now (stored_names plain.page) (names_of marked.new.items)) }
+        (λ plain. HasThere objects.now (stored_in plain.word) (names_of marked.new.items)) }
 {
     match shown {
-        Some(plain) => match plain.page {
-            Some(page) => mark_page(objects, page, marked),
+        Some(plain) => match plain.word {
+            Some(word) => mark_page(objects, word.page, marked),
             None => {}
         },
         None => write_all(marked, names),

@@ -19,7 +19,7 @@ use crate::stands::standing_number;
 use cap_format::OutOfMemory;
 use machine_state::{Event, Machine, Name, Records};
 use map_cache::MapCache;
-use object_parts::{Part, Table};
+use object_parts::{Overwrites, Part, Table};
 use object_store::Sizes;
 use std::alloc::Global;
 use std::marker::Model;
@@ -34,6 +34,8 @@ pub struct States {
     /// The names of all objects, in the order of a key's parts.
     names: Vec<Name>,
     parts: Table<Part>,
+    /// Which part came of which by a store, of the stores that were seen.
+    overwrites: Overwrites,
     standings: Table<Standing>,
     board: Board,
     /// The numbers of the objects from which events start.
@@ -48,6 +50,7 @@ impl Model for States {
     ghost use Rattle.std.specs.Prelude.{map};
     ghost use Rattle.machine_state.specs.Taking.{names_of};
     ghost use Rattle.object_parts.specs.Objects.{object_in};
+    ghost use Rattle.object_parts.specs.Overwrites.{AreOverwrites};
     ghost use Rattle.state_parts.specs.Space.{AreTables};
     ghost use Rattle.state_parts.specs.StandingLaws.{standing_in};
     ghost use Rattle.state_parts.specs.States.{StatesValue, tables_of, IsDesk, IsStanding};
@@ -57,7 +60,7 @@ impl Model for States {
     ghost view = { λ s. record { tables = tables_of s.sizes (names_of s.names.items) (map object_in s.parts) (map standing_in s.standings); machine = s.board.machine } };
 
     ghost invariant = { λ s. let t = tables_of s.sizes (names_of s.names.items) (map object_in s.parts) (map standing_in s.standings) in
-        AreTables t × IsDesk t s.board.desk s.at.items × IsStanding t s.stands s.board.machine };
+        AreTables t × IsDesk t s.board.desk s.at.items × IsStanding t s.stands s.board.machine × AreOverwrites t.objects s.overwrites };
 }
 
 impl States {
@@ -85,6 +88,7 @@ impl States {
             sizes,
             names,
             parts,
+            overwrites: Overwrites::new(alloc),
             standings,
             board,
             at,
@@ -128,6 +132,7 @@ impl States {
         let parts = self.board.look(
             self.alloc,
             &mut self.parts,
+            &mut self.overwrites,
             self.names.as_slice(),
             self.at.as_slice(),
             fetches,

@@ -10,6 +10,7 @@ use Rattle.object_store.proofs.Same.{size_in_store}
 use Rattle.object_parts.specs.Live.{live_store}
 use Rattle.object_parts.specs.Objects.{object_in}
 use Rattle.object_parts.proofs.Tables.{grown_none}
+use Rattle.object_parts.proofs.Remembered.{overwritten_grown}
 use Rattle.state_parts.specs.Keys.{in_order}
 use Rattle.state_parts.specs.Looking.{AreKnown, IsPut}
 use Rattle.state_parts.proofs.Looked.{AreGiven, given_more, given_all}
@@ -27,12 +28,17 @@ each-init g c =
         many = ap length copied ∙ c.requires.many;
         known = subst Known (sym copied) c.requires.known;
       };
+      overwrites = c.requires.overwrites;
       least = omega arith;
       counted = refl;
     }
 
-pub new_look-requires : goal.new_look-requires
-new_look-requires g c = name_there c.args.objects.now c.args.changed.now c.each.i (name_by Null 0) c.each-test.true c.requires.there
+pub next_look-requires-clause-there : goal.next_look-requires-clause-there
+next_look-requires-clause-there g c = name_there c.args.objects.now c.args.changed.now c.each.i (name_by Null 0) c.each-test.true c.requires.there
+
+pub next_look-requires-clause-from : goal.next_look-requires-clause-from
+next_look-requires-clause-from g c =
+    overwritten_grown (map object_in c.args.table.now) (map object_in c.each.table) c.args.objects.now c.args.overwritten c.each.invariant.given.grows c.requires.from
 
 pub put_number-requires-clause-many : goal.put_number-requires-clause-many
 put_number-requires-clause-many g c = c.each.invariant.given.many ∙ ap (λ (z : Sizes). length (in_order z)) (sym c.sizes-sizes.ensures.value)
@@ -51,7 +57,7 @@ each-preserved g c =
     let s = live_store c.args.objects.now in
     let old = map object_in c.args.table.now in
     let T = map object_in l.table in
-    let grown = map object_in c.new_look.new.table in
+    let grown = map object_in c.next_look.new.table in
     let names = in_order (sizes_of c.args.objects.now) in
     let name = name_of (get_or c.args.changed.now l.i (name_by Null 0)) in
     let rest = names_of (drop (l.i + 1) c.args.changed.now) in
@@ -61,10 +67,11 @@ each-preserved g c =
       given =
           given_more old T grown s name rest names l.found.items c.put_number.new.numbers.items c.in_ok-number.number
           (subst Left (names_next c.args.changed.now l.i (name_by Null 0) c.each-test.true) l.invariant.given)
-          c.new_look.ensures.grows c.in_ok-number.ensures.reads
+          c.next_look.ensures.grows c.in_ok-number.ensures.reads
           (subst Put c.sizes-sizes.ensures.value c.put_number.ensures);
-      least = let read = c.new_look.ensures.counted in let before = l.invariant.least in omega (arith, read, before);
-      counted = let read = c.new_look.ensures.counted in let slots = slots_next c.args.changed.now l.i (name_by Null 0) c.each-test.true in let before = l.invariant.counted in omega (arith, read, slots, before);
+      overwrites = c.next_look.ensures.overwrites;
+      least = let read = c.next_look.ensures.counted in let before = l.invariant.least in omega (arith, read, before);
+      counted = let read = c.next_look.ensures.counted in let slots = slots_next c.args.changed.now l.i (name_by Null 0) c.each-test.true in let before = l.invariant.counted in omega (arith, read, slots, before);
     }
 
 pub returns-clause-reads : goal.returns-clause-reads
@@ -93,13 +100,13 @@ returns-clause-least g c = c.each.invariant.least
 
 pub returns-in_err-number-clause-most : goal.returns-in_err-number-clause-most
 returns-in_err-number-clause-most g c =
-    let read = c.new_look.ensures.counted in
+    let read = c.next_look.ensures.counted in
     let slots = slots_next c.args.changed.now c.each.i (name_by Null 0) c.each-test.true in
     let before = c.each.invariant.counted in
     omega (arith, read, slots, before)
 
 pub returns-in_err-number-clause-least : goal.returns-in_err-number-clause-least
 returns-in_err-number-clause-least g c =
-    let read = c.new_look.ensures.counted in
+    let read = c.next_look.ensures.counted in
     let least = c.each.invariant.least in
     omega (arith, read, least)

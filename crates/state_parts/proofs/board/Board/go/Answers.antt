@@ -1,5 +1,6 @@
 use Rattle.std.proofs.Common.{◌≡◌, ◌*◌, ◌≤◌, ℕ, List, map, length, sym, ap, ◌∙◌, subst, arith}
 use Rattle.std.proofs.lemmas.List.{length-map}
+use Rattle.std.specs.Prelude.{IfSome}
 use Rattle.cap_format.specs.declared.kind.CapKind.TheVariants.{Gpt}
 use Rattle.object_store.specs.Store.{Store, size_of, sizes_of}
 use Rattle.object_store.specs.Object.{ObjectName, ObjectValue, Stays, IsEven}
@@ -12,6 +13,7 @@ use Rattle.object_parts.specs.Objects.{object_in}
 use Rattle.state_parts.specs.Keys.{AreAll, objects_of, values_of, Reads, store_by}
 use Rattle.state_parts.specs.Board.{BoardValue, IsBoard}
 use Rattle.state_parts.specs.Looking.{AreMarked, IsMore, IsTarget}
+use Rattle.state_parts.specs.Stored.{ChangesWord}
 use Rattle.state_parts.proofs.Unchanged.{numbers_many}
 use Rattle.state_parts.proofs.Boards.{board_more, board_none, brought_stays, slots_there}
 use Rattle.state_parts.specs.declared.board.Board.TheInside.{Inside}
@@ -23,7 +25,10 @@ invariant_of-self g c =
     let i = c.self.inside in
     let all = rw (← c.self.view_is) at c.requires.all in
     let Board : Store → Type 0 = λ s. IsBoard i.machine.objects s (names_of c.bring_all.new.marked.items) in
-    subst Board (sym c.in_err-bring_all.ensures.err) (board_more i.machine.objects i.desk (names_of c.args.names.now) (names_of i.changed.items) (names_of c.bring_all.new.marked.items) all c.bring_all.ensures.grows c.self.invariant)
+    let Stored : Store → Type 0 = λ s. IfSome i.stored (ChangesWord s i.machine.objects) in (
+      subst Board (sym c.in_err-bring_all.ensures.err) (board_more i.machine.objects i.desk (names_of c.args.names.now) (names_of i.changed.items) (names_of c.bring_all.new.marked.items) all c.bring_all.ensures.grows c.self.invariant.0),
+      subst Stored (sym c.in_err-bring_all.ensures.err) c.self.invariant.1,
+    )
 
 pub bring_all-requires-clause-here : goal.bring_all-requires-clause-here
 bring_all-requires-clause-here g c =
@@ -61,7 +66,7 @@ take_objects-requires-clause-there g c =
     let new = rw (← c.self.view_is) at c.requires.new in
     let There : List Name → Type 0 = λ xs. AreThere c.bring_all.new.objects (names_of xs) in
     subst There (sym c.as_slice-changed.ensures.value)
-    (there_brought i.machine.objects i.desk c.bring_all.new.objects (names_of c.args.names.now) (names_of i.changed.items) (names_of c.bring_all.new.marked.items) all c.bring_all.ensures.grows c.self.invariant (ap sizes_of c.in_ok-bring_all.ensures.objects ∙ new.sizes))
+    (there_brought i.machine.objects i.desk c.bring_all.new.objects (names_of c.args.names.now) (names_of i.changed.items) (names_of c.bring_all.new.marked.items) all c.bring_all.ensures.grows c.self.invariant.0 (ap sizes_of c.in_ok-bring_all.ensures.objects ∙ new.sizes))
 
 pub take_objects-requires-clause-others : goal.take_objects-requires-clause-others
 take_objects-requires-clause-others g c =
@@ -71,7 +76,7 @@ take_objects-requires-clause-others g c =
     let new = rw (← c.self.view_is) at c.requires.new in
     let Others : List Name → Type 0 = λ xs. Stays (names_of xs) c.bring_all.new.objects i.machine.objects in
     subst Others (sym c.as_slice-changed.ensures.value)
-    (others_brought (map object_in c.args.table.now) c.args.names.now c.bring_all.new.marked.items (names_of i.changed.items) c.args.old.now c.args.new.now i.machine.objects i.desk c.bring_all.new.objects (even_store i.desk c.sizes-sizes.ensures.sized) all c.bring_all.ensures.grows c.in_ok-bring_all.ensures.each c.self.invariant old new c.in_ok-bring_all.ensures.objects)
+    (others_brought (map object_in c.args.table.now) c.args.names.now c.bring_all.new.marked.items (names_of i.changed.items) c.args.old.now c.args.new.now i.machine.objects i.desk c.bring_all.new.objects (even_store i.desk c.sizes-sizes.ensures.sized) all c.bring_all.ensures.grows c.in_ok-bring_all.ensures.each c.self.invariant.0 old new c.in_ok-bring_all.ensures.objects)
 
 pub take_objects_alone-requires-clause-there : goal.take_objects_alone-requires-clause-there
 take_objects_alone-requires-clause-there g c =
@@ -80,7 +85,7 @@ take_objects_alone-requires-clause-there g c =
     let new = rw (← c.self.view_is) at c.requires.new in
     let There : List Name → Type 0 = λ xs. AreThere c.bring_all.new.objects (names_of xs) in
     subst There (sym c.as_slice-changed.ensures.value)
-    (there_brought i.machine.objects i.desk c.bring_all.new.objects (names_of c.args.names.now) (names_of i.changed.items) (names_of c.bring_all.new.marked.items) all c.bring_all.ensures.grows c.self.invariant (ap sizes_of c.in_ok-bring_all.ensures.objects ∙ new.sizes))
+    (there_brought i.machine.objects i.desk c.bring_all.new.objects (names_of c.args.names.now) (names_of i.changed.items) (names_of c.bring_all.new.marked.items) all c.bring_all.ensures.grows c.self.invariant.0 (ap sizes_of c.in_ok-bring_all.ensures.objects ∙ new.sizes))
 
 pub take_objects_alone-requires-clause-others : goal.take_objects_alone-requires-clause-others
 take_objects_alone-requires-clause-others g c =
@@ -90,7 +95,7 @@ take_objects_alone-requires-clause-others g c =
     let new = rw (← c.self.view_is) at c.requires.new in
     let Others : List Name → Type 0 = λ xs. Stays (names_of xs) c.bring_all.new.objects i.machine.objects in
     subst Others (sym c.as_slice-changed.ensures.value)
-    (others_brought (map object_in c.args.table.now) c.args.names.now c.bring_all.new.marked.items (names_of i.changed.items) c.args.old.now c.args.new.now i.machine.objects i.desk c.bring_all.new.objects (even_store i.desk c.sizes-sizes.ensures.sized) all c.bring_all.ensures.grows c.in_ok-bring_all.ensures.each c.self.invariant old new c.in_ok-bring_all.ensures.objects)
+    (others_brought (map object_in c.args.table.now) c.args.names.now c.bring_all.new.marked.items (names_of i.changed.items) c.args.old.now c.args.new.now i.machine.objects i.desk c.bring_all.new.objects (even_store i.desk c.sizes-sizes.ensures.sized) all c.bring_all.ensures.grows c.in_ok-bring_all.ensures.each c.self.invariant.0 old new c.in_ok-bring_all.ensures.objects)
 
 -- what is marked has no more slots than all GPTs have
 slots_marked : (here desk : Store) (names changed marked : List ObjectName) → AreAll (sizes_of desk) names → IsMore names changed marked → IsBoard here desk changed → slots_taken marked ≤ 16 * size_of desk.items Gpt
@@ -101,15 +106,15 @@ invariant_of-self-2 g c =
     let none = ap names_of c.clear.ensures.items in
     let now = c.if-stays.self-inside in
     elim c.if-stays.branch [
-      | then-stays w ↦ board_none now.machine.objects now.desk (names_of c.clear.new.self.items) (ap (λ (b : Inside). b.machine.objects) w.self-inside-is ∙ w.take_objects_alone.ensures.objects ∙ sym (ap (λ (b : Inside). b.desk) w.self-inside-is)) none
-      | else-stays w ↦ board_none now.machine.objects now.desk (names_of c.clear.new.self.items) (ap (λ (b : Inside). b.machine.objects) w.self-inside-is ∙ w.take_objects.ensures.objects ∙ sym (ap (λ (b : Inside). b.desk) w.self-inside-is)) none
+      | then-stays w ↦ (board_none now.machine.objects now.desk (names_of c.clear.new.self.items) (ap (λ (b : Inside). b.machine.objects) w.self-inside-is ∙ w.take_objects_alone.ensures.objects ∙ sym (ap (λ (b : Inside). b.desk) w.self-inside-is)) none, tt)
+      | else-stays w ↦ (board_none now.machine.objects now.desk (names_of c.clear.new.self.items) (ap (λ (b : Inside). b.machine.objects) w.self-inside-is ∙ w.take_objects.ensures.objects ∙ sym (ap (λ (b : Inside). b.desk) w.self-inside-is)) none, tt)
     ]
 
 pub returns-clause-most : goal.returns-clause-most
 returns-clause-most g c =
     let i = c.self.inside in
     let all = rw (← c.self.view_is) at c.requires.all in
-    let few = slots_marked i.machine.objects i.desk (names_of c.args.names.now) (names_of i.changed.items) (names_of c.bring_all.new.marked.items) all c.bring_all.ensures.grows c.self.invariant in
+    let few = slots_marked i.machine.objects i.desk (names_of c.args.names.now) (names_of i.changed.items) (names_of c.bring_all.new.marked.items) all c.bring_all.ensures.grows c.self.invariant.0 in
     let slices = ap (λ (xs : List Name). slots_taken (names_of xs)) c.as_slice-changed.ensures.value in
     let view = ap (λ (b : BoardValue). size_of b.desk.items Gpt) c.self.view_is in
     elim c.if-stays.branch [

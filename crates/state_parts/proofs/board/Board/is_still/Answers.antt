@@ -22,7 +22,7 @@ returns-clause-objects c = λ e.
     let there : IsEven i.desk = even_store i.desk c.sizes-there.ensures.sized in
     let Others : List Name → Type 0 = λ xs. Stays (names_of xs) i.desk i.machine.objects in
     let empty : i.changed.items ≡ [] = sym c.as_slice.ensures.value ∙ none c.as_slice.result.now (sym c.is_empty.ensures ∙ e) in
-    rw (← c.self.view_is) (stays_none i.desk i.machine.objects there here c.self.invariant.sizes (subst Others empty c.self.invariant.stays))
+    rw (← c.self.view_is) (stays_none i.desk i.machine.objects there here c.self.invariant.0.sizes (subst Others empty c.self.invariant.0.stays))
 
 pub returns-clause-even : goal.returns-clause-even
 returns-clause-even c =

@@ -20,8 +20,8 @@ invariant_of-result c =
     let all = subst All_of (sym sizes) c.requires in
     let same : c.mark_all.new.marked.items ≡ c.args.names.now = c.in_ok-mark_all.ensures ∙ ap (λ (xs : List Name). xs ++ c.args.names.now) c.new-changed.ensures.items in
     let Board : List Name → Type 0 = λ xs. IsBoard m.objects c.in_ok-desk.desk (names_of xs) in
-    subst Board (sym same)
+    (subst Board (sym same)
     (board_all m.objects c.in_ok-desk.desk names
     (rw c.objects.ensures at (even_store c.objects.result.now c.sizes-sizes.ensures.sized))
     (rw is (even_empty c.sizes-sizes.result))
-    (sym sizes) all)
+    (sym sizes) all), tt)

@@ -39,7 +39,7 @@ invariant_of-self-2 g c =
     let DeskOf : Store → Type 0 = λ s. IsDesk t s key.parts.items in
     let DeskAt : List ℕ → Type 0 = λ ns. IsDesk t c.go.new.self.desk ns in
     let stands : standing_at m ≡ standing = standing_same m standing c.in_ok-go.ensures.queues c.in_ok-go.ensures.halted in
-    (c.self.invariant.0, subst DeskAt (sym copied) (subst DeskOf (sym there) (desk_of t key held)), standing_some t key.standing m (c.get-standing.ensures.value ∙ ap Some (sym stands)))
+    (c.self.invariant.0, subst DeskAt (sym copied) (subst DeskOf (sym there) (desk_of t key held)), standing_some t key.standing m (c.get-standing.ensures.value ∙ ap Some (sym stands)), c.self.invariant.3)
 
 pub returns-clause-state : goal.returns-clause-state
 returns-clause-state g c =

@@ -32,6 +32,7 @@ invariant_of-self g c =
       tables_grown i.sizes names T T S new (grown_none T) grows first apart c.self.invariant.0,
       desk_grown i.sizes names T T S new (grown_none T) grows first apart i.board.desk i.at.items c.self.invariant.1,
       standing_grown i.sizes names T T S new (grown_none T) grows first apart i.stands i.board.machine c.self.invariant.2,
+      c.self.invariant.3,
     )
 
 pub invariant_of-self-in_err-parts : goal.invariant_of-self-in_err-parts
@@ -48,6 +49,7 @@ invariant_of-self-in_err-parts g c =
       tables_grown i.sizes names T more S new c.look-parts.ensures.grows grows c.tell_apart-2.ensures apart c.self.invariant.0,
       desk_grown i.sizes names T more S new c.look-parts.ensures.grows grows c.tell_apart-2.ensures apart i.board.desk i.at.items c.self.invariant.1,
       standing_some (tables_of i.sizes names more new) c.in_ok-standing.standing i.board.machine at,
+      c.look-parts.ensures.known,
     )
 
 pub invariant_of-self-2 : goal.invariant_of-self-2
@@ -64,6 +66,7 @@ invariant_of-self-2 g c =
       tables_grown i.sizes names T more S new c.look-parts.ensures.grows grows c.tell_apart-2.ensures apart c.self.invariant.0,
       desk_grown i.sizes names T more S new c.look-parts.ensures.grows grows c.tell_apart-2.ensures apart i.board.desk i.at.items c.self.invariant.1,
       standing_some (tables_of i.sizes names more new) c.in_ok-standing.standing i.board.machine at,
+      c.look-parts.ensures.known,
     )
 
 pub returns-clause-held : goal.returns-clause-held

@@ -8,6 +8,7 @@ use Rattle.machine_state.specs.declared.taking.Name.{Name}
 use Rattle.machine_state.specs.Taking.{names_of, slots_taken}
 use Rattle.object_parts.specs.Live.{live_store}
 use Rattle.object_parts.specs.Objects.{object_in}
+use Rattle.object_parts.proofs.Remembered.{overwrites_none}
 use Rattle.state_parts.specs.Keys.{AreAll, objects_of, Reads}
 use Rattle.state_parts.specs.StandingLaws.{standing_in}
 use Rattle.state_parts.specs.States.{tables_of}
@@ -46,6 +47,7 @@ invariant_of-result g c =
         ranges = subst RangesOf (sym is) (ranges_empty z);
       },
       standing_none (tables_of c.sizes-sizes.result names T S) c.in_ok-board.board.machine,
+      rw c.new-overwrites.ensures (overwrites_none T),
     )
 
 -- all names of a store of these sizes have no more slots than there are
