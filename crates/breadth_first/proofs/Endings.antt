@@ -193,7 +193,7 @@ module _ {S : Type 0} (g : System S) (law : IsEquality g.same) where
         there path choices l = front-any (g.same (after g g.start path)) begins (reached-from_start g law path size.depth choices l)
 
   -- the states within as many choices as lead to a state whose choices are tried stand first
-  tried-begins : (d at choice : ℕ) (parent : S) (states : List S) → before g d ≤ at → states ≡ trying g (opened g at) parent choice → Front (reached g d) states
+  pub tried-begins : (d at choice : ℕ) (parent : S) (states : List S) → before g d ≤ at → states ≡ trying g (opened g at) parent choice → Front (reached g d) states
   tried-begins d at choice parent states from kept =
       subst (λ l. Front l states) (sym (reached-before g law d))
       (subst (Front (opened g (before g d))) (sym kept) (front-trans (opened-upto g law (before g d) at from) (trying-front g law (opened g at) parent choice)))

@@ -11,4 +11,5 @@ mod Evers
 mod Musts
 mod Spending
 mod Telling
+mod Wants
 pub mod One

@@ -6,6 +6,7 @@ pub mod Marks
 pub mod Answer
 pub mod Told
 pub mod Spending
+pub mod Wanting
 pub mod Front
 pub mod Origins
 pub mod Trace

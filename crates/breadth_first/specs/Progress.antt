@@ -1,6 +1,7 @@
 -- How a search goes on: what it keeps, what becomes of a state that is found, and how it ends.
 use Rattle.std.specs.Prelude.{◌≡◌, ℕ, suc, ◌+◌, ◌*◌, ◌^◌, ◌<◌, ◌≤◌, ◌⊎◌, if◌then◌else◌, Bool, true, false, not, List, [], ◌∷◌, ◌++◌, length, map, All, Contains, Option, None, Some, IfSome, MatchOption, Result, Ok, Err, slice_get, slice_index_or, ⊤}
 use Rattle.std.specs.List.{list_any}
+use Rattle.std.specs.Vec.{vec_capacity}
 use Rattle.indexmap.specs.IndexSet.{insert_key}
 use Rattle.reaches_back.specs.Edges.{CanReach}
 use Rattle.breadth_first.specs.System.{System}
@@ -9,7 +10,9 @@ use Rattle.breadth_first.specs.Paths.{after, AreChoices, CanCome, MustCome}
 use Rattle.breadth_first.specs.Order.{trying, opened, reached}
 use Rattle.breadth_first.specs.Answer.{before, want_of, Holds, Misses, CanAlwaysCome, IsLost, IsAvoided}
 use Rattle.breadth_first.specs.Spending.{SpendsAtMost, opening_cost, opened_cost}
+use Rattle.breadth_first.specs.Wanting.{ForSpace, ForMarks}
 use Rattle.breadth_first.specs.Origins.{AreOrigins}
+use Rattle.breadth_first.specs.declared.edges.Edges.{Edges}
 use Rattle.breadth_first.specs.declared.origins.Origin.{Origin}
 use Rattle.breadth_first.specs.declared.search.Added.{Added}
 use Rattle.breadth_first.specs.declared.search.Added.TheVariants.{At, Violates, Full}
@@ -52,6 +55,10 @@ module _ {S : Type 0} (g : System S) where
   Adds limit old s new origins origin told (Violates property) = IsAdded old s new × (g.violated s ≡ Some property) × (told ≡ origins ++ origin ∷ [])
   Adds limit old s new origins origin told Full = (new ≡ old) × (list_any (g.same s) old ≡ false) × (limit ≡ Some (length old)) × (told ≡ origins)
 
+  -- the state is new, and no limit is met
+  abbrev pub IsAbsent : Option ℕ → List S → S → Type 0
+  IsAbsent limit old s = (list_any (g.same s) old ≡ false) × IfSome limit (λ n. length old < n)
+
   -- the last of the states alone violates properties, this one first
   pub record EndsBadly (property : ℕ) (states : List S) : Type 0 where
     pub others : List S
@@ -69,6 +76,13 @@ module _ {S : Type 0} (g : System S) where
     pub kept : states ≡ trying g (opened g at) parent choice
     pub new : list_any (g.same (g.next parent choice)) states ≡ false
     pub safe : AreSafe states
+
+  -- `choice` of the state with the index `at` leads to a new state, and no limit is met; those that are kept came so
+  pub record IsCut (limit : Option ℕ) (at choice : ℕ) (states : List S) : Type 0 where
+    pub full : IsFull (Some (length states)) at choice states
+    pub room : IfSome limit (λ n. length states < n)
+    pub origins : List Origin
+    pub came : AreOrigins g states origins
 
   -- the first `choice` choices of the state with the index `at` were tried
   pub record Tries {K : Type 0} (held : K → Type 0) (means : K → S) (limit : Option ℕ) (at choice : ℕ) (keys : List K) (origins : List Origin) : Type 0 where
@@ -157,6 +171,14 @@ pub record AreEdges {S : Type 0} (g : System S) (states : List S) (tried : ℕ) 
 -- where edges are kept, they are those of the first `tried` choices
 abbrev pub KeepsEdges : {S : Type 0} → System S → List S → ℕ → Bool → List ℕ → Type 0
 KeepsEdges g states tried keeps ends = keeps ≡ true → AreEdges g states tried ends
+
+-- where edges are kept, there is room for those of so many states
+abbrev pub HasRoom : {S : Type 0} → System S → ℕ → Edges → Type 0
+HasRoom g states edges = edges.keeps ≡ true → states * g.choices ≤ vec_capacity edges.ends
+
+-- the edges are the same, wherever they are kept
+abbrev pub AreSame : Edges → Edges → Type 0
+AreSame old new = (new.keeps ≡ old.keeps) × (new.ends.items ≡ old.ends.items)
 
 -- the first state from which no choices lead to one that passes the test, if there is one
 abbrev pub IsFirstStuck : {S : Type 0} → System S → List S → ℕ → Option ℕ → Type 0
@@ -256,3 +278,34 @@ LevelSpends g limit tests begun all new (Err error) spent = SpendsTo g limit tes
 abbrev pub WalkSpends : {S E : Type 0} → System S → Option ℕ → ℕ → ℕ → ℕ → Result End E → ℕ → Type 0
 WalkSpends g limit tests begun new (Ok end) spent = SpendsTo g limit tests begun spent (λ parents kept. (kept ≡ new) × EndsBehind kept parents end)
 WalkSpends g limit tests begun new (Err error) spent = SpendsTo g limit tests begun spent (λ parents kept. ⊤)
+
+-- memory was wanting for a new state, to which a choice of the state with the index `at` leads, and so much was spent
+pub record TryCut {S : Type 0} (g : System S) (limit : Option ℕ) (at old before after : ℕ) : Type 0 where
+  pub choice : ℕ
+  pub states : List S
+  pub cut : IsCut g limit at choice states
+  pub spends : ChoicesSpend g limit at old 1 (length states) before after
+
+-- the same from the start of the search on
+pub record ExpandCut {S : Type 0} (g : System S) (limit : Option ℕ) (tests begun at spent : ℕ) : Type 0 where
+  pub choice : ℕ
+  pub states : List S
+  pub cut : IsCut g limit at choice states
+  pub has : HasSpent g limit tests begun 1 (at + 1) (length states) spent
+
+-- the same of one of the states that no fewer than `d` choices lead to
+pub record LevelCut {S : Type 0} (g : System S) (limit : Option ℕ) (tests begun d spent : ℕ) : Type 0 where
+  pub at : ℕ
+  pub from : before g d ≤ at
+  pub to : at < length (reached g d)
+  pub expand : ExpandCut g limit tests begun at spent
+
+-- the same where the limit of choices allows more
+pub record WalkCut {S : Type 0} (g : System S) (limits : Limits) (tests begun spent : ℕ) : Type 0 where
+  pub depth : ℕ
+  pub far : IfSome limits.depth (λ n. depth < n)
+  pub level : LevelCut g limits.states tests begun depth spent
+
+-- memory was wanting for a new state so, for what the space was asked, or for the marks of a state
+abbrev pub Fails : {S : Type 0} → System S → (System S → S → Option ℕ → Type 0) → ℕ → ℕ → ℕ → Type 0 → Type 0
+Fails g lacks tests begun spent Cut = Cut ⊎ (ForSpace g (lacks g) ⊎ ForMarks g tests begun spent)

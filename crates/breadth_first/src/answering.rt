@@ -1,6 +1,6 @@
 //! From how a search ended to its answer.
 
-ghost use Rattle.std.specs.Prelude.{◌≡◌, ◌<◌, ◌≤◌, ◌+◌, ◌*◌, ◌^◌, map, length, IfOk, IfSome, OnOk, All};
+ghost use Rattle.std.specs.Prelude.{◌≡◌, ◌<◌, ◌≤◌, ◌+◌, ◌*◌, ◌^◌, map, length, IfOk, IfErr, IfSome, OnOk, All};
 ghost use Rattle.breadth_first.specs.Origins.{IsPathTo};
 ghost use Rattle.breadth_first.specs.Progress.{Searched};
 
@@ -32,6 +32,7 @@ impl<S: Space> Search<S> {
         requires index { index < length self.now.seen.keys }
         ensures path { IfOk result (λ path. IsPathTo (S.system space.now)
             (map (S.means space.now) self.now.seen.keys) index path.items) }
+        ensures some { IfErr result (λ e. 0 < index) }
     {
         let path = path_to(alloc, &self.origins, index)?;
         Ok(path)

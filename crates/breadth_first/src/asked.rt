@@ -1,6 +1,6 @@
 //! By what states are judged.
 
-ghost use Rattle.std.specs.Prelude.{◌≡◌, ◌++◌, ◌≤◌, map, length, OnOk, IfOk};
+ghost use Rattle.std.specs.Prelude.{◌≡◌, ◌++◌, ◌<◌, ◌≤◌, ◌+◌, map, length, OnOk, IfOk, IfErr};
 ghost use Rattle.breadth_first.specs.Marks.{goal_of, first_of, firsts_of, tests_of};
 ghost use Rattle.breadth_first.specs.declared.asked.Test.TheVariants.{Passes};
 
@@ -53,8 +53,9 @@ impl Want {
 
 /// Adds the tests that have to be passed.
 fn add_goals(wants: &[Want], tests: &mut Vec<Test>) -> Result<(), AllocError>
-    ensures { OnOk result (tests.new.items
+    ensures tests { OnOk result (tests.new.items
         ≡ tests.old.items ++ map (λ want. Passes (goal_of want)) wants.now) }
+    ensures some { IfErr result (λ e. 0 < length wants.now) }
 {
     for want in wants {
         tests.push(Test::Passes(want.goal()))?;
@@ -64,7 +65,8 @@ fn add_goals(wants: &[Want], tests: &mut Vec<Test>) -> Result<(), AllocError>
 
 /// Adds those that tell from which states on.
 fn add_firsts(wants: &[Want], tests: &mut Vec<Test>) -> Result<(), AllocError>
-    ensures { OnOk result (tests.new.items ≡ tests.old.items ++ firsts_of wants.now) }
+    ensures tests { OnOk result (tests.new.items ≡ tests.old.items ++ firsts_of wants.now) }
+    ensures some { IfErr result (λ e. 0 < length wants.now) }
 {
     for want in wants {
         want.add_first(tests)?;
@@ -74,7 +76,8 @@ fn add_firsts(wants: &[Want], tests: &mut Vec<Test>) -> Result<(), AllocError>
 
 /// Adds tests by their numbers.
 fn add_counts(counts: &[usize], tests: &mut Vec<Test>) -> Result<(), AllocError>
-    ensures { OnOk result (tests.new.items ≡ tests.old.items ++ map Passes counts.now) }
+    ensures tests { OnOk result (tests.new.items ≡ tests.old.items ++ map Passes counts.now) }
+    ensures some { IfErr result (λ e. 0 < length counts.now) }
 {
     for test in counts {
         tests.push(Test::Passes(*test))?;
@@ -88,7 +91,9 @@ pub(crate) fn tests_for(
     wants: &[Want],
     counts: &[usize],
 ) -> Result<Vec<Test>, AllocError>
-    ensures { IfOk result (λ tests. tests.items ≡ tests_of wants.now ++ map Passes counts.now) }
+    ensures tests { IfOk result (λ tests.
+        tests.items ≡ tests_of wants.now ++ map Passes counts.now) }
+    ensures some { IfErr result (λ e. 0 < length wants.now + length counts.now) }
 {
     let mut tests = Vec::new(alloc);
     add_goals(wants, &mut tests)?;

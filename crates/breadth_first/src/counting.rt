@@ -1,6 +1,6 @@
 //! Which of the states that were found pass a test.
 
-ghost use Rattle.std.specs.Prelude.{◌≡◌, ◌<◌, ◌*◌, ℕ, true, false, not, map, length, count_by, All, IfOk, OnOk, MatchOption, slice_index_or, slice_get, Some};
+ghost use Rattle.std.specs.Prelude.{◌≡◌, ◌<◌, ◌*◌, ℕ, true, false, not, map, length, count_by, All, IfOk, IfErr, OnOk, MatchOption, slice_index_or, slice_get, Some};
 ghost use Rattle.breadth_first.specs.Answer.{IsCount, AreCounts};
 ghost use Rattle.breadth_first.specs.Kept.{Keeps};
 ghost use Rattle.breadth_first.specs.Marks.{judged, number_of};
@@ -54,6 +54,7 @@ impl<S: Space> Search<S> {
         ensures spends { SpendsAtMost
             (length self.now.seen.keys * (length tests.now * (S.system space.old).look))
             spent.old spent.new }
+        ensures some { IfErr result (λ e. 0 < length tests.now) }
     {
         let mut lists = no_marks(alloc, tests.len())?;
         for index in 0..self.seen.len() {
@@ -110,8 +111,9 @@ impl<S: Space> Search<S> {
         requires marks { lists.now
             ≡ judged (S.system space.now) (map Passes tests.now)
             (map (S.means space.now) self.now.seen.keys) }
-        ensures { IfOk result (λ counts. AreCounts (S.system space.now)
+        ensures counts { IfOk result (λ counts. AreCounts (S.system space.now)
             (map (S.means space.now) self.now.seen.keys) tests.now counts.items) }
+        ensures some { IfErr result (λ e. 0 < length tests.now) }
     {
         let mut counts = Vec::new(alloc);
         for place in 0..tests.len() {

@@ -1,13 +1,15 @@
 //! The search, from its start to its answer.
 
-ghost use Rattle.std.specs.Prelude.{◌≡◌, ◌<◌, ◌+◌, ◌*◌, ◌++◌, List, ℕ, map, length, IfOk, OnOk, IfSome, All, Some};
-ghost use Rattle.breadth_first.specs.Answer.{IsAnswer, IsClosed, seen};
+ghost use Rattle.std.specs.Prelude.{◌≡◌, ◌<◌, ◌+◌, ◌*◌, ◌++◌, List, ℕ, map, length, IfOk, IfErr, OnOk, IfSome, All, Some};
+ghost use Rattle.breadth_first.specs.Answer.{IsAnswer, IsClosed, IsOpen, seen};
 ghost use Rattle.breadth_first.specs.Kept.{Keeps};
 ghost use Rattle.breadth_first.specs.Marks.{judged, goal_of, tests_of};
 ghost use Rattle.breadth_first.specs.declared.answer.Want.{Want};
 ghost use Rattle.breadth_first.specs.declared.asked.Test.TheVariants.{Passes};
 ghost use Rattle.breadth_first.specs.declared.levels.End.TheVariants.{AllReached};
 ghost use Rattle.breadth_first.specs.Spending.{SpendsAtMost, HasSize, SpendsFor};
+ghost use Rattle.breadth_first.specs.Wanting.{ForAnswer, Wanting};
+ghost use Rattle.breadth_first.specs.declared.answer.Size.{Size};
 ghost use Rattle.breadth_first.specs.Progress.{StopsBehind, EndsBehind};
 ghost use Rattle.breadth_first.specs.Progress.{Searched, IsOpened, GoesOn, LeavesOutAt, MeetsLimit, Ends, AreEdges, EdgesAreKept};
 
@@ -54,6 +56,8 @@ impl<S: Space> Search<S> {
         ensures spends { SpendsAtMost
             (length self.now.seen.keys * (length counts.now * (S.system space.old).look))
             spent.old spent.new }
+        ensures wanting { IfErr result (λ e. (size : Size)
+            × IsOpen (S.system space.old) limits size × (0 < length counts.now)) }
     {
         let tried = tried_of(at, space.choices()) + u64::from(choice) + 1;
         let size = Size {
@@ -94,6 +98,7 @@ impl<S: Space> Search<S> {
         ensures answer { IfOk result (IsAnswer (S.system space.now) limits wants.now counts.now) }
         ensures size { IfOk result (HasSize (S.system space.now)
             (length self.now.seen.keys) (length self.now.seen.keys)) }
+        ensures some { IfErr result (λ e. 0 < length wants.now + length counts.now) }
     {
         let wanted = lists.len() - counts.len();
         let counts = self.counts(alloc, space, limits.states, counts, &lists[wanted..])?;
@@ -132,6 +137,8 @@ impl<S: Space> Search<S> {
         ensures spends { SpendsAtMost
             (length self.now.seen.keys * (length counts.now * (S.system space.old).look))
             spent.old spent.new }
+        ensures wanting { IfErr result (λ e. (wants : List Want)
+            → ForAnswer (S.system space.old) limits wants counts.now) }
     {
         match stop {
             Stop::Bad(property) => {
@@ -178,6 +185,8 @@ impl<S: Space> Search<S> {
         ensures spends { SpendsAtMost
             (length self.now.seen.keys * (length counts.now * (S.system space.old).look))
             spent.old spent.new }
+        ensures wanting { IfErr result (λ e.
+            ForAnswer (S.system space.old) limits wants.now counts.now) }
     {
         match end {
             End::Stopped(depth, stop) => {
@@ -223,7 +232,11 @@ pub fn explore<S: Space, W: Watcher, L: Ledger>(
         (S.system space.new) (S.held space.new) (S.means space.new)) }
     ensures spends { SpendsFor (S.system space.old) limits.now wants.now counts.now result
         spent.old spent.new }
+    ensures wanting { IfErr result (λ e. Wanting (S.system space.old) (S.lacks (S.system space.old))
+        limits.now wants.now counts.now spent.old spent.new) }
 {
+    let tests = tests_for(alloc, wants, counts)?;
+    let mut lists = no_marks(alloc, tests.len())?;
     let mut search = Search {
         seen: IndexSet::new(alloc),
         origins: Vec::new(alloc),
@@ -235,8 +248,6 @@ pub fn explore<S: Space, W: Watcher, L: Ledger>(
             path: Vec::new(alloc),
         });
     }
-    let tests = tests_for(alloc, wants, counts)?;
-    let mut lists = no_marks(alloc, tests.len())?;
     let end = search.walk(space, *limits, &tests, &mut lists, watcher, spent)?;
     search.answer(alloc, space, *limits, wants, counts, &lists, end, spent)
 }

@@ -1,6 +1,6 @@
 //! The levels of a search: the states that as many choices lead to.
 
-ghost use Rattle.std.specs.Prelude.{◌≡◌, ◌<◌, ◌*◌, ◌∷◌, [], ℕ, map, length, take, All, IfOk, OnOk, Some};
+ghost use Rattle.std.specs.Prelude.{◌≡◌, ◌<◌, ◌*◌, ◌∷◌, [], ℕ, map, length, take, All, IfOk, IfErr, OnOk, Some};
 ghost use Rattle.breadth_first.specs.declared.levels.End.TheVariants.{AllReached};
 ghost use Rattle.breadth_first.specs.Answer.{before};
 ghost use Rattle.breadth_first.specs.Kept.{Keeps};
@@ -8,6 +8,7 @@ ghost use Rattle.breadth_first.specs.Marks.{judged, number_of};
 ghost use Rattle.breadth_first.specs.Order.{reached};
 ghost use Rattle.breadth_first.specs.Progress.{Searched, AreSafe, AreWithin, GoesOn, Ends, KeepsEdges};
 ghost use Rattle.breadth_first.specs.Progress.{HasSpent, LevelSpends, WalkSpends};
+ghost use Rattle.breadth_first.specs.Progress.{HasRoom, LevelCut, WalkCut, Fails};
 
 use crate::asked::Test;
 use crate::marks::Marks;
@@ -54,6 +55,7 @@ impl<S: Space> Search<S> {
         requires edges { KeepsEdges (S.system space.old)
             (map (S.means space.old) self.old.seen.keys)
             (from * (S.system space.old).choices) self.old.edges.keeps self.old.edges.ends.items }
+        requires places { HasRoom (S.system space.old) (length self.old.seen.keys) self.old.edges }
         requires tests { All (λ t. number_of t < (S.system space.old).tests) tests.now }
         requires marks { lists.old.items
             ≡ judged (S.system space.old) tests.now
@@ -71,6 +73,8 @@ impl<S: Space> Search<S> {
             (map (S.means space.new) self.new.seen.keys)
             (length self.old.seen.keys * (S.system space.old).choices)
             self.new.edges.keeps self.new.edges.ends.items) }
+        ensures places { OnOk result
+            (HasRoom (S.system space.old) (length self.new.seen.keys) self.new.edges) }
         ensures marks { IfOk result (λ stop. stop ≡ None → lists.new.items
             ≡ judged (S.system space.old) tests.now
             (take (length self.old.seen.keys) (map (S.means space.new) self.new.seen.keys))) }
@@ -79,6 +83,11 @@ impl<S: Space> Search<S> {
             (length self.old.seen.keys) spent.old
             → LevelSpends (S.system space.old) limit (length tests.now) begun
             (length self.old.seen.keys) (length self.new.seen.keys) result spent.new }
+        ensures wanting { IfErr result (λ e. (begun : ℕ)
+            → HasSpent (S.system space.old) limit (length tests.now) begun 0 from
+            (length self.old.seen.keys) spent.old
+            → Fails (S.system space.old) S.lacks (length tests.now) begun spent.new
+            (LevelCut (S.system space.old) limit (length tests.now) begun depth spent.new)) }
     {
         for at in from..self.seen.len() {
             if let Some(stop) = self.expand(space, limit, at, tests, lists, spent)? {
@@ -113,6 +122,7 @@ impl<S: Space> Search<S> {
         requires edges { KeepsEdges (S.system space.old)
             (map (S.means space.old) self.old.seen.keys)
             (from * (S.system space.old).choices) self.old.edges.keeps self.old.edges.ends.items }
+        requires places { HasRoom (S.system space.old) (length self.old.seen.keys) self.old.edges }
         requires tests { All (λ t. number_of t < (S.system space.old).tests) tests.now }
         requires marks { lists.old.items
             ≡ judged (S.system space.old) tests.now
@@ -138,6 +148,11 @@ impl<S: Space> Search<S> {
             (length self.old.seen.keys) spent.old
             → WalkSpends (S.system space.old) limits.states (length tests.now) begun
             (length self.new.seen.keys) result spent.new }
+        ensures wanting { IfErr result (λ e. (begun : ℕ)
+            → HasSpent (S.system space.old) limits.states (length tests.now) begun 0 from
+            (length self.old.seen.keys) spent.old
+            → Fails (S.system space.old) S.lacks (length tests.now) begun spent.new
+            (WalkCut (S.system space.old) limits (length tests.now) begun spent.new)) }
     {
         let to = self.seen.len();
         let stop = self.level(space, Some(to), from, depth, tests, lists, watcher, spent)?;
@@ -164,6 +179,7 @@ impl<S: Space> Search<S> {
             ≡ (S.system space.old).start ∷ [] }
         requires safe { AreSafe (S.system space.old) (map (S.means space.old) self.old.seen.keys) }
         requires edges { self.old.edges.ends.items ≡ [] }
+        requires places { HasRoom (S.system space.old) (length self.old.seen.keys) self.old.edges }
         requires tests { All (λ t. number_of t < (S.system space.old).tests) tests.now }
         requires marks { lists.old.items ≡ map (λ t. []) tests.now }
         ensures keeps { OnOk result
@@ -187,6 +203,11 @@ impl<S: Space> Search<S> {
             (length self.old.seen.keys) spent.old
             → WalkSpends (S.system space.old) limits.states (length tests.now) begun
             (length self.new.seen.keys) result spent.new }
+        ensures wanting { IfErr result (λ e. (begun : ℕ)
+            → HasSpent (S.system space.old) limits.states (length tests.now) begun 0 0
+            (length self.old.seen.keys) spent.old
+            → Fails (S.system space.old) S.lacks (length tests.now) begun spent.new
+            (WalkCut (S.system space.old) limits (length tests.now) begun spent.new)) }
     {
         let mut depth = 0;
         let mut from = 0;

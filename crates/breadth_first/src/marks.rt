@@ -1,6 +1,6 @@
 //! Marks: which states pass which tests.
 
-ghost use Rattle.std.specs.Prelude.{◌≡◌, ◌<◌, ◌*◌, ◌++◌, ◌∷◌, [], List, length, replicate, All, IfOk, OnOk, slice_set, slice_index_or};
+ghost use Rattle.std.specs.Prelude.{◌≡◌, ◌<◌, ◌*◌, ◌++◌, ◌∷◌, [], List, length, replicate, All, IfOk, IfErr, OnOk, slice_set, slice_index_or};
 ghost use Rattle.breadth_first.specs.Kept.{Keeps};
 ghost use Rattle.breadth_first.specs.Marks.{judged, is_as, number_of};
 ghost use Rattle.breadth_first.specs.Spending.{SpendsAtMost};
@@ -52,7 +52,8 @@ impl Marks {
 /// A list for each of so many tests, with no state judged yet.
 #[tactic(auto, using(crate::proofs::Judging::empty_more))]
 pub(crate) fn no_marks(alloc: Global, tests: usize) -> Result<Vec<Marks>, AllocError>
-    ensures { IfOk result (λ lists. lists.items ≡ replicate tests []) }
+    ensures lists { IfOk result (λ lists. lists.items ≡ replicate tests []) }
+    ensures some { IfErr result (λ e. 0 < tests) }
 {
     let mut lists = Vec::new(alloc);
     for _ in 0..tests {
@@ -113,6 +114,7 @@ pub(crate) fn judge<S: Space, L: Ledger>(
         ≡ judged (S.system space.old) tests.now (states ++ S.means space.old key.now ∷ [])) }
     ensures spends { SpendsAtMost (length tests.now * (S.system space.old).look)
         spent.old spent.new }
+    ensures some { IfErr result (λ e. 0 < length tests.now) }
 {
     for place in 0..tests.len() {
         let so = is_so(space, key, tests[place], spent)?;

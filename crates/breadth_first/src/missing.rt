@@ -1,6 +1,6 @@
 //! Which of the wants is missed, where a search came to all states.
 
-ghost use Rattle.std.specs.Prelude.{◌≡◌, ◌<◌, ◌*◌, ◌^◌, ℕ, Bool, true, false, map, length, replicate, IfOk, Some, slice_get, slice_set};
+ghost use Rattle.std.specs.Prelude.{◌≡◌, ◌<◌, ◌*◌, ◌^◌, ℕ, Bool, true, false, map, length, replicate, IfOk, IfErr, Some, slice_get, slice_set};
 ghost use Rattle.breadth_first.specs.Answer.{IsMissed};
 ghost use Rattle.breadth_first.specs.Marks.{judged, goal_of, tests_of};
 ghost use Rattle.breadth_first.specs.Progress.{Searched, IsOpened, AreAll, AreEdges, MayAvoid, MayMiss};
@@ -133,8 +133,9 @@ impl<S: Space> Search<S> {
         requires edges { 0 < length wants.now
             → AreEdges (S.system space.now) (map (S.means space.now) self.now.seen.keys)
             (length self.now.seen.keys * (S.system space.now).choices) self.now.edges.ends.items }
-        ensures { IfOk result (IsMissed (S.system space.now)
+        ensures missed { IfOk result (IsMissed (S.system space.now)
             (map (S.means space.now) self.now.seen.keys) (length self.now.seen.keys) wants.now) }
+        ensures some { IfErr result (λ e. 0 < length wants.now) }
     {
         let mut place = wants.len();
         for number in 0..wants.len() {

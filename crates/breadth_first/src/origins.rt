@@ -1,6 +1,6 @@
 //! Where states came from.
 
-ghost use Rattle.std.specs.Prelude.{◌<◌, length, IfOk};
+ghost use Rattle.std.specs.Prelude.{◌<◌, length, IfOk, IfErr};
 ghost use Rattle.breadth_first.specs.Trace.{AreEarlier, LeadsBack};
 
 use std::alloc::{AllocError, Global};
@@ -22,6 +22,7 @@ pub(crate) fn path_to(
     requires earlier { AreEarlier origins.now }
     requires index { index < length origins.now }
     ensures path { IfOk result (λ path. LeadsBack origins.now 0 index path.items) }
+    ensures some { IfErr result (λ e. 0 < index) }
 {
     let mut path = Vec::new(alloc);
     let mut at = index;

@@ -1,11 +1,14 @@
 //! The states that a search keeps, and how it tries the choices of one.
 
-ghost use Rattle.std.specs.Prelude.{◌≡◌, ℕ, ◌<◌, ◌≤◌, ◌+◌, ◌*◌, ◌^◌, ◌↔◌, [], map, length, take, All, IfOk, OnOk, IfSome, IsTrue, Some, None};
+ghost use Rattle.std.specs.Prelude.{◌≡◌, ℕ, ◌<◌, ◌≤◌, ◌+◌, ◌*◌, ◌^◌, ◌↔◌, [], map, length, take, All, IfOk, IfErr, OnOk, IfSome, IsTrue, Some, None, ◌⊎◌};
 ghost use Rattle.breadth_first.specs.Kept.{Keeps};
 ghost use Rattle.breadth_first.specs.Marks.{judged, number_of};
 ghost use Rattle.breadth_first.specs.Order.{opened};
 ghost use Rattle.breadth_first.specs.Progress.{Searched, Adds, AreSafe, Begins, Expands, KeepsEdges};
 ghost use Rattle.breadth_first.specs.Progress.{HasSpent, AddSpends, TrySpends, ExpandSpends};
+ghost use Rattle.breadth_first.specs.Progress.{HasRoom, AreSame, IsAbsent, TryCut, ExpandCut, Fails};
+ghost use Rattle.breadth_first.specs.Spending.{SpendsAtMost};
+ghost use Rattle.breadth_first.specs.Wanting.{ForSpace};
 
 use crate::Space;
 use crate::asked::Test;
@@ -70,6 +73,7 @@ impl<S: Space> Search<S> {
         requires all { All (S.held space.old) self.old.seen.keys }
         requires few { length self.old.seen.keys ≤ 2 ^ 32 }
         requires room { IfSome limit (λ n. length self.old.seen.keys ≤ n) }
+        requires places { HasRoom (S.system space.old) (length self.old.seen.keys) self.old.edges }
         ensures keeps { OnOk result
             (Keeps (S.system space.old) (S.held space.old) (S.means space.old)
             (S.system space.new) (S.held space.new) (S.means space.new)) }
@@ -80,9 +84,15 @@ impl<S: Space> Search<S> {
             self.old.origins.items origin self.new.origins.items) }
         ensures few { OnOk result (length self.new.seen.keys ≤ 2 ^ 32) }
         ensures room { OnOk result (IfSome limit (λ n. length self.new.seen.keys ≤ n)) }
-        ensures edges { self.new.edges ≡ self.old.edges }
+        ensures edges { OnOk result (AreSame self.old.edges self.new.edges) }
+        ensures places { OnOk result
+            (HasRoom (S.system space.old) (length self.new.seen.keys) self.new.edges) }
         ensures spends { AddSpends (S.system space.old) (length self.old.seen.keys)
             (length self.new.seen.keys) result spent.old spent.new }
+        ensures absent { IfErr result (λ e. IsAbsent (S.system space.old) limit
+            (map (S.means space.old) self.old.seen.keys) (S.means space.old key)) }
+        ensures lacks { IfErr result (λ e. SpendsAtMost 0 spent.old spent.new
+            ⊎ S.lacks (S.system space.old) (S.means space.old key) None) }
     {
         let len = self.seen.len();
         if is_met(limit, len) {
@@ -91,7 +101,7 @@ impl<S: Space> Search<S> {
             };
             return Ok(Added::At(index));
         }
-        if len > u32::MAX as usize {
+        if len > u32::MAX as usize && !self.seen.contains(&key) {
             return Err(AllocError);
         }
         let (index, new) = self.seen.insert_full(key)?;
@@ -99,6 +109,7 @@ impl<S: Space> Search<S> {
             return Ok(Added::At(index));
         }
         self.origins.push(origin)?;
+        self.edges.make_room(len + 1, space.choices())?;
         match space.violated(&self.seen[index], spent)? {
             Some(property) => Ok(Added::Violates(property)),
             None => Ok(Added::At(index)),
@@ -120,7 +131,11 @@ impl<S: Space> Search<S> {
             (S.system space.new) (S.held space.new) (S.means space.new)) }
         ensures begins { IfOk result (Begins (S.system space.old)
             (S.held space.new) (S.means space.new) limit self.new.seen.keys self.new.origins.items) }
-        ensures edges { self.new.edges ≡ self.old.edges }
+        ensures edges { OnOk result (AreSame self.old.edges self.new.edges) }
+        ensures places { OnOk result
+            (HasRoom (S.system space.old) (length self.new.seen.keys) self.new.edges) }
+        ensures wanting { IfErr result (λ e. SpendsAtMost (S.system space.old).look spent.old spent.new
+            ⊎ ForSpace (S.system space.old) (S.lacks (S.system space.old))) }
         ensures spends { (tests : ℕ)
             → ExpandSpends (S.system space.old) limit tests spent.old 0
             (length self.new.seen.keys) result spent.new }
@@ -157,6 +172,7 @@ impl<S: Space> Search<S> {
         requires edges { KeepsEdges (S.system space.old)
             (map (S.means space.old) self.old.seen.keys)
             (at * (S.system space.old).choices) self.old.edges.keeps self.old.edges.ends.items }
+        requires places { HasRoom (S.system space.old) (length self.old.seen.keys) self.old.edges }
         requires tests { All (λ t. number_of t < (S.system space.old).tests) tests.now }
         requires marks { lists.old.items
             ≡ judged (S.system space.old) tests.now
@@ -174,6 +190,8 @@ impl<S: Space> Search<S> {
             (map (S.means space.new) self.new.seen.keys)
             (at * (S.system space.old).choices + (S.system space.old).choices)
             self.new.edges.keeps self.new.edges.ends.items) }
+        ensures places { OnOk result
+            (HasRoom (S.system space.old) (length self.new.seen.keys) self.new.edges) }
         ensures marks { IfOk result (λ stop. stop ≡ None → lists.new.items
             ≡ judged (S.system space.old) tests.now
             (take (at + 1) (map (S.means space.new) self.new.seen.keys))) }
@@ -182,6 +200,11 @@ impl<S: Space> Search<S> {
             (length self.old.seen.keys) spent.old
             → ExpandSpends (S.system space.old) limit (length tests.now) begun (at + 1)
             (length self.new.seen.keys) result spent.new }
+        ensures wanting { IfErr result (λ e. (begun : ℕ)
+            → HasSpent (S.system space.old) limit (length tests.now) begun 0 at
+            (length self.old.seen.keys) spent.old
+            → Fails (S.system space.old) S.lacks (length tests.now) begun spent.new
+            (ExpandCut (S.system space.old) limit (length tests.now) begun at spent.new)) }
     {
         judge(space, &self.seen[at], tests, lists, spent)?;
         self.try_choices(space, limit, at, spent)
@@ -204,6 +227,7 @@ impl<S: Space> Search<S> {
         requires edges { KeepsEdges (S.system space.old)
             (map (S.means space.old) self.old.seen.keys)
             (at * (S.system space.old).choices) self.old.edges.keeps self.old.edges.ends.items }
+        requires places { HasRoom (S.system space.old) (length self.old.seen.keys) self.old.edges }
         ensures keeps { OnOk result
             (Keeps (S.system space.old) (S.held space.old) (S.means space.old)
             (S.system space.new) (S.held space.new) (S.means space.new)) }
@@ -217,8 +241,12 @@ impl<S: Space> Search<S> {
             (map (S.means space.new) self.new.seen.keys)
             (at * (S.system space.old).choices + (S.system space.old).choices)
             self.new.edges.keeps self.new.edges.ends.items) }
+        ensures places { OnOk result
+            (HasRoom (S.system space.old) (length self.new.seen.keys) self.new.edges) }
         ensures spends { TrySpends (S.system space.old) limit at (length self.old.seen.keys)
-            (length self.new.seen.keys) result spent.old spent.new }
+            (length self.new.seen.keys) result spent.old spent.new }        ensures wanting { IfErr result (λ e.
+            TryCut (S.system space.old) limit at (length self.old.seen.keys) spent.old spent.new
+            ⊎ ForSpace (S.system space.old) (S.lacks (S.system space.old))) }
     {
         for choice in 0..space.choices() {
             let key = space.successor(&self.seen[at], choice, spent)?;
@@ -227,7 +255,7 @@ impl<S: Space> Search<S> {
                 choice,
             };
             match self.add(space, limit, key, origin, spent)? {
-                Added::At(index) => self.edges.note(index)?,
+                Added::At(index) => self.edges.note(index),
                 Added::Violates(property) => return Ok(Some(Stop::Bad(property))),
                 Added::Full => return Ok(Some(Stop::NoRoom { at, choice })),
             }

@@ -1,6 +1,6 @@
 //! What a search asks of whatever has states.
 
-ghost use Rattle.std.specs.Prelude.{◌≡◌, ◌<◌, Bool, IfOk, OnOk};
+ghost use Rattle.std.specs.Prelude.{◌≡◌, ◌<◌, ℕ, Bool, Option, None, Some, IfOk, IfErr, OnOk};
 ghost use Rattle.breadth_first.specs.System.{System, IsEquality};
 ghost use Rattle.breadth_first.specs.Kept.{Keeps};
 ghost use Rattle.breadth_first.specs.Spending.{SpendsAtMost};
@@ -33,6 +33,10 @@ pub trait Space {
     /// The space stands at a state: the last call gave a key of it.
     ghost stands: { Self → State → Type 0 };
 
+    /// The space may lack memory where it is asked of this state: where this choice of it leads, or to look
+    /// whether it violates a property (`None`).
+    ghost lacks: { System State → State → Option ℕ → Type 0 };
+
     /// How many choices there are, in each state.
     fn choices(&self) -> u32
         ensures { result ≡ (system self.now).choices };
@@ -64,6 +68,8 @@ pub trait Space {
         ensures keeps { OnOk result
             (Keeps (system self.old) (held self.old) (means self.old)
             (system self.new) (held self.new) (means self.new)) }
+        ensures lacks { IfErr result (λ e.
+            lacks (system self.old) (means self.old from.now) (Some choice)) }
         ensures spends { SpendsAtMost ((system self.old).cost (means self.old from.now) choice)
             spent.old spent.new };
 
@@ -78,6 +84,7 @@ pub trait Space {
         requires stands { stands self.old (means self.old key.now) }
         ensures value { IfOk result (λ property. property
             ≡ (system self.old).violated (means self.old key.now)) }
+        ensures lacks { IfErr result (λ e. lacks (system self.old) (means self.old key.now) None) }
         ensures keeps { OnOk result
             (Keeps (system self.old) (held self.old) (means self.old)
             (system self.new) (held self.new) (means self.new)) }

@@ -1,10 +1,12 @@
-use Rattle.std.proofs.Common.{◌≡◌, ◌*◌, length, map, sym, ap, ◌∙◌, subst, arith, inl}
+use Rattle.std.proofs.Common.{◌≡◌, ◌*◌, length, map, sym, ap, ◌∙◌, subst, arith, inl, inr}
 use Rattle.std.proofs.lemmas.List.{length-map}
+use Rattle.breadth_first.specs.declared.answer.Size.{Size}
 use Rattle.breadth_first.specs.Spending.{HasSize}
 use Rattle.breadth_first.specs.Progress.{Ends, AreEdges, EndsBehind}
 use Rattle.breadth_first.proofs.Keys.{keeps-refl}
 use Rattle.breadth_first.proofs.Spending.{spends-nothing}
 use Rattle.breadth_first.proofs.Telling.{within-opened, closed-seen, room-of, ok-then, on-ok-any}
+use Rattle.breadth_first.proofs.Wants.{err-then}
 use Rattle.breadth_first.proofs.search.Search.answer.Goals as goal
 
 pub told_stop-requires-clause-stopped : goal.told_stop-requires-clause-stopped
@@ -114,3 +116,22 @@ returns-in-AllReached-clause-size g c =
 
 pub returns-in-AllReached-clause-spends : goal.returns-in-AllReached-clause-spends
 returns-in-AllReached-clause-spends g c = spends-nothing _ _
+
+pub returns-in-Stopped-clause-wanting : goal.returns-in-Stopped-clause-wanting
+returns-in-Stopped-clause-wanting g c = err-then c.told_stop.result c.told_stop.ensures.wanting (λ is. is c.args.wants.now)
+
+pub returns-in-TooFar-clause-wanting : goal.returns-in-TooFar-clause-wanting
+returns-in-TooFar-clause-wanting g c = err-then c.told_open.result c.told_open.ensures.wanting (λ left. inr (inr left))
+
+pub returns-in-AllReached-clause-wanting : goal.returns-in-AllReached-clause-wanting
+returns-in-AllReached-clause-wanting g c =
+    let s = c.args.space.now in
+    let keys = c.args.self.now.seen.keys in
+    let states = map (g.S.Space.means s) keys in
+    let many : c.len-states.result ≡ length states = c.len-states.ensures.len ∙ sym (length-map keys (g.S.Space.means s)) in
+    let ends = subst (Ends (g.S.Space.system s) c.args.limits states) c.in-AllReached.is c.requires.ends in
+    let tried : c.tried_of-tried.result ≡ c.len-states.result * (g.S.Space.system s).choices = c.tried_of-tried.ensures.value ∙ ap (λ n. c.len-states.result * n) c.choices.ensures in
+    let size : Size = record { states = c.len-states.result; tried = c.tried_of-tried.result; depth = c.in-AllReached.depth } in
+    let told = closed-seen (g.S.Space.system s) (g.met.S.Space.decides s) c.args.limits size states many c.args.self.now.origins.items c.requires.searched.came ends.0 ends.1 tried ends.2
+    (room-of c.args.limits.states keys c.len-states.result c.len-states.ensures.len c.requires.searched.room) in
+    err-then c.told_closed.result c.told_closed.ensures.some (λ some. inr (inl (size, told.0, some)))

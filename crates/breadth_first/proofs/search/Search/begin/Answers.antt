@@ -1,11 +1,12 @@
-use Rattle.std.proofs.Common.{◌≡◌, ℕ, ◌+◌, ◌*◌, ◌<◌, ◌≤◌, length, map, IfSome, Option, Some, None, ap, subst, arith}
+use Rattle.std.proofs.Common.{◌≡◌, ℕ, ◌+◌, ◌*◌, ◌<◌, ◌≤◌, length, map, IfSome, Option, Some, None, inl, inr, ◌⊎◌, ◌∙◌, ap, subst, arith}
 use Rattle.std.proofs.lemmas.List.{length-map}
 use Rattle.breadth_first.specs.declared.origins.Origin.{Origin}
 use Rattle.breadth_first.specs.Spending.{SpendsAtMost}
-use Rattle.breadth_first.specs.Progress.{Begun}
+use Rattle.breadth_first.specs.Progress.{Begun, HasRoom}
 use Rattle.breadth_first.proofs.Keys.{keeps-trans}
 use Rattle.breadth_first.proofs.Steps.{begun}
 use Rattle.breadth_first.proofs.Spending.{adds-long, open-failed, begun-failed, begun-spent}
+use Rattle.breadth_first.proofs.Wants.{if-err, start-wants}
 use Rattle.breadth_first.proofs.search.Search.begin.Goals as goal
 
 room-none : (limit : Option ℕ) (m : ℕ) → m ≡ 0 → IfSome limit (λ n. m ≤ n)
@@ -88,3 +89,19 @@ returns-in-Violates-clause-spends g c tests =
     begun-spent (g.S.Space.system c.args.space.now) (g.met.S.Space.decides c.args.space.now) c.args.limit tests (length c.args.self.now.seen.keys) (length c.add.new.self.seen.keys) (ap length c.requires.seen) (omega (arith, adds.2, was, now)) c.in_ok-add.ensures.room
     c.start.ensures.spends
     (subst (λ t. (c.start.new.spent ≤ c.add.new.spent) × (c.add.new.spent + (length c.args.self.now.seen.keys) * t.look ≤ c.start.new.spent + (length c.add.new.self.seen.keys) * t.look)) c.in_ok-key.ensures.keeps.system c.in_ok-add.ensures.spends)
+
+pub add-requires-clause-places : goal.add-requires-clause-places
+add-requires-clause-places g c keeps = omega (arith, ap (λ n. n * (g.S.Space.system c.start.new.self).choices) (ap length c.requires.seen))
+
+pub returns-in_err-key-clause-wanting : goal.returns-in_err-key-clause-wanting
+returns-in_err-key-clause-wanting g c = if-err c.from_residual.result (inl c.start.ensures.spends)
+
+pub returns-in_err-add-clause-wanting : goal.returns-in_err-add-clause-wanting
+returns-in_err-add-clause-wanting g c =
+    if-err c.from_residual-in_err-add.result (start-wants (g.S.Space.system c.args.space.now) g.S.Space.lacks c.in_ok-key.ensures.keeps.system c.start.ensures.spends c.in_ok-key.ensures.means c.in_err-add.ensures.lacks)
+
+pub returns-in-At-clause-places : goal.returns-in-At-clause-places
+returns-in-At-clause-places g c = subst (λ t. HasRoom t (length c.add.new.self.seen.keys) c.add.new.self.edges) c.in_ok-key.ensures.keeps.system c.in_ok-add.ensures.places
+
+pub returns-in-Violates-clause-places : goal.returns-in-Violates-clause-places
+returns-in-Violates-clause-places g c = subst (λ t. HasRoom t (length c.add.new.self.seen.keys) c.add.new.self.edges) c.in_ok-key.ensures.keeps.system c.in_ok-add.ensures.places

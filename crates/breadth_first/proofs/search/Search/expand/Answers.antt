@@ -1,15 +1,18 @@
-use Rattle.std.proofs.Common.{◌≤◌, ◌+◌, ◌*◌, length, map, sym, ap, ◌∙◌, subst, arith}
+use Rattle.std.proofs.Common.{◌≤◌, ◌+◌, ◌*◌, length, map, sym, ap, ◌∙◌, subst, arith, ℕ, ◌⊎◌, inl, inr, Option}
 use Rattle.std.proofs.lemmas.List.{length-map}
 use Rattle.breadth_first.specs.Front.{Front}
 use Rattle.breadth_first.specs.Marks.{judged}
 use Rattle.breadth_first.specs.Order.{opened}
-use Rattle.breadth_first.specs.Progress.{Expands, AreSafe, KeepsEdges, TrySpends}
+use Rattle.breadth_first.specs.Progress.{Expands, AreSafe, KeepsEdges, HasRoom, TryCut, TrySpends}
 use Rattle.breadth_first.proofs.Keys.{keeps-refl, keeps-trans, keeps-map, held-at}
 use Rattle.breadth_first.proofs.Judging.{judged-next, lists-many, front-first}
 use Rattle.breadth_first.proofs.Order.{opened-step}
 use Rattle.breadth_first.proofs.Steps.{searched-keeps, searched-same, safe-same, opened-same, expands-same}
 use Rattle.breadth_first.proofs.Telling.{ok-then, on-ok}
 use Rattle.breadth_first.proofs.Spending.{open-failed, expand-failed, expand-tried}
+use Rattle.breadth_first.specs.Wanting.{ForSpace}
+use Rattle.std.specs.Prelude.{IfErr}
+use Rattle.breadth_first.proofs.Wants.{if-err, err-then, either, expand-cut, marks-want}
 use Rattle.breadth_first.proofs.search.Search.expand.Goals as goal
 
 pub judge-requires-clause-held : goal.judge-requires-clause-held
@@ -90,3 +93,26 @@ returns-clause-spends g c begun has =
     let new = length c.try_choices.new.self.seen.keys in
     let tried = subst (λ t. TrySpends t c.args.limit c.args.at kept new c.try_choices.result c.judge.new.spent c.try_choices.new.spent) c.in_ok-judge.ensures.keeps.system c.try_choices.ensures.spends in
     expand-tried (g.S.Space.system s) (g.met.S.Space.decides s) c.args.limit (length c.args.tests.now) begun c.args.at kept new c.try_choices.result c.try_choices.new.spent has c.judge.ensures.spends tried
+
+pub try_choices-requires-clause-places : goal.try_choices-requires-clause-places
+try_choices-requires-clause-places g c = subst (λ t. HasRoom t (length c.args.self.now.seen.keys) c.args.self.now.edges) (sym c.in_ok-judge.ensures.keeps.system) c.requires.places
+
+pub returns-clause-places : goal.returns-clause-places
+returns-clause-places g c =
+    let new = c.try_choices.new.self in
+    on-ok c.try_choices.result c.try_choices.ensures.places (λ room. subst (λ t. HasRoom t (length new.seen.keys) new.edges) c.in_ok-judge.ensures.keeps.system room)
+
+pub returns-in_err-judge-clause-wanting : goal.returns-in_err-judge-clause-wanting
+returns-in_err-judge-clause-wanting g c =
+    let s = c.args.space.now in
+    if-err c.from_residual.result (λ begun has. inr (inr (marks-want (g.S.Space.system s) (g.met.S.Space.decides s) (g.S.Space.means s) c.args.limit (length c.args.tests.now) begun c.args.at c.args.self.now.seen.keys c.in_err-judge.ensures.some c.requires.at c.requires.opened c.requires.safe has c.judge.ensures.spends)))
+
+pub returns-clause-wanting : goal.returns-clause-wanting
+returns-clause-wanting g c =
+    let s = c.args.space.now in
+    let system = g.S.Space.system s in
+    let kept = length c.args.self.now.seen.keys in
+    let tests = length c.args.tests.now in
+    let after = c.try_choices.new.spent in
+    let wants = subst (λ t. IfErr c.try_choices.result (λ e. TryCut t c.args.limit c.args.at kept c.judge.new.spent after ⊎ ForSpace t (g.S.Space.lacks t))) c.in_ok-judge.ensures.keeps.system c.try_choices.ensures.wanting in
+    err-then c.try_choices.result wants (λ is begun has. either is (λ cut. inl (expand-cut system (g.met.S.Space.decides s) c.args.limit tests begun c.args.at kept has c.judge.ensures.spends cut)) (λ space. inr (inl space)))

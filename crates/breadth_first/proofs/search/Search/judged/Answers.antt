@@ -10,7 +10,7 @@ use Rattle.breadth_first.proofs.search.Search.judged.Goals as goal
 pub loop-index-init : goal.loop-index-init
 loop-index-init g c =
     let s = c.args.space.now in
-    record { keeps = keeps-refl (g.S.Space.system s) (g.S.Space.held s) (g.S.Space.means s); marks = c.in_ok-lists.ensures ∙ judged-none (g.S.Space.system s) c.args.tests.now; spends = spends-nothing (0 * (length c.args.tests.now * (g.S.Space.system s).look)) c.args.spent.now }
+    record { keeps = keeps-refl (g.S.Space.system s) (g.S.Space.held s) (g.S.Space.means s); marks = c.in_ok-lists.ensures.lists ∙ judged-none (g.S.Space.system s) c.args.tests.now; spends = spends-nothing (0 * (length c.args.tests.now * (g.S.Space.system s).look)) c.args.spent.now }
 
 pub judge-requires-clause-held : goal.judge-requires-clause-held
 judge-requires-clause-held g c =

@@ -7,6 +7,7 @@ use Rattle.breadth_first.proofs.Fronts.{front-length}
 use Rattle.breadth_first.proofs.Order.{reached-step}
 use Rattle.breadth_first.proofs.Steps.{all-reached, limit-within}
 use Rattle.breadth_first.proofs.Spending.{spent-limit, spent-more, room-through, walk-failed}
+use Rattle.breadth_first.proofs.Wants.{if-err, or-then, last-cut}
 use Rattle.breadth_first.proofs.search.Search.last_level.Goals as goal
 
 pub unreachable-requires : goal.unreachable-requires
@@ -113,3 +114,13 @@ returns-in-Some-NoRoom-clause-spends g c begun has =
       known = to.known;
       has = spent-limit s (room-through c.args.limits.states to.kept c.len-to.result kept to.has.room c.len-to.ensures.len has.room) to.has;
     }
+
+pub returns-in_err-stop-clause-wanting : goal.returns-in_err-stop-clause-wanting
+returns-in_err-stop-clause-wanting g c =
+    let s = g.S.Space.system c.args.space.now in
+    let tests = length c.args.tests.now in
+    let old = map (g.S.Space.means c.args.space.now) c.args.self.now.seen.keys in
+    let room : length c.args.self.now.seen.keys ≤ c.len-to.result = omega (arith, c.len-to.ensures.len) in
+    let was : c.len-to.result ≡ length old = c.len-to.ensures.len ∙ sym (length-map c.args.self.now.seen.keys (g.S.Space.means c.args.space.now)) in
+    if-err c.from_residual.result (λ begun has. or-then (c.in_err-stop.ensures.wanting begun (spent-limit s room has))
+    (λ cut. absurd (last-cut s (g.met.S.Space.decides c.args.space.now) c.args.depth c.len-to.result tests begun c.level.new.spent old c.requires.within was cut)))

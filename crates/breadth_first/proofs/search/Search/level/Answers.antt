@@ -1,12 +1,13 @@
-use Rattle.std.proofs.Common.{◌≡◌, ℕ, suc, ◌+◌, ◌*◌, ◌<◌, ◌≤◌, length, map, take, All, Some, None, refl, sym, ap, ◌∙◌, subst, arith}
+use Rattle.std.proofs.Common.{◌≡◌, ℕ, suc, ◌+◌, ◌*◌, ◌<◌, ◌≤◌, length, map, take, All, Some, None, refl, sym, ap, ◌∙◌, subst, arith, inl, inr}
 use Rattle.std.proofs.lemmas.List.{length-map}
 use Rattle.breadth_first.specs.Answer.{before}
 use Rattle.breadth_first.specs.Marks.{judged, number_of}
 use Rattle.breadth_first.specs.Order.{opened, reached}
-use Rattle.breadth_first.specs.Progress.{Expands, KeepsEdges, HasSpent}
+use Rattle.breadth_first.specs.Progress.{Expands, KeepsEdges, HasRoom, HasSpent, ExpandCut, Fails}
 use Rattle.breadth_first.proofs.Keys.{keeps-refl, keeps-trans}
 use Rattle.breadth_first.proofs.Steps.{reached-before, before-within, level-turn, goes_on-stop, goes_on-none, searched-same, opened-same, safe-same, expands-same}
 use Rattle.breadth_first.proofs.Spending.{spent-more, level-failed, stops-behind}
+use Rattle.breadth_first.proofs.Wants.{if-err, or-then}
 use Rattle.breadth_first.proofs.search.Search.level.Goals as goal
 
 some-none : {X : Type 0} {x : X} → Some x ≡ None → ⊥
@@ -23,6 +24,7 @@ loop-at-init g c =
       keeping = refl;
       edges = c.requires.edges;
       marks = c.requires.marks;
+      places = c.requires.places;
       spends = λ begun has. has;
     }
 
@@ -76,6 +78,7 @@ loop-at-preserved g c =
           subst (λ n. KeepsEdges (g.S.Space.system c.args.space.now) (map (g.S.Space.means c.expand.new.space) c.expand.new.self.seen.keys) n c.expand.new.self.edges.keeps c.expand.new.self.edges.ends.items) sum
           (subst (λ t. KeepsEdges t (map (g.S.Space.means c.expand.new.space) c.expand.new.self.seen.keys) (c.loop-at.at * t.choices + t.choices) c.expand.new.self.edges.keeps c.expand.new.self.edges.ends.items) inv.keeps.system (c.in_ok-stop.ensures.edges c.in_default.is)));
       marks = c.in_ok-stop.ensures.marks c.in_default.is ∙ ap (λ t. judged t c.args.tests.now (take (c.loop-at.at + 1) (map (g.S.Space.means c.expand.new.space) c.expand.new.self.seen.keys))) inv.keeps.system;
+      places = subst (λ t. HasRoom t (length c.expand.new.self.seen.keys) c.expand.new.self.edges) inv.keeps.system c.in_ok-stop.ensures.places;
       spends = λ begun has. subst (λ t. (begun : ℕ) → HasSpent t c.args.limit (length c.args.tests.now) begun 0 c.loop-at.at (length c.loop-at.self.seen.keys) c.loop-at.spent
           → HasSpent t c.args.limit (length c.args.tests.now) begun 0 (c.loop-at.at + 1) (length c.expand.new.self.seen.keys) c.expand.new.spent) inv.keeps.system c.in_ok-stop.ensures.spends begun (inv.spends begun has);
     }
@@ -177,3 +180,27 @@ returns-clause-spends g c begun has =
     let last : c.loop-at.at ≡ length keys =
     omega (arith, few, c.loop-at-test.false, c.loop-at.auto.at-end, c.requires.from, c.len-at-end.ensures.len, ap length c.requires.reached, length-map keys (g.S.Space.means c.args.space.now)) in
     subst (λ n. HasSpent (g.S.Space.system c.args.space.now) c.args.limit (length c.args.tests.now) begun 0 n (length c.loop-at.self.seen.keys) c.loop-at.spent) last (inv.spends begun has)
+
+pub expand-requires-clause-places : goal.expand-requires-clause-places
+expand-requires-clause-places g c = subst (λ t. HasRoom t (length c.loop-at.self.seen.keys) c.loop-at.self.edges) (sym c.loop-at.invariant.keeps.system) c.loop-at.invariant.places
+
+pub returns-in-Some-clause-places : goal.returns-in-Some-clause-places
+returns-in-Some-clause-places g c = subst (λ t. HasRoom t (length c.expand.new.self.seen.keys) c.expand.new.self.edges) c.loop-at.invariant.keeps.system c.in_ok-stop.ensures.places
+
+pub returns-clause-places : goal.returns-clause-places
+returns-clause-places g c = c.loop-at.invariant.places
+
+pub returns-in_err-stop-clause-wanting : goal.returns-in_err-stop-clause-wanting
+returns-in_err-stop-clause-wanting g c =
+    let inv = c.loop-at.invariant in
+    let keys = c.args.self.now.seen.keys in
+    let limit = c.args.limit in
+    let tests = length c.args.tests.now in
+    let at = c.loop-at.at in
+    let kept = length c.loop-at.self.seen.keys in
+    let before_it = c.loop-at.spent in
+    let behind = c.expand.new.spent in
+    let to : at < length (reached (g.S.Space.system c.args.space.now) c.args.depth) = omega (arith, c.loop-at-test.true, c.len-at-end.ensures.len, ap length c.requires.reached, length-map keys (g.S.Space.means c.args.space.now)) in
+    let from : before (g.S.Space.system c.args.space.now) c.args.depth ≤ at = omega (arith, c.loop-at.auto.at, c.requires.from) in
+    let wants = subst (λ t. (begun : ℕ) → HasSpent t limit tests begun 0 at kept before_it → Fails t g.S.Space.lacks tests begun behind (ExpandCut t limit tests begun at behind)) inv.keeps.system c.in_err-stop.ensures.wanting in
+    if-err c.from_residual.result (λ begun has. or-then (wants begun (inv.spends begun has)) (λ cut. record { at = at; from = from; to = to; expand = cut }))

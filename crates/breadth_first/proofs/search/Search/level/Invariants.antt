@@ -2,7 +2,7 @@ use Rattle.std.proofs.Common.{◌≡◌, ℕ, ◌*◌, length, map, take}
 use Rattle.breadth_first.specs.Kept.{Keeps}
 use Rattle.breadth_first.specs.Marks.{judged}
 use Rattle.breadth_first.specs.Order.{opened}
-use Rattle.breadth_first.specs.Progress.{Searched, AreSafe, KeepsEdges, HasSpent}
+use Rattle.breadth_first.specs.Progress.{Searched, AreSafe, KeepsEdges, HasRoom, HasSpent}
 use Rattle.breadth_first.proofs.search.Search.level.Given as goal
 
 abbrev pub invariant-loop-at : goal.invariant-loop-at
@@ -14,5 +14,6 @@ invariant-loop-at g l = record {
   keeping : l.self.edges.keeps ≡ l.fn.self.edges.keeps;
   edges : KeepsEdges (g.S.Space.system l.fn.space) (map (g.S.Space.means l.space) l.self.seen.keys) (l.at * (g.S.Space.system l.fn.space).choices) l.self.edges.keeps l.self.edges.ends.items;
   marks : l.lists.items ≡ judged (g.S.Space.system l.fn.space) l.tests (take l.at (map (g.S.Space.means l.space) l.self.seen.keys));
+  places : HasRoom (g.S.Space.system l.fn.space) (length l.self.seen.keys) l.self.edges;
   spends : (begun : ℕ) → HasSpent (g.S.Space.system l.fn.space) l.limit (length l.tests) begun 0 l.from (length l.fn.self.seen.keys) l.fn.spent → HasSpent (g.S.Space.system l.fn.space) l.limit (length l.tests) begun 0 l.at (length l.self.seen.keys) l.spent;
 }

@@ -15,12 +15,10 @@ path_to-requires-clause-index g c =
     let s = c.args.space.now in
     omega (arith, c.requires.index, ap length c.deref.ensures.value, c.requires.searched.came.many, length-map c.args.self.now.seen.keys (g.S.Space.means s))
 
-pub returns : goal.returns
-returns g c =
+pub returns-clause-path : goal.returns-clause-path
+returns-clause-path g c =
     let s = c.args.space.now in
     let states = map (g.S.Space.means s) c.args.self.now.seen.keys in
     let there = slice_get-some states c.args.index (omega (arith, c.requires.index, length-map c.args.self.now.seen.keys (g.S.Space.means s))) in
-    record {
-      path = told-path (g.S.Space.system s) (g.met.S.Space.decides s) states c.args.self.now.origins.items c.requires.searched.came c.args.index there.0 there.1 c.in_ok-path.path.items
-          (subst (λ o. LeadsBack o 0 c.args.index c.in_ok-path.path.items) c.deref.ensures.value c.in_ok-path.ensures.path);
-    }
+    told-path (g.S.Space.system s) (g.met.S.Space.decides s) states c.args.self.now.origins.items c.requires.searched.came c.args.index there.0 there.1 c.in_ok-path.path.items
+    (subst (λ o. LeadsBack o 0 c.args.index c.in_ok-path.path.items) c.deref.ensures.value c.in_ok-path.ensures.path)

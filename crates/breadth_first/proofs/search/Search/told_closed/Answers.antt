@@ -15,9 +15,9 @@ returns-clause-answer g c =
     let keys = c.args.self.now.seen.keys in
     let states = map (g.S.Space.means s) keys in
     let many : length keys ≡ c.args.size.states = sym (length-map keys (g.S.Space.means s)) ∙ sym (ap length c.requires.seen) ∙ c.requires.ended.states in
-    let missed = subst (λ n. IsMissed system states n c.args.wants.now c.in_ok-missed.missed) many c.in_ok-missed.ensures in (
+    let missed = subst (λ n. IsMissed system states n c.args.wants.now c.in_ok-missed.missed) many c.in_ok-missed.ensures.missed in (
       c.requires.ended,
-      subst (λ l. AreCounts system l c.args.counts.now c.in_ok-counts.counts.items) (sym c.requires.seen) c.in_ok-counts.ensures,
+      subst (λ l. AreCounts system l c.args.counts.now c.in_ok-counts.counts.items) (sym c.requires.seen) c.in_ok-counts.ensures.counts,
       subst (λ l. IsMissed system l c.args.size.states c.args.wants.now c.in_ok-missed.missed) (sym c.requires.seen) missed,
     )
 

@@ -1,16 +1,18 @@
-use Rattle.std.proofs.Common.{◌≡◌, ℕ, suc, ◌+◌, ◌*◌, ◌<◌, ◌≤◌, length, map, take, All, Option, IfSome, IfOk, Some, None, refl, sym, ap, ◌∙◌, subst, arith, true≢false}
+use Rattle.std.proofs.Common.{◌≡◌, ℕ, suc, ◌+◌, ◌*◌, ◌<◌, ◌≤◌, length, map, take, All, Option, IfSome, IfOk, Some, None, refl, sym, ap, ◌∙◌, subst, arith, true≢false, inl, inr}
 use Rattle.std.specs.Prelude.{⊤}
 use Rattle.std.proofs.lemmas.List.{length-map, take_all}
 use Rattle.breadth_first.specs.Answer.{before}
 use Rattle.breadth_first.specs.Marks.{judged, number_of}
 use Rattle.breadth_first.specs.Order.{reached}
-use Rattle.breadth_first.specs.Progress.{GoesOn, AreWithin, Ends, KeepsEdges, HasSpent, SpendsTo, LevelStops, WalkSpends}
+use Rattle.breadth_first.specs.Progress.{GoesOn, AreWithin, Ends, KeepsEdges, HasRoom, LevelCut, WalkCut, Fails, HasSpent, SpendsTo, LevelStops, WalkSpends}
 use Rattle.breadth_first.specs.declared.search.Stop.{Stop}
 use Rattle.breadth_first.specs.declared.levels.End.TheVariants.{AllReached, Stopped}
 use Rattle.breadth_first.proofs.Keys.{keeps-refl, keeps-trans}
 use Rattle.breadth_first.proofs.Steps.{edges-none, within-start, within-more, all-reached, below-limit, searched-same, safe-same, goes_on-same}
 use Rattle.breadth_first.proofs.Telling.{on-ok}
 use Rattle.breadth_first.proofs.Spending.{spent-more, walk-failed}
+use Rattle.std.specs.Prelude.{IfErr}
+use Rattle.breadth_first.proofs.Wants.{if-err, err-then, or-then}
 use Rattle.breadth_first.proofs.search.Search.walk.Goals as goal
 
 stopped-all : {d e : ℕ} {stop : Stop} → Stopped d stop ≡ AllReached e → ⊥
@@ -39,6 +41,7 @@ levels-init g c =
           subst (λ n. KeepsEdges (g.S.Space.system s) (map (g.S.Space.means s) c.args.self.now.seen.keys) n c.args.self.now.edges.keeps c.args.self.now.edges.ends.items) none
           (edges-none (g.S.Space.system s) (map (g.S.Space.means s) c.args.self.now.seen.keys) c.args.self.now.edges.keeps c.args.self.now.edges.ends.items c.requires.edges));
       marks = c.requires.marks;
+      places = c.requires.places;
       spends = λ begun has. has;
     }
 
@@ -91,6 +94,7 @@ levels-preserved g c =
       marks = c.in_ok-stop.ensures.marks c.in_default.is
           ∙ ap (λ t. judged t c.args.tests.now (take (length c.levels.self.seen.keys) (map (g.S.Space.means c.level.new.space) c.level.new.self.seen.keys))) c.levels.invariant.keeps.system
           ∙ ap (λ n. judged (g.S.Space.system c.args.space.now) c.args.tests.now (take n (map (g.S.Space.means c.level.new.space) c.level.new.self.seen.keys))) (sym c.len-to.ensures.len);
+      places = subst (λ t. HasRoom t (length c.level.new.self.seen.keys) c.level.new.self.edges) c.levels.invariant.keeps.system c.in_ok-stop.ensures.places;
       spends = λ begun has. subst (λ n. HasSpent (g.S.Space.system c.args.space.now) c.args.limits.states (length c.args.tests.now) begun 0 n (length c.level.new.self.seen.keys) c.level.new.spent) (sym c.len-to.ensures.len)
           (subst (λ stop. LevelStops (g.S.Space.system c.args.space.now) c.args.limits.states (length c.args.tests.now) begun (length c.levels.self.seen.keys) (length c.level.new.self.seen.keys) stop c.level.new.spent) c.in_default.is
           (subst (λ t. (begun : ℕ) → HasSpent t c.args.limits.states (length c.args.tests.now) begun 0 c.levels.from (length c.levels.self.seen.keys) c.levels.spent
@@ -260,3 +264,32 @@ returns-then-is_met-clause-spends g c begun has =
     let before = c.levels.spent in
     let new = length c.last_level.new.self.seen.keys in
     subst (λ t. (begun : ℕ) → HasSpent t limit tests begun 0 c.levels.from kept before → WalkSpends t limit tests begun new c.last_level.result c.last_level.new.spent) inv.keeps.system c.last_level.ensures.spends begun (inv.spends begun has)
+
+pub level-requires-clause-places : goal.level-requires-clause-places
+level-requires-clause-places g c = subst (λ t. HasRoom t (length c.levels.self.seen.keys) c.levels.self.edges) (sym c.levels.invariant.keeps.system) c.levels.invariant.places
+
+pub last_level-requires-clause-places : goal.last_level-requires-clause-places
+last_level-requires-clause-places g c = subst (λ t. HasRoom t (length c.levels.self.seen.keys) c.levels.self.edges) (sym c.levels.invariant.keeps.system) c.levels.invariant.places
+
+pub returns-in_err-stop-clause-wanting : goal.returns-in_err-stop-clause-wanting
+returns-in_err-stop-clause-wanting g c =
+    let inv = c.levels.invariant in
+    let limit = c.args.limits.states in
+    let tests = length c.args.tests.now in
+    let kept = length c.levels.self.seen.keys in
+    let depth = c.levels.depth in
+    let behind = c.level.new.spent in
+    let not : c.args.limits.depth ≡ Some depth → ⊥ = λ e. true≢false (sym (c.is_met.ensures.1 e) ∙ c.if-is_met.false) in
+    let below = below-limit c.args.limits.depth depth inv.below not in
+    let wants = subst (λ t. (begun : ℕ) → HasSpent t limit tests begun 0 c.levels.from kept c.levels.spent → Fails t g.S.Space.lacks tests begun behind (LevelCut t limit tests begun depth behind)) inv.keeps.system c.in_err-stop.ensures.wanting in
+    if-err c.from_residual.result (λ begun has. or-then (wants begun (inv.spends begun has)) (λ cut. record { depth = depth; far = below; level = cut }))
+
+pub returns-then-is_met-clause-wanting : goal.returns-then-is_met-clause-wanting
+returns-then-is_met-clause-wanting g c =
+    let inv = c.levels.invariant in
+    let limit = c.args.limits.states in
+    let tests = length c.args.tests.now in
+    let kept = length c.levels.self.seen.keys in
+    let behind = c.last_level.new.spent in
+    let wants = subst (λ t. IfErr c.last_level.result (λ e. (begun : ℕ) → HasSpent t limit tests begun 0 c.levels.from kept c.levels.spent → Fails t g.S.Space.lacks tests begun behind (WalkCut t c.args.limits tests begun behind))) inv.keeps.system c.last_level.ensures.wanting in
+    err-then c.last_level.result wants (λ is begun has. is begun (inv.spends begun has))

@@ -2,7 +2,7 @@ use Rattle.std.proofs.Common.{◌≡◌, ℕ, ◌≤◌, ◌*◌, ◌-◌, ◌^�
 use Rattle.breadth_first.specs.Answer.{before}
 use Rattle.breadth_first.specs.Kept.{Keeps}
 use Rattle.breadth_first.specs.Marks.{judged}
-use Rattle.breadth_first.specs.Progress.{Searched, AreWithin, KeepsEdges, HasSpent}
+use Rattle.breadth_first.specs.Progress.{Searched, AreWithin, KeepsEdges, HasRoom, HasSpent}
 use Rattle.breadth_first.proofs.search.Search.walk.Given as goal
 
 abbrev pub invariant-levels : goal.invariant-levels
@@ -16,6 +16,7 @@ invariant-levels g l = record {
   keeping : l.self.edges.keeps ≡ l.fn.self.edges.keeps;
   edges : KeepsEdges (g.S.Space.system l.fn.space) (map (g.S.Space.means l.space) l.self.seen.keys) (l.from * (g.S.Space.system l.fn.space).choices) l.self.edges.keeps l.self.edges.ends.items;
   marks : l.lists.items ≡ judged (g.S.Space.system l.fn.space) l.tests (take l.from (map (g.S.Space.means l.space) l.self.seen.keys));
+  places : HasRoom (g.S.Space.system l.fn.space) (length l.self.seen.keys) l.self.edges;
   spends : (begun : ℕ) → HasSpent (g.S.Space.system l.fn.space) l.limits.states (length l.tests) begun 0 0 (length l.fn.self.seen.keys) l.fn.spent → HasSpent (g.S.Space.system l.fn.space) l.limits.states (length l.tests) begun 0 l.from (length l.self.seen.keys) l.spent;
 }
 
